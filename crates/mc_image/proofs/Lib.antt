@@ -1,0 +1,12 @@
+pub mod Worked
+pub mod EntryLemmas
+pub mod NumberLaws
+pub mod EntryLaws
+pub mod Sound
+pub mod Header
+pub mod ImageLaws
+pub mod ListingLaws
+pub mod EntriesWritten
+pub mod SizeLaws
+pub mod VersionLaws
+pub mod VersionJudged

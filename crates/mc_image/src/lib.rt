@@ -1,0 +1,23 @@
+//! Images: read, checked and written.
+#![tactic(auto)]
+
+mod entries;
+mod error;
+mod law;
+mod numbers;
+mod reading;
+mod tlvs;
+mod version;
+mod view;
+mod writing;
+
+pub use entries::Area;
+pub use error::{ImageError, VersionError};
+pub use law::one_reading;
+pub use tlvs::{Tlv, Tlvs};
+pub use version::Version;
+pub use view::ImageView;
+pub use writing::{ImageParts, write_image};
+
+#[cfg(test)]
+mod tests;

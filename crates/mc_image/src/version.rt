@@ -1,0 +1,51 @@
+//! Versions and their text.
+ghost use Rattle.std.specs.Prelude.{◌≡◌, Some, MatchResult, ℕ, List};
+ghost use Rattle.mc_image.specs.VersionText.{version_line, IsForm, AreInRange, IsVersion, Names, IsRefused};
+
+use crate::VersionError;
+use crate::reading::version_read;
+use std::fmt;
+
+/// The version of an image. Its text is `major.minor.revision+build` (imgtool, option `--version`).
+#[derive(Clone, Copy, Debug, PartialEq, Eq)]
+pub struct Version {
+    /// The first number.
+    pub major: u8,
+    /// The second number.
+    pub minor: u8,
+    /// The third number.
+    pub revision: u16,
+    /// The number behind the `+`.
+    pub build: u32,
+}
+
+impl Version {
+    /// The version that a text names: `major[.minor[.revision[+build]]]`, decimal numbers without leading zeros,
+    /// missing ones 0.
+    ///
+    /// # Errors
+    ///
+    /// `Syntax` for a text outside this form, else `Range` where a number is too great for its field.
+    pub fn read(text: &str) -> Result<Version, VersionError>
+        ensures exact { MatchResult result (Names text.now) (IsRefused text.now) }
+        // Each text that names a version is read as that version.
+        ensures only { (v : Version) → Names text.now v → result ≡ Ok v }
+        ensures range { (ns : List ℕ) → IsForm text.now ns → (AreInRange ns → ⊥) → result ≡ Err VersionError.Range }
+        // What is printed reads back.
+        ensures printed { (v : Version) → IsVersion v → text.now ≡ version_line v → result ≡ Ok v }
+    {
+        version_read(text.as_bytes())
+    }
+}
+
+impl fmt::Display for Version {
+    ghost output = { λ v. Some (version_line v) };
+
+    fn fmt<W: fmt::Write>(&self, f: &mut fmt::Formatter<W>) -> fmt::Result {
+        let major = self.major;
+        let minor = self.minor;
+        let revision = self.revision;
+        let build = self.build;
+        write!(f, "{major}.{minor}.{revision}+{build}")
+    }
+}
