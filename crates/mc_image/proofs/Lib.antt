@@ -7,6 +7,7 @@ pub mod Header
 pub mod ImageLaws
 pub mod ListingLaws
 pub mod EntriesWritten
+pub mod Appended
 pub mod SizeLaws
 pub mod VersionLaws
 pub mod VersionJudged
