@@ -5,6 +5,7 @@ pub mod EntryLaws
 pub mod Sound
 pub mod Header
 pub mod ImageLaws
+pub mod ValidLaws
 pub mod ListingLaws
 pub mod EntriesWritten
 pub mod Appended

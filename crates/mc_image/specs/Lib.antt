@@ -2,6 +2,7 @@ pub mod Bytes
 pub mod Entries
 pub mod Image
 pub mod Faults
+pub mod Valid
 pub mod Listing
 pub mod Writing
 pub mod VersionText

@@ -1,8 +1,9 @@
-//! Laws of the definitions.
-ghost use Rattle.std.specs.Prelude.{◌≡◌, ℕ, List, None, Some};
+//! Laws of the definitions, each the contract of a function that does nothing.
+ghost use Rattle.std.specs.Prelude.{◌≡◌, ℕ, List, None, Some, true, length, take, ◌↔◌};
 ghost use Rattle.mc_image.specs.Bytes.{IsBytes};
-ghost use Rattle.mc_image.specs.Image.{Image, Begins, image_in, image_text};
+ghost use Rattle.mc_image.specs.Image.{Image, Begins, IsGood, image_in, image_text};
 ghost use Rattle.mc_image.specs.Faults.{first_fault};
+ghost use Rattle.mc_image.specs.Valid.{IsValid, Identity, identity, is_valid, id_of, image_fault};
 
 /// One reading: bytes have no fault exactly where an image is spelled at their front, and that image and that front
 /// are then the only ones.
@@ -10,4 +11,18 @@ pub fn one_reading()
     ensures begins { (b : List ℕ) → IsBytes b → first_fault b ≡ None → Begins b (image_in b) }
     ensures only { (b : List ℕ) (v : Image) → Begins b v → first_fault b ≡ None }
     ensures one { (b : List ℕ) (v w : Image) → Begins b v → Begins b w → v ≡ w }
+{}
+
+/// The test of a valid image, the identity and the last fault are those of the one image that the bytes begin with.
+pub fn valid_bytes()
+    ensures valid { (b : List ℕ) → IsBytes b → (is_valid b ≡ true) ↔ IsValid b }
+    ensures same { (b : List ℕ) (h : IsValid b) → id_of b ≡ Some (identity h.image) }
+    ensures none { (b : List ℕ) → (IsValid b → ⊥) → IsBytes b → id_of b ≡ None }
+    ensures fault { (b : List ℕ) → IsBytes b → (image_fault b ≡ None) ↔ IsValid b }
+{}
+
+/// Byte lists that agree as far as the image goes that one of them begins with begin with the same image.
+pub fn same_front()
+    ensures begins { (b c : List ℕ) (v : Image) → Begins b v → take (length (image_text v)) c ≡ take (length (image_text v)) b → Begins c v }
+    ensures id { (b c : List ℕ) (i : Identity) → IsBytes b → id_of b ≡ Some i → take i.size c ≡ take i.size b → id_of c ≡ Some i }
 {}

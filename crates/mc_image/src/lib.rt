@@ -13,7 +13,7 @@ mod writing;
 
 pub use entries::Area;
 pub use error::{ImageError, VersionError};
-pub use law::one_reading;
+pub use law::{one_reading, same_front, valid_bytes};
 pub use tlvs::{Tlv, Tlvs};
 pub use version::Version;
 pub use view::ImageView;
