@@ -1,0 +1,5 @@
+pub mod Streams
+pub mod Answering
+pub mod Wanted
+pub mod FaultLaws
+pub mod CreatedLaws

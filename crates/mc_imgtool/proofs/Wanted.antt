@@ -1,0 +1,66 @@
+-- What is wanted of each engine.
+use Rattle.std.proofs.Common.{◌≡◌, ℕ, ◌<◌, ◌≤◌, ◌^◌, Bool, true, false, cond, List, length, Option, None, Some, Result, Ok, Err, refl, sym, ap, ◌∙◌}
+use Rattle.std.specs.Prelude.{nat_lt, ◌+◌, ◌-◌}
+use Rattle.std.proofs.lemmas.Bool.{lt-ltb, le-ltb}
+use Rattle.mc_image.specs.Image.{Image, image_in, image_text}
+use Rattle.mc_image.specs.Valid.{image_fault}
+use Rattle.mc_image.specs.Writing.{with_digest}
+use Rattle.mc_image.specs.declared.error.ImageError.{ImageError}
+use Rattle.mc_imgtool.specs.Lines.{good_line, line_or_fault, verified}
+use Rattle.mc_imgtool.specs.Created.{created, lacks_zeros, payload_in, bare_image}
+use Rattle.mc_imgtool.specs.declared.creation.CreateOptions.{CreateOptions}
+use Rattle.mc_imgtool.specs.declared.error.ToolError.{ToolError}
+use Rattle.mc_imgtool.specs.declared.error.ToolError.TheVariants.{NotZeros, InputTooLong, Write, Image as image_error}
+use Rattle.mc_imgtool.proofs.Answering.{IsWanted}
+
+line_no_write : (v : Image) (o : Option ImageError) → line_or_fault v o ≡ Err Write → ⊥
+line_no_write v None e = cc
+line_no_write v (Some x) e = cc
+
+-- ---- verify
+
+verified_long : (xs : List ℕ) → 2 ^ 24 < length xs → verified xs ≡ Err InputTooLong
+unfolding verified
+verified_long xs h = let t : nat_lt (2 ^ 24) (length xs) ≡ true = lt-ltb _ _ h in rw t refl
+
+either_no_write : (b : Bool) (r : Result (List ℕ) ToolError) → (r ≡ Err Write → ⊥) → cond b (Err InputTooLong) r ≡ Err Write → ⊥
+either_no_write true r h e = cc
+either_no_write false r h e = h e
+
+pub verified_wanted : IsWanted verified
+unfolding verified
+verified_wanted = record { long = verified_long; no_write = λ xs e. either_no_write (nat_lt (2 ^ 24) (length xs)) _ (line_no_write (image_in xs) (image_fault xs)) e }
+
+pub verified_short : (xs : List ℕ) → length xs ≤ 2 ^ 24 → verified xs ≡ line_or_fault (image_in xs) (image_fault xs)
+unfolding verified
+verified_short xs h = let t : nat_lt (2 ^ 24) (length xs) ≡ false = le-ltb _ _ h in rw t refl
+
+pub verified_good : (xs text : List ℕ) (v : Image) → length xs ≤ 2 ^ 24 → image_fault xs ≡ None → v ≡ image_in xs → text ≡ good_line v → verified xs ≡ Ok text
+verified_good xs text v h none is line = verified_short xs h ∙ ap (line_or_fault (image_in xs)) none ∙ ap (λ (w : Image). Ok (good_line w)) (sym is) ∙ ap (λ (l : List ℕ). Ok l) (sym line)
+
+pub verified_bad : (xs : List ℕ) (e : ImageError) → length xs ≤ 2 ^ 24 → image_fault xs ≡ Some e → verified xs ≡ Err (image_error e)
+verified_bad xs e h some = verified_short xs h ∙ ap (line_or_fault (image_in xs)) some
+
+-- ---- create
+
+created_long : (o : CreateOptions) (xs : List ℕ) → 2 ^ 24 < length xs → created o xs ≡ Err InputTooLong
+unfolding created
+created_long o xs h = let t : nat_lt (2 ^ 24) (length xs) ≡ true = lt-ltb _ _ h in rw t refl
+
+zeros_no_write : (b : Bool) (text : List ℕ) → cond b (Err NotZeros) (Ok text) ≡ Err Write → ⊥
+zeros_no_write true text e = cc
+zeros_no_write false text e = cc
+
+pub created_wanted : (o : CreateOptions) → IsWanted (created o)
+unfolding created
+created_wanted o = record { long = created_long o; no_write = λ xs e. either_no_write (nat_lt (2 ^ 24) (length xs)) _ (zeros_no_write (lacks_zeros o xs) _) e }
+
+pub created_refused : (o : CreateOptions) (xs : List ℕ) → length xs ≤ 2 ^ 24 → lacks_zeros o xs ≡ true → created o xs ≡ Err NotZeros
+unfolding created
+created_refused o xs h lacks = let t : nat_lt (2 ^ 24) (length xs) ≡ false = le-ltb _ _ h in rw (t, lacks) refl
+
+pub created_made : (o : CreateOptions) (xs payload : List ℕ) → length xs ≤ 2 ^ 24 → lacks_zeros o xs ≡ false → payload ≡ payload_in o xs → created o xs ≡ Ok (image_text (with_digest (bare_image o payload)))
+unfolding created
+created_made o xs payload h lacks is =
+    let t : nat_lt (2 ^ 24) (length xs) ≡ false = le-ltb _ _ h in
+    rw (t, lacks) (ap (λ (p : List ℕ). Ok (image_text (with_digest (bare_image o p)))) (sym is))

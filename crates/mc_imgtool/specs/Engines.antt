@@ -1,0 +1,43 @@
+-- What an engine answers: the text that it is to write for its input, or a refusal. Of a reader and a writer the bytes
+-- that are left and that are held are known, or nothing is.
+use Rattle.std.specs.Prelude.{◌≡◌, ℕ, ◌<◌, List, length, take, Option, Result, Ok, Err, IfSome, ⊤, ◌⊎◌}
+use Rattle.std.specs.Io.KnownBytes.{Appends, Keeps}
+use Rattle.mc_imgtool.specs.declared.error.ToolError.{ToolError}
+use Rattle.mc_imgtool.specs.declared.error.ToolError.TheVariants.{Image, NotZeros, InputTooLong, Read, Write, Memory}
+
+-- when a reader of at most `limit` bytes gives each refusal: the known input, the limit
+abbrev pub RefusesReading : Option (List ℕ) → ℕ → ToolError → Type 0
+RefusesReading known limit InputTooLong = IfSome known (λ xs. limit < length xs)
+RefusesReading known limit Read = ⊤
+RefusesReading known limit Memory = ⊤
+RefusesReading known limit (Image e) = ⊥
+RefusesReading known limit NotZeros = ⊥
+RefusesReading known limit Write = ⊥
+
+-- some front of the text is out
+abbrev pub AppendsFront : Option (List ℕ) → Option (List ℕ) → List ℕ → Type 0
+AppendsFront old new text = (n : ℕ) × Appends old new (take n text)
+
+-- what is made, seen as bytes, is what is wanted, unless memory ran out
+abbrev pub Gives : {A : Type 0} → (A → List ℕ) → Result A ToolError → Result (List ℕ) ToolError → Type 0
+Gives view (Ok x) wanted = wanted ≡ Ok (view x)
+Gives view (Err e) wanted = (e ≡ Memory) ⊎ (wanted ≡ Err e)
+
+-- the refusal is the wanted one, and nothing is written
+abbrev pub IsWantedRefusal : (List ℕ → Result (List ℕ) ToolError) → Option (List ℕ) → Option (List ℕ) → Option (List ℕ) → ToolError → Type 0
+IsWantedRefusal wanted known old new e = IfSome known (λ xs. wanted xs ≡ Err e) × Keeps old new
+
+-- when an engine gives each refusal, and what it then has written: what is wanted for an input, the known input, the
+-- writer before and after
+abbrev pub Refuses : (List ℕ → Result (List ℕ) ToolError) → Option (List ℕ) → Option (List ℕ) → Option (List ℕ) → ToolError → Type 0
+Refuses wanted known old new Read = Keeps old new
+Refuses wanted known old new Memory = Keeps old new
+Refuses wanted known old new Write = IfSome known (λ xs. (text : List ℕ) × (wanted xs ≡ Ok text) × AppendsFront old new text)
+Refuses wanted known old new (Image e) = IsWantedRefusal wanted known old new (Image e)
+Refuses wanted known old new NotZeros = IsWantedRefusal wanted known old new NotZeros
+Refuses wanted known old new InputTooLong = IsWantedRefusal wanted known old new InputTooLong
+
+-- the wanted text is out, or it is a refusal
+abbrev pub Answers : {A : Type 0} → (List ℕ → Result (List ℕ) ToolError) → Option (List ℕ) → Option (List ℕ) → Option (List ℕ) → Result A ToolError → Type 0
+Answers wanted known old new (Ok _) = IfSome known (λ xs. (text : List ℕ) × (wanted xs ≡ Ok text) × Appends old new text)
+Answers wanted known old new (Err e) = Refuses wanted known old new e

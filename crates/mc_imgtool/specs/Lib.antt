@@ -1,0 +1,3 @@
+pub mod Engines
+pub mod Lines
+pub mod Created

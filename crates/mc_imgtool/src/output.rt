@@ -1,0 +1,26 @@
+//! Output, written whole.
+ghost use Rattle.std.specs.Prelude.{◌≡◌, IfErr, OnOk};
+ghost use Rattle.std.specs.Io.KnownBytes.{Appends};
+ghost use Rattle.mc_imgtool.specs.Engines.{AppendsFront};
+
+use crate::ToolError;
+use std::io::Write;
+
+/// Writes the whole text, or a front of it.
+///
+/// # Errors
+///
+/// `Write` where a write fails or takes no bytes.
+pub(crate) fn write_text<W: Write>(output: &mut W, text: &[u8]) -> Result<(), ToolError>
+    ensures whole { OnOk result (Appends (W.contents output.old) (W.contents output.new) text.now) }
+    ensures front { IfErr result (λ e. (e ≡ ToolError.Write) × AppendsFront (W.contents output.old) (W.contents output.new) text.now) }
+{
+    let mut done = 0;
+    while done < text.len() {
+        match output.write(&text[done..]) {
+            Ok(0) | Err(_) => return Err(ToolError::Write),
+            Ok(count) => done += count,
+        }
+    }
+    Ok(())
+}
