@@ -151,9 +151,15 @@ pub names_printed : (v : Version) → IsVersion v → Names (version_line v) v
 names_printed v h = record {
   numbers = v.major ∷ v.minor ∷ v.revision ∷ v.build ∷ [];
   form = (
-    decimal v.major, _, regrouped (decimal v.major) (decimal v.minor) (decimal v.revision) (decimal v.build), numeral_printed v.major (omega (arith, h.major)),
+    decimal v.major,
+    _,
+    regrouped (decimal v.major) (decimal v.minor) (decimal v.revision) (decimal v.build),
+    numeral_printed v.major (omega (arith, h.major)),
     (
-      decimal v.minor, _, refl, numeral_printed v.minor (omega (arith, h.minor)),
+      decimal v.minor,
+      _,
+      refl,
+      numeral_printed v.minor (omega (arith, h.minor)),
       (decimal v.revision, _, refl, numeral_printed v.revision (omega (arith, h.revision)), (decimal v.build, [], refl, numeral_printed v.build (omega (arith, h.build)), refl)),
     ),
   );

@@ -1,4 +1,4 @@
-//! Images: read, checked and written.
+//! MCUboot's hash-only images: read, judged and written.
 #![tactic(auto)]
 
 mod entries;

@@ -48,11 +48,7 @@ fn payload_in<'a>(options: &CreateOptions, input: &'a [u8]) -> Option<&'a [u8]>
 }
 
 /// The image for an input that was read whole.
-fn image_for(
-    alloc: Global,
-    options: &CreateOptions,
-    input: &[u8],
-) -> Result<Vec<u8>, ToolError>
+fn image_for(alloc: Global, options: &CreateOptions, input: &[u8]) -> Result<Vec<u8>, ToolError>
     requires size { 32 ≤ options.now.header_size }
     requires fits { length input.now ≤ 2 ^ 24 }
     ensures made { Gives (λ v. v.items) result (created options.now input.now) }

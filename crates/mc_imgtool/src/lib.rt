@@ -12,3 +12,5 @@ pub use error::ToolError;
 pub use input::read_bounded;
 pub use verification::verify;
 
+#[cfg(test)]
+mod tests;

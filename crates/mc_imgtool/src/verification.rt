@@ -25,6 +25,7 @@ fn good_line(alloc: Global, image: &ImageView<'_>) -> Result<String, AllocError>
 }
 
 /// The valid image that the bytes begin with.
+#[tactic(auto, using(crate::proofs::FaultLaws::fault_checked, crate::proofs::FaultLaws::fault_none))]
 fn valid_image(bytes: &[u8]) -> Result<ImageView<'_>, ImageError>
     ensures { MatchResult result (λ v. (image_fault bytes.now ≡ None) × (v ≡ image_in bytes.now)) (λ e. image_fault bytes.now ≡ Some e) }
 {
@@ -34,6 +35,7 @@ fn valid_image(bytes: &[u8]) -> Result<ImageView<'_>, ImageError>
 }
 
 /// The line for an input that was read whole.
+#[tactic(auto, using(crate::proofs::Wanted::verified_good, crate::proofs::Wanted::verified_bad))]
 fn line_for(alloc: Global, input: &[u8]) -> Result<String, ToolError>
     requires { length input.now ≤ 2 ^ 24 }
     ensures { Gives string_bytes result (verified input.now) }

@@ -12,4 +12,4 @@ returns-clause-written c =
     let start : c.len-start.result ≡ length c.args.out.now.items = search rules in
     on_ok c.put_plain.result c.put_plain.ensures.written
     (λ last. image-written c.args.parts.now c.args.out.now.items c.put_covered.new.out.items _ c.digest_from-digest.result c.len-start.result start c.in_ok-put_covered.ensures.written
-        (c.digest_from-digest.ensures ∙ ap (λ x. sha256 (drop c.len-start.result x)) c.deref.ensures.value) last)
+    (c.digest_from-digest.ensures ∙ ap (λ x. sha256 (drop c.len-start.result x)) c.deref.ensures.value) last)
