@@ -6,6 +6,7 @@ pub mod Sound
 pub mod Header
 pub mod ImageLaws
 pub mod ValidLaws
+pub mod ViewLaws
 pub mod ListingLaws
 pub mod EntriesWritten
 pub mod Appended

@@ -1,5 +1,7 @@
-use Rattle.std.proofs.Common.{rules, ◌≡◌, ◌∙◌, ap, length, drop}
+use Rattle.std.proofs.Common.{rules, ◌≡◌, ◌∙◌, ◌++◌, ap, length, drop}
 use Rattle.sha2.specs.Sha256.{sha256}
+use Rattle.mc_image.specs.Image.{covered_text}
+use Rattle.mc_image.specs.Writing.{image_of}
 use Rattle.mc_image.proofs.Appended.{on_ok}
 use Rattle.mc_image.proofs.SizeLaws.{image-written, plain_size}
 use Rattle.mc_image.proofs.writing.put_image.Goals as goal
@@ -9,7 +11,9 @@ put_plain-requires c = c.requires.plain ∙ plain_size c.args.parts.now
 
 pub returns-clause-written : goal.returns-clause-written
 returns-clause-written c =
+    let same = c.in_ok-reserve.ensures.items in
     let start : c.len-start.result ≡ length c.args.out.now.items = search rules in
     on_ok c.put_plain.result c.put_plain.ensures.written
-    (λ last. image-written c.args.parts.now c.args.out.now.items c.put_covered.new.out.items _ c.digest_from-digest.result c.len-start.result start c.in_ok-put_covered.ensures.written
+    (λ last. image-written c.args.parts.now c.args.out.now.items c.put_covered.new.out.items _ c.digest_from-digest.result c.len-start.result start
+    (c.in_ok-put_covered.ensures.written ∙ ap (λ x. x ++ covered_text (image_of c.args.parts.now)) same)
     (c.digest_from-digest.ensures ∙ ap (λ x. sha256 (drop c.len-start.result x)) c.deref.ensures.value) last)

@@ -1,0 +1,9 @@
+use Rattle.std.proofs.Common.{arith}
+use Rattle.mc_image.proofs.ViewLaws.{view_long, view_padding}
+use Rattle.mc_image.proofs.view.ImageView.padding.Goals as goal
+
+pub u32_at-requires : goal.u32_at-requires
+u32_at-requires c = let long = view_long _ _ _ _ _ _ c.self.invariant in omega (arith, long)
+
+pub returns : goal.returns
+returns c = view_padding _ _ _ _ _ _ _ c.u32_at.result c.self.view_is c.self.invariant c.u32_at.ensures
