@@ -5,7 +5,7 @@ use Rattle.std.specs.Io.KnownBytes.{Appends, Keeps}
 use Rattle.std.proofs.KnownBytes.{Keeps-refl}
 use Rattle.mc_imgtool.specs.Engines.{RefusesReading, AppendsFront, Refuses, Answers}
 use Rattle.mc_imgtool.specs.declared.error.ToolError.{ToolError}
-use Rattle.mc_imgtool.specs.declared.error.ToolError.TheVariants.{Image, NotZeros, InputTooLong, Read, Write, Memory}
+use Rattle.mc_imgtool.specs.declared.error.ToolError.TheVariants.{Image, NotZeros, SlotTooSmall, NeedsSlotSize, InputTooLong, Read, Write, Memory}
 
 -- too long an input is refused as that, and no other refusal is wanted that a writer gives
 pub record IsWanted (wanted : List ℕ → Result (List ℕ) ToolError) : Type 0 where
@@ -22,6 +22,8 @@ refused_reading wanted is known w Read h = Keeps-refl w
 refused_reading wanted is known w Memory h = Keeps-refl w
 refused_reading wanted is known w (Image e) h = absurd h
 refused_reading wanted is known w NotZeros h = absurd h
+refused_reading wanted is known w SlotTooSmall h = absurd h
+refused_reading wanted is known w NeedsSlotSize h = absurd h
 refused_reading wanted is known w Write h = absurd h
 
 known_refusal : (wanted : List ℕ → Result (List ℕ) ToolError) (known : Option (List ℕ)) (xs : List ℕ) (e : ToolError) → IfSome known (λ ys. xs ≡ ys) → wanted xs ≡ Err e → IfSome known (λ ys. wanted ys ≡ Err e)
@@ -38,6 +40,8 @@ refused_making wanted is known w xs Memory same (inr h) = Keeps-refl w
 refused_making wanted is known w xs Write same (inr h) = absurd (is.no_write xs h)
 refused_making wanted is known w xs (Image e) same (inr h) = (known_refusal wanted known xs (Image e) same h, Keeps-refl w)
 refused_making wanted is known w xs NotZeros same (inr h) = (known_refusal wanted known xs NotZeros same h, Keeps-refl w)
+refused_making wanted is known w xs SlotTooSmall same (inr h) = (known_refusal wanted known xs SlotTooSmall same h, Keeps-refl w)
+refused_making wanted is known w xs NeedsSlotSize same (inr h) = (known_refusal wanted known xs NeedsSlotSize same h, Keeps-refl w)
 refused_making wanted is known w xs InputTooLong same (inr h) = (known_refusal wanted known xs InputTooLong same h, Keeps-refl w)
 
 -- a fact of the text that is wanted
@@ -52,3 +56,11 @@ pub answered_writing : {A : Type 0} (wanted : List ℕ → Result (List ℕ) Too
     → OnOk r (Appends old new text) → IfErr r (λ e. (e ≡ Write) × AppendsFront old new text) → Answers wanted known old new r
 answered_writing wanted known old new xs text (Ok x) same h whole front = known_text wanted known xs text (Appends old new) same h whole
 answered_writing wanted known old new xs text (Err e) same h whole front = at_write wanted known old new e front.0 (known_text wanted known xs text (AppendsFront old new) same h front.1)
+
+known_all : (wanted : List ℕ → Result (List ℕ) ToolError) (known : Option (List ℕ)) (e : ToolError) → ((xs : List ℕ) → wanted xs ≡ Err e) → IfSome known (λ xs. wanted xs ≡ Err e)
+known_all wanted None e h = tt
+known_all wanted (Some xs) e h = h xs
+
+-- a slot's size is missing, whatever the input
+pub refused_unread : (wanted : List ℕ → Result (List ℕ) ToolError) (known w : Option (List ℕ)) → ((xs : List ℕ) → wanted xs ≡ Err NeedsSlotSize) → Refuses wanted known w w NeedsSlotSize
+refused_unread wanted known w h = (known_all wanted known NeedsSlotSize h, Keeps-refl w)

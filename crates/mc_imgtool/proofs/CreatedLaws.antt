@@ -1,17 +1,18 @@
 -- The image of the parts that `create` hands on is the created one.
-use Rattle.std.proofs.Common.{◌≡◌, ℕ, ◌-◌, ◌≤◌, ◌^◌, Bool, true, false, cond, List, [], length, Option, None, Some, Result, Ok, Err, refl, sym, ap, subst, ◌∙◌, replicate, ◌++◌, inl, inr}
-use Rattle.std.specs.Prelude.{◌⊎◌, map}
+use Rattle.std.proofs.Common.{◌≡◌, ℕ, ◌-◌, ◌≤◌, ◌^◌, Bool, true, false, cond, List, [], length, Option, None, Some, Result, Ok, Err, refl, sym, ap, subst, ◌∙◌, replicate, ◌++◌, inl, inr, append_assoc}
+use Rattle.std.specs.Prelude.{◌⊎◌, map, nat_lt, IfOk}
 use Rattle.mc_image.specs.Image.{Image, image_text}
 use Rattle.mc_image.specs.Entries.{Entry}
 use Rattle.mc_image.specs.Writing.{views, area_of, undigested, with_digest, image_of}
 use Rattle.mc_image.specs.declared.version.Version.{Version}
 use Rattle.mc_image.specs.declared.writing.ImageParts.{ImageParts}
 use Rattle.mc_image.specs.declared.error.ImageError.{ImageError}
-use Rattle.mc_imgtool.specs.Created.{created, lacks_zeros, payload_in, bare_image}
+use Rattle.mc_image.specs.Valid.{IsValid}
+use Rattle.mc_imgtool.specs.Engines.{Gives}
+use Rattle.mc_imgtool.specs.Created.{created, fills_slot, needs_slot_size, lacks_zeros, counter_area, bare_image, is_too_small, filled_slot, in_slot, slotted}
 use Rattle.mc_imgtool.specs.declared.creation.CreateOptions.{CreateOptions}
 use Rattle.mc_imgtool.specs.declared.error.ToolError.{ToolError}
-use Rattle.mc_imgtool.specs.declared.error.ToolError.TheVariants.{NotZeros, InputTooLong, Memory, Image as image_error}
-use Rattle.mc_imgtool.proofs.Wanted.{created_made}
+use Rattle.mc_imgtool.specs.declared.error.ToolError.TheVariants.{NotZeros, SlotTooSmall, NeedsSlotSize, InputTooLong, Memory, Image as image_error}
 
 abbrev plain_image : ℕ → Version → ℕ → List ℕ → List ℕ → Option (List Entry) → List Entry → Image
 plain_image load version padding rest payload protected plain = record { load = load; version = version; padding = padding; rest = rest; payload = payload; protected = protected; plain = plain }
@@ -19,33 +20,74 @@ plain_image load version padding rest payload protected plain = record { load = 
 same_image : {l l' p p' : ℕ} {v v' : Version} {r r' x x' : List ℕ} {q q' : Option (List Entry)} {e e' : List Entry} → l ≡ l' → v ≡ v' → p ≡ p' → r ≡ r' → x ≡ x' → q ≡ q' → e ≡ e' → plain_image l v p r x q e ≡ plain_image l' v' p' r' x' q' e'
 same_image e1 e2 e3 e4 e5 e6 e7 = cc
 
-pub bare_parts : (p : ImageParts) (o : CreateOptions) (payload : List ℕ) → p.load ≡ 0 → p.version ≡ o.version → p.padding ≡ 0 → p.header_rest.now ≡ replicate (o.header_size - 32) 0 → p.payload.now ≡ payload → p.protected.now ≡ [] → p.plain.now ≡ [] → undigested p ≡ bare_image o payload
+pub bare_parts : (p : ImageParts) (o : CreateOptions) (payload : List ℕ) → p.load ≡ 0 → p.version ≡ o.version → p.padding ≡ 0 → p.header_rest.now ≡ replicate (o.header_size - 32) 0 → p.payload.now ≡ payload → area_of (views p.protected.now) ≡ counter_area o.security_counter → p.plain.now ≡ []
+    → undigested p ≡ bare_image o payload
 unfolding undigested bare_image
-bare_parts p o payload e1 e2 e3 e4 e5 e6 e7 = same_image e1 e2 e3 e4 e5 (ap (λ es. area_of (views es)) e6) (ap views e7)
+bare_parts p o payload e1 e2 e3 e4 e5 e6 e7 = same_image e1 e2 e3 e4 e5 e6 (ap views e7)
 
-pub parts_are : (p : ImageParts) (o : CreateOptions) (payload : List ℕ) → undigested p ≡ bare_image o payload → image_of p ≡ with_digest (bare_image o payload)
+pub parts_are : (p : ImageParts) (v : Image) → undigested p ≡ v → image_of p ≡ with_digest v
 unfolding image_of
-parts_are p o payload e = ap with_digest e
+parts_are p v e = ap with_digest e
 
-pub written_is : (p : ImageParts) (o : CreateOptions) (xs payload start out : List ℕ) → length xs ≤ 2 ^ 24 → lacks_zeros o xs ≡ false → payload ≡ payload_in o xs → undigested p ≡ bare_image o payload → start ≡ [] → out ≡ start ++ image_text (image_of p) → created o xs ≡ Ok out
-written_is p o xs payload start out h lacks is bare none e =
-    let whole : out ≡ image_text (with_digest (bare_image o payload)) = e ∙ ap (λ (l : List ℕ). l ++ image_text (image_of p)) none ∙ ap image_text (parts_are p o payload bare) in
-    created_made o xs payload h lacks is ∙ ap (λ (l : List ℕ). Ok l) (sym whole)
+pub written_is : (p : ImageParts) (v : Image) (start out : List ℕ) → undigested p ≡ v → start ≡ [] → out ≡ start ++ image_text (image_of p) → out ≡ image_text (with_digest v)
+written_is p v start out bare none e = e ∙ ap (λ (l : List ℕ). l ++ image_text (image_of p)) none ∙ ap image_text (parts_are p v bare)
+
+-- bytes behind a valid image leave it valid
+pub IsValid-more : (b x : List ℕ) → IsValid b → IsValid (b ++ x)
+IsValid-more b x h = record {
+  image = h.image;
+  begins = record { fits = h.begins.fits; front = (h.begins.front.0 ++ x, ap (λ (l : List ℕ). l ++ x) h.begins.front.1 ∙ append_assoc (image_text h.image) h.begins.front.0 x) };
+  good = h.good;
+}
+
+in_slot_valid : (o : CreateOptions) (image : List ℕ) (slot : Option ℕ) → IsValid image → IsValid (in_slot o image slot)
+in_slot_valid o image None h = h
+in_slot_valid o image (Some slot) h =
+    elim (fills_slot o) as (λ b. IsValid (cond b (filled_slot slot o.confirm image) image)) [
+      | true ↦ IsValid-more image _ h
+      | false ↦ h
+    ]
+
+either_valid : (b : Bool) (text : List ℕ) → IsValid text → IfOk (cond b (Err SlotTooSmall) (Ok text)) IsValid
+either_valid true text h = tt
+either_valid false text h = h
+
+pub slotted_valid : (o : CreateOptions) (image : List ℕ) → IsValid image → IfOk (slotted o image) IsValid
+unfolding slotted
+slotted_valid o image h = either_valid (is_too_small o (length image) o.slot_size) _ (in_slot_valid o image o.slot_size h)
+
+-- what is made of a valid image is valid
+pub made_valid : {A : Type 0} (view : A → List ℕ) (o : CreateOptions) (image : List ℕ) (r : Result A ToolError) → IsValid image → Gives view r (slotted o image) → IfOk r (λ x. IsValid (view x))
+made_valid view o image (Err e) h gives = tt
+made_valid view o image (Ok x) h gives = let P : Result (List ℕ) ToolError → Type 0 = λ w. IfOk w IsValid in subst P gives (slotted_valid o image h)
+
+-- the wanted bytes are valid where they are made
+pub wanted_valid : {A : Type 0} (view : A → List ℕ) (wanted : Result (List ℕ) ToolError) (x : A) → wanted ≡ Ok (view x) → IsValid (view x) → IfOk wanted IsValid
+wanted_valid view wanted x e h = let P : Result (List ℕ) ToolError → Type 0 = λ w. IfOk w IsValid in subst P (sym e) h
 
 -- no image error is wanted
-either_no_image : (a b : Bool) (text : List ℕ) (e : ImageError) → cond a (Err InputTooLong) (cond b (Err NotZeros) (Ok text)) ≡ Err (image_error e) → ⊥
-either_no_image true b text e h = cc
-either_no_image false true text e h = cc
-either_no_image false false text e h = cc
+slot_no_image : (b : Bool) (text : List ℕ) (e : ImageError) → cond b (Err SlotTooSmall) (Ok text) ≡ Err (image_error e) → ⊥
+slot_no_image true text e h = cc
+slot_no_image false text e h = cc
+
+slotted_no_image : (o : CreateOptions) (image : List ℕ) (e : ImageError) → slotted o image ≡ Err (image_error e) → ⊥
+unfolding slotted
+slotted_no_image o image e h = slot_no_image (is_too_small o (length image) o.slot_size) _ e h
+
+three_no_image : (a b c : Bool) (r : Result (List ℕ) ToolError) (e : ImageError) → (r ≡ Err (image_error e) → ⊥) → cond a (Err NeedsSlotSize) (cond b (Err InputTooLong) (cond c (Err NotZeros) r)) ≡ Err (image_error e) → ⊥
+three_no_image true b c r e h q = cc
+three_no_image false true c r e h q = cc
+three_no_image false false true r e h q = cc
+three_no_image false false false r e h q = h q
 
 no_image : (o : CreateOptions) (xs : List ℕ) (e : ImageError) → created o xs ≡ Err (image_error e) → ⊥
 unfolding created
-no_image o xs e h = either_no_image _ _ _ e h
+no_image o xs e h = three_no_image (needs_slot_size o) (nat_lt (2 ^ 24) (length xs)) (lacks_zeros o xs) _ e (slotted_no_image o _ e) h
 
 not_memory : (e : ImageError) → image_error e ≡ Memory → ⊥
 not_memory e h = cc
 
-pub never_image : (o : CreateOptions) (xs : List ℕ) (e : ImageError) → (image_error e ≡ Memory) ⊎ (created o xs ≡ Err (image_error e)) → ⊥
+never_image : (o : CreateOptions) (xs : List ℕ) (e : ImageError) → (image_error e ≡ Memory) ⊎ (created o xs ≡ Err (image_error e)) → ⊥
 never_image o xs e (inl h) = not_memory e h
 never_image o xs e (inr h) = no_image o xs e h
 
@@ -58,3 +100,40 @@ same_error x y h = cc
 -- an error that is made is no image error
 pub never_error : (o : CreateOptions) (xs : List ℕ) (d : ToolError) → (d ≡ Memory) ⊎ (created o xs ≡ Err d) → (e : ImageError) → failed d ≡ failed (image_error e) → ⊥
 never_error o xs d made e h = let P : ToolError → Type 0 = λ x. (x ≡ Memory) ⊎ (created o xs ≡ Err x) in never_image o xs e (subst P (same_error d (image_error e) h) made)
+
+-- once its size is told no slot size is missing
+needs_no_more : (a b c : Bool) (r : Result (List ℕ) ToolError) → a ≡ false → (r ≡ Err NeedsSlotSize → ⊥) → cond a (Err NeedsSlotSize) (cond b (Err InputTooLong) (cond c (Err NotZeros) r)) ≡ Err NeedsSlotSize → ⊥
+needs_no_more true b c r e h q = absurd cc
+needs_no_more false true c r e h q = cc
+needs_no_more false false true r e h q = cc
+needs_no_more false false false r e h q = h q
+
+slot_no_needs : (b : Bool) (text : List ℕ) → cond b (Err SlotTooSmall) (Ok text) ≡ Err NeedsSlotSize → ⊥
+slot_no_needs true text h = cc
+slot_no_needs false text h = cc
+
+slotted_no_needs : (o : CreateOptions) (image : List ℕ) → slotted o image ≡ Err NeedsSlotSize → ⊥
+unfolding slotted
+slotted_no_needs o image h = slot_no_needs (is_too_small o (length image) o.slot_size) _ h
+
+created_no_needs : (o : CreateOptions) (xs : List ℕ) → needs_slot_size o ≡ false → created o xs ≡ Err NeedsSlotSize → ⊥
+unfolding created
+created_no_needs o xs told h = needs_no_more (needs_slot_size o) (nat_lt (2 ^ 24) (length xs)) (lacks_zeros o xs) _ told (slotted_no_needs o _) h
+
+not_memory_needs : NeedsSlotSize ≡ Memory → ⊥
+not_memory_needs h = cc
+
+told_made : (o : CreateOptions) (xs : List ℕ) → needs_slot_size o ≡ false → (NeedsSlotSize ≡ Memory) ⊎ (created o xs ≡ Err NeedsSlotSize) → ⊥
+told_made o xs told (inl h) = not_memory_needs h
+told_made o xs told (inr h) = created_no_needs o xs told h
+
+-- an error that is made says nothing of a slot's size once that is told
+pub told_error : (o : CreateOptions) (xs : List ℕ) (d : ToolError) → needs_slot_size o ≡ false → (d ≡ Memory) ⊎ (created o xs ≡ Err d) → failed d ≡ failed NeedsSlotSize → ⊥
+told_error o xs d told made h = let P : ToolError → Type 0 = λ x. (x ≡ Memory) ⊎ (created o xs ≡ Err x) in told_made o xs told (subst P (same_error d NeedsSlotSize h) made)
+
+-- what is made for its slot is what is wanted
+pub made_slotted : {A : Type 0} (view : A → List ℕ) (o : CreateOptions) (r : Result A ToolError) (wanted : Result (List ℕ) ToolError) (image : List ℕ) → wanted ≡ slotted o image → Gives view r (slotted o image) → Gives view r wanted
+made_slotted view o r wanted image e gives = let P : Result (List ℕ) ToolError → Type 0 = λ w. Gives view r w in subst P (sym e) gives
+
+pub false_true : {b : Bool} → b ≡ false → b ≡ true → ⊥
+false_true e h = cc

@@ -7,10 +7,10 @@ use Rattle.mc_image.specs.Valid.{image_fault}
 use Rattle.mc_image.specs.Writing.{with_digest}
 use Rattle.mc_image.specs.declared.error.ImageError.{ImageError}
 use Rattle.mc_imgtool.specs.Lines.{good_line, line_or_fault, verified}
-use Rattle.mc_imgtool.specs.Created.{created, lacks_zeros, payload_in, bare_image}
+use Rattle.mc_imgtool.specs.Created.{created, needs_slot_size, lacks_zeros, payload_in, bare_image, is_too_small, slotted}
 use Rattle.mc_imgtool.specs.declared.creation.CreateOptions.{CreateOptions}
 use Rattle.mc_imgtool.specs.declared.error.ToolError.{ToolError}
-use Rattle.mc_imgtool.specs.declared.error.ToolError.TheVariants.{NotZeros, InputTooLong, Write, Image as image_error}
+use Rattle.mc_imgtool.specs.declared.error.ToolError.TheVariants.{NotZeros, SlotTooSmall, NeedsSlotSize, InputTooLong, Write, Image as image_error}
 use Rattle.mc_imgtool.proofs.Answering.{IsWanted}
 
 line_no_write : (v : Image) (o : Option ImageError) → line_or_fault v o ≡ Err Write → ⊥
@@ -43,24 +43,41 @@ verified_bad xs e h some = verified_short xs h ∙ ap (line_or_fault (image_in x
 
 -- ---- create
 
-created_long : (o : CreateOptions) (xs : List ℕ) → 2 ^ 24 < length xs → created o xs ≡ Err InputTooLong
+created_long : (o : CreateOptions) (xs : List ℕ) → needs_slot_size o ≡ false → 2 ^ 24 < length xs → created o xs ≡ Err InputTooLong
 unfolding created
-created_long o xs h = let t : nat_lt (2 ^ 24) (length xs) ≡ true = lt-ltb _ _ h in rw t refl
+created_long o xs told h = let t : nat_lt (2 ^ 24) (length xs) ≡ true = lt-ltb _ _ h in rw (told, t) refl
 
-zeros_no_write : (b : Bool) (text : List ℕ) → cond b (Err NotZeros) (Ok text) ≡ Err Write → ⊥
-zeros_no_write true text e = cc
-zeros_no_write false text e = cc
+slotted_no_write : (o : CreateOptions) (image : List ℕ) → slotted o image ≡ Err Write → ⊥
+unfolding slotted
+slotted_no_write o image e = small_no_write (is_too_small o (length image) o.slot_size) _ e
+  where
+    small_no_write : (b : Bool) (text : List ℕ) → cond b (Err SlotTooSmall) (Ok text) ≡ Err Write → ⊥
+    small_no_write true text h = cc
+    small_no_write false text h = cc
 
-pub created_wanted : (o : CreateOptions) → IsWanted (created o)
+three_no_write : (a b c : Bool) (r : Result (List ℕ) ToolError) → (r ≡ Err Write → ⊥) → cond a (Err NeedsSlotSize) (cond b (Err InputTooLong) (cond c (Err NotZeros) r)) ≡ Err Write → ⊥
+three_no_write true b c r h e = cc
+three_no_write false true c r h e = cc
+three_no_write false false true r h e = cc
+three_no_write false false false r h e = h e
+
+created_no_write : (o : CreateOptions) (xs : List ℕ) → created o xs ≡ Err Write → ⊥
 unfolding created
-created_wanted o = record { long = created_long o; no_write = λ xs e. either_no_write (nat_lt (2 ^ 24) (length xs)) _ (zeros_no_write (lacks_zeros o xs) _) e }
+created_no_write o xs e = three_no_write (needs_slot_size o) (nat_lt (2 ^ 24) (length xs)) (lacks_zeros o xs) _ (slotted_no_write o _) e
 
-pub created_refused : (o : CreateOptions) (xs : List ℕ) → length xs ≤ 2 ^ 24 → lacks_zeros o xs ≡ true → created o xs ≡ Err NotZeros
-unfolding created
-created_refused o xs h lacks = let t : nat_lt (2 ^ 24) (length xs) ≡ false = le-ltb _ _ h in rw (t, lacks) refl
+pub created_wanted : (o : CreateOptions) → needs_slot_size o ≡ false → IsWanted (created o)
+created_wanted o told = record { long = λ xs h. created_long o xs told h; no_write = created_no_write o }
 
-pub created_made : (o : CreateOptions) (xs payload : List ℕ) → length xs ≤ 2 ^ 24 → lacks_zeros o xs ≡ false → payload ≡ payload_in o xs → created o xs ≡ Ok (image_text (with_digest (bare_image o payload)))
+pub created_needs : (o : CreateOptions) (xs : List ℕ) → needs_slot_size o ≡ true → created o xs ≡ Err NeedsSlotSize
 unfolding created
-created_made o xs payload h lacks is =
+created_needs o xs e = rw e refl
+
+pub created_refused : (o : CreateOptions) (xs : List ℕ) → needs_slot_size o ≡ false → length xs ≤ 2 ^ 24 → lacks_zeros o xs ≡ true → created o xs ≡ Err NotZeros
+unfolding created
+created_refused o xs told h lacks = let t : nat_lt (2 ^ 24) (length xs) ≡ false = le-ltb _ _ h in rw (told, t, lacks) refl
+
+pub created_made : (o : CreateOptions) (xs payload : List ℕ) → needs_slot_size o ≡ false → length xs ≤ 2 ^ 24 → lacks_zeros o xs ≡ false → payload ≡ payload_in o xs → created o xs ≡ slotted o (image_text (with_digest (bare_image o payload)))
+unfolding created
+created_made o xs payload told h lacks is =
     let t : nat_lt (2 ^ 24) (length xs) ≡ false = le-ltb _ _ h in
-    rw (t, lacks) (ap (λ (p : List ℕ). Ok (image_text (with_digest (bare_image o p)))) (sym is))
+    rw (told, t, lacks) (ap (λ (p : List ℕ). slotted o (image_text (with_digest (bare_image o p)))) (sym is))

@@ -3,7 +3,7 @@
 use Rattle.std.specs.Prelude.{◌≡◌, ℕ, ◌<◌, List, length, take, Option, Result, Ok, Err, IfSome, ⊤, ◌⊎◌}
 use Rattle.std.specs.Io.KnownBytes.{Appends, Keeps}
 use Rattle.mc_imgtool.specs.declared.error.ToolError.{ToolError}
-use Rattle.mc_imgtool.specs.declared.error.ToolError.TheVariants.{Image, NotZeros, InputTooLong, Read, Write, Memory}
+use Rattle.mc_imgtool.specs.declared.error.ToolError.TheVariants.{Image, NotZeros, SlotTooSmall, NeedsSlotSize, InputTooLong, Read, Write, Memory}
 
 -- when a reader of at most `limit` bytes gives each refusal: the known input, the limit
 abbrev pub RefusesReading : Option (List ℕ) → ℕ → ToolError → Type 0
@@ -12,6 +12,8 @@ RefusesReading known limit Read = ⊤
 RefusesReading known limit Memory = ⊤
 RefusesReading known limit (Image e) = ⊥
 RefusesReading known limit NotZeros = ⊥
+RefusesReading known limit SlotTooSmall = ⊥
+RefusesReading known limit NeedsSlotSize = ⊥
 RefusesReading known limit Write = ⊥
 
 -- some front of the text is out
@@ -35,6 +37,8 @@ Refuses wanted known old new Memory = Keeps old new
 Refuses wanted known old new Write = IfSome known (λ xs. (text : List ℕ) × (wanted xs ≡ Ok text) × AppendsFront old new text)
 Refuses wanted known old new (Image e) = IsWantedRefusal wanted known old new (Image e)
 Refuses wanted known old new NotZeros = IsWantedRefusal wanted known old new NotZeros
+Refuses wanted known old new SlotTooSmall = IsWantedRefusal wanted known old new SlotTooSmall
+Refuses wanted known old new NeedsSlotSize = IsWantedRefusal wanted known old new NeedsSlotSize
 Refuses wanted known old new InputTooLong = IsWantedRefusal wanted known old new InputTooLong
 
 -- the wanted text is out, or it is a refusal

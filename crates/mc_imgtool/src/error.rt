@@ -11,6 +11,12 @@ pub enum ToolError {
     /// The input does not begin with zeros in the header's place.
     #[error("E20 NotZeros")]
     NotZeros,
+    /// The slot has no room for the image and a trailer.
+    #[error("E21 SlotTooSmall")]
+    SlotTooSmall,
+    /// The slot is to be filled, and its size is not told.
+    #[error("E22 NeedsSlotSize")]
+    NeedsSlotSize,
     /// The input has more bytes than the limit.
     #[error("E23 InputTooLong")]
     InputTooLong,
