@@ -12,7 +12,7 @@ pub fault_read : (b : List ℕ) (e : ImageError) → first_fault b ≡ Some e �
 unfolding image_fault
 fault_read b e h = rw h refl
 
-good_false : (v : Image) → (IsGood v → ⊥) → is_good v ≡ false
+pub good_false : (v : Image) → (IsGood v → ⊥) → is_good v ≡ false
 unfolding is_good
 good_false v h =
     elim (is_good v) as (λ t. is_good v ≡ t → t ≡ false) [
@@ -20,7 +20,7 @@ good_false v h =
       | false ↦ λ e. refl
     ] refl
 
-good_true : (v : Image) → IsGood v → is_good v ≡ true
+pub good_true : (v : Image) → IsGood v → is_good v ≡ true
 unfolding is_good
 good_true v g = (bytes_eq-Decides _ _).1 g
 

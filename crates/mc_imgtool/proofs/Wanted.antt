@@ -6,7 +6,8 @@ use Rattle.mc_image.specs.Image.{Image, image_in, image_text}
 use Rattle.mc_image.specs.Valid.{image_fault}
 use Rattle.mc_image.specs.Writing.{with_digest}
 use Rattle.mc_image.specs.declared.error.ImageError.{ImageError}
-use Rattle.mc_imgtool.specs.Lines.{good_line, line_or_fault, verified}
+use Rattle.mc_image.specs.Faults.{first_fault}
+use Rattle.mc_imgtool.specs.Lines.{good_line, line_or_fault, verified, report, report_or_fault, dumped}
 use Rattle.mc_imgtool.specs.Created.{created, needs_slot_size, lacks_zeros, payload_in, bare_image, is_too_small, slotted}
 use Rattle.mc_imgtool.specs.declared.creation.CreateOptions.{CreateOptions}
 use Rattle.mc_imgtool.specs.declared.error.ToolError.{ToolError}
@@ -40,6 +41,32 @@ verified_good xs text v h none is line = verified_short xs h ∙ ap (line_or_fau
 
 pub verified_bad : (xs : List ℕ) (e : ImageError) → length xs ≤ 2 ^ 24 → image_fault xs ≡ Some e → verified xs ≡ Err (image_error e)
 verified_bad xs e h some = verified_short xs h ∙ ap (line_or_fault (image_in xs)) some
+
+-- ---- dumpinfo
+
+report_no_write : (xs : List ℕ) (o : Option ImageError) → report_or_fault xs o ≡ Err Write → ⊥
+report_no_write xs None e = cc
+report_no_write xs (Some x) e = cc
+
+dumped_long : (xs : List ℕ) → 2 ^ 24 < length xs → dumped xs ≡ Err InputTooLong
+unfolding dumped
+dumped_long xs h = let t : nat_lt (2 ^ 24) (length xs) ≡ true = lt-ltb _ _ h in rw t refl
+
+pub dumped_wanted : IsWanted dumped
+unfolding dumped
+dumped_wanted = record { long = dumped_long; no_write = λ xs e. either_no_write (nat_lt (2 ^ 24) (length xs)) _ (report_no_write xs (first_fault xs)) e }
+
+dumped_short : (xs : List ℕ) → length xs ≤ 2 ^ 24 → dumped xs ≡ report_or_fault xs (first_fault xs)
+unfolding dumped
+dumped_short xs h = let t : nat_lt (2 ^ 24) (length xs) ≡ false = le-ltb _ _ h in rw t refl
+
+pub dumped_bad : (xs : List ℕ) (e : ImageError) → length xs ≤ 2 ^ 24 → first_fault xs ≡ Some e → dumped xs ≡ Err (image_error e)
+dumped_bad xs e h some = dumped_short xs h ∙ ap (report_or_fault xs) some
+
+pub dumped_good : (xs text : List ℕ) (v : Image) (size rest : ℕ) → length xs ≤ 2 ^ 24 → first_fault xs ≡ None → v ≡ image_in xs → size ≡ length (image_text v) → rest ≡ length xs - size → text ≡ report v rest → dumped xs ≡ Ok text
+dumped_good xs text v size rest h none is total behind line =
+    let n : rest ≡ length xs - length (image_text (image_in xs)) = behind ∙ ap (λ (k : ℕ). length xs - k) (total ∙ ap (λ (w : Image). length (image_text w)) is) in
+    dumped_short xs h ∙ ap (report_or_fault xs) none ∙ ap (λ (k : ℕ). Ok (report (image_in xs) k)) (sym n) ∙ ap (λ (w : Image). Ok (report w rest)) (sym is) ∙ ap (λ (l : List ℕ). Ok l) (sym line)
 
 -- ---- create
 

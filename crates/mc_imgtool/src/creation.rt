@@ -144,11 +144,7 @@ fn image_with(
 }
 
 /// The image of a payload.
-fn image_of(
-    alloc: Global,
-    options: &CreateOptions,
-    payload: &[u8],
-) -> Result<Vec<u8>, AllocError>
+fn image_of(alloc: Global, options: &CreateOptions, payload: &[u8]) -> Result<Vec<u8>, AllocError>
     requires { 32 ≤ options.now.header_size }
     ensures made { IfOk result (λ v. v.items ≡ image_text (with_digest (bare_image options.now payload.now))) }
     ensures valid { IfOk result (λ v. IsValid v.items) }
@@ -158,7 +154,12 @@ fn image_of(
     };
     let mut value = [0u8; 4];
     LittleEndian::write_u32(&mut value, counter);
-    image_with(alloc, options, payload, &[(SECURITY_COUNTER, value.as_slice())])
+    image_with(
+        alloc,
+        options,
+        payload,
+        &[(SECURITY_COUNTER, value.as_slice())],
+    )
 }
 
 /// Fills a slot up behind its image.
@@ -195,11 +196,7 @@ fn slotted(options: &CreateOptions, image: Vec<u8>) -> Result<Vec<u8>, ToolError
 }
 
 /// What is written for an input that was read whole.
-fn bytes_for(
-    alloc: Global,
-    options: &CreateOptions,
-    input: &[u8],
-) -> Result<Vec<u8>, ToolError>
+fn bytes_for(alloc: Global, options: &CreateOptions, input: &[u8]) -> Result<Vec<u8>, ToolError>
     requires size { 32 ≤ options.now.header_size }
     requires told { needs_slot_size options.now ≡ false }
     requires fits { length input.now ≤ 2 ^ 24 }

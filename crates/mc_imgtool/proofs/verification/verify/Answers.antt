@@ -1,6 +1,6 @@
 use Rattle.std.proofs.lemmas.Result.{err_from_is_err_and}
 use Rattle.mc_imgtool.specs.Lines.{verified}
-use Rattle.mc_imgtool.proofs.Answering.{refused_reading, refused_making, answered_writing}
+use Rattle.mc_imgtool.proofs.Answering.{refused_reading, refused_making}
 use Rattle.mc_imgtool.proofs.Wanted.{verified_wanted}
 use Rattle.mc_imgtool.proofs.verification.verify.Goals as goal
 

@@ -1,0 +1,26 @@
+-- Exit statuses.
+use Rattle.std.specs.Prelude.{ℕ}
+use Rattle.mc_image.specs.declared.error.ImageError.TheVariants as image_errors
+use Rattle.mc_imgtool.specs.declared.error.ToolError.{ToolError}
+use Rattle.mc_imgtool.specs.declared.error.ToolError.TheVariants as tool_errors
+use Rattle.mcsim.specs.declared.refusal.Refusal.{Refusal}
+use Rattle.mcsim.specs.declared.refusal.Refusal.TheVariants as refusals
+
+-- the status for a refusal of the image tool: 2 where the options do not go together, 3 where a read, a write or memory failed, 1 where the content is refused
+abbrev pub status_of_tool : ToolError → ℕ
+status_of_tool tool_errors.NeedsSlotSize = 2
+status_of_tool tool_errors.Read = 3
+status_of_tool tool_errors.Write = 3
+status_of_tool tool_errors.Memory = 3
+status_of_tool (tool_errors.Image image_errors.Memory) = 3
+status_of_tool _ = 1
+
+-- the status for a refusal: 2 where the command line is refused
+abbrev pub status_of : Refusal → ℕ
+status_of refusals.NotText = 2
+status_of refusals.Argument = 2
+status_of (refusals.Version _) = 2
+status_of (refusals.Tool e) = status_of_tool e
+status_of refusals.Open = 3
+status_of refusals.Write = 3
+status_of refusals.Memory = 3

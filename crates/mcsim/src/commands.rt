@@ -1,0 +1,3 @@
+//! The commands, each with its files.
+pub mod create;
+pub mod verify;

@@ -1,0 +1,100 @@
+//! The program `mcsim`: the command line over the image tool.
+#![tactic(auto)]
+
+ghost use Rattle.std.specs.Prelude.{◌≤◌};
+
+mod command;
+mod commands;
+mod options;
+mod refusal;
+
+use clap::error::ErrorKind;
+use clap::{ArgMatches, Error};
+use refusal::Refusal;
+use std::alloc::{AllocError, Global};
+use std::io;
+use std::io::{Read, Write};
+use std::process::ExitCode;
+use std::rt::Files;
+
+/// Runs one command line, whose first word is the program's name, and answers the exit status: 0 where it is done, 1
+/// where a content is refused, 2 where the command line is refused, 3 where a file, a write or memory fails.
+///
+/// A refusal is one line on `err`, or clap's own text. A failed write to `err` changes no status.
+pub fn run<F: Files, R: Read, O: Write, E: Write>(
+    files: &F,
+    alloc: Global,
+    words: &[String],
+    input: &mut R,
+    out: &mut O,
+    err: &mut E,
+) -> u8
+    ensures { result ≤ 3 }
+{
+    let matches = match command::parse(alloc, words) {
+        Ok(matches) => matches,
+        Err(error) => return answer_of_clap(&error, out, err),
+    };
+    match run_command(files, alloc, &matches, input, out) {
+        Ok(()) => 0,
+        Err(refusal) => refusal.report(err),
+    }
+}
+
+/// Prints clap's help, or its refusal of a command line, and answers the status.
+fn answer_of_clap<O: Write, E: Write>(error: &Error, out: &mut O, err: &mut E) -> u8
+    ensures { result ≤ 3 }
+{
+    if error.kind() == ErrorKind::OutOfMemory {
+        return Refusal::Memory.report(err);
+    }
+    if error.use_stderr() {
+        let _ = write!(err, "{error}");
+        return 2;
+    }
+    match write!(out, "{error}") {
+        Ok(()) => 0,
+        Err(_) => Refusal::Write.report(err),
+    }
+}
+
+/// Runs the command that was named.
+fn run_command<F: Files, R: Read, O: Write>(
+    files: &F,
+    alloc: Global,
+    matches: &ArgMatches<'_>,
+    input: &mut R,
+    out: &mut O,
+) -> Result<(), Refusal> {
+    match matches.subcommand() {
+        Some(("create", arguments)) => commands::create::run(files, alloc, arguments),
+        Some(("verify", arguments)) => commands::verify::run(files, alloc, arguments, input, out),
+        _ => Err(Refusal::Argument),
+    }
+}
+
+fn main(rt: HostRuntime) -> ExitCode {
+    let alloc = rt.alloc();
+    let words: Result<Vec<String>, AllocError> = match std::env::args(&rt) {
+        Ok(words) => words.collect(alloc),
+        Err(error) if error.kind() == io::ErrorKind::InvalidData => {
+            return ExitCode::from(Refusal::NotText.report(&mut rt.stderr()));
+        }
+        Err(_) => Err(AllocError),
+    };
+    let Ok(words) = words else {
+        return ExitCode::from(Refusal::Memory.report(&mut rt.stderr()));
+    };
+    let status = run(
+        &rt,
+        alloc,
+        words.as_slice(),
+        &mut rt.stdin(),
+        &mut rt.stdout(),
+        &mut rt.stderr(),
+    );
+    ExitCode::from(status)
+}
+
+#[cfg(test)]
+mod tests;

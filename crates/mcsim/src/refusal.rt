@@ -1,0 +1,68 @@
+//! Why a command ended without its answer, and the status for it.
+ghost use Rattle.std.specs.Prelude.{◌≡◌, ◌≤◌};
+ghost use Rattle.mcsim.specs.Statuses.{status_of};
+
+use mc_image::{ImageError, VersionError};
+use mc_imgtool::ToolError;
+use std::io::Write;
+use thiserror::Error;
+
+/// Why a command ended without its answer. Its text is the number and the name of the refusal, where it has them.
+#[derive(Clone, Copy, Debug, PartialEq, Eq, Error)]
+pub enum Refusal {
+    /// A word of the command line is not UTF-8 text.
+    #[error("an argument is not UTF-8 text")]
+    NotText,
+    /// A required argument is missing, or a number is out of its range, where clap did not refuse it.
+    #[error("an argument is missing or out of its range")]
+    Argument,
+    /// The text of a version is refused.
+    #[error(transparent)]
+    Version(#[from] VersionError),
+    /// The image tool refuses.
+    #[error(transparent)]
+    Tool(#[from] ToolError),
+    /// A file cannot be opened or made.
+    #[error("E71 Open")]
+    Open,
+    /// The help cannot be written.
+    #[error("E25 Write")]
+    Write,
+    /// There is no memory to read the command line.
+    #[error("E26 Memory")]
+    Memory,
+}
+
+impl Refusal {
+    /// The exit status: 1 where a content is refused, 2 where the command line is, 3 where a file, a write or memory
+    /// fails.
+    pub fn status(&self) -> u8
+        ensures exact { result ≡ status_of self.now }
+        ensures range { (1 ≤ result) × (result ≤ 3) }
+    {
+        match self {
+            Refusal::NotText | Refusal::Argument | Refusal::Version(_) => 2,
+            Refusal::Tool(error) => match error {
+                ToolError::Image(ImageError::Memory)
+                | ToolError::Read
+                | ToolError::Write
+                | ToolError::Memory => 3,
+                ToolError::NeedsSlotSize => 2,
+                ToolError::Image(_)
+                | ToolError::NotZeros
+                | ToolError::SlotTooSmall
+                | ToolError::InputTooLong => 1,
+            },
+            Refusal::Open | Refusal::Write | Refusal::Memory => 3,
+        }
+    }
+
+    /// Prints the line of the refusal, and answers the status, also where the line cannot be written.
+    pub fn report<E: Write>(&self, err: &mut E) -> u8
+        ensures exact { result ≡ status_of self.now }
+        ensures range { (1 ≤ result) × (result ≤ 3) }
+    {
+        let _ = writeln!(err, "mcsim: {self}");
+        self.status()
+    }
+}

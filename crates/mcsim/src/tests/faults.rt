@@ -1,0 +1,167 @@
+//! Command lines whose reads and writes fail, each at each call.
+use super::faulty::{Fault, FaultyFile, FaultyFiles};
+use super::support::{create_words, outcome_over, owned};
+use super::vectors::{GOOD, IMAGE, PAYLOAD};
+use crate::run;
+use std::alloc::Global;
+use std::cell::RefCell;
+use std::test::Fail;
+
+static FAULTS: [Fault; 3] = [Fault::Error, Fault::Interruption, Fault::NoBytes];
+
+#[test]
+fn verify_meets_failing_reads(rt: HostRuntime) -> Result<(), Fail> {
+    let alloc = rt.alloc();
+    let unused = RefCell::new(Vec::new(alloc));
+    // 80 reads of one byte, one that finds the end, and none.
+    for calls in 0..82 {
+        for fault in [Fault::Error, Fault::Interruption] {
+            let mut input = FaultyFile {
+                rest: &IMAGE,
+                written: &unused,
+                calls,
+                fault,
+            };
+            let ended = outcome_over(alloc, &rt, &["mcsim", "verify"], &mut input)?;
+            let want = if calls < 81 {
+                (3, "", "mcsim: E24 Read\n")
+            } else {
+                (0, GOOD, "")
+            };
+            assert_eq!(rt; ended.parts(), want, "{calls} {fault:?}");
+        }
+    }
+    Ok(())
+}
+
+/// Runs `verify` of the image with an output that fails once, and answers the status, what is out, and the text on
+/// standard error.
+fn verify_into(rt: &HostRuntime, calls: u32, fault: Fault) -> Result<(u8, Vec<u8>, Vec<u8>), Fail> {
+    let alloc = rt.alloc();
+    let words = owned(alloc, &["mcsim", "verify"])?;
+    let written = RefCell::new(Vec::new(alloc));
+    let mut out = FaultyFile {
+        rest: &[],
+        written: &written,
+        calls,
+        fault,
+    };
+    let mut err = Vec::new(alloc);
+    let mut input = IMAGE.as_slice();
+    let status = run(rt, alloc, words.as_slice(), &mut input, &mut out, &mut err);
+    Ok((status, written.into_inner(), err))
+}
+
+#[test]
+fn verify_meets_failing_writes(rt: HostRuntime) -> Result<(), Fail> {
+    let line = GOOD.as_bytes();
+    for (place, _) in line.iter().enumerate() {
+        for fault in FAULTS {
+            let calls = u32::try_from(place)?;
+            let (status, out, err) = verify_into(&rt, calls, fault)?;
+            assert_eq!(rt; status, 3, "{place} {fault:?}");
+            assert_eq!(rt; err.as_slice(), b"mcsim: E25 Write\n".as_slice());
+            assert_eq!(rt; out.len(), place, "{fault:?}");
+            assert!(rt; line.starts_with(out.as_slice()), "{place} {fault:?}");
+        }
+    }
+    let (status, out, err) = verify_into(&rt, 1000, Fault::Error)?;
+    assert_eq!(rt; status, 0);
+    assert_eq!(rt; out.as_slice(), line);
+    assert_eq!(rt; err.len(), 0);
+    Ok(())
+}
+
+/// Runs `create` over two files that fail once, and answers the status, what is written to `out`, and the text on
+/// standard error.
+fn create_over(
+    alloc: Global,
+    reads: u32,
+    writes: u32,
+    fault: Fault,
+) -> Result<(u8, Vec<u8>, String), Fail> {
+    let written = RefCell::new(Vec::new(alloc));
+    let files = FaultyFiles {
+        input: &PAYLOAD,
+        written: &written,
+        reads,
+        writes,
+        fault,
+    };
+    let words = create_words("1.2.3+4", "in", "out");
+    let ended = outcome_over(alloc, &files, &words, &mut [].as_slice())?;
+    Ok((ended.status, written.into_inner(), ended.err))
+}
+
+#[test]
+fn create_meets_failing_reads(rt: HostRuntime) -> Result<(), Fail> {
+    // 8 reads of one byte, and one that finds the end.
+    for reads in 0..9 {
+        for fault in [Fault::Error, Fault::Interruption] {
+            let (status, out, err) = create_over(rt.alloc(), reads, 1000, fault)?;
+            assert_eq!(rt; status, 3, "{reads} {fault:?}");
+            assert_eq!(rt; err.as_str(), "mcsim: E24 Read\n");
+            assert_eq!(rt; out.len(), 0, "{reads} {fault:?}");
+        }
+    }
+    Ok(())
+}
+
+#[test]
+fn create_meets_failing_writes(rt: HostRuntime) -> Result<(), Fail> {
+    for place in 0..80 {
+        for fault in FAULTS {
+            let (status, out, err) = create_over(rt.alloc(), 1000, place, fault)?;
+            assert_eq!(rt; status, 3, "{place} {fault:?}");
+            assert_eq!(rt; err.as_str(), "mcsim: E25 Write\n");
+            assert_eq!(rt; out.len(), place as usize, "{fault:?}");
+            assert!(rt; IMAGE.starts_with(out.as_slice()), "{place} {fault:?}");
+        }
+    }
+    let (status, out, err) = create_over(rt.alloc(), 1000, 1000, Fault::Error)?;
+    assert_eq!(rt; status, 0);
+    assert_eq!(rt; out.as_slice(), IMAGE.as_slice());
+    assert_eq!(rt; err.as_str(), "");
+    Ok(())
+}
+
+/// Runs a command line with these two streams, and no input, and answers the status.
+fn status_of(
+    rt: &HostRuntime,
+    words: &[&str],
+    out: &mut FaultyFile<'_>,
+    err: &mut FaultyFile<'_>,
+) -> Result<u8, Fail> {
+    let words = owned(rt.alloc(), words)?;
+    Ok(run(
+        rt,
+        rt.alloc(),
+        words.as_slice(),
+        &mut [].as_slice(),
+        out,
+        err,
+    ))
+}
+
+#[test]
+fn statuses_stand_where_no_text_can_be_written(rt: HostRuntime) -> Result<(), Fail> {
+    let unused = RefCell::new(Vec::new(rt.alloc()));
+    let failing = || FaultyFile {
+        rest: &[],
+        written: &unused,
+        calls: 0,
+        fault: Fault::Error,
+    };
+    let cases: [(&[&str], u8); 4] = [
+        (&["mcsim", "verify"], 1),
+        (&["mcsim", "nonsense"], 2),
+        (&["mcsim"], 2),
+        // The help cannot be written.
+        (&["mcsim", "--help"], 3),
+    ];
+    for (words, want) in cases {
+        let status = status_of(&rt, words, &mut failing(), &mut failing())?;
+        assert_eq!(rt; status, want);
+    }
+    Ok(())
+}

@@ -1,0 +1,187 @@
+//! Files and streams that fail once.
+ghost use Rattle.std.specs.Prelude.{◌≡◌, IfOk};
+
+use std::alloc::Allocator;
+use std::cell::RefCell;
+use std::fs::{Metadata, OpenFile, OpenOptions};
+use std::io;
+use std::io::{Read, Seek, SeekFrom, Write};
+use std::rt::Files;
+
+/// What a call does that fails.
+#[derive(Clone, Copy, Debug)]
+pub enum Fault {
+    /// It answers an error.
+    Error,
+    /// It answers the error of a call that was interrupted.
+    Interruption,
+    /// It moves no bytes.
+    NoBytes,
+}
+
+impl Fault {
+    fn answer(self) -> io::Result<usize>
+        ensures { IfOk result (λ n. n ≡ 0) }
+    {
+        match self {
+            Fault::Error => Err(io::Error::from(io::ErrorKind::Other)),
+            Fault::Interruption => Err(io::Error::from(io::ErrorKind::Interrupted)),
+            Fault::NoBytes => Ok(0),
+        }
+    }
+}
+
+/// A file, or a stream, that moves one byte a call, and fails once.
+#[derive(Drop)]
+pub struct FaultyFile<'a> {
+    /// What is left to be read.
+    pub rest: &'a [u8],
+    /// What was written.
+    pub written: &'a RefCell<Vec<u8>>,
+    /// How many calls come before the one that fails.
+    pub calls: u32,
+    pub fault: Fault,
+}
+
+impl FaultyFile<'_> {
+    /// Counts a call, and answers whether it is the one that fails.
+    fn fails(&mut self) -> bool {
+        match self.calls.checked_sub(1) {
+            Some(left) => {
+                self.calls = left;
+                false
+            }
+            None => {
+                self.calls = u32::MAX;
+                true
+            }
+        }
+    }
+}
+
+impl Read for FaultyFile<'_> {
+    fn read(&mut self, buf: &mut [u8]) -> io::Result<usize> {
+        if self.fails() {
+            return self.fault.answer();
+        }
+        let room = buf.len().min(1);
+        self.rest.read(&mut buf[..room])
+    }
+}
+
+impl Write for FaultyFile<'_> {
+    fn write(&mut self, buf: &[u8]) -> io::Result<usize> {
+        if self.fails() {
+            return self.fault.answer();
+        }
+        let room = buf.len().min(1);
+        match self.written.try_borrow_mut() {
+            Ok(mut written) => written.extend_from_slice(&buf[..room])?,
+            Err(_) => return Err(io::Error::from(io::ErrorKind::Other)),
+        }
+        Ok(room)
+    }
+
+    fn flush(&mut self) -> io::Result<()> {
+        Ok(())
+    }
+}
+
+/// The answer of a call that no test makes.
+fn unsupported<T>() -> io::Result<T> {
+    Err(io::Error::from(io::ErrorKind::Unsupported))
+}
+
+impl Seek for FaultyFile<'_> {
+    fn seek(&mut self, _to: SeekFrom) -> io::Result<u64> {
+        unsupported()
+    }
+}
+
+impl OpenFile for FaultyFile<'_> {
+    fn metadata(&self) -> io::Result<Metadata> {
+        unsupported()
+    }
+
+    fn set_len(&self, _size: u64) -> io::Result<()> {
+        unsupported()
+    }
+
+    fn sync_all(&self) -> io::Result<()> {
+        unsupported()
+    }
+
+    fn sync_data(&self) -> io::Result<()> {
+        unsupported()
+    }
+}
+
+/// Two files, `in` and `out`, each of which fails once.
+#[derive(Drop)]
+pub struct FaultyFiles<'a> {
+    /// What `in` holds.
+    pub input: &'a [u8],
+    /// What was written to `out`.
+    pub written: &'a RefCell<Vec<u8>>,
+    /// How many calls of `in` come before the one that fails.
+    pub reads: u32,
+    /// How many calls of `out` come before the one that fails.
+    pub writes: u32,
+    pub fault: Fault,
+}
+
+impl<'a> Files for FaultyFiles<'a> {
+    type File = FaultyFile<'a>;
+
+    type Dir = FaultyFile<'a>;
+
+    fn open_file(&self, _how: &OpenOptions, path: &str) -> io::Result<FaultyFile<'a>> {
+        let (rest, calls) = match path {
+            "in" => (self.input, self.reads),
+            "out" => (&[] as &[u8], self.writes),
+            _ => return Err(io::Error::from(io::ErrorKind::NotFound)),
+        };
+        Ok(FaultyFile {
+            rest,
+            written: self.written,
+            calls,
+            fault: self.fault,
+        })
+    }
+
+    fn open_dir(&self, _path: &str) -> io::Result<FaultyFile<'a>> {
+        unsupported()
+    }
+
+    fn metadata(&self, _path: &str) -> io::Result<Metadata> {
+        unsupported()
+    }
+
+    fn symlink_metadata(&self, _path: &str) -> io::Result<Metadata> {
+        unsupported()
+    }
+
+    fn copy(&self, _from: &str, _to: &str) -> io::Result<u64> {
+        unsupported()
+    }
+
+    fn rename(&self, _from: &str, _to: &str) -> io::Result<()> {
+        unsupported()
+    }
+
+    fn remove_file(&self, _path: &str) -> io::Result<()> {
+        unsupported()
+    }
+
+    fn create_dir(&self, _path: &str) -> io::Result<()> {
+        unsupported()
+    }
+
+    fn remove_dir(&self, _path: &str) -> io::Result<()> {
+        unsupported()
+    }
+
+    fn remove_dir_all<B: Allocator>(&self, _alloc: B, _path: &str) -> io::Result<()> {
+        unsupported()
+    }
+}

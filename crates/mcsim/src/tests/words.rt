@@ -1,0 +1,105 @@
+//! Command lines that are refused, and those that ask for help.
+use super::support::{outcome_of, owned};
+use crate::options::create_options;
+use crate::refusal::Refusal;
+use clap::{Arg, Command};
+use mc_image::VersionError;
+use std::test::Fail;
+
+#[test]
+fn refuses_command_lines(rt: HostRuntime) -> Result<(), Fail> {
+    let lines = [
+        "mcsim nonsense",
+        "mcsim --nonsense",
+        "mcsim verify a b",
+        "mcsim verify --nonsense",
+        "mcsim create",
+        "mcsim create --header-size 32 a b",
+        "mcsim create --version 1 a b",
+        "mcsim create --version 1 --header-size 32 a",
+        "mcsim create --version 1 --header-size 32 a b c",
+        "mcsim create --version 1 --header-size 31 a b",
+        "mcsim create --version 1 --header-size 65536 a b",
+        "mcsim create --version 1 --header-size -1 a b",
+        "mcsim create --version 1 --header-size x a b",
+        "mcsim create --version 1 --header-size 32 --header-size 32 a b",
+        "mcsim create --version 1 --header-size 32 --nonsense a b",
+    ];
+    for line in lines {
+        let words: Vec<&str> = line.split_whitespace().collect(rt.alloc())?;
+        let ended = outcome_of(&rt, words.as_slice(), &[])?;
+        assert_eq!(rt; ended.status, 2, "{line}");
+        assert_eq!(rt; ended.out.as_str(), "", "{line}");
+        let text = ended.err.as_str();
+        assert!(rt; text.starts_with("error: "), "{line}: {text}");
+    }
+    Ok(())
+}
+
+#[test]
+fn prints_help(rt: HostRuntime) -> Result<(), Fail> {
+    let lines = [
+        ("mcsim --help", "Usage: mcsim <COMMAND>"),
+        ("mcsim create --help", "Usage: mcsim create "),
+        ("mcsim verify -h", "Usage: mcsim verify "),
+    ];
+    for (line, want) in lines {
+        let words: Vec<&str> = line.split_whitespace().collect(rt.alloc())?;
+        let ended = outcome_of(&rt, words.as_slice(), &[])?;
+        assert_eq!(rt; ended.status, 0, "{line}");
+        let text = ended.out.as_str();
+        assert!(rt; text.contains(want), "{line}: {text}");
+        assert_eq!(rt; ended.err.as_str(), "", "{line}");
+    }
+    Ok(())
+}
+
+#[test]
+fn refuses_no_words(rt: HostRuntime) -> Result<(), Fail> {
+    for words in [&[] as &[&str], &["mcsim"]] {
+        let ended = outcome_of(&rt, words, &[])?;
+        assert_eq!(rt; ended.status, 2);
+        assert_eq!(rt; ended.out.as_str(), "");
+        let text = ended.err.as_str();
+        assert!(rt; text.contains("Usage: mcsim <COMMAND>"), "{text}");
+    }
+    Ok(())
+}
+
+#[test]
+fn refuses_what_clap_lets_through(rt: HostRuntime) -> Result<(), Fail> {
+    let alloc = rt.alloc();
+    let cases = [
+        ("create --version 1 --header-size 31", Refusal::Argument),
+        ("create --version 1 --header-size 65536", Refusal::Argument),
+        ("create --version 1", Refusal::Argument),
+        ("create --header-size 32", Refusal::Argument),
+        (
+            "create --version 01 --header-size 31",
+            Refusal::Version(VersionError::Syntax),
+        ),
+    ];
+    for (line, want) in cases {
+        let words: Vec<&str> = line.split_whitespace().collect(alloc)?;
+        let words = owned(alloc, words.as_slice())?;
+        let command = Command::new(alloc, "create")
+            .arg(Arg::new(alloc, "version").long("version"))?
+            .arg(Arg::new(alloc, "header-size").long("header-size"))?;
+        let arguments = command.try_get_matches_from(words.as_slice())?;
+        assert_eq!(rt; create_options(&arguments).err(), Some(want), "{line}");
+    }
+    Ok(())
+}
+
+#[test]
+fn refuses_words_in_one_line(rt: HostRuntime) -> Result<(), Fail> {
+    for refusal in [Refusal::NotText, Refusal::Argument] {
+        let mut err = Vec::new(rt.alloc());
+        assert_eq!(rt; refusal.report(&mut err), 2);
+        let text = String::from_utf8(err).map_err(|_| "the refusal is no text")?;
+        let lines = text.as_str().strip_prefix("mcsim: ").ok_or("no prefix")?;
+        assert_eq!(rt; lines.lines().count(), 1);
+        assert!(rt; lines.ends_with("\n"));
+    }
+    Ok(())
+}
