@@ -1,8 +1,8 @@
 //! The worked images through the engines, and readers and writers that fail.
-ghost use Rattle.std.specs.Prelude.{◌≡◌};
+ghost use Rattle.std.specs.Prelude.{◌≡◌, false};
 
 use super::*;
-use mc_image::{ImageError, Version};
+use mc_image::{ImageError, ImageParts, Version, write_image};
 use std::alloc::Global;
 use std::io;
 use std::io::{Read, Write};
@@ -17,8 +17,19 @@ const IMAGE: &str =
 const GOOD_LINE: &str =
     "good 1.2.3+4 80 e075fa34895d34e01c03690deb09704ffa500ee946dcdb420ade67b58388aad4\n";
 
-fn options(pad_header: bool) -> CreateOptions
-    ensures { result.header_size ≡ 32 }
+/// The same with a security counter of 7.
+const COUNTED_IMAGE: &str =
+    "3db8f3960000000020000c000800000000000000010203000400000000000000010203040506070808690c00500004000700000007692800100020004dcc5778bca9c831b86de779361dfbc68a9740b5fcc3297188767c3aa8cba2e4";
+
+/// The report of that, but for its last two lines.
+const REPORT: &str =
+    "magic 0x96f3b83d\nload 0x00000000\nheader-size 32\nprotected-size 12\nimage-size 8\nflags 0x00000000\nversion 1.2.3+4\npadding 0x00000000\nprotected 0x0050 4 07000000\nplain 0x0010 32 4dcc5778bca9c831b86de779361dfbc68a9740b5fcc3297188767c3aa8cba2e4\ntotal 92\n";
+
+const MAGIC: &str = "77c295f360d2ef7f3552500f2cb67980";
+
+/// The options of the worked images: write units of 8 bytes and four sectors.
+fn options(pad_header: bool, counter: Option<u32>, slot_size: Option<u32>) -> CreateOptions
+    ensures { (result.header_size ≡ 32) × (result.slot_size ≡ slot_size) × (result.pad ≡ false) × (result.confirm ≡ false) }
 {
     CreateOptions {
         version: Version {
@@ -29,6 +40,12 @@ fn options(pad_header: bool) -> CreateOptions
         },
         header_size: 32,
         pad_header,
+        slot_size,
+        align: 8,
+        max_sectors: 4,
+        pad: false,
+        confirm: false,
+        security_counter: counter,
     }
 }
 
@@ -41,12 +58,22 @@ fn creates_from_a_payload(rt: HostRuntime) -> Result<(), Fail> {
     let alloc = rt.alloc();
     let wanted = image(alloc)?;
     let mut out = Vec::new(alloc);
-    create(alloc, &options(true), &mut PAYLOAD.as_slice(), &mut out)?;
+    create(
+        alloc,
+        &options(true, None, None),
+        &mut PAYLOAD.as_slice(),
+        &mut out,
+    )?;
     assert_eq!(rt; out.as_slice(), wanted.as_slice());
     let mut padded = vec![in alloc; 0u8; 32]?;
     padded.extend_from_slice(&PAYLOAD)?;
     let mut out = Vec::new(alloc);
-    create(alloc, &options(false), &mut padded.as_slice(), &mut out)?;
+    create(
+        alloc,
+        &options(false, None, None),
+        &mut padded.as_slice(),
+        &mut out,
+    )?;
     assert_eq!(rt; out.as_slice(), wanted.as_slice());
     Ok(())
 }
@@ -56,10 +83,20 @@ fn wants_zeros_in_the_place_of_the_header(rt: HostRuntime) -> Result<(), Fail> {
     let alloc = rt.alloc();
     let mut one = vec![in alloc; 0u8; 31]?;
     let mut out = Vec::new(alloc);
-    let short = create(alloc, &options(false), &mut one.as_slice(), &mut out);
+    let short = create(
+        alloc,
+        &options(false, None, None),
+        &mut one.as_slice(),
+        &mut out,
+    );
     assert_eq!(rt; short, Err(ToolError::NotZeros));
     one.push(1)?;
-    let other = create(alloc, &options(false), &mut one.as_slice(), &mut out);
+    let other = create(
+        alloc,
+        &options(false, None, None),
+        &mut one.as_slice(),
+        &mut out,
+    );
     assert_eq!(rt; other, Err(ToolError::NotZeros));
     assert_eq!(rt; out.len(), 0);
     Ok(())
@@ -98,6 +135,154 @@ fn reads_up_to_the_limit(rt: HostRuntime) -> Result<(), Fail> {
     );
     // One byte more than the limit was taken.
     assert_eq!(rt; rest.len(), 999);
+    Ok(())
+}
+
+#[test]
+fn a_security_counter_is_protected(rt: HostRuntime) -> Result<(), Fail> {
+    let alloc = rt.alloc();
+    let wanted = hex::decode(alloc, COUNTED_IMAGE)?;
+    let mut out = Vec::new(alloc);
+    let counted = options(true, Some(7), None);
+    create(alloc, &counted, &mut PAYLOAD.as_slice(), &mut out)?;
+    assert_eq!(rt; out.as_slice(), wanted.as_slice());
+    Ok(())
+}
+
+#[test]
+fn an_image_and_a_trailer_fit_the_slot(rt: HostRuntime) -> Result<(), Fail> {
+    let alloc = rt.alloc();
+    for (counter, size, fits) in [
+        (None, 223, false),
+        (None, 224, true),
+        (Some(7), 235, false),
+        (Some(7), 236, true),
+    ] {
+        let mut out = Vec::new(alloc);
+        let slot = options(true, counter, Some(size));
+        let made = create(alloc, &slot, &mut PAYLOAD.as_slice(), &mut out);
+        let wanted = if fits {
+            Ok(())
+        } else {
+            Err(ToolError::SlotTooSmall)
+        };
+        assert_eq!(rt; made, wanted, "{size}");
+        assert_eq!(rt; out.is_empty(), !fits);
+    }
+    Ok(())
+}
+
+#[test]
+fn a_slot_is_filled_and_confirmed(rt: HostRuntime) -> Result<(), Fail> {
+    let alloc = rt.alloc();
+    let magic = hex::decode(alloc, MAGIC)?;
+    for (confirm, flag) in [(true, 0x01), (false, 0xff)] {
+        let mut slot = options(true, None, Some(768));
+        slot.pad = !confirm;
+        slot.confirm = confirm;
+        let mut out = Vec::new(alloc);
+        create(alloc, &slot, &mut PAYLOAD.as_slice(), &mut out)?;
+        let mut wanted = image(alloc)?;
+        wanted.resize(744, 0xff)?;
+        wanted.push(flag)?;
+        wanted.resize(752, 0xff)?;
+        wanted.extend_from_slice(magic.as_slice())?;
+        assert_eq!(rt; out.as_slice(), wanted.as_slice());
+        let mut line = Vec::new(alloc);
+        verify(alloc, &mut out.as_slice(), &mut line)?;
+        assert_eq!(rt; line.as_slice(), GOOD_LINE.as_bytes());
+    }
+    Ok(())
+}
+
+#[test]
+fn filling_needs_the_size_of_the_slot(rt: HostRuntime) -> Result<(), Fail> {
+    let alloc = rt.alloc();
+    let mut slot = options(true, None, None);
+    slot.pad = true;
+    let mut rest = PAYLOAD.as_slice();
+    let mut out = Vec::new(alloc);
+    assert_eq!(rt;
+        create(alloc, &slot, &mut rest, &mut out),
+        Err(ToolError::NeedsSlotSize)
+    );
+    // Nothing is read.
+    assert_eq!(rt; rest, PAYLOAD.as_slice());
+    Ok(())
+}
+
+/// The report of some bytes.
+fn report(alloc: Global, bytes: &[u8]) -> Result<String, Fail> {
+    let mut rest = bytes;
+    let mut out = Vec::new(alloc);
+    dumpinfo(alloc, &mut rest, &mut out)?;
+    Ok(String::from_utf8(out).map_err(|_| "a text")?)
+}
+
+#[test]
+fn reports_the_fields_and_entries(rt: HostRuntime) -> Result<(), Fail> {
+    let alloc = rt.alloc();
+    let mut bytes = hex::decode(alloc, COUNTED_IMAGE)?;
+    let good = report(alloc, bytes.as_slice())?;
+    assert_eq!(rt;
+        good.as_str(),
+        format!(in alloc; "{REPORT}rest 0\ndigest good\n")?.as_str()
+    );
+    bytes.resize(768, 0xff)?;
+    let behind = report(alloc, bytes.as_slice())?;
+    assert_eq!(rt;
+        behind.as_str(),
+        format!(in alloc; "{REPORT}rest 676\ndigest good\n")?.as_str()
+    );
+    if let Some(byte) = bytes.first_mut() {
+        *byte = 0;
+    }
+    let mut out = Vec::new(alloc);
+    assert_eq!(rt;
+        dumpinfo(alloc, &mut bytes.as_slice(), &mut out),
+        Err(ToolError::Image(ImageError::BadMagic))
+    );
+    assert_eq!(rt; out.len(), 0);
+    Ok(())
+}
+
+/// The image of a load address, a padding, a longer header and entries of every kind.
+fn odd_image(alloc: Global) -> Result<Vec<u8>, Fail> {
+    let protected = [(0x10, [0xab].as_slice()), (0x60, [].as_slice())];
+    let plain = [(0x99, [].as_slice())];
+    let parts = ImageParts {
+        load: 0x1000_0001,
+        version: Version {
+            major: 255,
+            minor: 0,
+            revision: 65535,
+            build: 4294967295,
+        },
+        padding: 0xfedc_ba98,
+        header_rest: &[1, 2, 3],
+        payload: &PAYLOAD,
+        protected: &protected,
+        plain: &plain,
+    };
+    let mut out = Vec::new(alloc);
+    write_image(&parts, &mut out)?;
+    Ok(out)
+}
+
+#[test]
+fn reports_odd_fields_and_entries(rt: HostRuntime) -> Result<(), Fail> {
+    let alloc = rt.alloc();
+    let bytes = odd_image(alloc)?;
+    let text = report(alloc, bytes.as_slice())?;
+    let lines = [
+        "load 0x10000001\nheader-size 35\nprotected-size 13\nimage-size 8\n",
+        "version 255.0.65535+4294967295\npadding 0xfedcba98\n",
+        "protected 0x0010 1 ab\nprotected 0x0060 0\nplain 0x0010 32 ",
+        "\nplain 0x0099 0\ntotal 100\nrest 0\ndigest good\n",
+    ];
+    for part in lines {
+        assert!(rt; text.as_str().contains(part), "{part}");
+    }
     Ok(())
 }
 
@@ -163,7 +348,7 @@ fn a_failed_read_writes_nothing(rt: HostRuntime) -> Result<(), Fail> {
             left: image.as_slice(),
             calls,
         };
-        let created = create(alloc, &options(true), &mut input, &mut out);
+        let created = create(alloc, &options(true, None, None), &mut input, &mut out);
         assert_eq!(rt; created, Err(ToolError::Read), "{calls}");
         assert_eq!(rt; out.len(), 0);
     }
@@ -206,7 +391,12 @@ fn a_failed_write_leaves_a_front(rt: HostRuntime) -> Result<(), Fail> {
             calls,
             takes_nothing: false,
         };
-        let created = create(alloc, &options(true), &mut PAYLOAD.as_slice(), &mut out);
+        let created = create(
+            alloc,
+            &options(true, None, None),
+            &mut PAYLOAD.as_slice(),
+            &mut out,
+        );
         assert_eq!(rt; created.is_ok(), calls == 80, "{calls}");
         let FailingWriter { taken, .. } = &out;
         assert!(rt; image.as_slice().starts_with(taken.as_slice()));
@@ -220,6 +410,8 @@ fn refusals_have_their_texts(rt: HostRuntime) -> Result<(), Fail> {
     let texts = [
         (ToolError::Image(ImageError::WrongDigest), "E12 WrongDigest"),
         (ToolError::NotZeros, "E20 NotZeros"),
+        (ToolError::SlotTooSmall, "E21 SlotTooSmall"),
+        (ToolError::NeedsSlotSize, "E22 NeedsSlotSize"),
         (ToolError::InputTooLong, "E23 InputTooLong"),
         (ToolError::Read, "E24 Read"),
         (ToolError::Write, "E25 Write"),
