@@ -1,5 +1,5 @@
 -- The image of the parts that `create` hands on is the created one.
-use Rattle.std.proofs.Common.{◌≡◌, ℕ, ◌-◌, ◌≤◌, ◌^◌, Bool, true, false, cond, List, [], length, Option, None, Some, Result, Ok, Err, refl, sym, ap, subst, ◌∙◌, replicate, ◌++◌, inl, inr, append_assoc}
+use Rattle.std.proofs.Common.{◌≡◌, ℕ, ◌-◌, ◌≤◌, ◌^◌, Bool, true, false, cond, List, [], length, Option, None, Some, Result, Ok, Err, refl, sym, ap, subst, ◌∙◌, replicate, ◌++◌, inl, inr, append_assoc, arith, drop, length-drop}
 use Rattle.std.specs.Prelude.{◌⊎◌, map, nat_lt, IfOk}
 use Rattle.mc_image.specs.Image.{Image, image_text}
 use Rattle.mc_image.specs.Entries.{Entry}
@@ -9,7 +9,7 @@ use Rattle.mc_image.specs.declared.writing.ImageParts.{ImageParts}
 use Rattle.mc_image.specs.declared.error.ImageError.{ImageError}
 use Rattle.mc_image.specs.Valid.{IsValid}
 use Rattle.mc_imgtool.specs.Engines.{Gives}
-use Rattle.mc_imgtool.specs.Created.{created, fills_slot, needs_slot_size, lacks_zeros, counter_area, bare_image, is_too_small, filled_slot, in_slot, slotted}
+use Rattle.mc_imgtool.specs.Created.{created, fills_slot, needs_slot_size, lacks_zeros, payload_in, counter_area, bare_image, is_too_small, filled_slot, in_slot, slotted}
 use Rattle.mc_imgtool.specs.declared.creation.CreateOptions.{CreateOptions}
 use Rattle.mc_imgtool.specs.declared.error.ToolError.{ToolError}
 use Rattle.mc_imgtool.specs.declared.error.ToolError.TheVariants.{NotZeros, SlotTooSmall, NeedsSlotSize, InputTooLong, Memory, Image as image_error}
@@ -137,3 +137,12 @@ made_slotted view o r wanted image e gives = let P : Result (List ℕ) ToolError
 
 pub false_true : {b : Bool} → b ≡ false → b ≡ true → ⊥
 false_true e h = cc
+
+taken_short : (b : Bool) (n m : ℕ) (xs : List ℕ) → length xs ≤ m → length (cond b xs (drop n xs)) ≤ m
+taken_short true n m xs h = h
+taken_short false n m xs h = omega (arith, length-drop n xs)
+
+-- the payload is no longer than the input
+pub payload_short : (o : CreateOptions) (xs payload : List ℕ) → payload ≡ payload_in o xs → length xs ≤ 2 ^ 24 → length payload ≤ 2 ^ 24
+unfolding payload_in
+payload_short o xs payload e h = let P : List ℕ → Type 0 = λ l. length l ≤ 2 ^ 24 in subst P (sym e) (taken_short o.pad_header o.header_size (2 ^ 24) xs h)

@@ -13,7 +13,7 @@ use crate::ToolError;
 use crate::input::{GREATEST_INPUT, read_bounded};
 use crate::output::write_text;
 use byteorder::{ByteOrder, LittleEndian};
-use mc_image::{ImageParts, Version, write_image};
+use mc_image::{ImageError, ImageParts, Version, write_image};
 use std::alloc::{AllocError, Global};
 use std::io::{Read, Write};
 
@@ -122,6 +122,7 @@ fn image_with(
     protected: &[(u16, &[u8])],
 ) -> Result<Vec<u8>, AllocError>
     requires size { 32 ≤ options.now.header_size }
+    requires fits { length payload.now ≤ 2 ^ 24 }
     requires area { area_of (views protected.now) ≡ counter_area options.now.security_counter }
     ensures made { IfOk result (λ v. v.items ≡ image_text (with_digest (bare_image options.now payload.now))) }
     ensures valid { IfOk result (λ v. IsValid v.items) }
@@ -139,13 +140,16 @@ fn image_with(
     let mut image = Vec::with_capacity(alloc, options.room())?;
     match write_image(&parts, &mut image) {
         Ok(()) => Ok(image),
-        Err(_) => Err(AllocError),
+        Err(ImageError::Memory) => Err(AllocError),
+        // The lengths fit, and there is no other digest.
+        Err(_) => unreachable!(),
     }
 }
 
 /// The image of a payload.
 fn image_of(alloc: Global, options: &CreateOptions, payload: &[u8]) -> Result<Vec<u8>, AllocError>
-    requires { 32 ≤ options.now.header_size }
+    requires size { 32 ≤ options.now.header_size }
+    requires fits { length payload.now ≤ 2 ^ 24 }
     ensures made { IfOk result (λ v. v.items ≡ image_text (with_digest (bare_image options.now payload.now))) }
     ensures valid { IfOk result (λ v. IsValid v.items) }
 {

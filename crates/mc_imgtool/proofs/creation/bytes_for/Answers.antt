@@ -1,7 +1,7 @@
 use Rattle.std.proofs.Common.{inr, sym, ap, ◌∙◌}
 use Rattle.mc_imgtool.specs.Created.{slotted}
 use Rattle.mc_imgtool.proofs.Wanted.{created_refused, created_made}
-use Rattle.mc_imgtool.proofs.CreatedLaws.{made_slotted, made_valid}
+use Rattle.mc_imgtool.proofs.CreatedLaws.{made_slotted, made_valid, payload_short}
 use Rattle.mc_imgtool.proofs.creation.bytes_for.Goals as goal
 
 pub returns-in_default-clause-made : goal.returns-in_default-clause-made
@@ -14,3 +14,6 @@ returns-in-Ok-clause-made c =
 
 pub returns-in-Ok-clause-valid : goal.returns-in-Ok-clause-valid
 returns-in-Ok-clause-valid c = made_valid _ c.args.options.now c.in-Ok.image.items c.slotted.result c.in-Ok.ensures.valid c.slotted.ensures
+
+pub image_of-requires-clause-fits : goal.image_of-requires-clause-fits
+image_of-requires-clause-fits c = payload_short _ _ _ c.in-Some.ensures.1 c.requires.fits
