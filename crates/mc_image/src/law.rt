@@ -23,6 +23,8 @@ pub fn valid_bytes()
 
 /// Byte lists that agree as far as the image goes that one of them begins with begin with the same image.
 pub fn same_front()
-    ensures begins { (b c : List ℕ) (v : Image) → Begins b v → take (length (image_text v)) c ≡ take (length (image_text v)) b → Begins c v }
-    ensures id { (b c : List ℕ) (i : Identity) → IsBytes b → id_of b ≡ Some i → take i.size c ≡ take i.size b → id_of c ≡ Some i }
+    ensures begins { (b c : List ℕ) (v : Image) → Begins b v
+        → take (length (image_text v)) c ≡ take (length (image_text v)) b → Begins c v }
+    ensures id { (b c : List ℕ) (i : Identity) → IsBytes b → id_of b ≡ Some i
+        → take i.size c ≡ take i.size b → id_of c ≡ Some i }
 {}

@@ -37,7 +37,8 @@ fn number_from(start: u64, text: &[u8]) -> (u64, &[u8])
 /// The number without leading zeros that the text begins with.
 #[tactic(auto, unfolding(crate::specs::VersionReading::numeral_at))]
 fn numeral_at(text: &[u8]) -> Option<(u64, &[u8])>
-    ensures { MatchOption result (numeral_at text.now ≡ None) (λ x. numeral_at text.now ≡ Some (x.0, x.1.now)) }
+    ensures { MatchOption result (numeral_at text.now ≡ None)
+        (λ x. numeral_at text.now ≡ Some (x.0, x.1.now)) }
 {
     match text {
         [] => None,
@@ -54,7 +55,8 @@ fn numeral_at(text: &[u8]) -> Option<(u64, &[u8])>
 /// The number behind a separator, or 0 at the end of the text.
 #[tactic(auto, unfolding(crate::specs::VersionReading::part_at))]
 fn part_at(separator: u8, text: &[u8]) -> Option<(u64, &[u8])>
-    ensures { MatchOption result (part_at separator text.now ≡ None) (λ x. part_at separator text.now ≡ Some (x.0, x.1.now)) }
+    ensures { MatchOption result (part_at separator text.now ≡ None)
+        (λ x. part_at separator text.now ≡ Some (x.0, x.1.now)) }
 {
     match text {
         [] => Some((0, text)),
@@ -70,7 +72,8 @@ fn part_at(separator: u8, text: &[u8]) -> Option<(u64, &[u8])>
 /// The numbers of a text in the form.
 #[tactic(auto, unfolding(crate::specs::VersionReading::numbers_in, crate::specs::VersionReading::parts_after))]
 fn numbers_in(text: &[u8]) -> Option<Numbers>
-    ensures { MatchOption result (numbers_in text.now ≡ None) (λ x. numbers_in text.now ≡ Some (x.major ∷ x.minor ∷ x.revision ∷ x.build ∷ [])) }
+    ensures { MatchOption result (numbers_in text.now ≡ None)
+        (λ x. numbers_in text.now ≡ Some (x.major ∷ x.minor ∷ x.revision ∷ x.build ∷ [])) }
 {
     let (major, rest) = numeral_at(text)?;
     let (minor, rest) = part_at(b'.', rest)?;

@@ -30,7 +30,8 @@ impl Version {
         ensures exact { MatchResult result (Names text.now) (IsRefused text.now) }
         // Each text that names a version is read as that version.
         ensures only { (v : Version) → Names text.now v → result ≡ Ok v }
-        ensures range { (ns : List ℕ) → IsForm text.now ns → (AreInRange ns → ⊥) → result ≡ Err VersionError.Range }
+        ensures range { (ns : List ℕ) → IsForm text.now ns → (AreInRange ns → ⊥)
+            → result ≡ Err VersionError.Range }
         // What is printed reads back.
         ensures printed { (v : Version) → IsVersion v → text.now ≡ version_line v → result ≡ Ok v }
     {

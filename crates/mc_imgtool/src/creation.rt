@@ -124,7 +124,8 @@ fn image_with(
     requires size { 32 ≤ options.now.header_size }
     requires fits { length payload.now ≤ 2 ^ 24 }
     requires area { area_of (views protected.now) ≡ counter_area options.now.security_counter }
-    ensures made { IfOk result (λ v. v.items ≡ image_text (with_digest (bare_image options.now payload.now))) }
+    ensures made { IfOk result
+        (λ v. v.items ≡ image_text (with_digest (bare_image options.now payload.now))) }
     ensures valid { IfOk result (λ v. IsValid v.items) }
 {
     let rest = vec![in alloc; 0u8; (options.header_size - 32) as usize]?;
@@ -150,7 +151,8 @@ fn image_with(
 fn image_of(alloc: Global, options: &CreateOptions, payload: &[u8]) -> Result<Vec<u8>, AllocError>
     requires size { 32 ≤ options.now.header_size }
     requires fits { length payload.now ≤ 2 ^ 24 }
-    ensures made { IfOk result (λ v. v.items ≡ image_text (with_digest (bare_image options.now payload.now))) }
+    ensures made { IfOk result
+        (λ v. v.items ≡ image_text (with_digest (bare_image options.now payload.now))) }
     ensures valid { IfOk result (λ v. IsValid v.items) }
 {
     let Some(counter) = options.security_counter else {
@@ -233,14 +235,18 @@ pub fn create<R: Read, W: Write>(
     output: &mut W,
 ) -> Result<(), ToolError>
     requires { 32 ≤ options.now.header_size }
-    ensures answer { Answers (created options.now) (R.remaining input.old) (W.contents output.old) (W.contents output.new) result }
+    ensures answer { Answers (created options.now) (R.remaining input.old) (W.contents output.old)
+        (W.contents output.new) result }
     // What is written begins with a valid image.
-    ensures valid { OnOk result (IfSome (R.remaining input.old) (λ xs. IfOk (created options.now xs) IsValid)) }
+    ensures valid { OnOk result
+        (IfSome (R.remaining input.old) (λ xs. IfOk (created options.now xs) IsValid)) }
     ensures never { (e : ImageError) → result ≡ Err (ToolError.Image e) → ⊥ }
     ensures slot { IsErrOf result ToolError.NeedsSlotSize ↔ (needs_slot_size options.now ≡ true) }
-    ensures unread { IsErrOf result ToolError.NeedsSlotSize → (input.new ≡ input.old) × (output.new ≡ output.old) }
+    ensures unread { IsErrOf result ToolError.NeedsSlotSize → (input.new ≡ input.old)
+        × (output.new ≡ output.old) }
     ensures end { OnOk result (IsAtEnd (R.remaining input.new)) }
-    ensures taken { (bs : List ℕ) × Consumes (R.remaining input.old) (R.remaining input.new) bs × (length bs ≤ 2 ^ 24 + 1) }
+    ensures taken { (bs : List ℕ) × Consumes (R.remaining input.old) (R.remaining input.new) bs
+        × (length bs ≤ 2 ^ 24 + 1) }
 {
     if options.needs_slot_size() {
         return Err(ToolError::NeedsSlotSize);

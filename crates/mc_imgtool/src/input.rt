@@ -16,10 +16,12 @@ pub(crate) const GREATEST_INPUT: u32 = 1 << 24;
 ///
 /// `InputTooLong` for a longer input, `Read` where a read fails, `Memory` where the bytes find no room.
 pub fn read_bounded<R: Read>(alloc: Global, input: &mut R, limit: u32) -> Result<Vec<u8>, ToolError>
-    ensures whole { IfOk result (λ v. (length v.items ≤ limit) × IfSome (R.remaining input.old) (λ xs. v.items ≡ xs)) }
+    ensures whole { IfOk result
+        (λ v. (length v.items ≤ limit) × IfSome (R.remaining input.old) (λ xs. v.items ≡ xs)) }
     ensures end { OnOk result (IsAtEnd (R.remaining input.new)) }
     ensures refused { IfErr result (λ e. RefusesReading (R.remaining input.old) limit e) }
-    ensures taken { (bs : List ℕ) × Consumes (R.remaining input.old) (R.remaining input.new) bs × (length bs ≤ limit + 1) }
+    ensures taken { (bs : List ℕ) × Consumes (R.remaining input.old) (R.remaining input.new) bs
+        × (length bs ≤ limit + 1) }
 {
     let most = limit as usize + 1;
     let mut bytes = Vec::new(alloc);

@@ -13,7 +13,9 @@ use std::io::Write;
 /// `Write` where a write fails or takes no bytes.
 pub(crate) fn write_text<W: Write>(output: &mut W, text: &[u8]) -> Result<(), ToolError>
     ensures whole { OnOk result (Appends (W.contents output.old) (W.contents output.new) text.now) }
-    ensures front { IfErr result (λ e. (e ≡ ToolError.Write) × AppendsFront (W.contents output.old) (W.contents output.new) text.now) }
+    ensures front { IfErr result
+        (λ e. (e ≡ ToolError.Write)
+        × AppendsFront (W.contents output.old) (W.contents output.new) text.now) }
 {
     let mut done = 0;
     while done < text.len() {

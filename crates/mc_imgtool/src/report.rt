@@ -57,7 +57,8 @@ fn value_text(alloc: Global, value: &[u8]) -> Result<String, AllocError>
 /// The line of an entry.
 #[tactic(auto, unfolding(crate::specs::Lines::entry_line))]
 fn entry_line(alloc: Global, tlv: &Tlv<'_>) -> Result<String, AllocError>
-    ensures { IfOk result (λ text. string_bytes text ≡ entry_line (record { area = tlv.now.area; entry = record { kind = tlv.now.kind; value = tlv.now.value.now } })) }
+    ensures { IfOk result (λ text. string_bytes text
+        ≡ entry_line (record { area = tlv.now.area; entry = record { kind = tlv.now.kind; value = tlv.now.value.now } })) }
 {
     let area = match tlv.area {
         Area::Protected => "protected",
@@ -100,7 +101,8 @@ fn header_lines(alloc: Global, image: &ImageView<'_>) -> Result<String, AllocErr
 
 /// Appends the line of each entry.
 fn push_entries(alloc: Global, text: &mut String, entries: Tlvs<'_>) -> Result<(), AllocError>
-    ensures { OnOk result (string_bytes text.new ≡ string_bytes text.old ++ entry_lines entries.entry) }
+    ensures { OnOk result
+        (string_bytes text.new ≡ string_bytes text.old ++ entry_lines entries.entry) }
 {
     for tlv in entries {
         text.push_str(entry_line(alloc, &tlv)?.as_str())?;
@@ -149,9 +151,11 @@ pub fn dumpinfo<R: Read, W: Write>(
     input: &mut R,
     output: &mut W,
 ) -> Result<(), ToolError>
-    ensures answer { Answers dumped (R.remaining input.old) (W.contents output.old) (W.contents output.new) result }
+    ensures answer { Answers dumped (R.remaining input.old) (W.contents output.old)
+        (W.contents output.new) result }
     ensures end { OnOk result (IsAtEnd (R.remaining input.new)) }
-    ensures taken { (bs : List ℕ) × Consumes (R.remaining input.old) (R.remaining input.new) bs × (length bs ≤ 2 ^ 24 + 1) }
+    ensures taken { (bs : List ℕ) × Consumes (R.remaining input.old) (R.remaining input.new) bs
+        × (length bs ≤ 2 ^ 24 + 1) }
 {
     let bytes = read_bounded(alloc, input, GREATEST_INPUT)?;
     let report = report_for(alloc, bytes.as_slice())?;

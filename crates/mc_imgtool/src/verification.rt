@@ -27,7 +27,8 @@ fn good_line(alloc: Global, image: &ImageView<'_>) -> Result<String, AllocError>
 /// The valid image that the bytes begin with.
 #[tactic(auto, using(crate::proofs::FaultLaws::fault_checked, crate::proofs::FaultLaws::fault_none))]
 fn valid_image(bytes: &[u8]) -> Result<ImageView<'_>, ImageError>
-    ensures { MatchResult result (λ v. (image_fault bytes.now ≡ None) × (v ≡ image_in bytes.now)) (λ e. image_fault bytes.now ≡ Some e) }
+    ensures { MatchResult result (λ v. (image_fault bytes.now ≡ None) × (v ≡ image_in bytes.now))
+        (λ e. image_fault bytes.now ≡ Some e) }
 {
     let image = ImageView::read(bytes)?;
     image.check()?;
@@ -62,9 +63,11 @@ pub fn verify<R: Read, W: Write>(
     input: &mut R,
     output: &mut W,
 ) -> Result<(), ToolError>
-    ensures answer { Answers verified (R.remaining input.old) (W.contents output.old) (W.contents output.new) result }
+    ensures answer { Answers verified (R.remaining input.old) (W.contents output.old)
+        (W.contents output.new) result }
     ensures end { OnOk result (IsAtEnd (R.remaining input.new)) }
-    ensures taken { (bs : List ℕ) × Consumes (R.remaining input.old) (R.remaining input.new) bs × (length bs ≤ 2 ^ 24 + 1) }
+    ensures taken { (bs : List ℕ) × Consumes (R.remaining input.old) (R.remaining input.new) bs
+        × (length bs ≤ 2 ^ 24 + 1) }
 {
     let bytes = read_bounded(alloc, input, GREATEST_INPUT)?;
     let line = line_for(alloc, bytes.as_slice())?;
