@@ -101,7 +101,8 @@ fn are_zeros(bytes: &[u8]) -> bool
 /// What is taken of an input as the payload.
 #[tactic(auto, unfolding(crate::specs::Created::lacks_zeros, crate::specs::Created::payload_in))]
 fn payload_in<'a>(options: &CreateOptions, input: &'a [u8]) -> Option<&'a [u8]>
-    ensures { MatchOption result (lacks_zeros options.now input.entry.now ≡ true) (λ payload. (lacks_zeros options.now input.entry.now ≡ false)
+    ensures { MatchOption result (lacks_zeros options.now input.entry.now ≡ true)
+        (λ payload. (lacks_zeros options.now input.entry.now ≡ false)
         × (payload.now ≡ payload_in options.now input.entry.now)) }
 {
     if options.pad_header {
