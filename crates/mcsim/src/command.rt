@@ -9,12 +9,13 @@ use std::alloc::{AllocError, Global};
 /// clap's refusal of the words, the help that they ask for, or the want of memory.
 pub fn parse<'a>(alloc: Global, words: &'a [String]) -> Result<ArgMatches<'a>, Error> {
     let command = Command::new(alloc, "mcsim")
-        .about("Makes and verifies MCUboot images")
+        .about("Makes, verifies and prints MCUboot images")
         .subcommand_required(true)
         .arg_required_else_help(true)
         .disable_help_subcommand(true)
         .subcommand(create_command(alloc)?)?
-        .subcommand(verify_command(alloc)?)?;
+        .subcommand(verify_command(alloc)?)?
+        .subcommand(dumpinfo_command(alloc)?)?;
     command.try_get_matches_from(words)
 }
 
@@ -26,6 +27,12 @@ fn create_command<'a>(alloc: Global) -> Result<Command<'a>, AllocError> {
         .arg(version(alloc))?
         .arg(header_size(alloc))?
         .arg(pad_header(alloc))?
+        .arg(slot_size(alloc))?
+        .arg(align(alloc))?
+        .arg(max_sectors(alloc))?
+        .arg(pad(alloc))?
+        .arg(confirm(alloc))?
+        .arg(security_counter(alloc))?
         .arg(
             Arg::new(alloc, "INFILE")
                 .required(true)
@@ -64,9 +71,73 @@ fn pad_header<'a>(alloc: Global) -> Arg<'a> {
         )
 }
 
+fn slot_size<'a>(alloc: Global) -> Arg<'a> {
+    Arg::new(alloc, "slot-size")
+        .long("slot-size")
+        .value_name("N")
+        .value_parser(value_parser!(u32).range(1..=16777216))
+        .help(
+            "The length of the slot in bytes, from 1 to 16777216; an image that leaves no room for a trailer is refused",
+        )
+}
+
+/// The write units of a flash.
+static UNITS: [&str; 4] = ["1", "2", "4", "8"];
+
+fn align<'a>(alloc: Global) -> Arg<'a> {
+    Arg::new(alloc, "align")
+        .long("align")
+        .value_name("N")
+        .value_parser(UNITS.as_slice())
+        .default_value("8")
+        .help("The flash's write unit in bytes")
+}
+
+fn max_sectors<'a>(alloc: Global) -> Arg<'a> {
+    Arg::new(alloc, "max-sectors")
+        .long("max-sectors")
+        .value_name("N")
+        .value_parser(value_parser!(u32).range(1..=1024))
+        .default_value("128")
+        .help("The greatest number of sectors of a slot, from 1 to 1024")
+}
+
+fn pad<'a>(alloc: Global) -> Arg<'a> {
+    Arg::new(alloc, "pad")
+        .long("pad")
+        .action(ArgAction::SetTrue)
+        .help("Fill the slot up behind the image, and end it with the magic that asks for a swap")
+}
+
+fn confirm<'a>(alloc: Global) -> Arg<'a> {
+    Arg::new(alloc, "confirm")
+        .long("confirm")
+        .action(ArgAction::SetTrue)
+        .help("Like --pad, and mark the image as confirmed")
+}
+
+fn security_counter<'a>(alloc: Global) -> Arg<'a> {
+    Arg::new(alloc, "security-counter")
+        .long("security-counter")
+        .value_name("N")
+        .value_parser(value_parser!(u32))
+        .help("The security counter, from 0 to 4294967295; it is put into a protected area")
+}
+
 /// `verify`: is a file a valid image?
 fn verify_command<'a>(alloc: Global) -> Result<Command<'a>, AllocError> {
     Command::new(alloc, "verify")
         .about("Checks an image, and prints its version, size and digest")
-        .arg(Arg::new(alloc, "INFILE").help("The file of the image; standard input if left out"))
+        .arg(image_file(alloc))
+}
+
+/// `dumpinfo`: what is in an image?
+fn dumpinfo_command<'a>(alloc: Global) -> Result<Command<'a>, AllocError> {
+    Command::new(alloc, "dumpinfo")
+        .about("Prints the fields and entries of an image, and whether its digest is good")
+        .arg(image_file(alloc))
+}
+
+fn image_file<'a>(alloc: Global) -> Arg<'a> {
+    Arg::new(alloc, "INFILE").help("The file of the image; standard input if left out")
 }

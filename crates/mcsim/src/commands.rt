@@ -1,3 +1,5 @@
 //! The commands, each with its files.
 pub mod create;
+pub mod dumpinfo;
+mod infile;
 pub mod verify;

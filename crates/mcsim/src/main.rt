@@ -69,6 +69,9 @@ fn run_command<F: Files, R: Read, O: Write>(
     match matches.subcommand() {
         Some(("create", arguments)) => commands::create::run(files, alloc, arguments),
         Some(("verify", arguments)) => commands::verify::run(files, alloc, arguments, input, out),
+        Some(("dumpinfo", arguments)) => {
+            commands::dumpinfo::run(files, alloc, arguments, input, out)
+        }
         _ => Err(Refusal::Argument),
     }
 }

@@ -1,10 +1,11 @@
 //! What the words of a command line say.
-ghost use Rattle.std.specs.Prelude.{◌≡◌, ◌<◌, ◌≤◌, ◌^◌, true, false, ℕ, List, codes};
-ghost use Rattle.std.specs.Prelude.{Some, None, IsOk, IfOk, MatchResult};
-ghost use Rattle.std.specs.Str.Parse.{IsNumeral, digits_value, without_leading_plus};
-ghost use Rattle.clap.specs.Words.{first_value, found_of};
+ghost use Rattle.std.specs.Prelude.{◌≡◌, ◌≤◌, ◌-◌, ◌^◌, ℕ, List, codes};
+ghost use Rattle.std.specs.Prelude.{Some, None, IsOk, IfOk, IfSome, MatchResult};
+ghost use Rattle.std.specs.Str.Parse.{IsNumeral, without_leading_plus};
+ghost use Rattle.clap.specs.Words.{first_value, found_of, IsUnsignedIn};
 ghost use Rattle.clap.specs.Matches.{one_text};
 ghost use Rattle.mc_image.specs.VersionText.{Names};
+ghost use Rattle.mcsim.specs.Arguments.{IsFlag, IsUnit, number_of, told_number};
 
 use crate::refusal::Refusal;
 use clap::ArgMatches;
@@ -24,44 +25,104 @@ pub fn required<'a>(arguments: &ArgMatches<'a>, name: &str) -> Result<&'a str, R
     arguments.get_str(name).ok_or(Refusal::Argument)
 }
 
+/// The number of an argument that may be left out, from `least` to `most`.
+///
+/// # Errors
+///
+/// `Argument` where its value is no number, or is out of the range.
+fn optional_number(
+    arguments: &ArgMatches<'_>,
+    name: &str,
+    least: u32,
+    most: u32,
+) -> Result<Option<u32>, Refusal>
+    ensures written { IfOk result (λ o. told_number (found_of arguments.now) name.now ≡ o) }
+    ensures range { IfOk result (λ o. IfSome o (λ n. (least ≤ n) × (n ≤ most))) }
+    ensures taken { IfSome (one_text (found_of arguments.now) name.now) (IsUnsignedIn least most) → IsOk result }
+{
+    match arguments.try_get_one::<u32>(name) {
+        Ok(None) => Ok(None),
+        Ok(Some(number)) if least <= number && number <= most => Ok(Some(number)),
+        _ => Err(Refusal::Argument),
+    }
+}
+
+/// The number of an argument that a command cannot do without, from `least` to `most`.
+///
+/// # Errors
+///
+/// `Argument` where it is missing, or its value is no number, or is out of the range.
+fn number(arguments: &ArgMatches<'_>, name: &str, least: u32, most: u32) -> Result<u32, Refusal>
+    ensures written { IfOk result (λ n. told_number (found_of arguments.now) name.now ≡ Some n) }
+    ensures range { IfOk result (λ n. (least ≤ n) × (n ≤ most)) }
+    ensures taken { (text : List ℕ) → one_text (found_of arguments.now) name.now ≡ Some text
+        → IsUnsignedIn least most text → IsOk result }
+{
+    optional_number(arguments, name, least, most)?.ok_or(Refusal::Argument)
+}
+
+/// The write unit of the flash.
+///
+/// # Errors
+///
+/// `Argument` where it is missing, or is not 1, 2, 4 or 8.
+fn align(arguments: &ArgMatches<'_>) -> Result<u8, Refusal>
+    ensures written { IfOk result (λ n. told_number (found_of arguments.now) (codes "align") ≡ Some n) }
+    ensures unit { IfOk result IsUnit }
+    ensures taken { (text : List ℕ) → one_text (found_of arguments.now) (codes "align") ≡ Some text
+        → IsNumeral 10 (without_leading_plus text) → IsUnit (number_of text) → IsOk result }
+{
+    match number(arguments, "align", 1, 8)? {
+        unit @ (1 | 2 | 4 | 8) => Ok(unit as u8),
+        _ => Err(Refusal::Argument),
+    }
+}
+
 /// What `create` is told. The version is judged first.
 ///
 /// # Errors
 ///
-/// `Version` where its text names none; `Argument` where a required value is missing, or the header's length is below
-/// 32 or above 65535.
+/// `Version` where its text names none; `Argument` where a required value, or one with a default, is missing, or a
+/// number is out of its range: the header's length from 32 to 65535, the slot's size from 1 to 2^24, the write unit 1,
+/// 2, 4 or 8, the number of sectors from 1 to 1024, the security counter below 2^32.
 pub fn create_options(arguments: &ArgMatches<'_>) -> Result<CreateOptions, Refusal>
+    // Each value is in its range.
     ensures least { IfOk result (λ o. 32 ≤ o.header_size) }
+    ensures slot { IfOk result (λ o. IfSome o.slot_size (λ n. (1 ≤ n) × (n ≤ 2 ^ 24))) }
+    ensures unit { IfOk result (λ o. IsUnit o.align) }
+    ensures sectors { IfOk result (λ o. (1 ≤ o.max_sectors) × (o.max_sectors ≤ 1024)) }
     // Each value is the one that is written.
     ensures version { (text : List ℕ) → first_value (found_of arguments.now) (codes "version") ≡ Some text
         → IfOk result (λ o. Names text o.version) }
-    ensures header { (text : List ℕ) → one_text (found_of arguments.now) (codes "header-size") ≡ Some text
-        → IfOk result (λ o. o.header_size ≡ digits_value 10 (without_leading_plus text)) }
-    ensures padded { one_text (found_of arguments.now) (codes "pad-header") ≡ Some (codes "true")
-        → IfOk result (λ o. o.pad_header ≡ true) }
-    ensures unpadded { one_text (found_of arguments.now) (codes "pad-header") ≡ None
-        → IfOk result (λ o. o.pad_header ≡ false) }
+    ensures header_size { IfOk result (λ o. told_number (found_of arguments.now) (codes "header-size") ≡ Some o.header_size) }
+    ensures pad_header { IfOk result (λ o. IsFlag (found_of arguments.now) (codes "pad-header") o.pad_header) }
+    ensures slot_size { IfOk result (λ o. told_number (found_of arguments.now) (codes "slot-size") ≡ o.slot_size) }
+    ensures align { IfOk result (λ o. told_number (found_of arguments.now) (codes "align") ≡ Some o.align) }
+    ensures max_sectors { IfOk result (λ o. told_number (found_of arguments.now) (codes "max-sectors") ≡ Some o.max_sectors) }
+    ensures pad { IfOk result (λ o. IsFlag (found_of arguments.now) (codes "pad") o.pad) }
+    ensures confirm { IfOk result (λ o. IsFlag (found_of arguments.now) (codes "confirm") o.confirm) }
+    ensures counter { IfOk result (λ o. told_number (found_of arguments.now) (codes "security-counter") ≡ o.security_counter) }
     // Good values are taken.
-    ensures taken { (text digits : List ℕ) (v : Version)
+    ensures taken { (text header unit sectors : List ℕ) (v : Version)
         → first_value (found_of arguments.now) (codes "version") ≡ Some text → Names text v
-        → one_text (found_of arguments.now) (codes "header-size") ≡ Some digits
-        → IsNumeral 10 (without_leading_plus digits) → 32 ≤ digits_value 10 (without_leading_plus digits)
-        → digits_value 10 (without_leading_plus digits) < 2 ^ 16 → IsOk result }
+        → one_text (found_of arguments.now) (codes "header-size") ≡ Some header → IsUnsignedIn 32 65535 header
+        → IfSome (one_text (found_of arguments.now) (codes "slot-size")) (IsUnsignedIn 1 (2 ^ 24))
+        → one_text (found_of arguments.now) (codes "align") ≡ Some unit
+        → IsNumeral 10 (without_leading_plus unit) → IsUnit (number_of unit)
+        → one_text (found_of arguments.now) (codes "max-sectors") ≡ Some sectors → IsUnsignedIn 1 1024 sectors
+        → IfSome (one_text (found_of arguments.now) (codes "security-counter")) (IsUnsignedIn 0 (2 ^ 32 - 1))
+        → IsOk result }
 {
     let version = Version::read(required(arguments, "version")?)?;
-    let header_size = arguments.get_one("header-size").ok_or(Refusal::Argument)?;
-    if header_size < 32 {
-        return Err(Refusal::Argument);
-    }
     Ok(CreateOptions {
         version,
-        header_size,
+        header_size: number(arguments, "header-size", 32, 65535)? as u16,
         pad_header: arguments.get_flag("pad-header"),
-        slot_size: None,
-        align: 8,
-        max_sectors: 128,
-        pad: false,
-        confirm: false,
-        security_counter: None,
+        slot_size: optional_number(arguments, "slot-size", 1, 16777216)?,
+        align: align(arguments)?,
+        max_sectors: number(arguments, "max-sectors", 1, 1024)?,
+        pad: arguments.get_flag("pad"),
+        confirm: arguments.get_flag("confirm"),
+        security_counter: optional_number(arguments, "security-counter", 0, u32::MAX)?,
     })
 }

@@ -2,6 +2,9 @@
 mod creation;
 mod faults;
 mod faulty;
+mod ranges;
+mod reports;
+mod slots;
 mod support;
 mod vectors;
 mod verification;

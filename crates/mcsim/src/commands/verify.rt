@@ -1,8 +1,8 @@
 //! `verify`: is a file a valid image?
+use super::infile::open_infile;
 use crate::refusal::Refusal;
 use clap::ArgMatches;
 use std::alloc::Global;
-use std::fs;
 use std::io::{Read, Write};
 use std::rt::Files;
 
@@ -18,11 +18,8 @@ pub fn run<F: Files, R: Read, O: Write>(
     input: &mut R,
     out: &mut O,
 ) -> Result<(), Refusal> {
-    match arguments.get_str("INFILE") {
-        Some(infile) => {
-            let mut file = fs::open(files, infile).map_err(|_| Refusal::Open)?;
-            mc_imgtool::verify(alloc, &mut file, out)?;
-        }
+    match open_infile(files, arguments)? {
+        Some(mut file) => mc_imgtool::verify(alloc, &mut file, out)?,
         None => mc_imgtool::verify(alloc, input, out)?,
     }
     Ok(())

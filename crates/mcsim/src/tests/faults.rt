@@ -1,7 +1,7 @@
 //! Command lines whose reads and writes fail, each at each call.
 use super::faulty::{Fault, FaultyFile, FaultyFiles};
-use super::support::{create_words, outcome_over, owned};
-use super::vectors::{GOOD, IMAGE, PAYLOAD};
+use super::support::{Outcome, create_words, outcome_over, owned};
+use super::vectors::{COUNTER_IMAGE, GOOD, IMAGE, PAYLOAD, REPORT};
 use crate::run;
 use std::alloc::Global;
 use std::cell::RefCell;
@@ -9,36 +9,71 @@ use std::test::Fail;
 
 static FAULTS: [Fault; 3] = [Fault::Error, Fault::Interruption, Fault::NoBytes];
 
+/// A command that reads an image, and what it prints of one.
+#[derive(Clone, Copy)]
+struct Reader {
+    name: &'static str,
+    image: &'static [u8],
+    text: &'static str,
+}
+
+/// The commands that read an image.
+fn readers() -> [Reader; 2] {
+    let verify = Reader {
+        name: "verify",
+        image: &IMAGE,
+        text: GOOD,
+    };
+    let dumpinfo = Reader {
+        name: "dumpinfo",
+        image: &COUNTER_IMAGE,
+        text: REPORT,
+    };
+    [verify, dumpinfo]
+}
+
+/// Runs a command that reads an image, with an input that fails once.
+fn read_from(rt: &HostRuntime, reader: Reader, calls: u32, fault: Fault) -> Result<Outcome, Fail> {
+    let unused = RefCell::new(Vec::new(rt.alloc()));
+    let mut input = FaultyFile {
+        rest: reader.image,
+        written: &unused,
+        calls,
+        fault,
+    };
+    outcome_over(rt.alloc(), rt, &["mcsim", reader.name], &mut input)
+}
+
 #[test]
-fn verify_meets_failing_reads(rt: HostRuntime) -> Result<(), Fail> {
-    let alloc = rt.alloc();
-    let unused = RefCell::new(Vec::new(alloc));
-    // 80 reads of one byte, one that finds the end, and none.
-    for calls in 0..82 {
-        for fault in [Fault::Error, Fault::Interruption] {
-            let mut input = FaultyFile {
-                rest: &IMAGE,
-                written: &unused,
-                calls,
-                fault,
-            };
-            let ended = outcome_over(alloc, &rt, &["mcsim", "verify"], &mut input)?;
-            let want = if calls < 81 {
-                (3, "", "mcsim: E24 Read\n")
-            } else {
-                (0, GOOD, "")
-            };
-            assert_eq!(rt; ended.parts(), want, "{calls} {fault:?}");
+fn readers_meet_failing_reads(rt: HostRuntime) -> Result<(), Fail> {
+    for reader in readers() {
+        let length = u32::try_from(reader.image.len())?;
+        // A read of each byte, one that finds the end, and none.
+        for calls in 0..length.saturating_add(2) {
+            for fault in [Fault::Error, Fault::Interruption] {
+                let ended = read_from(&rt, reader, calls, fault)?;
+                let want = if calls <= length {
+                    (3, "", "mcsim: E24 Read\n")
+                } else {
+                    (0, reader.text, "")
+                };
+                assert_eq!(rt; ended.parts(), want, "{calls} {fault:?}");
+            }
         }
     }
     Ok(())
 }
 
-/// Runs `verify` of the image with an output that fails once, and answers the status, what is out, and the text on
-/// standard error.
-fn verify_into(rt: &HostRuntime, calls: u32, fault: Fault) -> Result<(u8, Vec<u8>, Vec<u8>), Fail> {
+/// Runs a command that reads an image, with an output that fails once, and answers the status, what is out, and the
+/// text on standard error.
+fn read_into(
+    rt: &HostRuntime,
+    reader: Reader,
+    calls: u32,
+    fault: Fault,
+) -> Result<(u8, Vec<u8>, Vec<u8>), Fail> {
     let alloc = rt.alloc();
-    let words = owned(alloc, &["mcsim", "verify"])?;
+    let words = owned(alloc, &["mcsim", reader.name])?;
     let written = RefCell::new(Vec::new(alloc));
     let mut out = FaultyFile {
         rest: &[],
@@ -47,28 +82,30 @@ fn verify_into(rt: &HostRuntime, calls: u32, fault: Fault) -> Result<(u8, Vec<u8
         fault,
     };
     let mut err = Vec::new(alloc);
-    let mut input = IMAGE.as_slice();
+    let mut input = reader.image;
     let status = run(rt, alloc, words.as_slice(), &mut input, &mut out, &mut err);
     Ok((status, written.into_inner(), err))
 }
 
 #[test]
-fn verify_meets_failing_writes(rt: HostRuntime) -> Result<(), Fail> {
-    let line = GOOD.as_bytes();
-    for (place, _) in line.iter().enumerate() {
-        for fault in FAULTS {
-            let calls = u32::try_from(place)?;
-            let (status, out, err) = verify_into(&rt, calls, fault)?;
-            assert_eq!(rt; status, 3, "{place} {fault:?}");
-            assert_eq!(rt; err.as_slice(), b"mcsim: E25 Write\n".as_slice());
-            assert_eq!(rt; out.len(), place, "{fault:?}");
-            assert!(rt; line.starts_with(out.as_slice()), "{place} {fault:?}");
+fn readers_meet_failing_writes(rt: HostRuntime) -> Result<(), Fail> {
+    for reader in readers() {
+        let text = reader.text.as_bytes();
+        for (place, _) in text.iter().enumerate() {
+            for fault in FAULTS {
+                let calls = u32::try_from(place)?;
+                let (status, out, err) = read_into(&rt, reader, calls, fault)?;
+                assert_eq!(rt; status, 3, "{place} {fault:?}");
+                assert_eq!(rt; err.as_slice(), b"mcsim: E25 Write\n".as_slice());
+                assert_eq!(rt; out.len(), place, "{fault:?}");
+                assert!(rt; text.starts_with(out.as_slice()), "{place} {fault:?}");
+            }
         }
+        let (status, out, err) = read_into(&rt, reader, 1000, Fault::Error)?;
+        assert_eq!(rt; status, 0);
+        assert_eq!(rt; out.as_slice(), text);
+        assert_eq!(rt; err.len(), 0);
     }
-    let (status, out, err) = verify_into(&rt, 1000, Fault::Error)?;
-    assert_eq!(rt; status, 0);
-    assert_eq!(rt; out.as_slice(), line);
-    assert_eq!(rt; err.len(), 0);
     Ok(())
 }
 
@@ -152,8 +189,9 @@ fn statuses_stand_where_no_text_can_be_written(rt: HostRuntime) -> Result<(), Fa
         calls: 0,
         fault: Fault::Error,
     };
-    let cases: [(&[&str], u8); 4] = [
+    let cases: [(&[&str], u8); 5] = [
         (&["mcsim", "verify"], 1),
+        (&["mcsim", "dumpinfo"], 1),
         (&["mcsim", "nonsense"], 2),
         (&["mcsim"], 2),
         // The help cannot be written.

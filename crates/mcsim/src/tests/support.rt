@@ -1,6 +1,9 @@
 //! What the tests of command lines share.
+use super::faulty::{Fault, FaultyFiles};
+use super::vectors::PAYLOAD;
 use crate::run;
 use std::alloc::{AllocError, Global};
+use std::cell::RefCell;
 use std::io::Read;
 use std::rt::Files;
 use std::test::Fail;
@@ -76,4 +79,27 @@ pub fn create_words<'a>(version: &'a str, infile: &'a str, outfile: &'a str) -> 
         infile,
         outfile,
     ]
+}
+
+/// Runs a line of `create`, whose INFILE is `in` and holds `PAYLOAD`, and whose OUTFILE is `out`, and answers how it
+/// ended and what is in `out`.
+pub fn create_line(alloc: Global, line: &str) -> Result<(Outcome, Vec<u8>), Fail> {
+    let written = RefCell::new(Vec::new(alloc));
+    let files = FaultyFiles {
+        input: &PAYLOAD,
+        written: &written,
+        reads: u32::MAX,
+        writes: u32::MAX,
+        fault: Fault::Error,
+    };
+    let words: Vec<&str> = line.split_whitespace().collect(alloc)?;
+    let ended = outcome_over(alloc, &files, words.as_slice(), &mut [].as_slice())?;
+    Ok((ended, written.into_inner()))
+}
+
+/// Runs `create` of `PAYLOAD` with further options, and answers how it ended and what is written.
+pub fn create_of(alloc: Global, options: &str) -> Result<(Outcome, Vec<u8>), Fail> {
+    let start = "mcsim create --version 1.2.3+4 --header-size 32 --pad-header";
+    let line = format!(in alloc; "{start} {options} in out")?;
+    create_line(alloc, line.as_str())
 }

@@ -1,9 +1,6 @@
 //! Command lines that are refused, and those that ask for help.
-use super::support::{outcome_of, owned};
-use crate::options::create_options;
+use super::support::outcome_of;
 use crate::refusal::Refusal;
-use clap::{Arg, Command};
-use mc_image::VersionError;
 use std::test::Fail;
 
 #[test]
@@ -13,16 +10,16 @@ fn refuses_command_lines(rt: HostRuntime) -> Result<(), Fail> {
         "mcsim --nonsense",
         "mcsim verify a b",
         "mcsim verify --nonsense",
+        "mcsim dumpinfo a b",
+        "mcsim dumpinfo --nonsense",
         "mcsim create",
         "mcsim create --header-size 32 a b",
         "mcsim create --version 1 a b",
         "mcsim create --version 1 --header-size 32 a",
         "mcsim create --version 1 --header-size 32 a b c",
-        "mcsim create --version 1 --header-size 31 a b",
-        "mcsim create --version 1 --header-size 65536 a b",
-        "mcsim create --version 1 --header-size -1 a b",
-        "mcsim create --version 1 --header-size x a b",
         "mcsim create --version 1 --header-size 32 --header-size 32 a b",
+        "mcsim create --version 1 --header-size 32 --align 8 --align 8 a b",
+        "mcsim create --version 1 --header-size 32 --pad --pad a b",
         "mcsim create --version 1 --header-size 32 --nonsense a b",
     ];
     for line in lines {
@@ -42,6 +39,7 @@ fn prints_help(rt: HostRuntime) -> Result<(), Fail> {
         ("mcsim --help", "Usage: mcsim <COMMAND>"),
         ("mcsim create --help", "Usage: mcsim create "),
         ("mcsim verify -h", "Usage: mcsim verify "),
+        ("mcsim dumpinfo -h", "Usage: mcsim dumpinfo "),
     ];
     for (line, want) in lines {
         let words: Vec<&str> = line.split_whitespace().collect(rt.alloc())?;
@@ -62,31 +60,6 @@ fn refuses_no_words(rt: HostRuntime) -> Result<(), Fail> {
         assert_eq!(rt; ended.out.as_str(), "");
         let text = ended.err.as_str();
         assert!(rt; text.contains("Usage: mcsim <COMMAND>"), "{text}");
-    }
-    Ok(())
-}
-
-#[test]
-fn refuses_what_clap_lets_through(rt: HostRuntime) -> Result<(), Fail> {
-    let alloc = rt.alloc();
-    let cases = [
-        ("create --version 1 --header-size 31", Refusal::Argument),
-        ("create --version 1 --header-size 65536", Refusal::Argument),
-        ("create --version 1", Refusal::Argument),
-        ("create --header-size 32", Refusal::Argument),
-        (
-            "create --version 01 --header-size 31",
-            Refusal::Version(VersionError::Syntax),
-        ),
-    ];
-    for (line, want) in cases {
-        let words: Vec<&str> = line.split_whitespace().collect(alloc)?;
-        let words = owned(alloc, words.as_slice())?;
-        let command = Command::new(alloc, "create")
-            .arg(Arg::new(alloc, "version").long("version"))?
-            .arg(Arg::new(alloc, "header-size").long("header-size"))?;
-        let arguments = command.try_get_matches_from(words.as_slice())?;
-        assert_eq!(rt; create_options(&arguments).err(), Some(want), "{line}");
     }
     Ok(())
 }

@@ -13,7 +13,7 @@ ok_is_no_err e v q = absurd (cc)
 
 -- a text that names a version is not refused
 pub returns-in_err-version-clause-taken : goal.returns-in_err-version-clause-taken
-returns-in_err-version-clause-taken c = λ text digits v given names header numeral least fits.
+returns-in_err-version-clause-taken c = λ text header unit sectors v given names written numeral slot align decimal is_unit most within counter.
     let same : c.in_ok-required.field-0.now ≡ text = one_text_given _ _ _ c.in_ok-required.ensures given in
     let named : Names c.in_ok-required.field-0.now v = rw same names in
     ok_is_no_err c.in_err-version.field-0.0 v (c.in_err-version.ensures.only v named)

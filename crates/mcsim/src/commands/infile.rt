@@ -1,0 +1,23 @@
+//! INFILE, where it may be left out.
+use crate::refusal::Refusal;
+use clap::ArgMatches;
+use std::fs;
+use std::rt::Files;
+
+/// Opens INFILE, and answers nothing where it is left out.
+///
+/// # Errors
+///
+/// `Open` where INFILE cannot be opened.
+pub fn open_infile<F: Files>(
+    files: &F,
+    arguments: &ArgMatches<'_>,
+) -> Result<Option<F::File>, Refusal> {
+    match arguments.get_str("INFILE") {
+        Some(infile) => match fs::open(files, infile) {
+            Ok(file) => Ok(Some(file)),
+            Err(_) => Err(Refusal::Open),
+        },
+        None => Ok(None),
+    }
+}
