@@ -1,5 +1,5 @@
 -- What the header of a view reads as.
-use Rattle.std.proofs.Common.{◌≡◌, ◌≤◌, ◌+◌, ℕ, List, [], ◌++◌, sym, ◌∙◌, arith, ap, length}
+use Rattle.std.proofs.Common.{◌≡◌, ◌≤◌, ℕ, List, [], sym, ◌∙◌, arith, ap, length}
 use Rattle.std.proofs.lemmas.List.{append-nil}
 use Rattle.mc_image.specs.Bytes.{u32_at}
 use Rattle.mc_image.specs.Image.{Image, IsImage, IsView, header_text, version_in}

@@ -1,5 +1,5 @@
 -- Valid images (MCUboot's image format, entry type 0x10; FIPS 180-4), and what tells them apart.
-use Rattle.std.specs.Prelude.{◌≡◌, ℕ, Bool, ◌&&◌, not, is_none, List, length, Option, Some, None, if◌then◌else◌}
+use Rattle.std.specs.Prelude.{ℕ, Bool, ◌&&◌, not, is_none, List, length, Option, Some, None, if◌then◌else◌}
 use Rattle.std.specs.Str.{bytes_eq}
 use Rattle.sha2.specs.Sha256.{sha256}
 use Rattle.mc_image.specs.Image.{Image, Begins, IsGood, image_in, image_text, covered_text, digest_of}

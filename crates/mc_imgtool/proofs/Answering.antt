@@ -1,7 +1,7 @@
 -- An engine's answer at each of its ends.
 use Rattle.std.proofs.Common.{◌≡◌, ℕ, ◌<◌, ◌^◌, List, length, Option, None, Some, Result, Ok, Err, inl, inr, sym, ap, subst, ◌∙◌}
 use Rattle.std.specs.Prelude.{IfSome, IfErr, OnOk, ◌⊎◌}
-use Rattle.std.specs.Io.KnownBytes.{Appends, Keeps}
+use Rattle.std.specs.Io.KnownBytes.{Appends}
 use Rattle.std.proofs.KnownBytes.{Keeps-refl}
 use Rattle.mc_imgtool.specs.Engines.{RefusesReading, AppendsFront, Refuses, Answers}
 use Rattle.mc_imgtool.specs.declared.error.ToolError.{ToolError}

@@ -1,6 +1,6 @@
 -- The image of the parts that `create` hands on is the created one.
-use Rattle.std.proofs.Common.{◌≡◌, ℕ, ◌-◌, ◌≤◌, ◌^◌, Bool, true, false, cond, List, [], length, Option, None, Some, Result, Ok, Err, refl, sym, ap, subst, ◌∙◌, replicate, ◌++◌, inl, inr, append_assoc, arith, drop, length-drop}
-use Rattle.std.specs.Prelude.{◌⊎◌, map, nat_lt, IfOk}
+use Rattle.std.proofs.Common.{◌≡◌, ℕ, ◌-◌, ◌≤◌, ◌^◌, Bool, true, false, cond, List, [], length, Option, None, Some, Result, Ok, Err, sym, ap, subst, ◌∙◌, replicate, ◌++◌, inl, inr, append_assoc, arith, drop, length-drop}
+use Rattle.std.specs.Prelude.{◌⊎◌, nat_lt, IfOk}
 use Rattle.mc_image.specs.Image.{Image, image_text}
 use Rattle.mc_image.specs.Entries.{Entry}
 use Rattle.mc_image.specs.Writing.{views, area_of, undigested, with_digest, image_of}

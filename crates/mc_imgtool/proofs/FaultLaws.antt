@@ -1,9 +1,9 @@
 -- The first of all faults, by reading and by the check of the digest.
-use Rattle.std.proofs.Common.{◌≡◌, ℕ, Bool, true, false, List, Option, None, Some, refl, sym, ap, subst, ◌∙◌}
+use Rattle.std.proofs.Common.{◌≡◌, ℕ, Bool, true, false, List, None, Some, refl, sym, ap, ◌∙◌}
 use Rattle.std.specs.Prelude.{not}
 use Rattle.std.proofs.lemmas.Slice.Eq.{bytes_eq-Decides}
 use Rattle.mc_image.specs.Image.{Image, IsGood, image_in}
-use Rattle.mc_image.specs.Faults.{fault_if, ◌<+>◌, first_fault}
+use Rattle.mc_image.specs.Faults.{fault_if, first_fault}
 use Rattle.mc_image.specs.Valid.{is_good, image_fault}
 use Rattle.mc_image.specs.declared.error.ImageError.{ImageError}
 use Rattle.mc_image.specs.declared.error.ImageError.TheVariants.{WrongDigest}

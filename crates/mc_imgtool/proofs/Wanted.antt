@@ -1,6 +1,6 @@
 -- What is wanted of each engine.
 use Rattle.std.proofs.Common.{◌≡◌, ℕ, ◌<◌, ◌≤◌, ◌^◌, Bool, true, false, cond, List, length, Option, None, Some, Result, Ok, Err, refl, sym, ap, ◌∙◌}
-use Rattle.std.specs.Prelude.{nat_lt, ◌+◌, ◌-◌}
+use Rattle.std.specs.Prelude.{nat_lt, ◌-◌}
 use Rattle.std.proofs.lemmas.Bool.{lt-ltb, le-ltb}
 use Rattle.mc_image.specs.Image.{Image, image_in, image_text}
 use Rattle.mc_image.specs.Valid.{image_fault}
