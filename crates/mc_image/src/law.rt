@@ -1,7 +1,7 @@
 //! Laws of the definitions, each the contract of a function that does nothing.
 ghost use Rattle.std.specs.Prelude.{◌≡◌, ℕ, List, None, Some, true, length, take, ◌↔◌};
 ghost use Rattle.mc_image.specs.Bytes.{IsBytes};
-ghost use Rattle.mc_image.specs.Image.{Image, Begins, IsGood, image_in, image_text};
+ghost use Rattle.mc_image.specs.Image.{Image, Begins, image_in, image_text};
 ghost use Rattle.mc_image.specs.Faults.{first_fault};
 ghost use Rattle.mc_image.specs.Valid.{IsValid, Identity, identity, is_valid, id_of, image_fault};
 

@@ -1,5 +1,5 @@
 //! `create`: an image from a payload.
-ghost use Rattle.std.specs.Prelude.{◌≡◌, ◌↔◌, ℕ, List, ◌+◌, ◌≤◌, ◌^◌, ◌||◌, length, MatchOption, MatchResult, IfSome, OnOk, OnErr, IfOk, IsErrOf, Some, true, false, nat_lt, ◌==◌, vec_len};
+ghost use Rattle.std.specs.Prelude.{◌≡◌, ◌↔◌, ℕ, List, ◌+◌, ◌≤◌, ◌^◌, ◌||◌, length, MatchOption, IfSome, OnOk, IfOk, IsErrOf, Some, true, false, ◌==◌, vec_len};
 ghost use Rattle.std.specs.List.{list_all};
 ghost use Rattle.std.specs.Io.KnownBytes.{Consumes, IsAtEnd};
 ghost use Rattle.mc_image.specs.declared.error.ImageError.{ImageError};

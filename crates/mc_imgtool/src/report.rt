@@ -1,7 +1,6 @@
 //! `dumpinfo`: the fields and entries of an image, as text.
-ghost use Rattle.std.specs.Prelude.{◌≡◌, ℕ, List, ◌+◌, ◌≤◌, ◌^◌, ◌++◌, length, IfOk, OnOk, IsTrue, ◌↔◌, true, string_bytes};
+ghost use Rattle.std.specs.Prelude.{◌≡◌, ℕ, List, ◌+◌, ◌≤◌, ◌^◌, ◌++◌, length, IfOk, OnOk, string_bytes};
 ghost use Rattle.std.specs.Io.KnownBytes.{Consumes, IsAtEnd};
-ghost use Rattle.mc_image.specs.Listing.{listing};
 ghost use Rattle.mc_image.specs.Valid.{is_good};
 ghost use Rattle.mc_imgtool.specs.Engines.{Answers, Gives};
 ghost use Rattle.mc_imgtool.specs.Lines.{load_lines, size_lines, version_lines, header_lines, entry_line, entry_lines, value_text, last_lines, report, dumped};
