@@ -20,6 +20,7 @@ pub record Identity : Type 0 where
   pub size : ℕ
   pub digest : List ℕ
 
+-- the identity of an image
 abbrev pub identity : Image → Identity
 identity v = record { version = v.version; size = length (image_text v); digest = digest_of v }
 

@@ -1,4 +1,4 @@
--- What `verify` and `dumpinfo` write.
+-- What `verify` and `dumpinfo` write (imgtool's documentation has the commands; the texts are this project's own).
 use Rattle.std.specs.Prelude.{ℕ, Bool, ◌-◌, ◌^◌, List, [], ◌∷◌, ◌++◌, length, codes, decimal, nat_lt, if◌then◌else◌, Option, Some, None, Result, Ok, Err}
 use Rattle.std.specs.List.{flat_map}
 use Rattle.std.specs.Int.{w16, w32, to_be_bytes}
@@ -48,6 +48,7 @@ size_lines v = codes "header-size " ++ (decimal (length (header_text v)) ++ (cod
 unfoldable pub version_lines : Image → List ℕ
 version_lines v = codes "flags 0x00000000\nversion " ++ (version_line v.version ++ (codes "\npadding 0x" ++ (eight_digits v.padding ++ 10 ∷ [])))
 
+-- the name of an area
 abbrev pub area_word : Area → List ℕ
 area_word Protected = codes "protected"
 area_word Plain = codes "plain"
@@ -61,9 +62,11 @@ value_text (b ∷ bytes) = codes " " ++ encode_lower (b ∷ bytes)
 unfoldable pub entry_line : Listed → List ℕ
 entry_line x = area_word x.area ++ (codes " 0x" ++ (four_digits x.entry.kind ++ (codes " " ++ (decimal (length x.entry.value) ++ (value_text x.entry.value ++ 10 ∷ [])))))
 
+-- a line for each entry
 abbrev pub entry_lines : List Listed → List ℕ
 entry_lines xs = flat_map entry_line xs
 
+-- what is said of the digest
 abbrev pub judgement : Bool → List ℕ
 judgement good = if good then codes "good" else codes "wrong"
 
