@@ -5,3 +5,5 @@ pub mod Content
 pub mod Apply
 pub mod Ledger
 pub mod Snap
+pub mod Facts
+pub mod Changes

@@ -1,0 +1,126 @@
+-- What follows from the facts of a layout: where the trailer lies, what is a whole number of units, and which sectors hold
+-- data. Proved here, so that the crates above can cite it.
+use Rattle.std.specs.Prelude.{◌≡◌, ℕ, ◌+◌, ◌-◌, ◌*◌, ◌/◌, ◌%◌, ◌<◌, ◌≤◌, refl}
+use Rattle.std.proofs.Common.{arith, ap, inl, inr}
+use Rattle.std.proofs.lemmas.Grind.{div_ceil_times}
+use Rattle.std.proofs.Math.Nat.{mul-le-mul_right, dvd_of_mod-eq-zero, dvd-add, dvd-sub, dvd-mul_left_of_dvd, dvd-mul_left, dvd_trans, mod-add-div'}
+use Rattle.std.proofs.lemmas.Nat.Gcd.{mod-eq-zero_of_dvd}
+use Rattle.mc_flash.specs.Geometry.{Geometry, IsLayout, trailer_bytes, trailer_sectors, greatest_sectors}
+use Rattle.mc_flash.specs.Content.{sectors_of, size_of}
+use Rattle.mc_flash.specs.declared.op.Slot.{Slot}
+use Rattle.mc_flash.specs.declared.op.Slot.TheVariants.{Primary, Secondary}
+
+-- the trailer lies in its sectors
+pub trailer_covered : (g : Geometry) → IsLayout g → trailer_bytes g ≤ trailer_sectors g * g.sector
+trailer_covered g ok = (div_ceil_times (trailer_bytes g) g.sector (omega (arith, ok.least_sector))).0
+
+-- and leaves a sector of each slot
+pub trailer_leaves_one : (g : Geometry) (slot : Slot) → IsLayout g → trailer_sectors g + 1 ≤ sectors_of g slot
+trailer_leaves_one g Primary ok = let room = ok.room in omega arith
+trailer_leaves_one g Secondary ok = let room = ok.room in omega arith
+
+pub trailer_inside : (g : Geometry) (slot : Slot) → IsLayout g → trailer_bytes g ≤ size_of g slot
+trailer_inside g slot ok =
+    let covered = trailer_covered g ok in
+    let leaves = trailer_leaves_one g slot ok in
+    let more : trailer_sectors g * g.sector ≤ sectors_of g slot * g.sector = mul-le-mul_right g.sector (omega arith) in
+    omega arith
+
+-- Whole units.
+abbrev pub IsWhole : Geometry → ℕ → Type 0
+IsWhole g n = n % g.unit ≡ 0
+
+pub whole_add : (g : Geometry) (a b : ℕ) → IsWhole g a → IsWhole g b → IsWhole g (a + b)
+whole_add g a b p q = mod-eq-zero_of_dvd g.unit (dvd-add g.unit (dvd_of_mod-eq-zero g.unit p) (dvd_of_mod-eq-zero g.unit q))
+
+pub whole_sub : (g : Geometry) (a b : ℕ) → IsWhole g a → IsWhole g b → IsWhole g (a - b)
+whole_sub g a b p q = mod-eq-zero_of_dvd g.unit (dvd-sub g.unit (dvd_of_mod-eq-zero g.unit p) (dvd_of_mod-eq-zero g.unit q))
+
+pub whole_times : (g : Geometry) (c a : ℕ) → IsWhole g a → IsWhole g (c * a)
+whole_times g c a p = mod-eq-zero_of_dvd g.unit (dvd-mul_left_of_dvd g.unit (dvd_of_mod-eq-zero g.unit p) c)
+
+pub whole_units : (g : Geometry) (c : ℕ) → IsWhole g (c * g.unit)
+whole_units g c = mod-eq-zero_of_dvd g.unit (dvd-mul_left g.unit c)
+
+pub whole_eight : (g : Geometry) → IsLayout g → IsWhole g 8
+whole_eight g ok = elim ok.unit [
+  | inl one ↦ rw one refl
+  | inr (inl two) ↦ rw two refl
+  | inr (inr (inl four)) ↦ rw four refl
+  | inr (inr (inr eight)) ↦ rw eight refl
+]
+
+pub whole_eights : (g : Geometry) (c : ℕ) → IsLayout g → IsWhole g (c * 8)
+whole_eights g c ok = whole_times g c 8 (whole_eight g ok)
+
+pub whole_sector : (g : Geometry) → IsLayout g → IsWhole g g.sector
+whole_sector g ok = mod-eq-zero_of_dvd g.unit (dvd_trans g.unit (dvd_of_mod-eq-zero g.unit ok.chunk_units) (dvd_of_mod-eq-zero g.chunk ok.sector_chunks))
+
+pub whole_size : (g : Geometry) (slot : Slot) → IsLayout g → IsWhole g (size_of g slot)
+whole_size g slot ok = whole_times g (sectors_of g slot) g.sector (whole_sector g ok)
+
+-- the chunks of a sector
+pub chunks_cover : (g : Geometry) → IsLayout g → g.sector / g.chunk * g.chunk ≡ g.sector
+chunks_cover g ok = let h = ok.sector_chunks in let e = mod-add-div' g.sector g.chunk in omega (arith, h, e)
+
+pub small_unit : (g : Geometry) → IsLayout g → (0 < g.unit) × (g.unit ≤ 8)
+small_unit g ok = elim ok.unit [
+  | inl one ↦ omega arith
+  | inr (inl two) ↦ omega arith
+  | inr (inr (inl four)) ↦ omega arith
+  | inr (inr (inr eight)) ↦ omega arith
+]
+
+-- The sectors of a slot that hold no trailer, and where they end.
+abbrev pub data_sectors : Geometry → Slot → ℕ
+data_sectors g slot = sectors_of g slot - trailer_sectors g
+
+abbrev pub data_end : Geometry → Slot → ℕ
+data_end g slot = data_sectors g slot * g.sector
+
+-- the data sectors and the trailer lie behind one another in the slot
+pub data_before_trailer : (g : Geometry) (slot : Slot) → IsLayout g → data_end g slot + trailer_bytes g ≤ size_of g slot
+data_before_trailer g slot ok = with_count (data_sectors g slot) (let leaves = trailer_leaves_one g slot ok in omega arith)
+  where
+    with_count : (d : ℕ) → sectors_of g slot ≡ d + trailer_sectors g → d * g.sector + trailer_bytes g ≤ size_of g slot
+    with_count d e =
+        let covered = trailer_covered g ok in
+        let rows : sectors_of g slot * g.sector ≡ (d + trailer_sectors g) * g.sector = ap (λ n. n * g.sector) e in
+        omega (arith, rows, covered)
+
+-- a sector of a slot ends in the slot
+pub sector_inside : (g : Geometry) (slot : Slot) (i : ℕ) → i < sectors_of g slot → i * g.sector + g.sector ≤ size_of g slot
+sector_inside g slot i below =
+    let rows : (i + 1) * g.sector ≤ sectors_of g slot * g.sector = mul-le-mul_right g.sector (omega arith) in
+    with_end (size_of g slot) rows
+  where
+    with_end : (z : ℕ) → (i + 1) * g.sector ≤ z → i * g.sector + g.sector ≤ z
+    with_end z h = omega arith
+
+-- and a data sector before the trailer
+pub sector_in_data : (g : Geometry) (slot : Slot) (i : ℕ) → i < data_sectors g slot → i * g.sector + g.sector ≤ data_end g slot
+sector_in_data g slot i below =
+    let rows : (i + 1) * g.sector ≤ data_sectors g slot * g.sector = mul-le-mul_right g.sector (omega arith) in
+    with_end (data_end g slot) rows
+  where
+    with_end : (z : ℕ) → (i + 1) * g.sector ≤ z → i * g.sector + g.sector ≤ z
+    with_end z h = omega arith
+
+pub data_sector_before_trailer : (g : Geometry) (slot : Slot) (i : ℕ) → IsLayout g → i < data_sectors g slot
+    → i * g.sector + g.sector + trailer_bytes g ≤ size_of g slot
+data_sector_before_trailer g slot i ok below =
+    let ends = sector_in_data g slot i below in
+    let before = data_before_trailer g slot ok in
+    omega (arith, ends, before)
+
+-- a sector that is no data sector begins behind them
+pub trailer_sector_behind_data : (g : Geometry) (slot : Slot) (i : ℕ) → data_sectors g slot ≤ i → data_end g slot ≤ i * g.sector
+trailer_sector_behind_data g slot i above = mul-le-mul_right g.sector above
+
+-- the sectors of an image are data in both slots, and the primary has one more
+pub image_is_data : (g : Geometry) (slot : Slot) (n : ℕ) → n ≤ greatest_sectors g → n ≤ data_sectors g slot
+image_is_data g Primary n few = omega arith
+image_is_data g Secondary n few = omega arith
+
+pub room_to_move : (g : Geometry) (n : ℕ) → IsLayout g → n ≤ greatest_sectors g → n + 1 ≤ data_sectors g Primary
+room_to_move g n ok few = let room = ok.room in omega arith
