@@ -1,0 +1,25 @@
+-- Where the fields of a trailer stand: each so many bytes before the slot's end.
+use Rattle.std.specs.Prelude.{ℕ, ◌+◌, ◌-◌, ◌*◌, List, [], ◌∷◌}
+use Rattle.mc_flash.specs.Geometry.{Geometry}
+use Rattle.mc_flash.specs.Content.{size_of}
+use Rattle.mc_flash.specs.declared.op.Slot.{Slot}
+use Rattle.mc_flash.specs.declared.op.Slot.TheVariants.{Primary}
+use Rattle.mc_trailer.specs.declared.places.Field.{Field}
+use Rattle.mc_trailer.specs.declared.places.Field.TheVariants as field
+
+abbrev pub before_end : Field → ℕ
+before_end field.Magic = 16
+before_end field.ImageOk = 24
+before_end field.CopyDone = 32
+before_end field.SwapInfo = 40
+before_end field.SwapSize = 48
+
+abbrev pub place : Geometry → Slot → Field → ℕ
+place g slot f = size_of g slot - before_end f
+
+-- an entry of the primary
+abbrev pub entry_place : Geometry → ℕ → ℕ
+entry_place g e = size_of g Primary - (48 + 3 * g.max_sectors * g.unit - e * g.unit)
+
+abbrev pub magic_bytes : List ℕ
+magic_bytes = 0x77 ∷ 0xc2 ∷ 0x95 ∷ 0xf3 ∷ 0x60 ∷ 0xd2 ∷ 0xef ∷ 0x7f ∷ 0x35 ∷ 0x52 ∷ 0x50 ∷ 0x0f ∷ 0x2c ∷ 0xb6 ∷ 0x79 ∷ 0x80 ∷ []

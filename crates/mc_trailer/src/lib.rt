@@ -1,0 +1,12 @@
+//! The trailer at the end of a slot: its fields, the status entries of a swap, and the swap tables.
+#![tactic(auto)]
+
+mod entries;
+mod places;
+mod tables;
+mod trailer;
+
+pub use entries::highest_entry;
+pub use places::{Field, entry_place, place};
+pub use tables::{Profile, Rules, SwapType, resumes, swap_type};
+pub use trailer::{Flag, MAGIC, Magic, Trailer};
