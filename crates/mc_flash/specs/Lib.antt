@@ -7,3 +7,4 @@ pub mod Ledger
 pub mod Snap
 pub mod Facts
 pub mod Changes
+pub mod Pieces

@@ -2,7 +2,9 @@
 ghost use Rattle.std.specs.Prelude.{◌≡◌, ℕ, ◌≤◌, ◌<◌, ◌*◌, ◌^◌, ◌-◌, ◌==◌, min, pos, int_lt, Some, None, MatchResult};
 ghost use Rattle.mc_flash.specs.Geometry.{Geometry, IsLayout, trailer_sectors, count_beside, greatest_count, greatest_sectors, fits, refusal_of};
 ghost use Rattle.mc_flash.specs.Content.{sectors_of, size_of};
+ghost use Rattle.mc_flash.specs.Pieces.{in_pieces};
 
+use crate::flash::Grain;
 use crate::op::Slot;
 use std::marker::Model;
 use thiserror::Error;
@@ -116,6 +118,19 @@ impl Layout {
             primary,
             secondary,
         })
+    }
+
+    /// The same layout by the pieces in which a sector is copied: where each unit happens by itself, a chunk is one unit.
+    pub fn in_pieces(&self, grain: Grain) -> Layout
+        ensures { result ≡ in_pieces grain self.now }
+    {
+        match grain {
+            Grain::Call => *self,
+            Grain::Unit => Layout {
+                chunk: self.unit,
+                ..*self
+            },
+        }
     }
 
     /// The bytes of a sector: what an erase makes 0xff.
