@@ -1,2 +1,3 @@
 mod Counts
 mod Limits
+mod Worked

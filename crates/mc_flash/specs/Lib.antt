@@ -8,3 +8,4 @@ pub mod Snap
 pub mod Facts
 pub mod Changes
 pub mod Pieces
+pub mod Worked

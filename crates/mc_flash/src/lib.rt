@@ -12,3 +12,6 @@ pub use flash::{Flash, FlashError, Grain};
 pub use layout::{Layout, LayoutError};
 pub use op::{Bytes16, Op, Slot};
 pub use snap::SnapFlash;
+
+#[cfg(test)]
+mod tests;
