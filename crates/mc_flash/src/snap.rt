@@ -106,11 +106,12 @@ impl Flash for SnapFlash {
         secondary: &[u8],
         _boots: u32,
     ) -> Result<Self, FlashError> {
+        let Snapshot { primary, secondary } = copy_of(alloc, primary, secondary)?;
         Ok(SnapFlash {
             alloc,
             layout: *layout,
-            primary: primary.to_vec(alloc)?,
-            secondary: secondary.to_vec(alloc)?,
+            primary,
+            secondary,
             marks: Vec::new(alloc),
             failed: false,
         })

@@ -1,5 +1,6 @@
 //! The worked layout, the limits of a layout, and the flash of copies through the trait.
-ghost use Rattle.std.specs.Prelude.{◌≡◌};
+ghost use Rattle.std.specs.Prelude.{◌≡◌, [], IfOk};
+ghost use Rattle.mc_flash.specs.Worked.{worked};
 
 use super::*;
 use std::alloc::Global;
@@ -7,7 +8,9 @@ use std::process::Abort;
 use std::test::Fail;
 
 /// The worked layout: 4 and 3 sectors of 256 bytes.
-fn worked() -> Result<Layout, LayoutError> {
+fn worked() -> Result<Layout, LayoutError>
+    ensures { IfOk result (λ layout. layout ≡ worked) }
+{
     Layout::new(256, 8, 4, 128, 4, 3)
 }
 
@@ -141,41 +144,51 @@ fn at_most_sixteen_bytes_are_kept(rt: HostRuntime) {
     assert_eq!(rt; Bytes16::new(&[9; 16]).bytes(), [9; 16].as_slice());
 }
 
-/// Each call once, by the trait alone: the primary is blank, and the secondary is not.
-fn each_call<F: Flash>(rt: &impl Abort, alloc: Global) -> Result<(), Fail> {
+const UNIT: [u8; 8] = [1, 2, 3, 4, 5, 6, 7, 8];
+
+/// A flash of the worked layout: the primary is blank, and the secondary holds 0xaa.
+fn loaded<F: Flash>(alloc: Global) -> Result<F, Fail>
+    ensures geometry { IfOk result (λ flash. F.geometry flash ≡ worked) }
+    ensures marks { IfOk result (λ flash. F.marks flash ≡ []) }
+{
     let layout = worked()?;
-    let mut flash = F::load(alloc, &layout, Grain::Call, &[0xff; 1024], &[0xaa; 768], 1)?;
+    let flash = F::load(alloc, &layout, Grain::Call, &[0xff; 1024], &[0xaa; 768], 1)?;
+    Ok(flash)
+}
+
+fn bytes_are_programmed<F: Flash>(rt: &impl Abort, alloc: Global) -> Result<(), Fail> {
+    let mut flash = loaded::<F>(alloc)?;
     assert_eq!(rt; flash.layout().sector(), 256);
-    let unit = [1, 2, 3, 4, 5, 6, 7, 8];
-    flash.program(Slot::Primary, 16, &unit)?;
-    assert_eq!(rt;
-        flash.program(Slot::Primary, 16, &unit),
-        Err(FlashError::NotErased)
-    );
-    assert_eq!(rt;
-        flash.copy(Slot::Primary, 0, Slot::Secondary, 0, 128),
-        Err(FlashError::NotErased)
-    );
-    flash.copy(Slot::Primary, 16, Slot::Primary, 8, 8)?;
-    assert_eq!(rt; &flash.read(Slot::Primary)[..8], [0xff; 8].as_slice());
-    assert_eq!(rt; &flash.read(Slot::Primary)[8..16], unit.as_slice());
-    assert_eq!(rt; &flash.read(Slot::Primary)[16..24], unit.as_slice());
+    flash.program(Slot::Primary, 16, &UNIT)?;
+    let again = flash.program(Slot::Primary, 16, &UNIT);
+    assert_eq!(rt; again, Err(FlashError::NotErased));
+    let mut wanted = [0xff; 1024];
+    wanted[16..24].copy_from_slice(&UNIT);
+    assert_eq!(rt; flash.read(Slot::Primary), wanted.as_slice());
+    Ok(())
+}
+
+fn bytes_are_copied<F: Flash>(rt: &impl Abort, alloc: Global) -> Result<(), Fail> {
+    let mut flash = loaded::<F>(alloc)?;
+    flash.copy(Slot::Secondary, 8, Slot::Primary, 256, 128)?;
+    let over = flash.copy(Slot::Primary, 0, Slot::Secondary, 0, 8);
+    assert_eq!(rt; over, Err(FlashError::NotErased));
+    flash.copy(Slot::Primary, 256, Slot::Primary, 0, 8)?;
+    let mut wanted = [0xff; 1024];
+    wanted[..8].fill(0xaa);
+    wanted[256..384].fill(0xaa);
+    assert_eq!(rt; flash.read(Slot::Primary), wanted.as_slice());
+    assert_eq!(rt; flash.read(Slot::Secondary), [0xaa; 768].as_slice());
+    Ok(())
+}
+
+fn marks_are_given_back<F: Flash>(rt: &impl Abort, alloc: Global) -> Result<(), Fail> {
+    let mut flash = loaded::<F>(alloc)?;
     assert_eq!(rt; flash.mark()?, 0);
     flash.erase(Slot::Secondary, 1)?;
-    flash.copy(Slot::Primary, 16, Slot::Secondary, 256, 8)?;
-    assert_eq!(rt;
-        &flash.read(Slot::Secondary)[248..256],
-        [0xaa; 8].as_slice()
-    );
-    assert_eq!(rt; &flash.read(Slot::Secondary)[256..264], unit.as_slice());
-    assert_eq!(rt;
-        &flash.read(Slot::Secondary)[504..512],
-        [0xff; 8].as_slice()
-    );
-    assert_eq!(rt;
-        &flash.read(Slot::Secondary)[512..520],
-        [0xaa; 8].as_slice()
-    );
+    let mut wanted = [0xaa; 768];
+    wanted[256..512].fill(0xff);
+    assert_eq!(rt; flash.read(Slot::Secondary), wanted.as_slice());
     assert_eq!(rt; flash.mark()?, 1);
     flash.back_to(0);
     assert_eq!(rt; flash.read(Slot::Secondary), [0xaa; 768].as_slice());
@@ -184,42 +197,28 @@ fn each_call<F: Flash>(rt: &impl Abort, alloc: Global) -> Result<(), Fail> {
 }
 
 #[test]
-fn copies_serve_each_call(rt: HostRuntime) -> Result<(), Fail> {
-    each_call::<SnapFlash>(&rt, rt.alloc())
+fn copies_are_programmed(rt: HostRuntime) -> Result<(), Fail> {
+    bytes_are_programmed::<SnapFlash>(&rt, rt.alloc())
 }
 
-/// A growth that is refused changes nothing: each allocation of this test is refused in turn by `scripts/refuse-tests`.
 #[test]
-fn a_refused_growth_changes_nothing(rt: HostRuntime) -> Result<(), Fail> {
-    let layout = worked()?;
-    let loaded = SnapFlash::load(
-        rt.alloc(),
-        &layout,
-        Grain::Call,
-        &[0xff; 1024],
-        &[0xaa; 768],
-        1,
-    );
-    let Ok(mut flash) = loaded else {
-        return Ok(());
-    };
-    let first = flash.mark();
-    assert_eq!(rt; flash.read(Slot::Secondary), [0xaa; 768].as_slice());
-    flash.erase(Slot::Secondary, 0)?;
-    let second = flash.mark();
-    if first.is_ok() && second.is_ok() {
-        assert_eq!(rt; (first, second), (Ok(0), Ok(1)));
-        flash.back_to(0);
+fn copies_are_copied(rt: HostRuntime) -> Result<(), Fail> {
+    bytes_are_copied::<SnapFlash>(&rt, rt.alloc())
+}
+
+#[test]
+fn copies_are_given_back(rt: HostRuntime) -> Result<(), Fail> {
+    marks_are_given_back::<SnapFlash>(&rt, rt.alloc())
+}
+
+/// A mark that is refused changes nothing. `scripts/refuse-tests` refuses each allocation of the tests in turn.
+#[test]
+fn a_refused_mark_changes_nothing(rt: HostRuntime) -> Result<(), Fail> {
+    let mut flash = loaded::<SnapFlash>(rt.alloc())?;
+    if let Err(error) = flash.mark() {
+        assert_eq!(rt; error, FlashError::Memory);
         assert_eq!(rt; flash.read(Slot::Secondary), [0xaa; 768].as_slice());
-    } else {
-        // One of them was refused, and the other is the only mark.
-        assert_eq!(rt; &flash.read(Slot::Secondary)[..256], [0xff; 256].as_slice());
-        assert!(rt;
-            matches!(
-                (first, second),
-                (Err(FlashError::Memory), Ok(0)) | (Ok(0), Err(FlashError::Memory))
-            )
-        );
+        assert_eq!(rt; flash.mark()?, 0);
     }
     Ok(())
 }
