@@ -13,3 +13,4 @@ pub mod Appended
 pub mod SizeLaws
 pub mod VersionLaws
 pub mod VersionJudged
+pub mod Checked

@@ -1,4 +1,4 @@
--- The first of all faults, by reading and by the check of the digest.
+-- The check of a digest and its test agree.
 use Rattle.std.proofs.Common.{◌≡◌, ℕ, Bool, true, false, List, None, Some, refl, sym, ap, ◌∙◌}
 use Rattle.std.specs.Prelude.{not}
 use Rattle.std.proofs.lemmas.Slice.Eq.{bytes_eq-Decides}
@@ -7,10 +7,6 @@ use Rattle.mc_image.specs.Faults.{fault_if, first_fault}
 use Rattle.mc_image.specs.Valid.{is_good, image_fault}
 use Rattle.mc_image.specs.declared.error.ImageError.{ImageError}
 use Rattle.mc_image.specs.declared.error.ImageError.TheVariants.{WrongDigest}
-
-pub fault_read : (b : List ℕ) (e : ImageError) → first_fault b ≡ Some e → image_fault b ≡ Some e
-unfolding image_fault
-fault_read b e h = rw h refl
 
 pub good_false : (v : Image) → (IsGood v → ⊥) → is_good v ≡ false
 unfolding is_good
@@ -23,17 +19,3 @@ good_false v h =
 pub good_true : (v : Image) → IsGood v → is_good v ≡ true
 unfolding is_good
 good_true v g = (bytes_eq-Decides _ _).1 g
-
-from_parts : (b : List ℕ) (t : Bool) → first_fault b ≡ None → is_good (image_in b) ≡ t → image_fault b ≡ fault_if (not t) WrongDigest
-unfolding image_fault
-from_parts b t none good = rw (none, good) refl
-
-pub fault_digest : (b : List ℕ) (v : Image) → first_fault b ≡ None → v ≡ image_in b → (IsGood v → ⊥) → image_fault b ≡ Some WrongDigest
-fault_digest b v none is wrong = from_parts b false none (ap is_good (sym is) ∙ good_false v wrong)
-
-pub fault_none : (b : List ℕ) (v : Image) → first_fault b ≡ None → v ≡ image_in b → IsGood v → image_fault b ≡ None
-fault_none b v none is good = from_parts b true none (ap is_good (sym is) ∙ good_true v good)
-
--- with the error of the check
-pub fault_checked : (b : List ℕ) (v : Image) (e : ImageError) → first_fault b ≡ None → v ≡ image_in b → e ≡ WrongDigest → (IsGood v → ⊥) → image_fault b ≡ Some e
-fault_checked b v e none is at wrong = fault_digest b v none is wrong ∙ ap (λ (x : ImageError). Some x) (sym at)

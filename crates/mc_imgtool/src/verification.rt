@@ -1,15 +1,13 @@
 //! `verify`: is an input a valid image?
-ghost use Rattle.std.specs.Prelude.{◌≡◌, ℕ, List, ◌+◌, ◌≤◌, ◌^◌, length, MatchResult, IfOk, OnOk, Some, None, string_bytes};
+ghost use Rattle.std.specs.Prelude.{◌≡◌, ℕ, List, ◌+◌, ◌≤◌, ◌^◌, length, IfOk, OnOk, string_bytes};
 ghost use Rattle.std.specs.Io.KnownBytes.{Consumes, IsAtEnd};
-ghost use Rattle.mc_image.specs.Image.{image_in};
-ghost use Rattle.mc_image.specs.Valid.{image_fault};
 ghost use Rattle.mc_imgtool.specs.Engines.{Answers, Gives};
 ghost use Rattle.mc_imgtool.specs.Lines.{good_line, verified};
 
 use crate::ToolError;
 use crate::input::{GREATEST_INPUT, read_bounded};
 use crate::output::write_text;
-use mc_image::{ImageError, ImageView};
+use mc_image::ImageView;
 use std::alloc::{AllocError, Global};
 use std::io::{Read, Write};
 
@@ -24,24 +22,13 @@ fn good_line(alloc: Global, image: &ImageView<'_>) -> Result<String, AllocError>
     format!(in alloc; "good {version} {size} {digits}\n")
 }
 
-/// The valid image that the bytes begin with.
-#[tactic(auto, using(crate::proofs::FaultLaws::fault_checked, crate::proofs::FaultLaws::fault_none))]
-fn valid_image(bytes: &[u8]) -> Result<ImageView<'_>, ImageError>
-    ensures { MatchResult result (λ v. (image_fault bytes.now ≡ None) × (v ≡ image_in bytes.now))
-        (λ e. image_fault bytes.now ≡ Some e) }
-{
-    let image = ImageView::read(bytes)?;
-    image.check()?;
-    Ok(image)
-}
-
 /// The line for an input that was read whole.
 #[tactic(auto, using(crate::proofs::Wanted::verified_good, crate::proofs::Wanted::verified_bad))]
 fn line_for(alloc: Global, input: &[u8]) -> Result<String, ToolError>
     requires { length input.now ≤ 2 ^ 24 }
     ensures { Gives string_bytes result (verified input.now) }
 {
-    let image = match valid_image(input) {
+    let image = match ImageView::read_valid(input) {
         Ok(image) => image,
         Err(error) => return Err(ToolError::Image(error)),
     };
