@@ -6,10 +6,6 @@ use Rattle.std.specs.Prelude.{int_lt, ◌<ℤ◌, ◌==◌, suc, zero}
 use Rattle.std.specs.Int.{int_min}
 use Rattle.mc_flash.specs.Geometry.{count_beside}
 
--- the count of p and q sectors beside t of a trailer, for at most m
-pub counted_down : (p q t m : ℕ) → 0 < min (p - 1 - t) (min (q - t) m) → int_min (pos p -ℤ pos 1 -ℤ pos t) (int_min (pos q -ℤ pos t) (pos m)) ≡ pos (min (p - 1 - t) (min (q - t) m))
-counted_down p q t m some = omega (arith, ints, clamps)
-
 below_one : (a : ℤ) → a <ℤ pos 1 → int_lt a (pos 1) ≡ true
 below_one a h = grind (arith, ints)
 

@@ -1,11 +1,14 @@
 -- What follows from the facts of a layout: where the trailer lies, what is a whole number of units, and which sectors hold
 -- data. Proved here, so that the crates above can cite it.
-use Rattle.std.specs.Prelude.{◌≡◌, ℕ, ◌+◌, ◌-◌, ◌*◌, ◌/◌, ◌%◌, ◌<◌, ◌≤◌, refl}
-use Rattle.std.proofs.Common.{arith, ap, inl, inr}
+use Rattle.std.specs.Prelude.{◌≡◌, ℕ, ◌+◌, ◌-◌, ◌*◌, ◌/◌, ◌%◌, ◌<◌, ◌≤◌, min, ℤ, pos, int_le, true, refl}
+use Rattle.std.specs.Int.{div_ceil}
+use Rattle.std.proofs.Common.{arith, sym, ap, ◌∙◌, inl, inr}
+use Rattle.std.proofs.lemmas.Bool.{leb-true}
+use Rattle.std.proofs.lemmas.Int.{ints, clamps}
 use Rattle.std.proofs.lemmas.Grind.{div_ceil_times}
 use Rattle.std.proofs.Math.Nat.{mul-le-mul_right, dvd_of_mod-eq-zero, dvd-add, dvd-sub, dvd-mul_left_of_dvd, dvd-mul_left, dvd_trans, mod-add-div'}
 use Rattle.std.proofs.lemmas.Nat.Gcd.{mod-eq-zero_of_dvd}
-use Rattle.mc_flash.specs.Geometry.{Geometry, IsLayout, trailer_bytes, trailer_sectors, greatest_sectors}
+use Rattle.mc_flash.specs.Geometry.{Geometry, IsLayout, trailer_bytes, trailer_sectors, count_beside, greatest_count, greatest_sectors, fits}
 use Rattle.mc_flash.specs.Content.{sectors_of, size_of}
 use Rattle.mc_flash.specs.declared.op.Slot.{Slot}
 use Rattle.mc_flash.specs.declared.op.Slot.TheVariants.{Primary, Secondary}
@@ -124,3 +127,26 @@ image_is_data g Secondary n few = omega arith
 
 pub room_to_move : (g : Geometry) (n : ℕ) → IsLayout g → n ≤ greatest_sectors g → n + 1 ≤ data_sectors g Primary
 room_to_move g n ok few = let room = ok.room in omega arith
+
+-- the two greatest numbers of sectors are one for a layout
+counted_down : (p q t m : ℕ) → 0 < min (p - 1 - t) (min (q - t) m) → count_beside t m p q ≡ pos (min (p - 1 - t) (min (q - t) m))
+counted_down p q t m some = omega (arith, ints, clamps)
+
+pub greatest_is : (g : Geometry) → IsLayout g → greatest_count g ≡ pos (greatest_sectors g)
+greatest_is g ok = counted_down g.primary g.secondary (trailer_sectors g) g.max_sectors ok.room
+
+at_most : (a b : ℕ) (c : ℤ) → c ≡ pos b → int_le (pos a) c ≡ true → a ≤ b
+at_most a b c e h = let k : int_le (pos a) (pos b) ≡ true = ap (λ (z : ℤ). int_le (pos a) z) (sym e) ∙ h in leb-true a b k
+
+-- an image that fits has at most the greatest number of sectors, and lies before the trailer of each slot
+pub fits_few : (g : Geometry) (size : ℕ) → IsLayout g → fits g size ≡ true → div_ceil size g.sector ≤ greatest_sectors g
+fits_few g size ok h = at_most (div_ceil size g.sector) (greatest_sectors g) (greatest_count g) (greatest_is g ok) h
+
+pub fits_before_trailer : (g : Geometry) (slot : Slot) (size : ℕ) → IsLayout g → fits g size ≡ true → size + trailer_bytes g ≤ size_of g slot
+fits_before_trailer g slot size ok h =
+    let covered = (div_ceil_times size g.sector (omega (arith, ok.least_sector))).0 in
+    let rows : div_ceil size g.sector * g.sector ≤ data_sectors g slot * g.sector = mul-le-mul_right g.sector (image_is_data g slot (div_ceil size g.sector) (fits_few g size ok h)) in
+    omega (arith, covered, rows, data_before_trailer g slot ok)
+
+pub fits_inside : (g : Geometry) (slot : Slot) (size : ℕ) → IsLayout g → fits g size ≡ true → size ≤ size_of g slot
+fits_inside g slot size ok h = let before = fits_before_trailer g slot size ok h in omega (arith, before)
