@@ -4,6 +4,7 @@
 mod entries;
 mod places;
 mod tables;
+mod text;
 mod trailer;
 
 pub use entries::highest_entry;

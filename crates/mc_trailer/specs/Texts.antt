@@ -1,0 +1,26 @@
+-- How fields and types are printed: this project's own texts.
+use Rattle.std.specs.Prelude.{ℕ, List, ◌++◌, codes}
+use Rattle.mc_trailer.specs.declared.trailer.Magic.{Magic}
+use Rattle.mc_trailer.specs.declared.trailer.Magic.TheVariants as magics
+use Rattle.mc_trailer.specs.declared.trailer.Flag.{Flag}
+use Rattle.mc_trailer.specs.declared.trailer.Flag.TheVariants as flags
+use Rattle.mc_trailer.specs.declared.tables.SwapType.{SwapType}
+use Rattle.mc_trailer.specs.declared.tables.SwapType.TheVariants as types
+
+abbrev pub magic_text : Magic → List ℕ
+magic_text magics.Good = codes "good"
+magic_text magics.Unset = codes "unset"
+magic_text magics.Bad = codes "bad"
+
+abbrev pub flag_text : Flag → List ℕ
+flag_text flags.Set = codes "set"
+flag_text flags.Unset = codes "unset"
+flag_text flags.Bad = codes "bad"
+
+abbrev pub type_text : SwapType → List ℕ
+type_text types.None = codes "none"
+type_text types.Test = codes "test"
+type_text types.Perm = codes "perm"
+type_text types.Revert = codes "revert"
+type_text types.Fail = codes "fail"
+type_text types.Panic = codes "panic"

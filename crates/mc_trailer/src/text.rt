@@ -1,0 +1,59 @@
+//! Fields and types as text.
+ghost use Rattle.std.specs.Prelude.{Some};
+ghost use Rattle.mc_trailer.specs.Texts.{magic_text, flag_text, type_text};
+
+use crate::tables::SwapType;
+use crate::trailer::{Flag, Magic, Trailer};
+use std::fmt;
+
+impl fmt::Display for Magic {
+    ghost output = { λ magic. Some (magic_text magic) };
+
+    fn fmt<W: fmt::Write>(&self, f: &mut fmt::Formatter<W>) -> fmt::Result {
+        match self {
+            Magic::Good => f.write_str("good"),
+            Magic::Unset => f.write_str("unset"),
+            Magic::Bad => f.write_str("bad"),
+        }
+    }
+}
+
+impl fmt::Display for Flag {
+    ghost output = { λ flag. Some (flag_text flag) };
+
+    fn fmt<W: fmt::Write>(&self, f: &mut fmt::Formatter<W>) -> fmt::Result {
+        match self {
+            Flag::Set => f.write_str("set"),
+            Flag::Unset => f.write_str("unset"),
+            Flag::Bad => f.write_str("bad"),
+        }
+    }
+}
+
+impl fmt::Display for SwapType {
+    ghost output = { λ kind. Some (type_text kind) };
+
+    fn fmt<W: fmt::Write>(&self, f: &mut fmt::Formatter<W>) -> fmt::Result {
+        match self {
+            SwapType::None => f.write_str("none"),
+            SwapType::Test => f.write_str("test"),
+            SwapType::Perm => f.write_str("perm"),
+            SwapType::Revert => f.write_str("revert"),
+            SwapType::Fail => f.write_str("fail"),
+            SwapType::Panic => f.write_str("panic"),
+        }
+    }
+}
+
+/// All five fields in one line, without a line feed.
+impl fmt::Display for Trailer {
+    fn fmt<W: fmt::Write>(&self, f: &mut fmt::Formatter<W>) -> fmt::Result {
+        let magic = self.magic;
+        let image_ok = self.image_ok;
+        let copy_done = self.copy_done;
+        let swap_info = self.swap_info;
+        let swap_size = self.swap_size;
+        write!(f, "magic={magic} image-ok={image_ok} copy-done={copy_done} ")?;
+        write!(f, "swap-info=0x{swap_info:02x} swap-size={swap_size}")
+    }
+}
