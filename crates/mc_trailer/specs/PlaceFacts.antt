@@ -1,22 +1,90 @@
--- The places lie in the slot, at units.
-use Rattle.std.specs.Prelude.{◌≡◌, ◌⊎◌, ℕ, ◌+◌, ◌-◌, ◌*◌, ◌/◌, ◌%◌, ◌<◌, ◌≤◌, refl}
-use Rattle.std.proofs.Common.{arith, inl, inr, sym, ap, ◌∙◌}
-use Rattle.std.proofs.Math.Nat.{mul-le-mul_left, mul_comm, mul-le-mul_right}
+-- What follows for the places: the fields and the status entries lie in the slot, at whole units, behind the data sectors,
+-- and apart from one another. Proved here, so that the crates above can cite it.
+use Rattle.std.specs.Prelude.{◌≡◌, ◌≢◌, ◌⊎◌, ℕ, ◌+◌, ◌-◌, ◌*◌, ◌%◌, ◌<◌, ◌≤◌, ◌==◌, if◌then◌else◌, length, refl}
+use Rattle.std.proofs.Common.{arith, sym, ap, ◌∙◌, inl, inr}
+use Rattle.std.proofs.lemmas.Bool.{cases_order}
+use Rattle.std.proofs.lemmas.List.{length-replicate}
+use Rattle.std.proofs.Math.Nat.{mul-le-mul_right, mod_self}
 use Rattle.mc_flash.specs.Geometry.{Geometry, IsLayout, trailer_bytes}
 use Rattle.mc_flash.specs.Content.{size_of}
-use Rattle.mc_flash.specs.Facts.{trailer_inside, whole_sub, whole_add, whole_size, whole_eights, whole_units}
+use Rattle.mc_flash.specs.Apply.{IsRange}
+use Rattle.mc_flash.specs.Facts.{trailer_inside, small_unit, data_end, data_before_trailer, whole_sub, whole_add, whole_size, whole_eights, whole_units}
 use Rattle.mc_flash.specs.declared.op.Slot.{Slot}
-use Rattle.mc_flash.specs.declared.op.Slot.TheVariants.{Primary, Secondary}
+use Rattle.mc_flash.specs.declared.op.Slot.TheVariants.{Primary}
 use Rattle.mc_trailer.specs.Places.{place, entry_place, before_end}
+use Rattle.mc_trailer.specs.Fields.{one_unit, size_bytes}
 use Rattle.mc_trailer.specs.declared.places.Field.{Field}
 use Rattle.mc_trailer.specs.declared.places.Field.TheVariants as field
 
+-- How many bytes a field may take, up to the next field or the slot's end.
+abbrev pub room : Field → ℕ
+room field.Magic = 16
+room field.ImageOk = 8
+room field.CopyDone = 8
+room field.SwapInfo = 8
+room field.SwapSize = 8
+
+pub room_is : (f : Field) → ((before_end f ≡ 16) × (room f ≡ 16)) ⊎ ((24 ≤ before_end f) × (room f ≡ 8))
+room_is field.Magic = inl (refl, refl)
+room_is field.ImageOk = inr (omega arith, refl)
+room_is field.CopyDone = inr (omega arith, refl)
+room_is field.SwapInfo = inr (omega arith, refl)
+room_is field.SwapSize = inr (omega arith, refl)
+
+-- Each field begins a number of eights before the end.
+eights : (f : Field) → (n : ℕ) × (before_end f ≡ n * 8) × (2 ≤ n) × (n ≤ 6)
+eights field.Magic = (2, refl, omega arith, omega arith)
+eights field.ImageOk = (3, refl, omega arith, omega arith)
+eights field.CopyDone = (4, refl, omega arith, omega arith)
+eights field.SwapInfo = (5, refl, omega arith, omega arith)
+eights field.SwapSize = (6, refl, omega arith, omega arith)
+
+pub least_before_end : (f : Field) → 16 ≤ before_end f
+least_before_end f = let e = eights f in omega (arith, e.1, e.2)
+
+pub most_before_end : (f : Field) → before_end f ≤ 48
+most_before_end f = let e = eights f in omega (arith, e.1, e.3)
+
+-- No two fields begin in one place.
+field_at : ℕ → Field
+field_at n =
+    if n == 16 then field.Magic
+    else if n == 24 then field.ImageOk
+    else if n == 32 then field.CopyDone
+    else if n == 40 then field.SwapInfo
+    else field.SwapSize
+
+found_at : (f : Field) → field_at (before_end f) ≡ f
+unfolding field_at
+found_at field.Magic = refl
+found_at field.ImageOk = refl
+found_at field.CopyDone = refl
+found_at field.SwapInfo = refl
+found_at field.SwapSize = refl
+
+-- Two fields are one, or the room of one ends before the other.
+pub same_or_apart : (e f : Field) → (e ≡ f) ⊎ ((before_end f + room e ≤ before_end e) ⊎ (before_end e + room f ≤ before_end f))
+same_or_apart e f =
+    let m = eights e in
+    let n = eights f in
+    elim (cases_order (before_end e) (before_end f)) [
+      | inl same ↦ inl (sym (found_at e) ∙ ap field_at same ∙ found_at f)
+      | inr (inl behind) ↦ inr (inr (omega (arith, behind, m.1, m.2, n.1, room_is f)))
+      | inr (inr front) ↦ inr (inl (omega (arith, front, m.1, n.1, n.2, room_is e)))
+    ]
+
 pub place_inside : (g : Geometry) (slot : Slot) (f : Field) → IsLayout g → place g slot f + before_end f ≡ size_of g slot
-place_inside g slot field.Magic ok = let inside = trailer_inside g slot ok in omega arith
-place_inside g slot field.ImageOk ok = let inside = trailer_inside g slot ok in omega arith
-place_inside g slot field.CopyDone ok = let inside = trailer_inside g slot ok in omega arith
-place_inside g slot field.SwapInfo ok = let inside = trailer_inside g slot ok in omega arith
-place_inside g slot field.SwapSize ok = let inside = trailer_inside g slot ok in omega arith
+place_inside g slot f ok = let inside = trailer_inside g slot ok in let most = most_before_end f in omega arith
+
+pub field_ends : (g : Geometry) (slot : Slot) (f : Field) → IsLayout g → place g slot f + room f ≤ size_of g slot
+field_ends g slot f ok = omega (arith, place_inside g slot f ok, room_is f)
+
+pub fields_apart : (g : Geometry) (slot : Slot) (e f : Field) → IsLayout g → e ≢ f → (place g slot e + room e ≤ place g slot f) ⊎ (place g slot f + room f ≤ place g slot e)
+fields_apart g slot e f ok other = elim (same_or_apart e f) [
+  | inl same ↦ absurd (other same)
+  | inr (inl behind) ↦ inl (omega (arith, behind, place_inside g slot e ok, place_inside g slot f ok))
+  | inr (inr front) ↦ inr (omega (arith, front, place_inside g slot e ok, place_inside g slot f ok))
+]
 
 -- entry e begins e units after the first
 pub entry_inside : (g : Geometry) (e : ℕ) → IsLayout g → e < 3 * g.max_sectors → entry_place g e + (48 + 3 * g.max_sectors * g.unit) ≡ size_of g Primary + e * g.unit
@@ -31,15 +99,35 @@ entry_ends g e ok below =
     let few : (e + 1) * g.unit ≤ 3 * g.max_sectors * g.unit = mul-le-mul_right g.unit (omega arith) in
     omega arith
 
-pub place_aligned : (g : Geometry) (slot : Slot) (f : Field) → IsLayout g → place g slot f % g.unit ≡ 0
-place_aligned g slot f ok = whole_sub g (size_of g slot) (before_end f) (whole_size g slot ok) (eights f)
+-- An entry ends before each field, and before each later entry.
+pub entry_before_field : (g : Geometry) (e : ℕ) (f : Field) → IsLayout g → e < 3 * g.max_sectors → entry_place g e + g.unit ≤ place g Primary f
+entry_before_field g e f ok below = omega (arith, entry_ends g e ok below, place_inside g Primary f ok, most_before_end f)
+
+pub entries_apart : (g : Geometry) (d e : ℕ) → IsLayout g → d < e → e < 3 * g.max_sectors → entry_place g d + g.unit ≤ entry_place g e
+entries_apart g d e ok before below =
+    let row : (d + 1) * g.unit ≤ e * g.unit = mul-le-mul_right g.unit (omega arith) in
+    along (entry_place g d) (entry_place g e) (size_of g Primary) (3 * g.max_sectors * g.unit) row (entry_inside g d ok (omega arith)) (entry_inside g e ok below)
   where
-    eights : (f : Field) → before_end f % g.unit ≡ 0
-    eights field.Magic = whole_eights g 2 ok
-    eights field.ImageOk = whole_eights g 3 ok
-    eights field.CopyDone = whole_eights g 4 ok
-    eights field.SwapInfo = whole_eights g 5 ok
-    eights field.SwapSize = whole_eights g 6 ok
+    along : (p q size rest : ℕ) → (d + 1) * g.unit ≤ e * g.unit → p + (48 + rest) ≡ size + d * g.unit → q + (48 + rest) ≡ size + e * g.unit → p + g.unit ≤ q
+    along p q size rest row at_p at_q = omega arith
+
+-- Fields and entries lie behind the data sectors.
+pub field_behind_data : (g : Geometry) (slot : Slot) (f : Field) → IsLayout g → data_end g slot + 3 * g.max_sectors * g.unit ≤ place g slot f
+field_behind_data g slot f ok = from (data_end g slot) (data_before_trailer g slot ok)
+  where
+    from : (d : ℕ) → d + trailer_bytes g ≤ size_of g slot → d + 3 * g.max_sectors * g.unit ≤ place g slot f
+    from d before = omega (arith, before, place_inside g slot f ok, most_before_end f)
+
+pub entry_behind_data : (g : Geometry) (e : ℕ) → IsLayout g → e < 3 * g.max_sectors → data_end g Primary + e * g.unit ≤ entry_place g e
+entry_behind_data g e ok below = from (data_end g Primary) (data_before_trailer g Primary ok)
+  where
+    from : (d : ℕ) → d + trailer_bytes g ≤ size_of g Primary → d + e * g.unit ≤ entry_place g e
+    from d before = omega (arith, before, entry_inside g e ok below)
+
+pub place_aligned : (g : Geometry) (slot : Slot) (f : Field) → IsLayout g → place g slot f % g.unit ≡ 0
+place_aligned g slot f ok =
+    let n = eights f in
+    whole_sub g (size_of g slot) (before_end f) (whole_size g slot ok) (ap (λ k. k % g.unit) n.1 ∙ whole_eights g n.0 ok)
 
 pub entry_aligned : (g : Geometry) (e : ℕ) → IsLayout g → entry_place g e % g.unit ≡ 0
 entry_aligned g e ok =
@@ -47,3 +135,55 @@ entry_aligned g e ok =
     (whole_sub g (48 + 3 * g.max_sectors * g.unit) (e * g.unit)
     (whole_add g 48 (3 * g.max_sectors * g.unit) (whole_eights g 6 ok) (whole_units g (3 * g.max_sectors)))
     (whole_units g e))
+
+-- What is written for a flag or an entry is one unit, and for swap-size 4 bytes or one unit: whole units that fit a field.
+pub one_unit_len : (g : Geometry) (value : ℕ) → IsLayout g → length (one_unit g value) ≡ g.unit
+one_unit_len g value ok = let small = small_unit g ok in omega (arith, length-replicate {A = ℕ} (g.unit - 1) 255)
+
+pub one_unit_whole : (g : Geometry) (value : ℕ) → IsLayout g → length (one_unit g value) % g.unit ≡ 0
+one_unit_whole g value ok = ap (λ n. n % g.unit) (one_unit_len g value ok) ∙ mod_self g.unit
+
+pub one_unit_fits : (g : Geometry) (value : ℕ) (f : Field) → IsLayout g → length (one_unit g value) ≤ room f
+one_unit_fits g value f ok = let small = small_unit g ok in omega (arith, one_unit_len g value ok, room_is f)
+
+pub size_bytes_len : (g : Geometry) (size : ℕ) → length (size_bytes g size) ≡ 4 + (g.unit - 4)
+size_bytes_len g size = omega (arith, length-replicate {A = ℕ} (g.unit - 4) 255)
+
+pub size_bytes_whole : (g : Geometry) (size : ℕ) → IsLayout g → length (size_bytes g size) % g.unit ≡ 0
+size_bytes_whole g size ok = whole ok.unit
+  where
+    whole : (g.unit ≡ 1) ⊎ (g.unit ≡ 2) ⊎ (g.unit ≡ 4) ⊎ (g.unit ≡ 8) → length (size_bytes g size) % g.unit ≡ 0
+    whole (inl one) = rw one refl
+    whole (inr (inl two)) = rw two refl
+    whole (inr (inr (inl four))) = rw four refl
+    whole (inr (inr (inr eight))) = rw eight refl
+
+pub size_bytes_fit : (g : Geometry) (size : ℕ) → IsLayout g → length (size_bytes g size) ≤ room field.SwapSize
+size_bytes_fit g size ok = let small = small_unit g ok in omega (arith, size_bytes_len g size)
+
+-- These writes are whole units inside the slot.
+pub field_range : (g : Geometry) (slot : Slot) (f : Field) (n : ℕ) → IsLayout g → n ≤ room f → n % g.unit ≡ 0 → 0 < n → IsRange g slot (place g slot f) n
+field_range g slot f n ok short whole some = record {
+  inside = omega (arith, field_ends g slot f ok);
+  start = place_aligned g slot f ok;
+  units = whole;
+  some = some;
+}
+
+pub flag_range : (g : Geometry) (slot : Slot) (f : Field) (value : ℕ) → IsLayout g → IsRange g slot (place g slot f) (length (one_unit g value))
+flag_range g slot f value ok = field_range g slot f (length (one_unit g value)) ok (one_unit_fits g value f ok) (one_unit_whole g value ok) (omega arith)
+
+pub size_range : (g : Geometry) (slot : Slot) (size : ℕ) → IsLayout g → IsRange g slot (place g slot field.SwapSize) (length (size_bytes g size))
+size_range g slot size ok =
+    field_range g slot field.SwapSize (length (size_bytes g size)) ok (size_bytes_fit g size ok) (size_bytes_whole g size ok) (omega (arith, size_bytes_len g size))
+
+pub magic_range : (g : Geometry) (slot : Slot) → IsLayout g → IsRange g slot (place g slot field.Magic) 16
+magic_range g slot ok = field_range g slot field.Magic 16 ok (omega arith) (whole_eights g 2 ok) (omega arith)
+
+pub entry_range : (g : Geometry) (e value : ℕ) → IsLayout g → e < 3 * g.max_sectors → IsRange g Primary (entry_place g e) (length (one_unit g value))
+entry_range g e value ok below = record {
+  inside = omega (arith, one_unit_len g value ok, entry_ends g e ok below);
+  start = entry_aligned g e ok;
+  units = one_unit_whole g value ok;
+  some = omega arith;
+}

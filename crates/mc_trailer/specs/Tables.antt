@@ -1,5 +1,7 @@
--- The swap tables, and when a boot resumes.
-use Rattle.std.specs.Prelude.{Bool, true, false, not, ◌&&◌, if◌then◌else◌}
+-- The swap tables, and when a boot goes on with a swap that was cut. The tables are from MCUboot's design document
+-- ("swap types"): each row names some fields of the two trailers, and the others may hold anything. The second profile,
+-- and the rule by which a boot goes on, are this project's own choice.
+use Rattle.std.specs.Prelude.{◌≡◌, Bool, true, false, not, ◌&&◌, if◌then◌else◌}
 use Rattle.mc_flash.specs.Geometry.{Geometry}
 use Rattle.mc_flash.specs.Content.{Content}
 use Rattle.mc_flash.specs.declared.op.Slot.TheVariants.{Primary, Secondary}
@@ -14,6 +16,7 @@ use Rattle.mc_trailer.specs.declared.tables.Profile.TheVariants as profiles
 use Rattle.mc_trailer.specs.declared.tables.SwapType.{SwapType}
 use Rattle.mc_trailer.specs.declared.tables.SwapType.TheVariants as kinds
 
+-- The readings that the rows ask for.
 abbrev pub is_good : Magic → Bool
 is_good magics.Good = true
 is_good magics.Unset = false
@@ -34,21 +37,33 @@ is_unset flags.Set = false
 is_unset flags.Unset = true
 is_unset flags.Bad = false
 
--- the three rows, of the primary's trailer and the secondary's
+-- The row of a test, of the primary's trailer and the secondary's: the secondary is meant, and is not confirmed.
 abbrev pub asks_test : Trailer → Trailer → Bool
 asks_test p s = is_good s.magic && is_unset s.image_ok
 
+-- The row of a swap that stays: the secondary is meant, and is confirmed.
 abbrev pub asks_perm : Trailer → Trailer → Bool
 asks_perm p s = is_good s.magic && is_set s.image_ok
 
--- a revert takes an unset magic of the secondary; in profile 2 also a bad one
+-- A revert takes an unset magic of the secondary; in the second profile also a bad one.
 abbrev pub reverts_at : Profile → Magic → Bool
 reverts_at profiles.One magic = is_absent magic
 reverts_at profiles.Two magic = not (is_good magic)
 
+-- The row of a revert: a swap was finished, the primary is not confirmed, and nothing waits in the secondary.
 abbrev pub asks_revert : Profile → Trailer → Trailer → Bool
 asks_revert profile p s = is_good p.magic && reverts_at profile s.magic && is_unset p.image_ok && is_set p.copy_done
 
+-- What the tables say of a type: its row holds; of no swap, that no row holds. The tables answer nothing else.
+abbrev pub Asks : Profile → Trailer → Trailer → SwapType → Type 0
+Asks profile p s kinds.None = (asks_test p s ≡ false) × (asks_perm p s ≡ false) × (asks_revert profile p s ≡ false)
+Asks profile p s kinds.Test = asks_test p s ≡ true
+Asks profile p s kinds.Perm = asks_perm p s ≡ true
+Asks profile p s kinds.Revert = asks_revert profile p s ≡ true
+Asks profile p s kinds.Fail = ⊥
+Asks profile p s kinds.Panic = ⊥
+
+-- The type that the tables give.
 abbrev pub swap_type : Profile → Trailer → Trailer → SwapType
 swap_type profile p s =
     if asks_test p s then kinds.Test
@@ -56,10 +71,11 @@ swap_type profile p s =
     else if asks_revert profile p s then kinds.Revert
     else kinds.None
 
+-- A boot goes on where the primary is meant, its swap was not finished, and no other is asked for.
 abbrev pub resumes : Trailer → Trailer → Bool
 resumes p s = is_good p.magic && is_unset p.copy_done && not (is_good s.magic)
 
--- the same of a flash
+-- The same of a flash.
 abbrev pub table_of : Profile → Geometry → Content → SwapType
 table_of profile g s = swap_type profile (trailer_of g s Primary) (trailer_of g s Secondary)
 

@@ -1,24 +1,30 @@
 //! The status entries of the primary: which steps of a swap were made.
-ghost use Rattle.std.specs.Prelude.{◌≡◌, ◌+◌, ◌≤◌, ◌<◌, ◌*◌};
-ghost use Rattle.mc_trailer.specs.Entries.{highest_entry};
+ghost use Rattle.std.specs.Prelude.{◌≡◌, ℕ, ◌+◌, ◌≤◌, ◌<◌, ◌*◌};
+ghost use Rattle.mc_trailer.specs.Entries.{IsHighest, is_written, highest_entry};
 
 use crate::places::entry_place;
 use mc_flash::{Flash, Slot, blank};
 
-/// The highest status entry of the primary that is written: one whose bytes are not all 0xff. It takes no memory.
-pub fn highest_entry<F: Flash>(flash: &F) -> Option<u32>
-    ensures { result ≡ highest_entry (F.geometry flash.now) (F.content flash.now) }
+// Whether a status entry is written: its bytes are not all 0xff.
+fn is_written<F: Flash>(flash: &F, entry: u32) -> bool
+    requires { entry < 3 * (F.geometry flash.now).max_sectors }
+    ensures { result ≡ is_written (F.geometry flash.now) (F.content flash.now) entry }
 {
     let layout = flash.layout();
-    let bytes = flash.read(Slot::Primary);
-    let unit = layout.unit() as usize;
-    let mut entry = 3 * layout.max_sectors();
-    while entry > 0 {
-        let at = entry_place(layout, entry - 1) as usize;
-        if !blank(&bytes[at..at + unit]) {
-            return Some(entry - 1);
+    let at = entry_place(layout, entry) as usize;
+    !blank(&flash.read(Slot::Primary)[at..at + layout.unit() as usize])
+}
+
+/// The highest status entry of the primary that is written: one whose bytes are not all 0xff. It takes no memory.
+#[tactic(auto, using(crate::specs::EntryFacts::highest_is, crate::specs::EntryFacts::greatest_at, crate::specs::EntryFacts::none_passes))]
+pub fn highest_entry<F: Flash>(flash: &F) -> Option<u32>
+    ensures value { result ≡ highest_entry (F.geometry flash.now) (F.content flash.now) }
+    ensures highest { IsHighest (F.geometry flash.now) (F.content flash.now) result }
+{
+    for entry in (0..3 * flash.layout().max_sectors()).rev() {
+        if is_written(flash, entry) {
+            return Some(entry);
         }
-        entry -= 1;
     }
     None
 }

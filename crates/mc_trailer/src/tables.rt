@@ -1,6 +1,6 @@
 //! The swap tables: what two trailers ask a boot to do.
 ghost use Rattle.std.specs.Prelude.{◌≡◌};
-ghost use Rattle.mc_trailer.specs.Tables.{reverts_at, swap_type, resumes};
+ghost use Rattle.mc_trailer.specs.Tables.{reverts_at, asks_revert, Asks, swap_type, resumes};
 
 use crate::trailer::{Flag, Magic, Trailer};
 use mc_flash::Grain;
@@ -34,7 +34,9 @@ pub enum Profile {
 /// What happens whole or not at all, and which tables are used.
 #[derive(Clone, Copy, Debug, PartialEq, Eq)]
 pub struct Rules {
+    /// What happens whole or not at all.
     pub grain: Grain,
+    /// Which tables are used.
     pub profile: Profile,
 }
 
@@ -48,23 +50,27 @@ fn reverts_at(profile: Profile, magic: Magic) -> bool
     }
 }
 
-/// The type that the tables give, also where a boot would go on with a swap that was cut. It takes no memory.
-pub fn swap_type(profile: Profile, primary: &Trailer, secondary: &Trailer) -> SwapType
-    ensures { result ≡ swap_type profile primary.now secondary.now }
+// Whether a finished test is to be swapped back.
+fn is_reverted(profile: Profile, primary: &Trailer, secondary: &Trailer) -> bool
+    ensures { result ≡ asks_revert profile primary.now secondary.now }
 {
-    match (secondary.magic, secondary.image_ok) {
-        (Magic::Good, Flag::Unset) => return SwapType::Test,
-        (Magic::Good, Flag::Set) => return SwapType::Perm,
-        _ => {}
-    }
-    if matches!(primary.magic, Magic::Good)
+    matches!(primary.magic, Magic::Good)
         && reverts_at(profile, secondary.magic)
         && matches!(primary.image_ok, Flag::Unset)
         && matches!(primary.copy_done, Flag::Set)
-    {
-        SwapType::Revert
-    } else {
-        SwapType::None
+}
+
+/// The type that the tables give, also where a boot would go on with a swap that was cut. It takes no memory.
+#[tactic(auto, using(crate::specs::TableFacts::asked))]
+pub fn swap_type(profile: Profile, primary: &Trailer, secondary: &Trailer) -> SwapType
+    ensures value { result ≡ swap_type profile primary.now secondary.now }
+    ensures row { Asks profile primary.now secondary.now result }
+{
+    match (secondary.magic, secondary.image_ok) {
+        (Magic::Good, Flag::Unset) => SwapType::Test,
+        (Magic::Good, Flag::Set) => SwapType::Perm,
+        _ if is_reverted(profile, primary, secondary) => SwapType::Revert,
+        _ => SwapType::None,
     }
 }
 
@@ -72,7 +78,7 @@ pub fn swap_type(profile: Profile, primary: &Trailer, secondary: &Trailer) -> Sw
 pub fn resumes(primary: &Trailer, secondary: &Trailer) -> bool
     ensures { result ≡ resumes primary.now secondary.now }
 {
-    matches!(primary.magic, Magic::Good)
+    !matches!(secondary.magic, Magic::Good)
+        && matches!(primary.magic, Magic::Good)
         && matches!(primary.copy_done, Flag::Unset)
-        && !matches!(secondary.magic, Magic::Good)
 }

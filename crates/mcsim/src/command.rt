@@ -9,13 +9,16 @@ use std::alloc::{AllocError, Global};
 /// clap's refusal of the words, the help that they ask for, or the want of memory.
 pub fn parse<'a>(alloc: Global, words: &'a [String]) -> Result<ArgMatches<'a>, Error> {
     let command = Command::new(alloc, "mcsim")
-        .about("Makes, verifies and prints MCUboot images")
+        .about(
+            "Makes, verifies and prints MCUboot images, and reads the flashes that they are swapped in",
+        )
         .subcommand_required(true)
         .arg_required_else_help(true)
         .disable_help_subcommand(true)
         .subcommand(create_command(alloc)?)?
         .subcommand(verify_command(alloc)?)?
-        .subcommand(dumpinfo_command(alloc)?)?;
+        .subcommand(dumpinfo_command(alloc)?)?
+        .subcommand(type_command(alloc)?)?;
     command.try_get_matches_from(words)
 }
 
@@ -140,4 +143,65 @@ fn dumpinfo_command<'a>(alloc: Global) -> Result<Command<'a>, AllocError> {
 
 fn image_file<'a>(alloc: Global) -> Arg<'a> {
     Arg::new(alloc, "INFILE").help("The file of the image; standard input if left out")
+}
+
+/// `type`: what the trailers of a flash ask for.
+fn type_command<'a>(alloc: Global) -> Result<Command<'a>, AllocError> {
+    let command = Command::new(alloc, "type").about(
+        "Prints the trailers of both slots, and the swap that they ask for",
+    );
+    with_source(alloc, with_layout(alloc, command)?)
+}
+
+/// A command with the six numbers of a layout.
+fn with_layout<'a>(alloc: Global, command: Command<'a>) -> Result<Command<'a>, AllocError> {
+    command
+        .arg(layout_number(alloc, "sector", "The bytes of a sector"))?
+        .arg(layout_number(alloc, "unit", "The bytes of a write unit"))?
+        .arg(layout_number(alloc, "max-sectors", "The most sectors of an image"))?
+        .arg(layout_number(
+            alloc,
+            "chunk",
+            "The bytes that one write of a copied sector has",
+        ))?
+        .arg(layout_number(alloc, "primary", "The sectors of the primary slot"))?
+        .arg(layout_number(alloc, "secondary", "The sectors of the secondary slot"))
+}
+
+fn layout_number<'a>(alloc: Global, name: &'static str, help: &'static str) -> Arg<'a> {
+    Arg::new(alloc, name)
+        .long(name)
+        .value_name("N")
+        .value_parser(value_parser!(u32))
+        .required(true)
+        .help(help)
+}
+
+/// The swaps that a start may ask for.
+static KINDS: [&str; 3] = ["none", "test", "perm"];
+
+/// A command with the options of a source: a flash, or two images and what they ask for.
+fn with_source<'a>(alloc: Global, command: Command<'a>) -> Result<Command<'a>, AllocError> {
+    command
+        .arg(source_file(
+            alloc,
+            "flash",
+            "The file of the bytes of both slots, the primary's first",
+        ))?
+        .arg(
+            Arg::new(alloc, "kind")
+                .long("kind")
+                .value_name("KIND")
+                .value_parser(KINDS.as_slice())
+                .help("The swap that the secondary's trailer asks for"),
+        )?
+        .arg(source_file(alloc, "image-a", "The file of the image in the primary"))?
+        .arg(source_file(alloc, "image-b", "The file of the image in the secondary"))
+}
+
+fn source_file<'a>(alloc: Global, name: &'static str, help: &'static str) -> Arg<'a> {
+    Arg::new(alloc, name)
+        .long(name)
+        .value_name("FILE")
+        .help(help)
 }

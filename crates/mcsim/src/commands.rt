@@ -2,4 +2,5 @@
 pub mod create;
 pub mod dumpinfo;
 mod infile;
+pub mod trailers;
 pub mod verify;

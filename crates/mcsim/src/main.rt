@@ -1,4 +1,4 @@
-//! The program `mcsim`: the command line over the image tool.
+//! The program `mcsim`: the command line over the image tool and the flashes.
 #![tactic(auto)]
 
 ghost use Rattle.std.specs.Prelude.{◌≤◌};
@@ -7,6 +7,7 @@ mod command;
 mod commands;
 mod options;
 mod refusal;
+mod source;
 
 use clap::error::ErrorKind;
 use clap::{ArgMatches, Error};
@@ -72,6 +73,7 @@ fn run_command<F: Files, R: Read, O: Write>(
         Some(("dumpinfo", arguments)) => {
             commands::dumpinfo::run(files, alloc, arguments, input, out)
         }
+        Some(("type", arguments)) => commands::trailers::run(files, alloc, arguments, out),
         _ => Err(Refusal::Argument),
     }
 }

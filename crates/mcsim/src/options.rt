@@ -1,14 +1,16 @@
 //! What the words of a command line say.
 ghost use Rattle.std.specs.Prelude.{◌≡◌, ◌≤◌, ◌-◌, ◌^◌, ℕ, List, codes};
-ghost use Rattle.std.specs.Prelude.{Some, None, IsOk, IfOk, IfSome, MatchResult};
+ghost use Rattle.std.specs.Prelude.{Some, None, IsOk, IfOk, IfErr, IfSome, MatchResult, MatchOption};
 ghost use Rattle.std.specs.Str.Parse.{IsNumeral, without_leading_plus};
 ghost use Rattle.clap.specs.Words.{first_value, found_of, IsUnsignedIn};
 ghost use Rattle.clap.specs.Matches.{one_text};
 ghost use Rattle.mc_image.specs.VersionText.{Names};
-ghost use Rattle.mcsim.specs.Arguments.{IsFlag, IsUnit, number_of, told_number};
+ghost use Rattle.mcsim.specs.Arguments.{IsFlag, IsUnit, number_of, told_number, TellsLayout, RefusesLayout, TellsSource, RefusesSource, kind_text};
 
 use crate::refusal::Refusal;
 use clap::ArgMatches;
+use mc_explore::Kind;
+use mc_flash::Layout;
 use mc_image::Version;
 use mc_imgtool::CreateOptions;
 
@@ -39,6 +41,7 @@ fn optional_number(
     ensures written { IfOk result (λ o. told_number (found_of arguments.now) name.now ≡ o) }
     ensures range { IfOk result (λ o. IfSome o (λ n. (least ≤ n) × (n ≤ most))) }
     ensures taken { IfSome (one_text (found_of arguments.now) name.now) (IsUnsignedIn least most) → IsOk result }
+    ensures err { IfErr result (λ r. r ≡ Refusal.Argument) }
 {
     match arguments.try_get_one::<u32>(name) {
         Ok(None) => Ok(None),
@@ -57,6 +60,7 @@ fn number(arguments: &ArgMatches<'_>, name: &str, least: u32, most: u32) -> Resu
     ensures range { IfOk result (λ n. (least ≤ n) × (n ≤ most)) }
     ensures taken { (text : List ℕ) → one_text (found_of arguments.now) name.now ≡ Some text
         → IsUnsignedIn least most text → IsOk result }
+    ensures err { IfErr result (λ r. r ≡ Refusal.Argument) }
 {
     optional_number(arguments, name, least, most)?.ok_or(Refusal::Argument)
 }
@@ -125,4 +129,69 @@ pub fn create_options(arguments: &ArgMatches<'_>) -> Result<CreateOptions, Refus
         confirm: arguments.get_flag("confirm"),
         security_counter: optional_number(arguments, "security-counter", 0, u32::MAX)?,
     })
+}
+
+/// The layout that six numbers tell.
+///
+/// # Errors
+///
+/// `Layout` with the first judgement that the numbers fail; `Argument` where one is missing.
+pub fn layout_options(arguments: &ArgMatches<'_>) -> Result<Layout, Refusal>
+    ensures written { IfOk result (λ l. TellsLayout (found_of arguments.now) l) }
+    ensures refused { IfErr result (λ r. RefusesLayout (found_of arguments.now) r) }
+{
+    let sector = number(arguments, "sector", 0, u32::MAX)?;
+    let unit = number(arguments, "unit", 0, u32::MAX)?;
+    let max_sectors = number(arguments, "max-sectors", 0, u32::MAX)?;
+    let chunk = number(arguments, "chunk", 0, u32::MAX)?;
+    let primary = number(arguments, "primary", 0, u32::MAX)?;
+    let secondary = number(arguments, "secondary", 0, u32::MAX)?;
+    match Layout::new(sector, unit, max_sectors, chunk, primary, secondary) {
+        Ok(layout) => Ok(layout),
+        Err(error) => Err(Refusal::Layout(error)),
+    }
+}
+
+/// Where a flash comes from.
+#[derive(Debug, Drop)]
+pub enum Source<'a> {
+    /// A file of the bytes of both slots.
+    Flash(&'a str),
+    /// Two files of images, and what the secondary's trailer asks for.
+    Images { kind: Kind, a: &'a str, b: &'a str },
+}
+
+/// The kind of a start that a text names.
+fn kind_of(text: &str) -> Option<Kind>
+    ensures { MatchOption result ((k : Kind) → text.now ≡ kind_text k → ⊥) (λ k. text.now ≡ kind_text k) }
+{
+    match text {
+        "none" => Some(Kind::None),
+        "test" => Some(Kind::Test),
+        "perm" => Some(Kind::Perm),
+        _ => None,
+    }
+}
+
+/// The source that the options tell: a flash alone, or a kind and both images.
+///
+/// # Errors
+///
+/// `Source` where they tell anything else; `Argument` where the kind is none.
+pub fn source_options<'a>(arguments: &ArgMatches<'a>) -> Result<Source<'a>, Refusal>
+    ensures { MatchResult result (λ s. TellsSource (found_of arguments.now) s)
+        (λ r. RefusesSource (found_of arguments.now) r) }
+{
+    let flash = arguments.get_str("flash");
+    let kind_name = arguments.get_str("kind");
+    let a = arguments.get_str("image-a");
+    let b = arguments.get_str("image-b");
+    match (flash, kind_name, a, b) {
+        (Some(path), None, None, None) => Ok(Source::Flash(path)),
+        (None, Some(name), Some(a), Some(b)) => match kind_of(name) {
+            Some(kind) => Ok(Source::Images { kind, a, b }),
+            None => Err(Refusal::Argument),
+        },
+        _ => Err(Refusal::Source),
+    }
 }

@@ -2,6 +2,8 @@
 ghost use Rattle.std.specs.Prelude.{◌≡◌, ◌≤◌};
 ghost use Rattle.mcsim.specs.Statuses.{status_of};
 
+use mc_explore::StartError;
+use mc_flash::{FlashError, LayoutError};
 use mc_image::{ImageError, VersionError};
 use mc_imgtool::ToolError;
 use std::io::Write;
@@ -19,13 +21,25 @@ pub enum Refusal {
     /// The text of a version is refused.
     #[error(transparent)]
     Version(#[from] VersionError),
+    /// The options of a source do not go together.
+    #[error("E70 SourceOptions")]
+    Source,
+    /// The numbers of a layout are refused.
+    #[error(transparent)]
+    Layout(#[from] LayoutError),
+    /// The images or the bytes of a source are refused.
+    #[error(transparent)]
+    Start(#[from] StartError),
+    /// The flash refuses.
+    #[error(transparent)]
+    Flash(#[from] FlashError),
     /// The image tool refuses.
     #[error(transparent)]
     Tool(#[from] ToolError),
     /// A file cannot be opened or made.
     #[error("E71 Open")]
     Open,
-    /// The help cannot be written.
+    /// The help, or the answer of a command, cannot be written.
     #[error("E25 Write")]
     Write,
     /// There is no memory to read the command line.
@@ -41,7 +55,20 @@ impl Refusal {
         ensures range { (1 ≤ result) × (result ≤ 3) }
     {
         match self {
-            Refusal::NotText | Refusal::Argument | Refusal::Version(_) => 2,
+            Refusal::NotText
+            | Refusal::Argument
+            | Refusal::Version(_)
+            | Refusal::Source
+            | Refusal::Layout(_) => 2,
+            Refusal::Start(error) => match error {
+                StartError::Memory
+                | StartError::ImageA(ImageError::Memory)
+                | StartError::ImageB(ImageError::Memory) => 3,
+                StartError::ImageA(_)
+                | StartError::ImageB(_)
+                | StartError::DoesNotFit
+                | StartError::FlashSize => 1,
+            },
             Refusal::Tool(error) => match error {
                 ToolError::Image(ImageError::Memory)
                 | ToolError::Read
@@ -53,7 +80,7 @@ impl Refusal {
                 | ToolError::SlotTooSmall
                 | ToolError::InputTooLong => 1,
             },
-            Refusal::Open | Refusal::Write | Refusal::Memory => 3,
+            Refusal::Flash(_) | Refusal::Open | Refusal::Write | Refusal::Memory => 3,
         }
     }
 

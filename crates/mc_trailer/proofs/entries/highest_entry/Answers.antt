@@ -1,15 +1,9 @@
-use Rattle.std.proofs.Common.{rules, ◌≡◌, ℕ, ◌+◌, ◌≤◌, ◌<◌, ◌*◌, List, length, ◌-◌, ◌/◌, ◌%◌, Bool, true, false, sym, ◌∙◌, arith, ap}
-use Rattle.std.proofs.lemmas.Grind.{common_steps}
-use Rattle.mc_flash.specs.Content.{size_of}
-use Rattle.mc_trailer.specs.Entries.{highest_entry, is_written, greatest, greatest_found, greatest_missed}
+use Rattle.std.proofs.Common.{sym, ap, ◌∙◌, arith}
+use Rattle.mc_flash.specs.Geometry.{Geometry}
+use Rattle.mc_trailer.specs.EntryFacts.{greatest_at}
 use Rattle.mc_trailer.proofs.entries.highest_entry.Goals as goal
 
-pub returns-then-not-blank : goal.returns-then-not-blank
-returns-then-not-blank g c =
-    let written : is_written (g.F.Flash.geometry c.args.flash.now) (g.F.Flash.content c.args.flash.now) (c.loop-entry.entry - 1) ≡ true = search rules in
-    sym (c.loop-entry.invariant.rest ∙ greatest_found _ _ c.loop-entry-test.true written)
-
-pub loop-entry-preserved : goal.loop-entry-preserved
-loop-entry-preserved g c =
-    let missed : is_written (g.F.Flash.geometry c.args.flash.now) (g.F.Flash.content c.args.flash.now) (c.loop-entry.entry - 1) ≡ false = search rules in
-    record { below = omega arith; rest = c.loop-entry.invariant.rest ∙ greatest_missed _ _ c.loop-entry-test.true missed }
+pub returns-then-is_written-clause-value : goal.returns-then-is_written-clause-value
+returns-then-is_written-clause-value g c =
+    let most = ap (λ (layout : Geometry). layout.max_sectors) c.layout.ensures in
+    sym (greatest_at _ _ _ (omega (arith, most)) (sym c.is_written.ensures ∙ c.if-is_written.true) (λ e over below. c.loop-entry.invariant e (omega (arith, over)) below))

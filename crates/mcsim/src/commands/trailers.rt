@@ -1,0 +1,49 @@
+//! `type`: what the trailers of a flash ask for.
+use crate::options::{layout_options, source_options};
+use crate::refusal::Refusal;
+use crate::source::read_start;
+use clap::ArgMatches;
+use mc_flash::{Flash, Grain, Slot, SnapFlash};
+use mc_trailer::{Profile, Trailer, resumes, swap_type};
+use std::alloc::Global;
+use std::io::Write;
+use std::rt::Files;
+
+/// Prints both trailers of a source's flash, whether a boot would go on with a swap, and the type that the swap tables
+/// give, also where a boot would go on. The words are judged before a file is touched.
+///
+/// # Errors
+///
+/// `Source` and `Layout` of the options; what `read_start` refuses; `Flash` for want of memory; `Write` where the
+/// output cannot be written.
+pub fn run<F: Files, O: Write>(
+    files: &F,
+    alloc: Global,
+    arguments: &ArgMatches<'_>,
+    out: &mut O,
+) -> Result<(), Refusal> {
+    let source = source_options(arguments)?;
+    let layout = layout_options(arguments)?;
+    let start = read_start(files, alloc, &layout, &source)?;
+    let flash = SnapFlash::load(
+        alloc,
+        start.layout(),
+        Grain::Call,
+        start.primary(),
+        start.secondary(),
+        1,
+    )?;
+    let primary = Trailer::read(&flash, Slot::Primary);
+    let secondary = Trailer::read(&flash, Slot::Secondary);
+    let resume = if resumes(&primary, &secondary) {
+        "yes"
+    } else {
+        "no"
+    };
+    let table = swap_type(Profile::One, &primary, &secondary);
+    write!(
+        out,
+        "primary {primary}\nsecondary {secondary}\nresume {resume}\ntable {table}\n"
+    )
+    .map_err(|_| Refusal::Write)
+}

@@ -1,0 +1,54 @@
+//! The flash that a command starts from, read from its files.
+use crate::options::Source;
+use crate::refusal::Refusal;
+use mc_explore::Start;
+use mc_flash::Layout;
+use mc_imgtool::read_bounded;
+use std::alloc::Global;
+use std::fs;
+use std::rt::Files;
+
+/// The most bytes of a file of an image: as many as a slot may have.
+const GREATEST_IMAGE: u32 = 1 << 24;
+
+/// The most bytes of a file of a flash: as many as two slots may have.
+const GREATEST_FLASH: u32 = 1 << 25;
+
+/// All bytes of a file.
+///
+/// # Errors
+///
+/// `Open` where it cannot be opened; `Tool` with `InputTooLong` where it is longer than the limit, `Read`, or `Memory`.
+fn read_file<F: Files>(
+    files: &F,
+    alloc: Global,
+    path: &str,
+    limit: u32,
+) -> Result<Vec<u8>, Refusal> {
+    let mut file = fs::open(files, path).map_err(|_| Refusal::Open)?;
+    Ok(read_bounded(alloc, &mut file, limit)?)
+}
+
+/// The start of a source. The first image is read before the second is opened.
+///
+/// # Errors
+///
+/// What `read_file` refuses of a file, then `Start` with what is refused of the bytes.
+pub fn read_start<F: Files>(
+    files: &F,
+    alloc: Global,
+    layout: &Layout,
+    source: &Source<'_>,
+) -> Result<Start, Refusal> {
+    match source {
+        Source::Flash(path) => {
+            let bytes = read_file(files, alloc, path, GREATEST_FLASH)?;
+            Ok(Start::from_flash(alloc, layout, bytes.as_slice())?)
+        }
+        Source::Images { kind, a, b } => {
+            let first = read_file(files, alloc, a, GREATEST_IMAGE)?;
+            let second = read_file(files, alloc, b, GREATEST_IMAGE)?;
+            Ok(Start::from_images(alloc, layout, *kind, first.as_slice(), second.as_slice())?)
+        }
+    }
+}
