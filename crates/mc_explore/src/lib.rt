@@ -4,3 +4,6 @@
 mod start;
 
 pub use start::{Kind, Start, StartError};
+
+#[cfg(test)]
+mod tests;

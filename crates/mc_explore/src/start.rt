@@ -117,7 +117,6 @@ impl Start {
     /// # Errors
     ///
     /// `ImageA` and `ImageB` with the first fault of an image; `DoesNotFit`; `Memory`.
-    #[tactic(auto, using(mc_flash::specs::Facts::fits_inside))]
     pub fn from_images(
         alloc: Global,
         layout: &Layout,
