@@ -6,6 +6,7 @@ mod ranges;
 mod reports;
 mod slots;
 mod support;
+mod trailers;
 mod vectors;
 mod verification;
 mod words;

@@ -1,0 +1,169 @@
+//! `type`, of a flash and of two images. The file `in` has what a test puts there, and `out` is empty.
+use super::faulty::{Fault, FaultyFiles};
+use super::support::{Outcome, outcome_over};
+use super::vectors::FIRST_IMAGE;
+use std::alloc::Global;
+use std::cell::RefCell;
+use std::test::Fail;
+
+/// Runs `type` with further options.
+fn type_of(alloc: Global, input: &[u8], layout: &str, source: &str) -> Result<Outcome, Fail> {
+    let written = RefCell::new(Vec::new(alloc));
+    let files = FaultyFiles {
+        input,
+        written: &written,
+        reads: u32::MAX,
+        writes: u32::MAX,
+        fault: Fault::Error,
+    };
+    let line = format!(in alloc; "mcsim type {layout} {source}")?;
+    let words: Vec<&str> = line.split_whitespace().collect(alloc)?;
+    outcome_over(alloc, &files, words.as_slice(), &mut [].as_slice())
+}
+
+/// The worked layout: slots of 1024 and 768 bytes.
+static WORKED: &str = "--sector 256 --unit 8 --max-sectors 4 --chunk 128 --primary 4 --secondary 3";
+
+/// A flash of 0xff but for some bytes.
+fn flash_of(bytes: &[(usize, u8)]) -> [u8; 1792] {
+    let mut flash = [0xff; 1792];
+    for (place, byte) in bytes {
+        if *place < 1792 {
+            flash[*place] = *byte;
+        }
+    }
+    flash
+}
+
+/// The magic of the primary, with further bytes.
+fn begun(bytes: &[(usize, u8)]) -> [u8; 1792] {
+    let mut flash = flash_of(bytes);
+    flash[1008..1024].copy_from_slice(&[
+        0x77, 0xc2, 0x95, 0xf3, 0x60, 0xd2, 0xef, 0x7f, 0x35, 0x52, 0x50, 0x0f, 0x2c, 0xb6, 0x79,
+        0x80,
+    ]);
+    flash
+}
+
+static UNSET: &str =
+    "magic=unset image-ok=unset copy-done=unset swap-info=0xff swap-size=4294967295";
+
+#[test]
+fn prints_the_trailers_of_images(rt: HostRuntime) -> Result<(), Fail> {
+    let alloc = rt.alloc();
+    for (kind, magic, flag, table) in [
+        ("none", "unset", "unset", "none"),
+        ("test", "good", "unset", "test"),
+        ("perm", "good", "set", "perm"),
+    ] {
+        let source = format!(in alloc; "--kind {kind} --image-a in --image-b in")?;
+        let ended = type_of(alloc, &FIRST_IMAGE, WORKED, source.as_str())?;
+        let secondary = format!(in alloc; "magic={magic} image-ok={flag} copy-done=unset")?;
+        let want = format!(in alloc;
+            "primary {UNSET}\nsecondary {secondary} swap-info=0xff swap-size=4294967295\nresume no\ntable {table}\n"
+        )?;
+        assert_eq!(rt; ended.parts(), (0, want.as_str(), ""));
+    }
+    Ok(())
+}
+
+#[test]
+fn prints_the_trailers_of_a_flash(rt: HostRuntime) -> Result<(), Fail> {
+    let alloc = rt.alloc();
+    for (flash, fields, resume, table) in [
+        (begun(&[(984, 0x02)]), "unset swap-info=0x02", "yes", "none"),
+        (begun(&[(992, 0x01)]), "set swap-info=0xff", "no", "revert"),
+        (begun(&[(992, 0x00)]), "bad swap-info=0xff", "no", "none"),
+    ] {
+        let ended = type_of(alloc, &flash, WORKED, "--flash in")?;
+        let primary = format!(in alloc; "magic=good image-ok=unset copy-done={fields}")?;
+        let want = format!(in alloc;
+            "primary {primary} swap-size=4294967295\nsecondary {UNSET}\nresume {resume}\ntable {table}\n"
+        )?;
+        assert_eq!(rt; ended.parts(), (0, want.as_str(), ""));
+    }
+    Ok(())
+}
+
+#[test]
+fn refuses_sources_and_layouts(rt: HostRuntime) -> Result<(), Fail> {
+    let images = "--kind test --image-a in --image-b in";
+    for (layout, source, status, want) in [
+        // The source is judged before the layout, and both before a file is opened.
+        (
+            "--sector 1 --unit 3 --max-sectors 4 --chunk 128 --primary 4 --secondary 3",
+            "",
+            2,
+            "E70 SourceOptions",
+        ),
+        (WORKED, "--flash in --kind test", 2, "E70 SourceOptions"),
+        (WORKED, "--kind test --image-a in", 2, "E70 SourceOptions"),
+        (WORKED, "--image-a in --image-b in", 2, "E70 SourceOptions"),
+        (
+            "--sector 256 --unit 3 --max-sectors 4 --chunk 128 --primary 4 --secondary 3",
+            "--flash missing",
+            2,
+            "E30 Unit",
+        ),
+        (
+            "--sector 100 --unit 8 --max-sectors 4 --chunk 128 --primary 4 --secondary 3",
+            images,
+            2,
+            "E31 Sector",
+        ),
+        (
+            "--sector 256 --unit 8 --max-sectors 4 --chunk 96 --primary 4 --secondary 3",
+            images,
+            2,
+            "E32 Chunk",
+        ),
+        (
+            "--sector 256 --unit 8 --max-sectors 4 --chunk 128 --primary 5 --secondary 3",
+            images,
+            2,
+            "E33 Counts",
+        ),
+        (
+            "--sector 256 --unit 8 --max-sectors 4 --chunk 128 --primary 2 --secondary 2",
+            images,
+            2,
+            "E34 NoRoom",
+        ),
+        (WORKED, "--flash missing", 3, "E71 Open"),
+        (WORKED, "--flash in", 1, "E51 FlashSize"),
+        (
+            WORKED,
+            "--kind test --image-a in --image-b missing",
+            3,
+            "E71 Open",
+        ),
+        (
+            WORKED,
+            "--kind test --image-a out --image-b out",
+            1,
+            "E1 Truncated in image A",
+        ),
+        (
+            WORKED,
+            "--kind test --image-a in --image-b out",
+            1,
+            "E1 Truncated in image B",
+        ),
+        // Each slot has room for no sector of an image but the first.
+        (
+            "--sector 64 --unit 1 --max-sectors 1 --chunk 64 --primary 3 --secondary 2",
+            images,
+            1,
+            "E50 DoesNotFit",
+        ),
+    ] {
+        let ended = type_of(rt.alloc(), &FIRST_IMAGE, layout, source)?;
+        let line = format!(in rt.alloc(); "mcsim: {want}\n")?;
+        assert_eq!(rt;
+            ended.parts(),
+            (status, "", line.as_str()),
+            "{layout} {source}"
+        );
+    }
+    Ok(())
+}
