@@ -1,113 +1,13 @@
 //! Command lines whose reads and writes fail, each at each call.
 use super::faulty::{Fault, FaultyFile, FaultyFiles};
-use super::support::{Outcome, create_words, outcome_over, owned};
-use super::vectors::{COUNTER_IMAGE, GOOD, IMAGE, PAYLOAD, REPORT};
+use super::support::{create_words, outcome_over, owned};
+use super::vectors::{IMAGE, PAYLOAD};
 use crate::run;
 use std::alloc::Global;
 use std::cell::RefCell;
 use std::test::Fail;
 
 static FAULTS: [Fault; 3] = [Fault::Error, Fault::Interruption, Fault::NoBytes];
-
-/// A command that reads an image, and what it prints of one.
-#[derive(Clone, Copy)]
-struct Reader {
-    name: &'static str,
-    image: &'static [u8],
-    text: &'static str,
-}
-
-/// The commands that read an image.
-fn readers() -> [Reader; 2] {
-    let verify = Reader {
-        name: "verify",
-        image: &IMAGE,
-        text: GOOD,
-    };
-    let dumpinfo = Reader {
-        name: "dumpinfo",
-        image: &COUNTER_IMAGE,
-        text: REPORT,
-    };
-    [verify, dumpinfo]
-}
-
-/// Runs a command that reads an image, with an input that fails once.
-fn read_from(rt: &HostRuntime, reader: Reader, calls: u32, fault: Fault) -> Result<Outcome, Fail> {
-    let unused = RefCell::new(Vec::new(rt.alloc()));
-    let mut input = FaultyFile {
-        rest: reader.image,
-        written: &unused,
-        calls,
-        fault,
-    };
-    outcome_over(rt.alloc(), rt, &["mcsim", reader.name], &mut input)
-}
-
-#[test]
-fn readers_meet_failing_reads(rt: HostRuntime) -> Result<(), Fail> {
-    for reader in readers() {
-        let length = u32::try_from(reader.image.len())?;
-        // A read of each byte, one that finds the end, and none.
-        for calls in 0..length.saturating_add(2) {
-            for fault in [Fault::Error, Fault::Interruption] {
-                let ended = read_from(&rt, reader, calls, fault)?;
-                let want = if calls <= length {
-                    (3, "", "mcsim: E24 Read\n")
-                } else {
-                    (0, reader.text, "")
-                };
-                assert_eq!(rt; ended.parts(), want, "{calls} {fault:?}");
-            }
-        }
-    }
-    Ok(())
-}
-
-/// Runs a command that reads an image, with an output that fails once, and answers the status, what is out, and the
-/// text on standard error.
-fn read_into(
-    rt: &HostRuntime,
-    reader: Reader,
-    calls: u32,
-    fault: Fault,
-) -> Result<(u8, Vec<u8>, Vec<u8>), Fail> {
-    let alloc = rt.alloc();
-    let words = owned(alloc, &["mcsim", reader.name])?;
-    let written = RefCell::new(Vec::new(alloc));
-    let mut out = FaultyFile {
-        rest: &[],
-        written: &written,
-        calls,
-        fault,
-    };
-    let mut err = Vec::new(alloc);
-    let mut input = reader.image;
-    let status = run(rt, alloc, words.as_slice(), &mut input, &mut out, &mut err);
-    Ok((status, written.into_inner(), err))
-}
-
-#[test]
-fn readers_meet_failing_writes(rt: HostRuntime) -> Result<(), Fail> {
-    for reader in readers() {
-        let text = reader.text.as_bytes();
-        for (place, _) in text.iter().enumerate() {
-            for fault in FAULTS {
-                let calls = u32::try_from(place)?;
-                let (status, out, err) = read_into(&rt, reader, calls, fault)?;
-                assert_eq!(rt; status, 3, "{place} {fault:?}");
-                assert_eq!(rt; err.as_slice(), b"mcsim: E25 Write\n".as_slice());
-                assert_eq!(rt; out.len(), place, "{fault:?}");
-                assert!(rt; text.starts_with(out.as_slice()), "{place} {fault:?}");
-            }
-        }
-        let (status, out, err) = read_into(&rt, reader, 1000, Fault::Error)?;
-        assert_eq!(rt; status, 0);
-        assert_eq!(rt; out.as_slice(), text);
-        assert_eq!(rt; err.len(), 0);
-    }
-    Ok(())
-}
 
 /// Runs `create` over two files that fail once, and answers the status, what is written to `out`, and the text on
 /// standard error.

@@ -21,6 +21,24 @@ fn refuses_command_lines(rt: HostRuntime) -> Result<(), Fail> {
         "mcsim create --version 1 --header-size 32 --align 8 --align 8 a b",
         "mcsim create --version 1 --header-size 32 --pad --pad a b",
         "mcsim create --version 1 --header-size 32 --nonsense a b",
+        "mcsim create --version 1 --header-size 31 a b",
+        "mcsim create --version 1 --header-size 65536 a b",
+        "mcsim create --version 1 --header-size -1 a b",
+        "mcsim create --version 1 --header-size x a b",
+        "mcsim create --version 1 --header-size 32 --slot-size 0 a b",
+        "mcsim create --version 1 --header-size 32 --slot-size 16777217 a b",
+        "mcsim create --version 1 --header-size 32 --align 0 a b",
+        "mcsim create --version 1 --header-size 32 --align 3 a b",
+        "mcsim create --version 1 --header-size 32 --align 16 a b",
+        "mcsim create --version 1 --header-size 32 --max-sectors 0 a b",
+        "mcsim create --version 1 --header-size 32 --max-sectors 1025 a b",
+        "mcsim create --version 1 --header-size 32 --security-counter -1 a b",
+        "mcsim create --version 1 --header-size 32 --security-counter 4294967296 a b",
+        "mcsim type --flash a",
+        "mcsim type --sector 256 --unit 8 --max-sectors 4 --chunk 128 --primary 4 --flash a",
+        "mcsim type --sector 4294967296 --unit 8 --max-sectors 4 --chunk 128 --primary 4 --secondary 3 --flash a",
+        "mcsim type --sector 256 --unit 8 --max-sectors 4 --chunk 128 --primary 4 --secondary 3 --kind revert --image-a a --image-b b",
+        "mcsim type --sector 256 --unit 8 --max-sectors 4 --chunk 128 --primary 4 --secondary 3 --flash a --flash b",
     ];
     for line in lines {
         let words: Vec<&str> = line.split_whitespace().collect(rt.alloc())?;
@@ -40,6 +58,7 @@ fn prints_help(rt: HostRuntime) -> Result<(), Fail> {
         ("mcsim create --help", "Usage: mcsim create "),
         ("mcsim verify -h", "Usage: mcsim verify "),
         ("mcsim dumpinfo -h", "Usage: mcsim dumpinfo "),
+        ("mcsim type --help", "Usage: mcsim type "),
     ];
     for (line, want) in lines {
         let words: Vec<&str> = line.split_whitespace().collect(rt.alloc())?;
