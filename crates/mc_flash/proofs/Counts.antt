@@ -1,9 +1,8 @@
 -- The greatest number of sectors, over whole numbers and cut off at 0.
-use Rattle.std.proofs.Common.{◌≡◌, ℕ, ◌-◌, ◌<◌, ◌≤◌, min, true, false, sym, ◌∙◌, arith, pos, ◌-ℤ◌, ℤ}
+use Rattle.std.proofs.Common.{◌≡◌, ℕ, ◌-◌, ◌<◌, min, true, false, sym, ◌∙◌, arith, pos, ℤ}
 use Rattle.std.proofs.lemmas.Bool.Decides.{nat_tests}
 use Rattle.std.proofs.lemmas.Int.{ints, clamps}
 use Rattle.std.specs.Prelude.{int_lt, ◌<ℤ◌, ◌==◌, suc, zero}
-use Rattle.std.specs.Int.{int_min}
 use Rattle.mc_flash.specs.Geometry.{count_beside}
 
 below_one : (a : ℤ) → a <ℤ pos 1 → int_lt a (pos 1) ≡ true

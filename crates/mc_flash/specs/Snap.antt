@@ -1,6 +1,5 @@
 -- A flash that keeps copies, as a flash is seen.
-use Rattle.std.specs.Prelude.{ℕ, ◌+◌, ◌*◌, Bool, List, map}
-use Rattle.mc_flash.specs.Content.{Content}
+use Rattle.std.specs.Prelude.{◌+◌, ◌*◌, Bool}
 use Rattle.mc_flash.specs.Geometry.{Geometry}
 use Rattle.mc_flash.specs.Ledger.{Ledger, Limits, Spot, no_counts, most_operations, most_saved}
 use Rattle.mc_flash.specs.declared.flash.Grain.TheVariants as grains

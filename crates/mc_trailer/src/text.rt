@@ -53,7 +53,10 @@ impl fmt::Display for Trailer {
         let copy_done = self.copy_done;
         let swap_info = self.swap_info;
         let swap_size = self.swap_size;
-        write!(f, "magic={magic} image-ok={image_ok} copy-done={copy_done} ")?;
+        write!(
+            f,
+            "magic={magic} image-ok={image_ok} copy-done={copy_done} "
+        )?;
         write!(f, "swap-info=0x{swap_info:02x} swap-size={swap_size}")
     }
 }

@@ -2,8 +2,6 @@
 mod creation;
 mod faults;
 mod faulty;
-mod ranges;
-mod reports;
 mod slots;
 mod support;
 mod trailers;

@@ -1,10 +1,10 @@
 //! What the tests of command lines share.
 use super::faulty::{Fault, FaultyFiles};
-use super::vectors::PAYLOAD;
 use crate::run;
 use std::alloc::{AllocError, Global};
 use std::cell::RefCell;
 use std::io::Read;
+use std::process::Abort;
 use std::rt::Files;
 use std::test::Fail;
 use std::{env, process};
@@ -81,25 +81,42 @@ pub fn create_words<'a>(version: &'a str, infile: &'a str, outfile: &'a str) -> 
     ]
 }
 
-/// Runs a line of `create`, whose INFILE is `in` and holds `PAYLOAD`, and whose OUTFILE is `out`, and answers how it
-/// ended and what is in `out`.
-pub fn create_line(alloc: Global, line: &str) -> Result<(Outcome, Vec<u8>), Fail> {
+/// A command line over the files `in` and `out`, and how it is to end. Other files are missing.
+#[derive(Clone, Copy)]
+pub struct Case<'a> {
+    pub command: &'a str,
+    /// The words behind the command: first options, further ones, and the rest.
+    pub start: &'a str,
+    pub options: &'a str,
+    pub words: &'a str,
+    /// What the file `in` and standard input hold.
+    pub input: &'a [u8],
+    pub status: u8,
+    pub out: &'a str,
+    pub err: &'a str,
+    /// What is written to the file `out`.
+    pub written: &'a [u8],
+}
+
+/// Runs a command line, and looks at how it ends.
+pub fn ends(rt: &impl Abort, alloc: Global, case: &Case<'_>) -> Result<(), Fail> {
     let written = RefCell::new(Vec::new(alloc));
     let files = FaultyFiles {
-        input: &PAYLOAD,
+        input: case.input,
         written: &written,
         reads: u32::MAX,
         writes: u32::MAX,
         fault: Fault::Error,
     };
-    let words: Vec<&str> = line.split_whitespace().collect(alloc)?;
-    let ended = outcome_over(alloc, &files, words.as_slice(), &mut [].as_slice())?;
-    Ok((ended, written.into_inner()))
-}
-
-/// Runs `create` of `PAYLOAD` with further options, and answers how it ended and what is written.
-pub fn create_of(alloc: Global, options: &str) -> Result<(Outcome, Vec<u8>), Fail> {
-    let start = "mcsim create --version 1.2.3+4 --header-size 32 --pad-header";
-    let line = format!(in alloc; "{start} {options} in out")?;
-    create_line(alloc, line.as_str())
+    let mut words = Vec::new(alloc);
+    for part in ["mcsim", case.command, case.start, case.options, case.words] {
+        for word in part.split_whitespace() {
+            words.push(word)?;
+        }
+    }
+    let mut input = case.input;
+    let ended = outcome_over(alloc, &files, words.as_slice(), &mut input)?;
+    assert_eq!(rt; ended.parts(), (case.status, case.out, case.err));
+    assert_eq!(rt; written.into_inner().as_slice(), case.written);
+    Ok(())
 }

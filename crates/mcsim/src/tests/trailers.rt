@@ -1,24 +1,21 @@
 //! `type`, of a flash and of two images. The file `in` has what a test puts there, and `out` is empty.
-use super::faulty::{Fault, FaultyFiles};
-use super::support::{Outcome, outcome_over};
+use super::support::{Case, ends};
 use super::vectors::FIRST_IMAGE;
-use std::alloc::Global;
-use std::cell::RefCell;
 use std::test::Fail;
 
-/// Runs `type` with further options.
-fn type_of(alloc: Global, input: &[u8], layout: &str, source: &str) -> Result<Outcome, Fail> {
-    let written = RefCell::new(Vec::new(alloc));
-    let files = FaultyFiles {
+/// `type` of a layout and a source.
+fn type_of<'a>(input: &'a [u8], layout: &'a str, source: &'a str) -> Case<'a> {
+    Case {
+        command: "type",
+        start: layout,
+        options: source,
+        words: "",
         input,
-        written: &written,
-        reads: u32::MAX,
-        writes: u32::MAX,
-        fault: Fault::Error,
-    };
-    let line = format!(in alloc; "mcsim type {layout} {source}")?;
-    let words: Vec<&str> = line.split_whitespace().collect(alloc)?;
-    outcome_over(alloc, &files, words.as_slice(), &mut [].as_slice())
+        status: 0,
+        out: "",
+        err: "",
+        written: &[],
+    }
 }
 
 /// The worked layout: slots of 1024 and 768 bytes.
@@ -57,12 +54,15 @@ fn prints_the_trailers_of_images(rt: HostRuntime) -> Result<(), Fail> {
         ("perm", "good", "set", "perm"),
     ] {
         let source = format!(in alloc; "--kind {kind} --image-a in --image-b in")?;
-        let ended = type_of(alloc, &FIRST_IMAGE, WORKED, source.as_str())?;
         let secondary = format!(in alloc; "magic={magic} image-ok={flag} copy-done=unset")?;
         let want = format!(in alloc;
             "primary {UNSET}\nsecondary {secondary} swap-info=0xff swap-size=4294967295\nresume no\ntable {table}\n"
         )?;
-        assert_eq!(rt; ended.parts(), (0, want.as_str(), ""));
+        let case = Case {
+            out: want.as_str(),
+            ..type_of(&FIRST_IMAGE, WORKED, source.as_str())
+        };
+        ends(&rt, alloc, &case)?;
     }
     Ok(())
 }
@@ -75,12 +75,15 @@ fn prints_the_trailers_of_a_flash(rt: HostRuntime) -> Result<(), Fail> {
         (begun(&[(992, 0x01)]), "set swap-info=0xff", "no", "revert"),
         (begun(&[(992, 0x00)]), "bad swap-info=0xff", "no", "none"),
     ] {
-        let ended = type_of(alloc, &flash, WORKED, "--flash in")?;
         let primary = format!(in alloc; "magic=good image-ok=unset copy-done={fields}")?;
         let want = format!(in alloc;
             "primary {primary} swap-size=4294967295\nsecondary {UNSET}\nresume {resume}\ntable {table}\n"
         )?;
-        assert_eq!(rt; ended.parts(), (0, want.as_str(), ""));
+        let case = Case {
+            out: want.as_str(),
+            ..type_of(&flash, WORKED, "--flash in")
+        };
+        ends(&rt, alloc, &case)?;
     }
     Ok(())
 }
@@ -157,13 +160,13 @@ fn refuses_sources_and_layouts(rt: HostRuntime) -> Result<(), Fail> {
             "E50 DoesNotFit",
         ),
     ] {
-        let ended = type_of(rt.alloc(), &FIRST_IMAGE, layout, source)?;
-        let line = format!(in rt.alloc(); "mcsim: {want}\n")?;
-        assert_eq!(rt;
-            ended.parts(),
-            (status, "", line.as_str()),
-            "{layout} {source}"
-        );
+        let err = format!(in rt.alloc(); "mcsim: {want}\n")?;
+        let case = Case {
+            status,
+            err: err.as_str(),
+            ..type_of(&FIRST_IMAGE, layout, source)
+        };
+        ends(&rt, rt.alloc(), &case)?;
     }
     Ok(())
 }

@@ -4,6 +4,12 @@
 /// A payload.
 pub static PAYLOAD: [u8; 8] = [1, 2, 3, 4, 5, 6, 7, 8];
 
+/// 32 zeros in the header's place, and `PAYLOAD`.
+pub static PADDED: [u8; 40] = [
+    0, 0, 0, 0, 0, 0, 0, 0, 0, 0, 0, 0, 0, 0, 0, 0, 0, 0, 0, 0, 0, 0, 0, 0, 0, 0, 0, 0, 0, 0, 0, 0,
+    1, 2, 3, 4, 5, 6, 7, 8,
+];
+
 /// The image of `PAYLOAD`, of version 1.2.3+4, with a header of 32 bytes.
 pub static IMAGE: [u8; 80] = [
     0x3d, 0xb8, 0xf3, 0x96, 0x00, 0x00, 0x00, 0x00, 0x20, 0x00, 0x00, 0x00, 0x08, 0x00, 0x00, 0x00,

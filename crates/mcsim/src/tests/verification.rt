@@ -1,48 +1,88 @@
-//! `verify`, mostly of standard input.
-use super::support::{outcome_of, outcome_over, scratch_path};
-use super::vectors::{GOOD, IMAGE};
+//! `verify` and `dumpinfo`, of standard input and of files.
+use super::support::{Case, ends, outcome_of, outcome_over};
+use super::vectors::{COUNTER_IMAGE, GOOD, IMAGE, REPORT};
 use std::io;
 use std::io::Read;
 use std::test::Fail;
 
+/// A command that reads an image, of these words and this input.
+fn reading<'a>(command: &'a str, words: &'a str, input: &'a [u8]) -> Case<'a> {
+    Case {
+        command,
+        start: "",
+        options: "",
+        words,
+        input,
+        status: 0,
+        out: "",
+        err: "",
+        written: &[],
+    }
+}
+
+#[test]
+fn reads_images(rt: HostRuntime) -> Result<(), Fail> {
+    for (command, words, input, out) in [
+        ("verify", "", IMAGE.as_slice(), GOOD),
+        ("verify", "in", &IMAGE, GOOD),
+        ("dumpinfo", "", &COUNTER_IMAGE, REPORT),
+        ("dumpinfo", "in", &COUNTER_IMAGE, REPORT),
+    ] {
+        let case = Case {
+            out,
+            ..reading(command, words, input)
+        };
+        ends(&rt, rt.alloc(), &case)?;
+    }
+    // Another byte follows.
+    let mut longer = [0x69; 81];
+    longer[..80].copy_from_slice(&IMAGE);
+    let case = Case {
+        out: GOOD,
+        ..reading("verify", "", &longer)
+    };
+    ends(&rt, rt.alloc(), &case)
+}
+
 #[test]
 fn refuses_each_front_of_an_image(rt: HostRuntime) -> Result<(), Fail> {
     for length in 0..80 {
-        let want = match length {
+        let err = match length {
             0..=31 => "mcsim: E1 Truncated\n",
             32..=39 => "mcsim: E5 TruncatedBody\n",
             40..=43 => "mcsim: E7 BadTlvMagic\n",
             _ => "mcsim: E8 BadTlvLength\n",
         };
-        let ended = outcome_of(&rt, &["mcsim", "verify"], &IMAGE[..length])?;
-        assert_eq!(rt; ended.parts(), (1, "", want), "{length}");
+        let case = Case {
+            status: 1,
+            err,
+            ..reading("verify", "", &IMAGE[..length])
+        };
+        ends(&rt, rt.alloc(), &case)?;
     }
     Ok(())
 }
 
 #[test]
-fn accepts_an_image_that_other_bytes_follow(rt: HostRuntime) -> Result<(), Fail> {
-    let mut bytes = IMAGE.to_vec(rt.alloc())?;
-    for _ in 0..3 {
-        let ended = outcome_of(&rt, &["mcsim", "verify"], bytes.as_slice())?;
-        assert_eq!(rt; ended.parts(), (0, GOOD, ""));
-        bytes.push(0x69)?;
-    }
-    Ok(())
-}
-
-#[test]
-fn refuses_each_changed_bit_of_a_payload(rt: HostRuntime) -> Result<(), Fail> {
+fn finds_each_changed_bit_of_a_payload(rt: HostRuntime) -> Result<(), Fail> {
+    let report = REPORT.replace(rt.alloc(), "\ndigest good\n", "\ndigest wrong\n")?;
     for place in 32..40 {
         for bit in [1u8, 2, 4, 8, 16, 32, 64, 128] {
             let mut image = IMAGE;
             image[place] ^= bit;
-            let ended = outcome_of(&rt, &["mcsim", "verify"], image.as_slice())?;
-            assert_eq!(rt;
-                ended.parts(),
-                (1, "", "mcsim: E12 WrongDigest\n"),
-                "{place} {bit}"
-            );
+            let case = Case {
+                status: 1,
+                err: "mcsim: E12 WrongDigest\n",
+                ..reading("verify", "", &image)
+            };
+            ends(&rt, rt.alloc(), &case)?;
+            let mut counted = COUNTER_IMAGE;
+            counted[place] ^= bit;
+            let case = Case {
+                out: report.as_str(),
+                ..reading("dumpinfo", "", &counted)
+            };
+            ends(&rt, rt.alloc(), &case)?;
         }
     }
     Ok(())
@@ -50,14 +90,11 @@ fn refuses_each_changed_bit_of_a_payload(rt: HostRuntime) -> Result<(), Fail> {
 
 #[test]
 fn refuses_files_that_cannot_be_read(rt: HostRuntime) -> Result<(), Fail> {
-    let missing = scratch_path(&rt, "missing")?;
     let folder = std::env::temp_dir(&rt)?.display().to_string(rt.alloc())?;
-    let cases = [
-        (missing.as_str(), "mcsim: E71 Open\n"),
+    for (infile, want) in [
         ("", "mcsim: E71 Open\n"),
         (folder.as_str(), "mcsim: E24 Read\n"),
-    ];
-    for (infile, want) in cases {
+    ] {
         let ended = outcome_of(&rt, &["mcsim", "verify", infile], &IMAGE)?;
         assert_eq!(rt; ended.parts(), (3, "", want), "{infile}");
     }

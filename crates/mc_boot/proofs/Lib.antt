@@ -1,0 +1,11 @@
+pub mod Places
+pub mod Rows
+pub mod TransferPlaces
+pub mod Can
+pub mod Sections
+pub mod Highest
+pub mod Grains
+pub mod ImageFacts
+pub mod Stepping
+pub mod Plans
+pub mod Reports

@@ -1,0 +1,72 @@
+-- A boot at power-on, as its plan says.
+use Rattle.std.specs.Prelude.{◌≡◌, ℕ, ◌<◌, ◌≤◌, ◌==◌, ◌||◌, nat_lt, not, Bool, true, false, if◌then◌else◌, Option, Some, None, is_none, refl}
+use Rattle.std.specs.Option.{is_some}
+use Rattle.std.proofs.Common.{arith, sym, ap, ◌∙◌}
+use Rattle.std.proofs.lemmas.Bool.Decides.{nat_tests}
+use Rattle.mc_flash.specs.Geometry.{Geometry, greatest_sectors}
+use Rattle.mc_flash.specs.Pieces.{in_pieces}
+use Rattle.mc_flash.specs.declared.flash.Grain.{Grain}
+use Rattle.mc_trailer.specs.declared.trailer.Flag.{Flag}
+use Rattle.mc_trailer.specs.declared.trailer.Trailer.{Trailer}
+use Rattle.mc_trailer.specs.declared.tables.SwapType.{SwapType}
+use Rattle.mc_trailer.specs.declared.tables.SwapType.TheVariants as kinds
+use Rattle.mc_trailer.specs.declared.tables.Rules.{Rules}
+use Rattle.mc_boot.specs.Course.{resumed_list}
+use Rattle.mc_flash.specs.Content.{Content}
+use Rattle.mc_flash.specs.declared.op.Slot.TheVariants.{Primary, Secondary}
+use Rattle.mc_trailer.specs.Fields.{trailer_of}
+use Rattle.mc_trailer.specs.Entries.{highest_entry}
+use Rattle.mc_trailer.specs.Tables.{is_resumed, resumes, swap_type, table_of}
+use Rattle.mc_boot.specs.Image.{images_of}
+use Rattle.mc_boot.specs.Plan.{nothing, first_left, confirms, resumed_swap, resumed_from, resumed_plan, new_plan, plan_with, plan}
+use Rattle.mc_boot.specs.Boot.{Progress, begun}
+
+may_swap : (n most : ℕ) → 0 < n → n ≤ most → (n == 0 || nat_lt most n) ≡ false
+may_swap n most some few =
+    let a : (n == 0) ≡ false = grind (arith, nat_tests) in
+    let b : nat_lt most n ≡ false = grind (arith, nat_tests) in
+    rw a (rw b refl)
+
+pub resumed_count : (c : Grain) (g : Geometry) (image_ok : Flag) (highest : Option ℕ) (kind : SwapType) (n : ℕ) → 0 < n → n ≤ greatest_sectors g
+    → resumed_swap c g image_ok highest kind n ≡ resumed_from c g image_ok highest kind n (first_left g n highest)
+resumed_count c g image_ok highest kind n some few =
+    ap (λ b. if b then nothing kinds.Panic else resumed_from c g image_ok highest kind n (first_left g n highest)) (may_swap n (greatest_sectors g) some few)
+
+pub none_of : (r : Bool) (o : Option ℕ) → is_some o ≡ not r → r ≡ is_none o
+none_of true None e = refl
+none_of true (Some x) e = cc
+none_of false None e = cc
+none_of false (Some x) e = refl
+
+-- a swap that was cut, at power-on
+pub resumed_begun : (r : Rules) (g : Geometry) (image_ok : Flag) (highest : Option ℕ) (kind : SwapType) (n first : ℕ) (l : Geometry) (erases ok : Bool) → 0 < n → n ≤ greatest_sectors g → first_left g n highest ≡ Some first → l ≡ in_pieces r.grain g
+    → erases ≡ is_none highest → ok ≡ confirms kind image_ok → (written : Option ℕ) → highest ≡ written
+    → record { rules = r; kind = kind; to_come = resumed_list l n first erases ok; count = 0; faulted = false } ≡ begun r (resumed_swap r.grain g image_ok written kind n)
+resumed_begun r g image_ok highest kind n first l erases ok some few first_is layout_is erases_is ok_is written is =
+    let at : Geometry → Bool → Bool → Progress = λ x e b. record { rules = r; kind = kind; to_come = resumed_list x n first e b; count = 0; faulted = false } in
+    ap (λ x. at x erases ok) layout_is
+    ∙ ap (λ e. at (in_pieces r.grain g) e ok) erases_is
+    ∙ ap (λ b. at (in_pieces r.grain g) (is_none highest) b) ok_is
+    ∙ ap (begun r) (sym (resumed_count r.grain g image_ok highest kind n some few ∙ ap (resumed_from r.grain g image_ok highest kind n) first_is))
+    ∙ ap (λ (w : Option ℕ). begun r (resumed_swap r.grain g image_ok w kind n)) is
+
+-- the two halves of a plan
+pub plan_resumed : (r : Rules) (g : Geometry) (s : Content) → is_resumed g s ≡ true → plan r g s ≡ resumed_plan r.grain g (trailer_of g s Primary) (highest_entry g s)
+unfolding plan plan_with
+plan_resumed r g s it = ap (λ (b : Bool). if b then resumed_plan r.grain g (trailer_of g s Primary) (highest_entry g s) else new_plan r.grain g (images_of s) (table_of r.profile g s)) it
+
+pub plan_new : (r : Rules) (g : Geometry) (s : Content) → is_resumed g s ≡ false → plan r g s ≡ new_plan r.grain g (images_of s) (table_of r.profile g s)
+unfolding plan plan_with
+plan_new r g s it = ap (λ (b : Bool). if b then resumed_plan r.grain g (trailer_of g s Primary) (highest_entry g s) else new_plan r.grain g (images_of s) (table_of r.profile g s)) it
+
+-- the boot that the trailers decide on is that of the plan
+pub begun_resumed : (r : Rules) (g : Geometry) (s : Content) (p q : Trailer) (b : Bool) → p ≡ trailer_of g s Primary → q ≡ trailer_of g s Secondary → b ≡ resumes p q → b ≡ true → begun r (resumed_plan r.grain g p (highest_entry g s)) ≡ begun r (plan r g s)
+begun_resumed r g s p q b first second is it =
+    let both : is_resumed g s ≡ true = ap (λ (x : Trailer). resumes x (trailer_of g s Secondary)) (sym first) ∙ ap (λ (x : Trailer). resumes p x) (sym second) ∙ sym is ∙ it in
+    ap (λ (x : Trailer). begun r (resumed_plan r.grain g x (highest_entry g s))) first ∙ ap (begun r) (sym (plan_resumed r g s both))
+
+pub begun_new : (r : Rules) (g : Geometry) (s : Content) (p q : Trailer) (b : Bool) (kind : SwapType) → p ≡ trailer_of g s Primary → q ≡ trailer_of g s Secondary → b ≡ resumes p q → b ≡ false → kind ≡ swap_type r.profile p q → begun r (new_plan r.grain g (images_of s) kind) ≡ begun r (plan r g s)
+begun_new r g s p q b kind first second is it asks =
+    let both : is_resumed g s ≡ false = ap (λ (x : Trailer). resumes x (trailer_of g s Secondary)) (sym first) ∙ ap (λ (x : Trailer). resumes p x) (sym second) ∙ sym is ∙ it in
+    let table : kind ≡ table_of r.profile g s = asks ∙ ap (λ (x : Trailer). swap_type r.profile x q) first ∙ ap (λ (x : Trailer). swap_type r.profile (trailer_of g s Primary) x) second in
+    ap (λ (k : SwapType). begun r (new_plan r.grain g (images_of s) k)) table ∙ ap (begun r) (sym (plan_new r g s both))

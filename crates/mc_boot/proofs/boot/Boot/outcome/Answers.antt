@@ -1,0 +1,11 @@
+use Rattle.std.proofs.Common.{sym, ap, ◌∙◌}
+use Rattle.std.specs.Prelude.{Some}
+use Rattle.mc_boot.specs.Boot.{progress}
+use Rattle.mc_boot.specs.Outcome.{Report}
+use Rattle.mc_boot.specs.RunFacts.{come_outcome}
+use Rattle.mc_boot.proofs.boot.Boot.outcome.Goals as goal
+
+pub returns-clause-end : goal.returns-clause-end
+returns-clause-end g c r s come end =
+    come_outcome r (g.F.Flash.geometry c.args.flash.now) s (progress c.args.self.now) (g.F.Flash.content c.args.flash.now) come end
+    ∙ ap (λ (x : Report). Some x) (sym c.read.ensures)

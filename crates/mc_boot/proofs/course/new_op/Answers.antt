@@ -1,0 +1,33 @@
+use Rattle.std.proofs.Common.{◌≡◌, ◌-◌, ◌++◌, true, sym, ◌∙◌, arith}
+use Rattle.mc_flash.specs.Geometry.{trailer_sectors}
+use Rattle.mc_flash.specs.declared.op.Slot.TheVariants.{Secondary}
+use Rattle.mc_boot.specs.Course.{swap_list}
+use Rattle.mc_boot.specs.Writes.{preparation_writes, is_revert}
+use Rattle.mc_boot.proofs.Places.{get_front, get_behind}
+use Rattle.mc_boot.proofs.Sections.{get_erase, get_after_erases}
+use Rattle.mc_boot.proofs.course.new_op.Goals as goal
+
+pub returns-then-index-count-clause-at : goal.returns-then-index-count-clause-at
+returns-then-index-count-clause-at c =
+    let revert : is_revert c.args.kind ≡ true = sym c.is_revert.ensures ∙ c.if-not-is_revert.false in
+    rw (revert, c.trailer_erase.ensures.at)
+    (sym (get_erase c.args.layout.now Secondary (preparation_writes c.args.grain c.args.layout.now c.args.size ++ swap_list c.args.grain c.args.layout.now c.args.kind c.args.size c.args.sectors) c.args.index
+    (rw c.trailer_sectors-count.ensures.value at c.if-index-count.true)))
+
+pub returns-then-written-len-clause-at : goal.returns-then-written-len-clause-at
+returns-then-written-len-clause-at c =
+    let revert : is_revert c.args.kind ≡ true = sym c.is_revert.ensures ∙ c.if-not-is_revert.false in
+    rw revert (sym (get_after_erases c.args.layout.now Secondary (preparation_writes c.args.grain c.args.layout.now c.args.size ++ swap_list c.args.grain c.args.layout.now c.args.kind c.args.size c.args.sectors) c.args.index
+    (rw c.trailer_sectors-count.ensures.value at c.if-index-count.false)
+    ∙ get_front (preparation_writes c.args.grain c.args.layout.now c.args.size) (swap_list c.args.grain c.args.layout.now c.args.kind c.args.size c.args.sectors) (c.args.index - trailer_sectors c.args.layout.now) c.preparation_write.result
+    (rw c.trailer_sectors-count.ensures.value at c.preparation_write.ensures.at)))
+
+pub returns-clause-at : goal.returns-clause-at
+returns-clause-at c =
+    let revert : is_revert c.args.kind ≡ true = sym c.is_revert.ensures ∙ c.if-not-is_revert.false in
+    let len = c.preparation_len-len.ensures.len c.args.size in
+    let past = rw c.trailer_sectors-count.ensures.value at c.if-written-len.false in
+    rw revert ((rw c.trailer_sectors-count.ensures.value at c.swap_op-2.ensures.at)
+    ∙ sym (get_after_erases c.args.layout.now Secondary (preparation_writes c.args.grain c.args.layout.now c.args.size ++ swap_list c.args.grain c.args.layout.now c.args.kind c.args.size c.args.sectors) c.args.index
+    (rw c.trailer_sectors-count.ensures.value at c.if-index-count.false)
+    ∙ get_behind (preparation_writes c.args.grain c.args.layout.now c.args.size) (swap_list c.args.grain c.args.layout.now c.args.kind c.args.size c.args.sectors) (c.args.index - trailer_sectors c.args.layout.now) (c.args.index - trailer_sectors c.args.layout.now - c.preparation_len-len.result) (omega (arith, len, past))))

@@ -1,0 +1,20 @@
+use Rattle.std.proofs.Common.{sym, arith}
+use Rattle.mc_flash.specs.declared.op.Slot.TheVariants.{Secondary}
+use Rattle.mc_boot.specs.Course.{from_transfer}
+use Rattle.mc_boot.proofs.Sections.{few_trailer_sectors, length-erases}
+use Rattle.mc_boot.proofs.course.resumed_len.Goals as goal
+
+pub returns-then-erases-clause-few : goal.returns-then-erases-clause-few
+returns-then-erases-clause-few c =
+    let few = few_trailer_sectors c.args.layout.now c.trailer_sectors-count.ensures.valid in
+    rw c.trailer_sectors-count.ensures.value (omega (arith, few, c.from_transfer_len-rest.ensures.few))
+
+pub returns-then-erases-clause-len : goal.returns-then-erases-clause-len
+returns-then-erases-clause-len c =
+    rw (c.if-erases.true, c.trailer_sectors-count.ensures.value, c.from_transfer_len-rest.ensures.len)
+    (sym (length-erases c.args.layout.now Secondary (from_transfer c.args.layout.now c.args.sectors c.args.first c.args.image_ok)))
+
+pub overflow_add-result : goal.overflow_add-result
+overflow_add-result c =
+    let few = few_trailer_sectors c.args.layout.now c.trailer_sectors-count.ensures.valid in
+    rw c.trailer_sectors-count.ensures.value (omega (arith, few, c.from_transfer_len-rest.ensures.few))

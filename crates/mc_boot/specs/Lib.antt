@@ -1,0 +1,14 @@
+pub mod Image
+pub mod Transfers
+pub mod Writes
+pub mod Course
+pub mod Plan
+pub mod Runs
+pub mod Inside
+pub mod CourseList
+pub mod Boot
+pub mod Run
+pub mod RunFacts
+pub mod WriteFacts
+pub mod Outcome
+pub mod Start

@@ -1,0 +1,233 @@
+-- What follows from where a boot is on its way. Proved here, so that the crates above can cite it.
+use Rattle.std.specs.Prelude.{◌≡◌, ℕ, zero, suc, ◌+◌, ◌<◌, ◌≤◌, nat_lt, Bool, true, false, if◌then◌else◌, List, [], ◌∷◌, ◌++◌, length, take, drop, Option, Some, None, option_and_then, option_map, Result, Ok, Err, refl}
+use Rattle.std.proofs.Common.{arith, sym, ap, subst, ◌∙◌}
+use Rattle.std.proofs.lemmas.Bool.Decides.{nat_tests}
+use Rattle.std.proofs.lemmas.List.{length-take-le, length-drop, take_at, append-nil}
+use Rattle.std.proofs.Common.{length-append}
+use Rattle.mc_flash.specs.Geometry.{Geometry}
+use Rattle.mc_flash.specs.Content.{Content}
+use Rattle.mc_flash.specs.Apply.{apply}
+use Rattle.mc_flash.specs.declared.op.Op.{Op}
+use Rattle.mc_flash.specs.declared.flash.FlashError.{FlashError}
+use Rattle.mc_flash.specs.declared.flash.FlashError.TheVariants as errors
+use Rattle.mc_trailer.specs.declared.tables.Rules.{Rules}
+use Rattle.mc_trailer.specs.declared.tables.SwapType.{SwapType}
+use Rattle.mc_boot.specs.Plan.{plan}
+use Rattle.mc_boot.specs.Runs.{applied, first_then, happening, ops_of, at, is_faulted, left_by}
+use Rattle.mc_boot.specs.Boot.{Progress, begun, stepped, refused, Tries, TriesFirst, Steps}
+use Rattle.mc_boot.specs.Run.{HasCome}
+use Rattle.mc_boot.specs.Outcome.{Report, report, outcome_of}
+
+first_happens : (g : Geometry) (op : Op) (ops left : List Op) (s t : Content) (k : ℕ) → ((x : Content) → applied g (take k ops) x ≡ Some t → happening g ops x ≡ take k ops ++ left)
+    → (o : Option Content) → option_and_then (λ u. applied g (take k ops) u) o ≡ Some t → first_then op (λ u. happening g ops u) o ≡ op ∷ (take k ops ++ left)
+first_happens g op ops left s t k behind None e = absurd cc
+first_happens g op ops left s t k behind (Some x) e = ap (λ (xs : List Op). op ∷ xs) (behind x e)
+
+-- What can be applied happens, and then what can be applied behind it.
+pub happening_front : (g : Geometry) (ops : List Op) (k : ℕ) (s t : Content) → applied g (take k ops) s ≡ Some t → happening g ops s ≡ take k ops ++ happening g (drop k ops) t
+happening_front g [] zero s t is = refl
+happening_front g [] (suc k) s t is = refl
+happening_front g (op ∷ ops) zero s t is = let same : s ≡ t = cc in ap (happening g (op ∷ ops)) same
+happening_front g (op ∷ ops) (suc k) s t is =
+    first_happens g op ops (happening g (drop k ops) t) s t k (λ x e. happening_front g ops k x t e) (apply g op s) is
+
+first_applied : (g : Geometry) (ops more : List Op) (t u : Content) → ((x : Content) → applied g ops x ≡ Some t → applied g more x ≡ Some u)
+    → (o : Option Content) → option_and_then (λ x. applied g ops x) o ≡ Some t → option_and_then (λ x. applied g more x) o ≡ Some u
+first_applied g ops more t u behind None e = absurd cc
+first_applied g ops more t u behind (Some x) e = behind x e
+
+-- One more operation is applied.
+pub applied_next : (g : Geometry) (ops rest : List Op) (op : Op) (k : ℕ) (s t u : Content) → applied g (take k ops) s ≡ Some t → drop k ops ≡ op ∷ rest → apply g op t ≡ Some u → applied g (take (suc k) ops) s ≡ Some u
+applied_next g [] rest op zero s t u is next given = absurd cc
+applied_next g [] rest op (suc k) s t u is next given = absurd cc
+applied_next g (first ∷ ops) rest op zero s t u is next given =
+    let same : s ≡ t = cc in
+    let head : first ≡ op = cc in
+    rw (same, head, given) refl
+applied_next g (first ∷ ops) rest op (suc k) s t u is next given =
+    first_applied g (take k ops) (take (suc k) ops) t u (λ x e. applied_next g ops rest op k x t u e next given) (apply g first s) is
+
+-- What is left behind one more.
+pub drop_next : {A : Type 0} (xs rest : List A) (x : A) (k : ℕ) → drop k xs ≡ x ∷ rest → drop (suc k) xs ≡ rest
+drop_next [] rest x zero is = absurd cc
+drop_next [] rest x (suc k) is = absurd cc
+drop_next (y ∷ xs) rest x zero is = cc
+drop_next (y ∷ xs) rest x (suc k) is = drop_next xs rest x k is
+
+more_left : {A : Type 0} (xs rest : List A) (x : A) (k : ℕ) → drop k xs ≡ x ∷ rest → k < length xs
+more_left {A = A} xs rest x k is = omega (arith, length-drop k xs, ap (λ (ys : List A). length ys) is)
+
+none_left : {A : Type 0} (xs : List A) (k : ℕ) → drop k xs ≡ [] → length xs ≤ k
+none_left {A = A} xs k is = omega (arith, length-drop k xs, ap (λ (ys : List A). length ys) is)
+
+-- At power-on.
+pub come_begun : (r : Rules) (g : Geometry) (s : Content) → HasCome r g s (begun r (plan r g s)) s
+come_begun r g s = record {
+  rules = refl;
+  kind = refl;
+  within = omega arith;
+  happened = refl;
+  rest = refl;
+  refused = λ e. absurd cc;
+}
+
+next_of : (faulted : Bool) (rest ops : List Op) (op : Op) → op ∷ rest ≡ (if faulted then [] else ops) → (faulted ≡ false) × (ops ≡ op ∷ rest)
+next_of true rest ops op e = absurd cc
+next_of false rest ops op e = (refl, sym e)
+
+plus_one : (n : ℕ) → n + 1 ≡ suc n
+plus_one n = omega arith
+
+left_is : (faulted : Bool) (rest ops : List Op) → faulted ≡ false → rest ≡ ops → rest ≡ (if faulted then [] else ops)
+left_is true rest ops other is = absurd cc
+left_is false rest ops other is = is
+
+none_first : (g : Geometry) (op : Op) (rest : List Op) (t : Content) → apply g op t ≡ None → happening g (op ∷ rest) t ≡ []
+none_first g op rest t none = ap (λ (o : Option Content). first_then op (λ u. happening g rest u) o) none
+
+-- A step keeps a boot on its way.
+pub come_steps : (r : Rules) (g : Geometry) (s : Content) (p q : Progress) (t u : Content) (result : Result (Unit {0}) FlashError) → HasCome r g s p t → Steps g p q t u result → HasCome r g s q u
+come_steps r g s p q t u result come steps = go p.to_come refl result steps
+  where
+    stays : q ≡ p → u ≡ t → HasCome r g s q u
+    stays a b =
+        let P : Progress → Type 0 = λ x. HasCome r g s x u in
+        let Q : Content → Type 0 = λ x. HasCome r g s p x in
+        subst P (sym a) (subst Q (sym b) come)
+
+    happens : (rest : List Op) (op : Op) → p.to_come ≡ op ∷ rest → apply g op t ≡ Some u → HasCome r g s (stepped p rest) u
+    happens rest op to given =
+        let next = next_of p.faulted rest (drop p.count (plan r g s).list) op (sym to ∙ come.rest) in
+        record {
+          rules = come.rules;
+          kind = come.kind;
+          within = omega (arith, more_left (plan r g s).list rest op p.count next.1);
+          happened = ap (λ n. applied g (take n (plan r g s).list) s) (plus_one p.count) ∙ applied_next g (plan r g s).list rest op p.count s t u come.happened next.1 given;
+          rest = left_is p.faulted rest (drop (p.count + 1) (plan r g s).list) next.0 (sym (ap (λ n. drop n (plan r g s).list) (plus_one p.count) ∙ drop_next (plan r g s).list rest op p.count next.1));
+          refused = λ e. let q : true ≡ false = sym e ∙ next.0 in absurd cc;
+        }
+
+    refuses : (rest : List Op) (op : Op) → p.to_come ≡ op ∷ rest → apply g op t ≡ None → q ≡ refused p → u ≡ t → HasCome r g s q u
+    refuses rest op to none a b =
+        let next = next_of p.faulted rest (drop p.count (plan r g s).list) op (sym to ∙ come.rest) in
+        let P : Progress → Type 0 = λ x. HasCome r g s x u in
+        let Q : Content → Type 0 = λ x. HasCome r g s (refused p) x in
+        subst P (sym a) (subst Q (sym b) (record {
+          rules = come.rules;
+          kind = come.kind;
+          within = come.within;
+          happened = come.happened;
+          rest = refl;
+          refused = λ _. (rw next.1 (none_first g op rest t none), more_left (plan r g s).list rest op p.count next.1);
+        }))
+
+    go : (ops : List Op) → p.to_come ≡ ops → (x : Result (Unit {0}) FlashError) → TriesFirst g ops p q t u x → HasCome r g s q u
+    go [] to (Ok v) done = stays done.0 done.1
+    go [] to (Err e) done = absurd done
+    go (op ∷ rest) to x done = tries (apply g op t) refl x done
+      where
+        tries : (o : Option Content) → apply g op t ≡ o → (x : Result (Unit {0}) FlashError) → Tries o rest p q t u x → HasCome r g s q u
+        tries (Some given) is (Ok v) done =
+            let P : Progress → Type 0 = λ y. HasCome r g s y u in
+            subst P (sym done.0) (happens rest op to (is ∙ ap (λ (y : Content). Some y) (sym done.1)))
+        tries (Some given) is (Err errors.Memory) done = stays done.0 done.1
+        tries (Some given) is (Err errors.NotErased) done = absurd done
+        tries None is (Ok v) done = absurd done
+        tries None is (Err errors.Memory) done = absurd done
+        tries None is (Err errors.NotErased) done = refuses rest op to is done.0 done.1
+
+-- Behind what happened nothing more can happen, at the end.
+ends : (r : Rules) (g : Geometry) (s : Content) (p : Progress) (t : Content) → HasCome r g s p t → p.to_come ≡ []
+    → (happening g (drop p.count (plan r g s).list) t ≡ []) × (nat_lt p.count (length (plan r g s).list) ≡ p.faulted)
+ends r g s p t come end = by_fault p.faulted refl
+  where
+    by_fault : (b : Bool) → p.faulted ≡ b → (happening g (drop p.count (plan r g s).list) t ≡ []) × (nat_lt p.count (length (plan r g s).list) ≡ b)
+    by_fault true e = let f = come.refused e in (f.0, grind (arith, nat_tests))
+    by_fault false e =
+        let left : drop p.count (plan r g s).list ≡ [] = ap (λ (b : Bool). if b then [] else drop p.count (plan r g s).list) (sym e) ∙ sym come.rest ∙ end in
+        let all = none_left (plan r g s).list p.count left in
+        (ap (λ (ops : List Op). happening g ops t) left, grind (arith, nat_tests))
+
+-- What happens of the plan begins with what happened so far, and at the end that is all of it.
+pub come_front : (r : Rules) (g : Geometry) (s : Content) (p : Progress) (t : Content) → HasCome r g s p t
+    → ops_of r g s ≡ take p.count (plan r g s).list ++ happening g (drop p.count (plan r g s).list) t
+unfolding ops_of
+come_front r g s p t come = happening_front g (plan r g s).list p.count s t come.happened
+
+pub come_count : (r : Rules) (g : Geometry) (s : Content) (p : Progress) (t : Content) → HasCome r g s p t → length (take p.count (plan r g s).list) ≡ p.count
+come_count r g s p t come = length-take-le p.count (plan r g s).list come.within
+
+pub come_within : (r : Rules) (g : Geometry) (s : Content) (p : Progress) (t : Content) → HasCome r g s p t → p.count ≤ length (ops_of r g s)
+come_within r g s p t come =
+    omega (arith, come_count r g s p t come, ap (λ (ops : List Op). length ops) (come_front r g s p t come), length-append (take p.count (plan r g s).list) (happening g (drop p.count (plan r g s).list) t))
+
+-- The flash is what the first operations of the uncut boot leave.
+pub come_at : (r : Rules) (g : Geometry) (s : Content) (p : Progress) (t : Content) → HasCome r g s p t → at r g s p.count ≡ Some t
+unfolding at
+come_at r g s p t come =
+    ap (λ (ops : List Op). applied g (take p.count ops) s) (come_front r g s p t come)
+    ∙ ap (λ (ops : List Op). applied g ops s) (take_at (take p.count (plan r g s).list) (happening g (drop p.count (plan r g s).list) t) p.count (come_count r g s p t come))
+    ∙ come.happened
+
+pub come_ops : (r : Rules) (g : Geometry) (s : Content) (p : Progress) (t : Content) → HasCome r g s p t → p.to_come ≡ [] → length (ops_of r g s) ≡ p.count
+come_ops r g s p t come end =
+    ap (λ (ops : List Op). length ops) (come_front r g s p t come ∙ ap (λ (ops : List Op). take p.count (plan r g s).list ++ ops) (ends r g s p t come end).0 ∙ append-nil (take p.count (plan r g s).list))
+    ∙ come_count r g s p t come
+
+pub come_faulted : (r : Rules) (g : Geometry) (s : Content) (p : Progress) (t : Content) → HasCome r g s p t → p.to_come ≡ [] → is_faulted r g s ≡ p.faulted
+unfolding is_faulted
+come_faulted r g s p t come end = ap (λ n. nat_lt n (length (plan r g s).list)) (come_ops r g s p t come end) ∙ (ends r g s p t come end).1
+
+pub come_left : (r : Rules) (g : Geometry) (s : Content) (p : Progress) (t : Content) → HasCome r g s p t → p.to_come ≡ [] → left_by r g s ≡ Some t
+unfolding left_by
+come_left r g s p t come end = ap (at r g s) (come_ops r g s p t come end) ∙ come_at r g s p t come
+
+-- What is told at the end is the outcome of the uncut boot.
+pub come_outcome : (r : Rules) (g : Geometry) (s : Content) (p : Progress) (t : Content) → HasCome r g s p t → p.to_come ≡ [] → outcome_of r g s ≡ Some (report p.rules g p.kind p.count p.faulted t)
+unfolding outcome_of
+come_outcome r g s p t come end =
+    ap (option_map (λ z. report r g (plan r g s).kind (length (ops_of r g s)) (is_faulted r g s) z)) (come_left r g s p t come end)
+    ∙ ap (λ (n : ℕ). Some (report r g (plan r g s).kind n (is_faulted r g s) t)) (come_ops r g s p t come end)
+    ∙ ap (λ (b : Bool). Some (report r g (plan r g s).kind p.count b t)) (come_faulted r g s p t come end)
+    ∙ ap (λ (k : SwapType). Some (report r g k p.count p.faulted t)) (sym come.kind)
+    ∙ ap (λ (x : Rules). Some (report x g p.kind p.count p.faulted t)) (sym come.rules)
+
+-- ---- what a boot leaves is always defined
+
+happens_on : (g : Geometry) (op : Op) (ops : List Op) (s : Content) → ((t : Content) → (z : Content) × (applied g (happening g ops t) t ≡ Some z))
+    → (o : Option Content) → apply g op s ≡ o → (z : Content) × (applied g (first_then op (λ t. happening g ops t) o) s ≡ Some z)
+happens_on g op ops s behind None is = (s, refl)
+happens_on g op ops s behind (Some t) is = let on = behind t in (on.0, rw is on.1)
+
+-- What happens of a list can be applied.
+pub happens_applied : (g : Geometry) (ops : List Op) (s : Content) → (z : Content) × (applied g (happening g ops s) s ≡ Some z)
+happens_applied g [] s = (s, refl)
+happens_applied g (op ∷ ops) s = happens_on g op ops s (λ t. happens_applied g ops t) (apply g op s) refl
+
+front_on : (g : Geometry) (ops : List Op) (c : ℕ) (z : Content) → ((x : Content) → applied g ops x ≡ Some z → (t : Content) × (applied g (take c ops) x ≡ Some t))
+    → (o : Option Content) → option_and_then (λ x. applied g ops x) o ≡ Some z → (t : Content) × (option_and_then (λ x. applied g (take c ops) x) o ≡ Some t)
+front_on g ops c z behind None is = absurd cc
+front_on g ops c z behind (Some x) is = behind x is
+
+-- And so can a front of what can be applied.
+pub front_applied : (g : Geometry) (ops : List Op) (c : ℕ) (s z : Content) → applied g ops s ≡ Some z → (t : Content) × (applied g (take c ops) s ≡ Some t)
+front_applied g [] zero s z is = (s, refl)
+front_applied g [] (suc c) s z is = (s, refl)
+front_applied g (op ∷ ops) zero s z is = (s, refl)
+front_applied g (op ∷ ops) (suc c) s z is = front_on g ops c z (λ x e. front_applied g ops c x z e) (apply g op s) is
+
+pub at_defined : (r : Rules) (g : Geometry) (s : Content) (c : ℕ) → (t : Content) × (at r g s c ≡ Some t)
+unfolding at ops_of
+at_defined r g s c = let whole = happens_applied g (plan r g s).list s in front_applied g (happening g (plan r g s).list s) c s whole.0 whole.1
+
+pub left_defined : (r : Rules) (g : Geometry) (s : Content) → (z : Content) × (left_by r g s ≡ Some z)
+unfolding left_by
+left_defined r g s = at_defined r g s (length (ops_of r g s))
+
+pub outcome_defined : (r : Rules) (g : Geometry) (s : Content) → (o : Report) × (outcome_of r g s ≡ Some o)
+unfolding outcome_of
+outcome_defined r g s =
+    let left = left_defined r g s in (
+      report r g (plan r g s).kind (length (ops_of r g s)) (is_faulted r g s) left.0,
+      ap (option_map (λ z. report r g (plan r g s).kind (length (ops_of r g s)) (is_faulted r g s) z)) left.1,
+    )

@@ -1,0 +1,48 @@
+-- What happens of a boot, and the flashes that power cuts leave.
+use Rattle.std.specs.Prelude.{ℕ, Bool, nat_lt, if◌then◌else◌, List, [], ◌∷◌, length, take, Option, Some, None, option_and_then}
+use Rattle.mc_flash.specs.Geometry.{Geometry}
+use Rattle.mc_flash.specs.Content.{Content}
+use Rattle.mc_flash.specs.Apply.{apply}
+use Rattle.mc_flash.specs.declared.op.Op.{Op}
+use Rattle.mc_trailer.specs.declared.tables.Rules.{Rules}
+use Rattle.mc_boot.specs.Plan.{plan}
+
+-- Where a list of operations leads, if each can be applied.
+abbrev pub applied : Geometry → List Op → Content → Option Content
+applied g [] s = Some s
+applied g (op ∷ ops) s = option_and_then (λ t. applied g ops t) (apply g op s)
+
+-- An operation, and what happens after it; nothing where it can't be applied.
+abbrev pub first_then : Op → (Content → List Op) → Option Content → List Op
+first_then op rest None = []
+first_then op rest (Some t) = op ∷ rest t
+
+-- The longest front of a list that can be applied.
+abbrev pub happening : Geometry → List Op → Content → List Op
+happening g [] s = []
+happening g (op ∷ ops) s = first_then op (λ t. happening g ops t) (apply g op s)
+
+-- The operations of an uncut boot that happen.
+unfoldable pub ops_of : Rules → Geometry → Content → List Op
+ops_of r g s = happening g (plan r g s).list s
+
+-- The flash after the first c of them.
+unfoldable pub at : Rules → Geometry → Content → ℕ → Option Content
+at r g s c = applied g (take c (ops_of r g s)) s
+
+-- An operation is refused.
+unfoldable pub is_faulted : Rules → Geometry → Content → Bool
+is_faulted r g s = nat_lt (length (ops_of r g s)) (length (plan r g s).list)
+
+-- What an uncut boot leaves.
+unfoldable pub left_by : Rules → Geometry → Content → Option Content
+left_by r g s = at r g s (length (ops_of r g s))
+
+-- The flash that a boot leaves whose power is lost after c operations, where the uncut boot makes more than that.
+abbrev pub cut_at : Rules → Geometry → Content → ℕ → Option Content
+cut_at r g s c = if nat_lt c (length (ops_of r g s)) then at r g s c else None
+
+-- The flash after a list of cuts, each of a boot from what the earlier ones left, where all of them can occur.
+abbrev pub after : Rules → Geometry → Content → List ℕ → Option Content
+after r g s [] = Some s
+after r g s (c ∷ cuts) = option_and_then (λ t. after r g t cuts) (cut_at r g s c)

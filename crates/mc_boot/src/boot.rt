@@ -1,0 +1,287 @@
+//! The boot as a machine that makes one operation at a time.
+ghost use Rattle.std.specs.Prelude.{◌≡◌, ◌<◌, [], slice_get, Some, IfSome};
+ghost use Rattle.mc_trailer.specs.Entries.{highest_entry};
+ghost use Rattle.mc_flash.specs.Geometry.{Geometry};
+ghost use Rattle.mc_flash.specs.Content.{Content};
+ghost use Rattle.mc_flash.specs.Apply.{CanTry, Does, apply};
+ghost use Rattle.mc_flash.specs.Ledger.{Notes};
+ghost use Rattle.mc_trailer.specs.declared.tables.Rules.{Rules};
+ghost use Rattle.mc_boot.specs.Image.{images_of};
+ghost use Rattle.mc_boot.specs.Plan.{confirms, nothing, new_swap, new_plan, resumed_swap, resumed_plan, plan};
+
+use crate::course::{Course, Opening};
+use crate::image::Images;
+use crate::outcome::Outcome;
+use crate::transfer::first_left;
+use crate::writes::is_test;
+use mc_flash::{Flash, FlashError, Layout, Op, Slot};
+use mc_trailer::{Flag, Rules, SwapType, Trailer, highest_entry, resumes, swap_type};
+
+/// A boot, by how many of its operations have happened. It is small and `Copy`: one that was kept beside a mark of the
+/// flash serves again after `back_to`.
+#[derive(Clone, Copy)]
+pub struct Boot {
+    rules: Rules,
+    kind: SwapType,
+    // None where there are no operations.
+    course: Option<Course>,
+    done: u32,
+    faulted: bool,
+}
+
+// Makes one operation.
+fn perform<F: Flash>(flash: &mut F, op: Op) -> Result<(), FlashError>
+    requires { CanTry (F.geometry flash.old) op }
+    ensures does { Does (apply (F.geometry flash.old) op (F.content flash.old))
+        result (F.content flash.old) (F.content flash.new) }
+    ensures notes { Notes F.counted (F.geometry flash.old) op
+        result (F.ledger flash.old) (F.ledger flash.new) }
+    ensures geometry { F.geometry flash.new ≡ F.geometry flash.old }
+    ensures marks { F.marks flash.new ≡ F.marks flash.old }
+{
+    match op {
+        Op::Erase(slot, sector) => flash.erase(slot, sector),
+        Op::Program(slot, offset, bytes) => flash.program(slot, offset, bytes.bytes()),
+        Op::Copy(from, at, to, offset, len) => flash.copy(from, at, to, offset, len),
+    }
+}
+
+// Whether the end of a swap that was cut writes image-ok.
+fn confirms(kind: SwapType, image_ok: Flag) -> bool
+    ensures { result ≡ confirms kind image_ok }
+{
+    !is_test(kind) && matches!(image_ok, Flag::Unset)
+}
+
+impl Boot {
+    ghost use Rattle.mc_boot.specs.Boot.{to_come, progress, IsBootOf, Steps, NotesFirst, begun};
+    ghost use Rattle.mc_boot.specs.Run.{HasCome};
+    ghost use Rattle.mc_boot.specs.Outcome.{shown, report, outcome_of};
+
+    // A boot with no operations.
+    fn idle(rules: Rules, kind: SwapType) -> Boot
+        ensures progress { progress result ≡ begun rules (nothing kind) }
+        ensures layout { (g : Geometry) → IsBootOf g result }
+    {
+        Boot {
+            rules,
+            kind,
+            course: None,
+            done: 0,
+            faulted: false,
+        }
+    }
+
+    // A swap from its start.
+    fn new_swap(layout: &Layout, rules: Rules, images: &Images, kind: SwapType) -> Boot
+        ensures progress { progress result ≡ begun rules (new_swap rules.grain layout.now images.now kind) }
+        ensures layout { IsBootOf layout.now result }
+    {
+        let size = images.size;
+        let sectors = size.div_ceil(layout.sector());
+        if !images.valid || layout.greatest_sectors() < sectors {
+            return Boot::idle(rules, SwapType::Fail);
+        }
+        Boot {
+            rules,
+            kind,
+            course: Some(Course {
+                grain: rules.grain,
+                layout: layout.in_pieces(rules.grain),
+                sectors,
+                opening: Opening::New { kind, size },
+            }),
+            done: 0,
+            faulted: false,
+        }
+    }
+
+    // A boot that the tables ask for. Images are read where it is a swap alone, unless they are known.
+    fn new_boot<F: Flash>(flash: &F, rules: Rules, known: Option<Images>, kind: SwapType) -> Boot
+        requires { IfSome known (λ images. images ≡ images_of (F.content flash.now)) }
+        ensures progress { progress result
+            ≡ begun rules (new_plan rules.grain (F.geometry flash.now) (images_of (F.content flash.now)) kind) }
+        ensures layout { IsBootOf (F.geometry flash.now) result }
+    {
+        match kind {
+            SwapType::Test | SwapType::Perm | SwapType::Revert => {
+                let images = match known {
+                    Some(images) => images,
+                    None => Images::read(flash),
+                };
+                Boot::new_swap(flash.layout(), rules, &images, kind)
+            }
+            SwapType::None | SwapType::Fail | SwapType::Panic => Boot::idle(rules, kind),
+        }
+    }
+
+    // A swap of so many sectors, from where it was cut.
+    fn resumed_swap<F: Flash>(
+        flash: &F,
+        rules: Rules,
+        image_ok: Flag,
+        kind: SwapType,
+        sectors: u32,
+    ) -> Boot
+        ensures progress { let highest = highest_entry (F.geometry flash.now) (F.content flash.now)
+            in progress result ≡ begun rules (resumed_swap rules.grain (F.geometry flash.now) image_ok highest kind sectors) }
+        ensures layout { IsBootOf (F.geometry flash.now) result }
+    {
+        let layout = flash.layout();
+        if sectors == 0 {
+            return Boot::idle(rules, SwapType::Panic);
+        }
+        if layout.greatest_sectors() < sectors {
+            return Boot::idle(rules, SwapType::Panic);
+        }
+        let highest = highest_entry(flash);
+        let Some(first) = first_left(layout, sectors, highest) else {
+            return Boot::idle(rules, SwapType::Panic);
+        };
+        Boot {
+            rules,
+            kind,
+            course: Some(Course {
+                grain: rules.grain,
+                layout: layout.in_pieces(rules.grain),
+                sectors,
+                opening: Opening::Resumed {
+                    first,
+                    erases: highest.is_none(),
+                    image_ok: confirms(kind, image_ok),
+                },
+            }),
+            done: 0,
+            faulted: false,
+        }
+    }
+
+    // A boot that goes on with a swap that was cut, by the primary's trailer.
+    fn resumed_boot<F: Flash>(flash: &F, rules: Rules, primary: &Trailer) -> Boot
+        ensures progress { let highest = highest_entry (F.geometry flash.now) (F.content flash.now)
+            in progress result ≡ begun rules (resumed_plan rules.grain (F.geometry flash.now) primary.now highest) }
+        ensures layout { IsBootOf (F.geometry flash.now) result }
+    {
+        let sectors = primary.swap_size.div_ceil(flash.layout().sector());
+        match primary.swap_info {
+            2 => Boot::resumed_swap(flash, rules, primary.image_ok, SwapType::Test, sectors),
+            3 => Boot::resumed_swap(flash, rules, primary.image_ok, SwapType::Perm, sectors),
+            4 => Boot::resumed_swap(flash, rules, primary.image_ok, SwapType::Revert, sectors),
+            _ => Boot::idle(rules, SwapType::None),
+        }
+    }
+
+    // A boot at power-on. Images are read where it begins a swap alone, unless they are known.
+    pub(crate) fn begin<F: Flash>(flash: &F, rules: Rules, known: Option<Images>) -> Boot
+        requires { IfSome known (λ images. images ≡ images_of (F.content flash.now)) }
+        ensures progress { progress result
+            ≡ begun rules (plan rules (F.geometry flash.now) (F.content flash.now)) }
+        ensures layout { IsBootOf (F.geometry flash.now) result }
+    {
+        let primary = Trailer::read(flash, Slot::Primary);
+        let secondary = Trailer::read(flash, Slot::Secondary);
+        if resumes(&primary, &secondary) {
+            Boot::resumed_boot(flash, rules, &primary)
+        } else {
+            let kind = swap_type(rules.profile, &primary, &secondary);
+            Boot::new_boot(flash, rules, known, kind)
+        }
+    }
+
+    /// A boot at power-on. It reads and hashes images only where it begins a swap.
+    pub fn cold<F: Flash>(flash: &F, rules: Rules) -> Boot
+        ensures progress { progress result
+            ≡ begun rules (plan rules (F.geometry flash.now) (F.content flash.now)) }
+        ensures layout { IsBootOf (F.geometry flash.now) result }
+        ensures come { HasCome rules (F.geometry flash.now) (F.content flash.now)
+            (progress result) (F.content flash.now) }
+    {
+        Boot::begin(flash, rules, None)
+    }
+
+    // The next operation. That there are not many keeps the count of those that happened from overflowing.
+    fn next_op(&self) -> Option<Op>
+        ensures first { result ≡ slice_get (to_come self.now) 0 }
+        ensures inside { (g : Geometry) → IsBootOf g self.now → IfSome result (λ op. CanTry g op) }
+        ensures few { IfSome result (λ _. self.now.done < 204000000) }
+    {
+        if self.faulted {
+            return None;
+        }
+        match &self.course {
+            None => None,
+            Some(course) => {
+                if self.done < course.len() {
+                    course.op(self.done)
+                } else {
+                    None
+                }
+            }
+        }
+    }
+
+    /// The next operation, and none at the end.
+    pub fn peek(&self) -> Option<Op>
+        ensures first { result ≡ slice_get (to_come self.now) 0 }
+        // It lies in the layout, so that the flash can try it.
+        ensures inside { (g : Geometry) → IsBootOf g self.now → IfSome result (λ op. CanTry g op) }
+    {
+        self.next_op()
+    }
+
+    /// Makes the next operation. At the end it does nothing and answers Ok.
+    ///
+    /// # Errors
+    ///
+    /// `NotErased` exactly where the operation can't be done: the boot is at its end then, and the flash as it was.
+    /// `Memory` where the flash can't grow: boot and flash are as they were.
+    pub fn step<F: Flash>(&mut self, flash: &mut F) -> Result<(), FlashError>
+        requires { IsBootOf (F.geometry flash.old) self.old }
+        ensures step { Steps (F.geometry flash.old) (progress self.old) (progress self.new)
+            (F.content flash.old) (F.content flash.new) result }
+        // It stays on its way from the flash at power-on.
+        ensures come { (r : Rules) (s : Content)
+            → HasCome r (F.geometry flash.old) s (progress self.old) (F.content flash.old)
+            → HasCome r (F.geometry flash.old) s (progress self.new) (F.content flash.new) }
+        // What happens to the ledger, and why memory was wanted.
+        ensures notes { NotesFirst F.counted (F.geometry flash.old) (to_come self.old)
+            result (F.ledger flash.old) (F.ledger flash.new) }
+        ensures layout { IsBootOf (F.geometry flash.new) self.new }
+        ensures geometry { F.geometry flash.new ≡ F.geometry flash.old }
+        ensures marks { F.marks flash.new ≡ F.marks flash.old }
+    {
+        let Some(op) = self.next_op() else {
+            return Ok(());
+        };
+        match perform(flash, op) {
+            Ok(()) => {
+                self.done += 1;
+                Ok(())
+            }
+            Err(FlashError::NotErased) => {
+                self.faulted = true;
+                Err(FlashError::NotErased)
+            }
+            Err(FlashError::Memory) => Err(FlashError::Memory),
+        }
+    }
+
+    /// The type that the boot chose at power-on.
+    pub(crate) fn kind(&self) -> SwapType
+        ensures { result ≡ (progress self.now).kind }
+    {
+        self.kind
+    }
+
+    /// What the boot has done, to be asked at its end, where `peek` gives none. It reads and hashes each slot once.
+    pub fn outcome<F: Flash>(&self, flash: &F) -> Outcome
+        ensures report { let p = progress self.now
+            in shown result ≡ report p.rules (F.geometry flash.now) p.kind p.count p.faulted (F.content flash.now) }
+        // At the end it is the outcome of the uncut boot from the flash at power-on.
+        ensures end { (r : Rules) (s : Content)
+            → HasCome r (F.geometry flash.now) s (progress self.now) (F.content flash.now)
+            → to_come self.now ≡ [] → outcome_of r (F.geometry flash.now) s ≡ Some (shown result) }
+    {
+        Outcome::read(flash, self.rules, self.kind, self.done, self.faulted)
+    }
+}

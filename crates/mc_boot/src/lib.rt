@@ -1,0 +1,16 @@
+//! The boot of MCUboot's swap using move, as a machine that makes one operation at a time.
+#![tactic(auto)]
+
+mod boot;
+mod course;
+mod image;
+mod outcome;
+mod transfer;
+mod writes;
+
+pub use boot::Boot;
+pub use image::ImageId;
+pub use outcome::{BootResult, Outcome};
+
+#[cfg(test)]
+mod tests;
