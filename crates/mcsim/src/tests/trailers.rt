@@ -170,3 +170,18 @@ fn refuses_sources_and_layouts(rt: HostRuntime) -> Result<(), Fail> {
     }
     Ok(())
 }
+
+#[test]
+fn refuses_a_flash_of_another_size(rt: HostRuntime) -> Result<(), Fail> {
+    let shorter = [0xff; 1791];
+    let longer = [0xff; 1793];
+    for input in [shorter.as_slice(), longer.as_slice()] {
+        let case = Case {
+            status: 1,
+            err: "mcsim: E51 FlashSize\n",
+            ..type_of(input, WORKED, "--flash in")
+        };
+        ends(&rt, rt.alloc(), &case)?;
+    }
+    Ok(())
+}
