@@ -1,7 +1,9 @@
 //! `create`: the images that it makes, and what it refuses.
 use super::support::{Case, create_words, ends, outcome_of, scratch_path};
 use super::vectors::{COUNTER_IMAGE, EMPTY_IMAGE, FIRST_IMAGE, GOOD, IMAGE, PADDED, PAYLOAD};
+use std::alloc::Global;
 use std::fs;
+use std::process::Abort;
 use std::test::Fail;
 
 #[test]
@@ -20,44 +22,11 @@ fn makes_and_verifies_an_image(rt: HostRuntime) -> Result<(), Fail> {
     Ok(())
 }
 
-#[test]
-fn makes_images(rt: HostRuntime) -> Result<(), Fail> {
-    let payload = PAYLOAD.as_slice();
-    let first = [0, 1, 2, 3, 4, 5, 6, 7];
-    let padded = "--version 1.2.3+4 --pad-header --header-size 32";
-    let cases = [
-        (padded, "", payload, IMAGE.as_slice()),
-        ("--version 1.2.3+4 --header-size 32", "", &PADDED, &IMAGE),
-        (padded, "", &[], &EMPTY_IMAGE),
-        (
-            "--version 1 --pad-header --header-size 32",
-            "",
-            &first,
-            &FIRST_IMAGE,
-        ),
-        (padded, "--security-counter 7", payload, &COUNTER_IMAGE),
-        // A slot that leaves exactly the room of a trailer.
-        (
-            padded,
-            "--align 8 --max-sectors 4 --slot-size 224",
-            payload,
-            &IMAGE,
-        ),
-        (padded, "--slot-size 3200", payload, &IMAGE),
-        (
-            padded,
-            "--security-counter 7 --align 8 --max-sectors 4 --slot-size 236",
-            payload,
-            &COUNTER_IMAGE,
-        ),
-        // The ends of the ranges.
-        (padded, "--slot-size 16777216", payload, &IMAGE),
-        (padded, "--align 1", payload, &IMAGE),
-        (padded, "--align 2", payload, &IMAGE),
-        (padded, "--align 4", payload, &IMAGE),
-        (padded, "--max-sectors 1", payload, &IMAGE),
-        (padded, "--max-sectors 1024", payload, &IMAGE),
-    ];
+/// Options of `create` of a header before its input.
+const PADDING: &str = "--version 1.2.3+4 --pad-header --header-size 32";
+
+/// Runs lines of `create` with these options and this input, which are to write these bytes.
+fn make(rt: &impl Abort, alloc: Global, cases: &[(&str, &str, &[u8], &[u8])]) -> Result<(), Fail> {
     for (start, options, input, written) in cases {
         let case = Case {
             command: "create",
@@ -70,62 +39,105 @@ fn makes_images(rt: HostRuntime) -> Result<(), Fail> {
             err: "",
             written,
         };
-        ends(&rt, rt.alloc(), &case)?;
+        ends(rt, alloc, &case)?;
     }
     Ok(())
 }
 
 #[test]
-fn refuses_to_make_images(rt: HostRuntime) -> Result<(), Fail> {
+fn makes_images(rt: HostRuntime) -> Result<(), Fail> {
+    let unpadded = "--version 1.2.3+4 --header-size 32";
+    let version = "--version 1 --pad-header --header-size 32";
+    let cases: [(&str, &str, &[u8], &[u8]); 5] = [
+        (PADDING, "", &PAYLOAD, &IMAGE),
+        (unpadded, "", &PADDED, &IMAGE),
+        (PADDING, "", &[], &EMPTY_IMAGE),
+        (version, "", &[0, 1, 2, 3, 4, 5, 6, 7], &FIRST_IMAGE),
+        (PADDING, "--security-counter 7", &PAYLOAD, &COUNTER_IMAGE),
+    ];
+    make(&rt, rt.alloc(), &cases)
+}
+
+#[test]
+fn leaves_room_for_a_trailer(rt: HostRuntime) -> Result<(), Fail> {
+    let room = "--align 8 --max-sectors 4 --slot-size 224";
+    let counted = "--security-counter 7 --align 8 --max-sectors 4 --slot-size 236";
+    let cases: [(&str, &str, &[u8], &[u8]); 9] = [
+        (PADDING, room, &PAYLOAD, &IMAGE),
+        (PADDING, "--slot-size 3200", &PAYLOAD, &IMAGE),
+        (PADDING, counted, &PAYLOAD, &COUNTER_IMAGE),
+        // The ends of the ranges.
+        (PADDING, "--slot-size 16777216", &PAYLOAD, &IMAGE),
+        (PADDING, "--align 1", &PAYLOAD, &IMAGE),
+        (PADDING, "--align 2", &PAYLOAD, &IMAGE),
+        (PADDING, "--align 4", &PAYLOAD, &IMAGE),
+        (PADDING, "--max-sectors 1", &PAYLOAD, &IMAGE),
+        (PADDING, "--max-sectors 1024", &PAYLOAD, &IMAGE),
+    ];
+    make(&rt, rt.alloc(), &cases)
+}
+
+/// Runs lines of `create` with these options and files, which are refused with this status and line.
+fn refuse(
+    rt: &impl Abort,
+    alloc: Global,
+    input: &[u8],
+    cases: &[(&str, &str, &str, u8, &str)],
+) -> Result<(), Fail> {
+    for (start, options, words, status, err) in cases {
+        let case = Case {
+            command: "create",
+            start,
+            options,
+            words,
+            input,
+            status: *status,
+            out: "",
+            err,
+            written: &[],
+        };
+        ends(rt, alloc, &case)?;
+    }
+    Ok(())
+}
+
+#[test]
+fn refuses_slots(rt: HostRuntime) -> Result<(), Fail> {
     let small = "--align 8 --max-sectors 4 --slot-size 223";
     let counted = "--security-counter 7 --align 8 --max-sectors 4 --slot-size 235";
-    let padded = "--version 1.2.3+4 --pad-header --header-size 32";
+    let too_small = "mcsim: E21 SlotTooSmall\n";
+    let needs_size = "mcsim: E22 NeedsSlotSize\n";
     let cases = [
-        (padded, small, "in out", 1, "mcsim: E21 SlotTooSmall\n"),
-        (
-            padded,
-            "--slot-size 3199",
-            "in out",
-            1,
-            "mcsim: E21 SlotTooSmall\n",
-        ),
-        (
-            padded,
-            "--slot-size 1",
-            "in out",
-            1,
-            "mcsim: E21 SlotTooSmall\n",
-        ),
-        (padded, counted, "in out", 1, "mcsim: E21 SlotTooSmall\n"),
-        (padded, "--pad", "in out", 2, "mcsim: E22 NeedsSlotSize\n"),
-        (
-            padded,
-            "--confirm",
-            "in out",
-            2,
-            "mcsim: E22 NeedsSlotSize\n",
-        ),
-        (
-            "--version 1 --header-size 32",
-            "",
-            "in out",
-            1,
-            "mcsim: E20 NotZeros\n",
-        ),
+        (PADDING, small, "in out", 1, too_small),
+        (PADDING, "--slot-size 3199", "in out", 1, too_small),
+        (PADDING, "--slot-size 1", "in out", 1, too_small),
+        (PADDING, counted, "in out", 1, too_small),
+        (PADDING, "--pad", "in out", 2, needs_size),
+        (PADDING, "--confirm", "in out", 2, needs_size),
+    ];
+    refuse(&rt, rt.alloc(), &PAYLOAD, &cases)
+}
+
+#[test]
+fn judges_in_order(rt: HostRuntime) -> Result<(), Fail> {
+    let not_zeros = "mcsim: E20 NotZeros\n";
+    let syntax = "mcsim: E15 Syntax\n";
+    let open = "mcsim: E71 Open\n";
+    let cases = [
         // The version is judged before the files are opened, and INFILE is opened before OUTFILE.
         (
             "--version 01 --header-size 32",
             "",
             "missing out",
             2,
-            "mcsim: E15 Syntax\n",
+            syntax,
         ),
         (
             "--version 1.2+4 --header-size 32",
             "",
             "missing out",
             2,
-            "mcsim: E15 Syntax\n",
+            syntax,
         ),
         (
             "--version 256 --header-size 32",
@@ -134,23 +146,10 @@ fn refuses_to_make_images(rt: HostRuntime) -> Result<(), Fail> {
             2,
             "mcsim: E16 Range\n",
         ),
-        (padded, "", "missing out", 3, "mcsim: E71 Open\n"),
-        (padded, "", "in missing", 3, "mcsim: E71 Open\n"),
+        (PADDING, "", "missing out", 3, open),
+        (PADDING, "", "in missing", 3, open),
+        // The input begins with 31 zeros, one fewer than a header has.
+        ("--version 1 --header-size 32", "", "in out", 1, not_zeros),
     ];
-    for (start, options, words, status, err) in cases {
-        let case = Case {
-            command: "create",
-            start,
-            options,
-            words,
-            // 31 zeros would be the header's place, but for one.
-            input: &PADDED[1..],
-            status,
-            out: "",
-            err,
-            written: &[],
-        };
-        ends(&rt, rt.alloc(), &case)?;
-    }
-    Ok(())
+    refuse(&rt, rt.alloc(), &PADDED[1..], &cases)
 }

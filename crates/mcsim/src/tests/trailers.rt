@@ -1,6 +1,8 @@
 //! `type`, of a flash and of two images. The file `in` has what a test puts there, and `out` is empty.
 use super::support::{Case, ends};
 use super::vectors::FIRST_IMAGE;
+use std::alloc::Global;
+use std::process::Abort;
 use std::test::Fail;
 
 /// `type` of a layout and a source.
@@ -88,87 +90,59 @@ fn prints_the_trailers_of_a_flash(rt: HostRuntime) -> Result<(), Fail> {
     Ok(())
 }
 
-#[test]
-fn refuses_sources_and_layouts(rt: HostRuntime) -> Result<(), Fail> {
-    let images = "--kind test --image-a in --image-b in";
-    for (layout, source, status, want) in [
-        // The source is judged before the layout, and both before a file is opened.
-        (
-            "--sector 1 --unit 3 --max-sectors 4 --chunk 128 --primary 4 --secondary 3",
-            "",
-            2,
-            "E70 SourceOptions",
-        ),
-        (WORKED, "--flash in --kind test", 2, "E70 SourceOptions"),
-        (WORKED, "--kind test --image-a in", 2, "E70 SourceOptions"),
-        (WORKED, "--image-a in --image-b in", 2, "E70 SourceOptions"),
-        (
-            "--sector 256 --unit 3 --max-sectors 4 --chunk 128 --primary 4 --secondary 3",
-            "--flash missing",
-            2,
-            "E30 Unit",
-        ),
-        (
-            "--sector 100 --unit 8 --max-sectors 4 --chunk 128 --primary 4 --secondary 3",
-            images,
-            2,
-            "E31 Sector",
-        ),
-        (
-            "--sector 256 --unit 8 --max-sectors 4 --chunk 96 --primary 4 --secondary 3",
-            images,
-            2,
-            "E32 Chunk",
-        ),
-        (
-            "--sector 256 --unit 8 --max-sectors 4 --chunk 128 --primary 5 --secondary 3",
-            images,
-            2,
-            "E33 Counts",
-        ),
-        (
-            "--sector 256 --unit 8 --max-sectors 4 --chunk 128 --primary 2 --secondary 2",
-            images,
-            2,
-            "E34 NoRoom",
-        ),
-        (WORKED, "--flash missing", 3, "E71 Open"),
-        (WORKED, "--flash in", 1, "E51 FlashSize"),
-        (
-            WORKED,
-            "--kind test --image-a in --image-b missing",
-            3,
-            "E71 Open",
-        ),
-        (
-            WORKED,
-            "--kind test --image-a out --image-b out",
-            1,
-            "E1 Truncated in image A",
-        ),
-        (
-            WORKED,
-            "--kind test --image-a in --image-b out",
-            1,
-            "E1 Truncated in image B",
-        ),
-        // Each slot has room for no sector of an image but the first.
-        (
-            "--sector 64 --unit 1 --max-sectors 1 --chunk 64 --primary 3 --secondary 2",
-            images,
-            1,
-            "E50 DoesNotFit",
-        ),
-    ] {
-        let err = format!(in rt.alloc(); "mcsim: {want}\n")?;
+/// Runs lines of `type` with this layout and source, which are refused with this status and error.
+fn refuse(rt: &impl Abort, alloc: Global, cases: &[(&str, &str, u8, &str)]) -> Result<(), Fail> {
+    for (layout, source, status, error) in cases {
+        let err = format!(in alloc; "mcsim: {error}\n")?;
         let case = Case {
-            status,
+            status: *status,
             err: err.as_str(),
             ..type_of(&FIRST_IMAGE, layout, source)
         };
-        ends(&rt, rt.alloc(), &case)?;
+        ends(rt, alloc, &case)?;
     }
     Ok(())
+}
+
+static IMAGES: &str = "--kind test --image-a in --image-b in";
+
+#[test]
+fn refuses_layouts(rt: HostRuntime) -> Result<(), Fail> {
+    let unit = "--sector 256 --unit 3 --max-sectors 4 --chunk 128 --primary 4 --secondary 3";
+    let sector = "--sector 100 --unit 8 --max-sectors 4 --chunk 128 --primary 4 --secondary 3";
+    let chunk = "--sector 256 --unit 8 --max-sectors 4 --chunk 96 --primary 4 --secondary 3";
+    let counts = "--sector 256 --unit 8 --max-sectors 4 --chunk 128 --primary 5 --secondary 3";
+    let room = "--sector 256 --unit 8 --max-sectors 4 --chunk 128 --primary 2 --secondary 2";
+    let cases = [
+        // The source is judged before the layout, and both before a file is opened.
+        (unit, "", 2, "E70 SourceOptions"),
+        (unit, "--flash missing", 2, "E30 Unit"),
+        (sector, IMAGES, 2, "E31 Sector"),
+        (chunk, IMAGES, 2, "E32 Chunk"),
+        (counts, IMAGES, 2, "E33 Counts"),
+        (room, IMAGES, 2, "E34 NoRoom"),
+    ];
+    refuse(&rt, rt.alloc(), &cases)
+}
+
+#[test]
+fn refuses_sources(rt: HostRuntime) -> Result<(), Fail> {
+    let missing = "--kind test --image-a in --image-b missing";
+    let first = "--kind test --image-a out --image-b out";
+    let second = "--kind test --image-a in --image-b out";
+    // Each slot has room for one sector of an image, of 64 bytes.
+    let narrow = "--sector 64 --unit 1 --max-sectors 1 --chunk 64 --primary 3 --secondary 2";
+    let cases = [
+        (WORKED, "--flash in --kind test", 2, "E70 SourceOptions"),
+        (WORKED, "--kind test --image-a in", 2, "E70 SourceOptions"),
+        (WORKED, "--image-a in --image-b in", 2, "E70 SourceOptions"),
+        (WORKED, "--flash missing", 3, "E71 Open"),
+        (WORKED, missing, 3, "E71 Open"),
+        (WORKED, first, 1, "E1 Truncated in image A"),
+        (WORKED, second, 1, "E1 Truncated in image B"),
+        (narrow, IMAGES, 1, "E50 DoesNotFit"),
+    ];
+    refuse(&rt, rt.alloc(), &cases)
 }
 
 #[test]
