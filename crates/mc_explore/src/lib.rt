@@ -1,9 +1,15 @@
-//! The flashes that a swap is explored from.
+//! The flashes that a swap is explored from, and the power cuts on its way.
 #![tactic(auto)]
 
+mod boots;
+mod kind;
+mod schedule;
+mod slots;
 mod start;
 
-pub use start::{Kind, Start, StartError};
+pub use schedule::{MOST_CUTS, Schedule};
+pub use kind::Kind;
+pub use start::{Start, StartError};
 
 #[cfg(test)]
 mod tests;

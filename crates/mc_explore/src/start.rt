@@ -1,27 +1,23 @@
 //! The flash that an exploration starts from.
-ghost use Rattle.std.specs.Prelude.{◌≡◌, ℕ, ◌-◌, ◌≤◌, ◌+◌, ◌++◌, List, length, replicate, IfOk, IfErr, MatchResult, Some, None, OnErr};
+ghost use Rattle.std.specs.Prelude.{◌≡◌, ℕ, ◌≤◌, ◌+◌, ◌++◌, [], ◌∷◌, List, length, IfOk, IfErr, MatchResult, Some, None, string_bytes};
+ghost use Rattle.sha2.specs.Sha256.{sha256};
 ghost use Rattle.mc_image.specs.Valid.{image_fault};
-ghost use Rattle.mc_flash.specs.Content.{bytes_of, size_of};
+ghost use Rattle.mc_flash.specs.Content.{size_of};
 ghost use Rattle.mc_flash.specs.declared.op.Slot.TheVariants.{Primary, Secondary};
-ghost use Rattle.mc_explore.specs.Start.{Gives, asking, image_of, filled, of_images, of_flash};
+ghost use Rattle.mc_boot.specs.Image.{image_size};
+ghost use Rattle.mc_boot.specs.Start.{image_bytes};
+ghost use Rattle.mc_explore.specs.Texts.{layout_line};
+ghost use Rattle.mc_explore.specs.Start.{Starts, Gives, of_flash, start_digest};
 
-use mc_flash::{Layout, Slot};
+use crate::kind::Kind;
+use crate::slots::{PLAIN, Slots, start_slots};
+use mc_flash::{FlashError, Layout, Slot};
 use mc_image::{ImageError, ImageView};
-use mc_trailer::{Field, MAGIC, place};
+use mc_trailer::Rules;
+use sha2::{Digest, Sha256};
 use std::alloc::{AllocError, Global};
 use std::marker::Model;
 use thiserror::Error;
-
-/// What the secondary's trailer asks for.
-#[derive(Clone, Copy, Debug, PartialEq, Eq)]
-pub enum Kind {
-    /// Nothing.
-    None,
-    /// A swap that is taken back unless the image is confirmed.
-    Test,
-    /// A swap for good.
-    Perm,
-}
 
 /// Why there is no start. Of several reasons the first in this order is answered.
 #[derive(Clone, Copy, Debug, PartialEq, Eq, Error)]
@@ -53,66 +49,81 @@ impl From<AllocError> for StartError {
     }
 }
 
-/// A flash to start from, with its layout.
+impl From<FlashError> for StartError {
+    ghost use Rattle.mc_explore.specs.declared.start.StartError.TheVariants.{Memory};
+
+    ghost from_gives = { λ _ e. e ≡ Memory };
+
+    fn from(_: FlashError) -> Self {
+        StartError::Memory
+    }
+}
+
+/// A flash to start from, with its layout and the rules of the boots from there on.
 #[derive(Drop)]
 pub struct Start {
     layout: Layout,
-    primary: Vec<u8>,
-    secondary: Vec<u8>,
+    rules: Rules,
+    // The layout's text and a line feed, for the digest.
+    line: String,
+    slots: Slots,
 }
 
 impl Model for Start {
     ghost use Rattle.mc_explore.specs.Start.{Begun};
-    ghost use Rattle.std.specs.Prelude.{◌≡◌, length};
-    ghost use Rattle.mc_flash.specs.Content.{size_of};
-    ghost use Rattle.mc_flash.specs.declared.op.Slot.TheVariants.{Primary, Secondary};
+    ghost use Rattle.std.specs.Prelude.{◌≡◌, ◌++◌, ◌∷◌, [], length, string_bytes};
+    ghost use Rattle.mc_flash.specs.Content.{IsSized};
+    ghost use Rattle.mc_explore.specs.Slots.{content_of};
+    ghost use Rattle.mc_explore.specs.Texts.{layout_line};
 
     ghost Value = { Begun };
 
-    ghost view = { λ s. record { geometry = s.layout; content = record { primary = s.primary.items; secondary = s.secondary.items } } };
+    ghost view = { λ s. record { geometry = s.layout; rules = s.rules; content = content_of s.slots } };
 
-    ghost invariant = { λ s. (length s.primary.items ≡ size_of s.layout Primary) × (length s.secondary.items ≡ size_of s.layout Secondary) };
+    ghost invariant = { λ s. IsSized s.layout (content_of s.slots) × (string_bytes s.line ≡ layout_line s.layout ++ 10 ∷ []) };
+}
+
+// The line of a layout, with its line feed.
+fn layout_line(alloc: Global, layout: &Layout) -> Result<String, AllocError>
+    ensures { IfOk result (λ text. string_bytes text ≡ layout_line layout.now ++ 10 ∷ []) }
+{
+    let sector = layout.sector();
+    let unit = layout.unit();
+    let max_sectors = layout.max_sectors();
+    let chunk = layout.chunk();
+    let primary = layout.primary();
+    let secondary = layout.secondary();
+    let mut line = format!(in alloc; "sector={sector} unit={unit} max={max_sectors}")?;
+    let rest = format!(in alloc; " chunk={chunk} primary={primary} secondary={secondary}")?;
+    line.push_str(rest.as_str())?;
+    line.push_str("\n")?;
+    Ok(line)
+}
+
+// The digest of three byte lists, one after the other.
+fn digest_of(first: &[u8], second: &[u8], third: &[u8]) -> [u8; 32]
+    ensures { result ≡ sha256 ((first.now ++ second.now) ++ third.now) }
+{
+    let mut hasher = Sha256::new();
+    hasher.update(first);
+    hasher.update(second);
+    hasher.update(third);
+    hasher.finalize()
 }
 
 // The bytes of the valid image that some bytes begin with.
 fn image_of(bytes: &[u8]) -> Result<&[u8], ImageError>
-    ensures { MatchResult result (λ image. (image_fault bytes.now ≡ None) × (image.now ≡ image_of bytes.now)) (λ e. image_fault bytes.now ≡ Some e) }
+    ensures value { MatchResult result (λ image. (image_fault bytes.now ≡ None) × (image.now ≡ image_bytes bytes.now)) (λ e. image_fault bytes.now ≡ Some e) }
+    ensures len { IfOk result (λ image. length image.now ≡ image_size bytes.now) }
 {
     let size = ImageView::read_valid(bytes)?.size() as usize;
     Ok(&bytes[..size])
 }
 
-// A slot of so many bytes that begins with an image, all else 0xff.
-fn filled(alloc: Global, image: &[u8], size: usize) -> Result<Vec<u8>, AllocError>
-    requires { length image.now ≤ size }
-    ensures value { IfOk result (λ slot. slot.items ≡ filled size image.now) }
-    ensures len { IfOk result (λ slot. length slot.items ≡ size) }
-{
-    let mut slot = Vec::with_capacity(alloc, size)?;
-    slot.extend_from_slice(image)?;
-    slot.resize(size, 0xff)?;
-    Ok(slot)
-}
-
-// Writes what the secondary's trailer asks for.
-fn ask(layout: &Layout, kind: Kind, secondary: &mut [u8])
-    requires { length secondary.old ≡ size_of layout.now Secondary }
-    ensures value { secondary.new ≡ asking kind layout.now secondary.old }
-    ensures len { length secondary.new ≡ length secondary.old }
-{
-    if matches!(kind, Kind::Test | Kind::Perm) {
-        let magic = place(layout, Slot::Secondary, Field::Magic) as usize;
-        secondary[magic..magic + 16].copy_from_slice(&MAGIC);
-    }
-    if matches!(kind, Kind::Perm) {
-        let image_ok = place(layout, Slot::Secondary, Field::ImageOk) as usize;
-        secondary[image_ok..image_ok + 1].copy_from_slice(&[1]);
-    }
-}
-
 impl Start {
-    /// The start of two images: the first in the primary, the second in the secondary, whose trailer asks for that kind
-    /// of swap. Bytes behind an image are left out.
+    /// The start of two images: the first in the primary, the second in the secondary, and what that kind of start asks
+    /// for. Bytes behind an image are left out. For `Revert` it is what the whole swap of the exchanged images for a test
+    /// leaves. Its boots go by whole calls and the first profile.
     ///
     /// # Errors
     ///
@@ -124,7 +135,7 @@ impl Start {
         a: &[u8],
         b: &[u8],
     ) -> Result<Start, StartError>
-        ensures { Gives layout.now result (of_images layout.now kind a.now b.now) }
+        ensures { Starts layout.now kind a.now b.now result }
     {
         let first = match image_of(a) {
             Ok(image) => image,
@@ -140,17 +151,15 @@ impl Start {
         if !layout.fits(second.len() as u64) {
             return Err(StartError::DoesNotFit);
         }
-        let primary = filled(alloc, first, layout.size(Slot::Primary) as usize)?;
-        let mut secondary = filled(alloc, second, layout.size(Slot::Secondary) as usize)?;
-        ask(layout, kind, &mut secondary);
         Ok(Start {
             layout: *layout,
-            primary,
-            secondary,
+            rules: PLAIN,
+            line: layout_line(alloc, layout)?,
+            slots: start_slots(alloc, layout, kind, first, second)?,
         })
     }
 
-    /// The start from the bytes of both slots, the primary's first.
+    /// The start from the bytes of both slots, the primary's first. Its boots go by whole calls and the first profile.
     ///
     /// # Errors
     ///
@@ -166,8 +175,12 @@ impl Start {
         let (low, high) = bytes.split_at(primary);
         Ok(Start {
             layout: *layout,
-            primary: low.to_vec(alloc)?,
-            secondary: high.to_vec(alloc)?,
+            rules: PLAIN,
+            line: layout_line(alloc, layout)?,
+            slots: Slots {
+                primary: low.to_vec(alloc)?,
+                secondary: high.to_vec(alloc)?,
+            },
         })
     }
 
@@ -178,12 +191,26 @@ impl Start {
         &self.layout
     }
 
+    /// The rules of the boots. It takes no memory.
+    pub fn rules(&self) -> Rules
+        ensures { result ≡ self.now.rules }
+    {
+        self.rules
+    }
+
+    /// The same start under other rules. Its flash stays as it is. It takes no memory.
+    pub fn with_rules(self, rules: Rules) -> Start
+        ensures { result ≡ record { geometry = self.geometry; rules = rules; content = self.content } }
+    {
+        Start { rules, ..self }
+    }
+
     /// The bytes of the primary. It takes no memory.
     pub fn primary(&self) -> &[u8]
         ensures value { result.now ≡ self.now.content.primary }
         ensures len { length result.now ≡ size_of self.now.geometry Primary }
     {
-        &self.primary
+        &self.slots.primary
     }
 
     /// The bytes of the secondary. It takes no memory.
@@ -191,6 +218,18 @@ impl Start {
         ensures value { result.now ≡ self.now.content.secondary }
         ensures len { length result.now ≡ size_of self.now.geometry Secondary }
     {
-        &self.secondary
+        &self.slots.secondary
+    }
+
+    /// What tells starts apart in a cursor: the SHA-256 of the layout's line, a line feed, the primary and the secondary. It
+    /// takes no memory.
+    pub fn digest(&self) -> [u8; 32]
+        ensures { result ≡ start_digest self.now }
+    {
+        digest_of(
+            self.line.as_bytes(),
+            self.slots.primary.as_slice(),
+            self.slots.secondary.as_slice(),
+        )
     }
 }

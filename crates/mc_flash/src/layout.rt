@@ -227,7 +227,8 @@ impl Layout {
 
     /// Whether an image of so many bytes fits both slots.
     pub fn fits(&self, size: u64) -> bool
-        ensures { result ≡ fits self.now size }
+        ensures value { result ≡ fits self.now size }
+        ensures valid { IsLayout self.now }
     {
         size.div_ceil(self.sector as u64) <= self.greatest_sectors() as u64
     }

@@ -1,0 +1,4 @@
+mod Images
+mod Left
+mod Stepping
+mod Room

@@ -1,0 +1,162 @@
+//! The bytes of the slots that a start has.
+ghost use Rattle.std.specs.Prelude.{◌≡◌, ℕ, ◌≤◌, List, [], ◌∷◌, length, IfOk, IfErr, Some};
+ghost use Rattle.mc_flash.specs.Content.{size_of, put, IsSized};
+ghost use Rattle.mc_flash.specs.declared.op.Slot.TheVariants.{Primary, Secondary};
+ghost use Rattle.mc_trailer.specs.Places.{place, magic_bytes};
+ghost use Rattle.mc_boot.specs.Plan.{plain};
+ghost use Rattle.mc_boot.specs.Runs.{left_by};
+ghost use Rattle.mc_boot.specs.Start.{image_bytes, filled, placed, test_flash, perm_flash, start_flash};
+ghost use Rattle.mc_explore.specs.Slots.{content_of, kind_of};
+
+use crate::boots::boot_whole;
+use crate::kind::Kind;
+use mc_flash::{Flash, FlashError, Grain, Layout, Slot, SnapFlash};
+use mc_trailer::{Field, MAGIC, Profile, Rules, place};
+use std::alloc::{AllocError, Global};
+
+/// Whole calls, by the first profile: the rules of a start that was given no others.
+pub(crate) const PLAIN: Rules = Rules {
+    grain: Grain::Call,
+    profile: Profile::One,
+};
+
+/// The bytes of both slots.
+#[derive(Drop)]
+pub(crate) struct Slots {
+    pub(crate) primary: Vec<u8>,
+    pub(crate) secondary: Vec<u8>,
+}
+
+// A slot that begins with these bytes, all else 0xff.
+fn filled(alloc: Global, layout: &Layout, slot: Slot, image: &[u8]) -> Result<Vec<u8>, AllocError>
+    requires { length image.now ≤ size_of layout.now slot }
+    ensures value { IfOk result (λ bytes. bytes.items ≡ filled layout.now slot image.now) }
+    ensures len { IfOk result (λ bytes. length bytes.items ≡ size_of layout.now slot) }
+{
+    let size = layout.size(slot) as usize;
+    let mut bytes = Vec::with_capacity(alloc, size)?;
+    bytes.extend_from_slice(image)?;
+    bytes.resize(size, 0xff)?;
+    Ok(bytes)
+}
+
+// The first image in the primary and the second in the secondary.
+fn placed(alloc: Global, layout: &Layout, first: &[u8], second: &[u8]) -> Result<Slots, AllocError>
+    requires first { length first.now ≤ size_of layout.now Primary }
+    requires second { length second.now ≤ size_of layout.now Secondary }
+    ensures content { IfOk result (λ s. content_of s ≡ placed layout.now first.now second.now) }
+    ensures sized { IfOk result (λ s. IsSized layout.now (content_of s)) }
+{
+    Ok(Slots {
+        primary: filled(alloc, layout, Slot::Primary, first)?,
+        secondary: filled(alloc, layout, Slot::Secondary, second)?,
+    })
+}
+
+// Writes the magic into the secondary's trailer.
+fn write_magic(layout: &Layout, secondary: &mut [u8])
+    requires { length secondary.old ≡ size_of layout.now Secondary }
+    ensures value { secondary.new ≡ put secondary.old (place layout.now Secondary Field.Magic) magic_bytes }
+    ensures len { length secondary.new ≡ length secondary.old }
+{
+    let at = place(layout, Slot::Secondary, Field::Magic) as usize;
+    secondary[at..at + 16].copy_from_slice(&MAGIC);
+}
+
+// Sets image-ok in the secondary's trailer, that byte alone.
+fn write_image_ok(layout: &Layout, secondary: &mut [u8])
+    requires { length secondary.old ≡ size_of layout.now Secondary }
+    ensures value { secondary.new ≡ put secondary.old (place layout.now Secondary Field.ImageOk) (1 ∷ []) }
+    ensures len { length secondary.new ≡ length secondary.old }
+{
+    let at = place(layout, Slot::Secondary, Field::ImageOk) as usize;
+    secondary[at..at + 1].copy_from_slice(&[1]);
+}
+
+// The slots that ask for a test.
+fn test_slots(alloc: Global, layout: &Layout, first: &[u8], second: &[u8]) -> Result<Slots, AllocError>
+    requires first { length first.now ≤ size_of layout.now Primary }
+    requires second { length second.now ≤ size_of layout.now Secondary }
+    ensures content { IfOk result (λ s. content_of s ≡ test_flash layout.now first.now second.now) }
+    ensures sized { IfOk result (λ s. IsSized layout.now (content_of s)) }
+{
+    let mut slots = placed(alloc, layout, first, second)?;
+    write_magic(layout, &mut slots.secondary);
+    Ok(slots)
+}
+
+// The slots that ask for a swap for good.
+fn perm_slots(alloc: Global, layout: &Layout, first: &[u8], second: &[u8]) -> Result<Slots, AllocError>
+    requires first { length first.now ≤ size_of layout.now Primary }
+    requires second { length second.now ≤ size_of layout.now Secondary }
+    ensures content { IfOk result (λ s. content_of s ≡ perm_flash layout.now first.now second.now) }
+    ensures sized { IfOk result (λ s. IsSized layout.now (content_of s)) }
+{
+    let mut slots = test_slots(alloc, layout, first, second)?;
+    write_image_ok(layout, &mut slots.secondary);
+    Ok(slots)
+}
+
+// What a flash holds.
+fn slots_of<F: Flash>(alloc: Global, flash: &F) -> Result<Slots, AllocError>
+    ensures content { IfOk result (λ s. content_of s ≡ F.content flash.now) }
+    ensures sized { IfOk result (λ s. IsSized (F.geometry flash.now) (content_of s)) }
+{
+    Ok(Slots {
+        primary: flash.read(Slot::Primary).to_vec(alloc)?,
+        secondary: flash.read(Slot::Secondary).to_vec(alloc)?,
+    })
+}
+
+// The slots that the uncut boot leaves.
+fn booted<F: Flash>(
+    alloc: Global,
+    layout: &Layout,
+    primary: &[u8],
+    secondary: &[u8],
+) -> Result<Slots, FlashError>
+    requires primary { length primary.now ≡ size_of layout.now Primary }
+    requires secondary { length secondary.now ≡ size_of layout.now Secondary }
+    ensures content { IfOk result (λ s. left_by plain layout.now (record { primary = primary.now; secondary = secondary.now })
+        ≡ Some (content_of s)) }
+    ensures sized { IfOk result (λ s. IsSized layout.now (content_of s)) }
+    ensures err { IfErr result (λ e. e ≡ FlashError.Memory) }
+{
+    let mut flash = F::load(alloc, layout, Grain::Call, primary, secondary, 1)?;
+    boot_whole(&mut flash, PLAIN)?;
+    Ok(slots_of(alloc, &flash)?)
+}
+
+// The slots after the whole swap of the exchanged images for a test.
+fn revert_slots(alloc: Global, layout: &Layout, first: &[u8], second: &[u8]) -> Result<Slots, FlashError>
+    requires first { length first.now ≤ size_of layout.now Secondary }
+    requires second { length second.now ≤ size_of layout.now Primary }
+    ensures content { IfOk result (λ s. left_by plain layout.now (test_flash layout.now second.now first.now) ≡ Some (content_of s)) }
+    ensures sized { IfOk result (λ s. IsSized layout.now (content_of s)) }
+    ensures err { IfErr result (λ e. e ≡ FlashError.Memory) }
+{
+    let asked = test_slots(alloc, layout, second, first)?;
+    booted::<SnapFlash>(alloc, layout, &asked.primary, &asked.secondary)
+}
+
+/// The slots of a start, of two images that fit.
+///
+/// # Errors
+///
+/// `Memory` where a growth was refused.
+#[tactic(auto, unfolding(mc_boot::specs::Start::start_flash))]
+pub(crate) fn start_slots(alloc: Global, layout: &Layout, kind: Kind, first: &[u8], second: &[u8]) -> Result<Slots, FlashError>
+    requires first { (length first.now ≤ size_of layout.now Primary) × (length first.now ≤ size_of layout.now Secondary) }
+    requires second { (length second.now ≤ size_of layout.now Primary) × (length second.now ≤ size_of layout.now Secondary) }
+    ensures content { (a b : List ℕ) → first.now ≡ image_bytes a → second.now ≡ image_bytes b
+        → IfOk result (λ s. start_flash layout.now (kind_of kind) a b ≡ Some (content_of s)) }
+    ensures sized { IfOk result (λ s. IsSized layout.now (content_of s)) }
+    ensures err { IfErr result (λ e. e ≡ FlashError.Memory) }
+{
+    match kind {
+        Kind::None => Ok(placed(alloc, layout, first, second)?),
+        Kind::Test => Ok(test_slots(alloc, layout, first, second)?),
+        Kind::Perm => Ok(perm_slots(alloc, layout, first, second)?),
+        Kind::Revert => revert_slots(alloc, layout, first, second),
+    }
+}
