@@ -12,3 +12,4 @@ pub mod RunFacts
 pub mod WriteFacts
 pub mod Outcome
 pub mod Start
+pub mod Restart

@@ -5,12 +5,14 @@ mod boot;
 mod course;
 mod image;
 mod outcome;
+mod restart;
 mod transfer;
 mod writes;
 
 pub use boot::Boot;
 pub use image::ImageId;
 pub use outcome::{BootResult, Outcome};
+pub use restart::restart_law;
 
 #[cfg(test)]
 mod tests;

@@ -2,3 +2,4 @@ mod Images
 mod Left
 mod Stepping
 mod Room
+mod Reading

@@ -7,7 +7,7 @@ mod schedule;
 mod slots;
 mod start;
 
-pub use schedule::{MOST_CUTS, Schedule};
+pub use schedule::{MOST_CUTS, Schedule, ScheduleError};
 pub use kind::Kind;
 pub use start::{Start, StartError};
 

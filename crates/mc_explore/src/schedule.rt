@@ -1,10 +1,18 @@
 //! Schedules of power cuts.
-ghost use Rattle.std.specs.Prelude.{◌≡◌, ◌<◌, ◌++◌, [], ◌∷◌, length};
+ghost use Rattle.std.specs.Prelude.{◌≡◌, ℕ, ◌<◌, ◌≤◌, ◌^◌, ◌++◌, List, [], ◌∷◌, length, decimal, Some, Ok, MatchResult, OnOk, OnErr};
+ghost use Rattle.mc_explore.specs.Texts.{schedule_text, IsSchedule, IsAdded, ReadsSchedule};
 
+use std::fmt;
 use std::marker::Model;
+use thiserror::Error;
 
 /// The most cuts of a schedule.
 pub const MOST_CUTS: usize = 16;
+
+/// A text that is no schedule's.
+#[derive(Clone, Copy, Debug, PartialEq, Eq, Error)]
+#[error("E60 ScheduleSyntax")]
+pub struct ScheduleError;
 
 /// At most 16 power cuts: for each boot that is cut, after how many operations the power is lost. It takes no memory.
 #[derive(Clone, Copy, Debug)]
@@ -28,7 +36,54 @@ impl Model for Schedule {
     ghost inverse_ok = { λ s h i. record { cuts = room_again s.cuts s.len h.1 h.0 h.2 i; len = len_again s.cuts s.len h.1 h.0 i } };
 }
 
+// The number that a text writes, without leading zeros.
+fn cut_of(text: &str) -> Result<u32, ScheduleError>
+    ensures { MatchResult result (λ n. text.now ≡ decimal n) (λ _. (n : ℕ) → n < 2 ^ 32 → text.now ≡ decimal n → ⊥) }
+{
+    match text.parse::<u32>() {
+        Ok(cut) if itoa::Buffer::new().format(cut) == text => Ok(cut),
+        _ => Err(ScheduleError),
+    }
+}
+
 impl Schedule {
+    /// The schedule that a text tells: `-` for no cut, else 1 to 16 numbers below 2^32 without leading zeros, with points
+    /// between them. It takes no memory.
+    ///
+    /// # Errors
+    ///
+    /// `ScheduleError` for every other text.
+    pub fn read(text: &str) -> Result<Schedule, ScheduleError>
+        ensures exact { ReadsSchedule text.now result }
+        // The text of each schedule is read as that schedule.
+        ensures only { (l : List ℕ) → IsSchedule l → text.now ≡ schedule_text l → result ≡ Ok l }
+    {
+        let mut schedule = Schedule::new();
+        if text == "-" {
+            return Ok(schedule);
+        }
+        let mut rest = text;
+        'cuts: while let Some((first, after)) = rest.split_once('.') {
+            schedule.add(first)?;
+            rest = after;
+        }
+        schedule.add(rest)?;
+        Ok(schedule)
+    }
+
+    // Adds the cut that a text writes, where there is room for one.
+    fn add(&mut self, text: &str) -> Result<(), ScheduleError>
+        ensures added { OnOk result (IsAdded self.old text.now self.new) }
+        ensures refused { OnErr result ((n : ℕ) → n < 2 ^ 32 → text.now ≡ decimal n → length self.old < 16 → ⊥) }
+    {
+        let cut = cut_of(text)?;
+        if self.len == MOST_CUTS {
+            return Err(ScheduleError);
+        }
+        self.push(cut);
+        Ok(())
+    }
+
     /// The schedule of no cut.
     pub fn new() -> Schedule
         ensures { result ≡ [] }
@@ -53,5 +108,20 @@ impl Schedule {
     {
         self.cuts[self.len] = cut;
         self.len += 1;
+    }
+}
+
+impl fmt::Display for Schedule {
+    ghost output = { λ s. Some (schedule_text s) };
+
+    fn fmt<W: fmt::Write>(&self, f: &mut fmt::Formatter<W>) -> fmt::Result {
+        let Some((first, rest)) = self.cuts().split_first() else {
+            return f.write_str("-");
+        };
+        write!(f, "{first}")?;
+        for cut in rest {
+            write!(f, ".{cut}")?;
+        }
+        Ok(())
     }
 }

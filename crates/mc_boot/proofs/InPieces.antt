@@ -1,0 +1,91 @@
+-- From a layout to the same in the pieces that are written at once: all but the copies is the same.
+use Rattle.std.specs.Prelude.{◌≡◌, ℕ, Bool, List, [], ◌∷◌, refl}
+use Rattle.std.proofs.Common.{sym, ◌∙◌}
+use Rattle.mc_boot.proofs.Keeps.{Keeps}
+use Rattle.mc_boot.proofs.Phases.{Asked, Swap, Waiting, asked, tested, unasked}
+use Rattle.mc_boot.proofs.PreparationKeeps.{quiet_blank}
+use Rattle.mc_boot.proofs.SectorData.{data_begin}
+use Rattle.mc_boot.specs.Plan.{plan, plan_with}
+use Rattle.mc_boot.specs.Restart.{AreExchanged}
+use Rattle.mc_flash.specs.Apply.{apply}
+use Rattle.mc_flash.specs.Content.{Content, IsSized}
+use Rattle.mc_flash.specs.Geometry.{Geometry}
+use Rattle.mc_flash.specs.Pieces.{in_pieces, pieces_layout}
+use Rattle.mc_flash.specs.declared.flash.Grain.{Grain}
+use Rattle.mc_flash.specs.declared.op.Op.{Op}
+use Rattle.mc_trailer.specs.FieldFacts.{FieldsAre}
+use Rattle.mc_trailer.specs.Fields.{trailer_of}
+use Rattle.mc_trailer.specs.declared.places.Field.{Field}
+use Rattle.mc_trailer.specs.declared.tables.Profile.{Profile}
+use Rattle.mc_trailer.specs.declared.places.Field.TheVariants as field
+use Rattle.mc_flash.specs.declared.flash.Grain.TheVariants as grains
+use Rattle.mc_flash.specs.declared.op.Slot.TheVariants.{Primary, Secondary}
+use Rattle.mc_flash.specs.declared.op.Op.TheVariants.{Erase, Program, Copy}
+
+pub pieces_again : (c : Grain) (g : Geometry) → in_pieces c (in_pieces c g) ≡ in_pieces c g
+pieces_again grains.Call g = refl
+pieces_again grains.Unit g = refl
+
+pub plan_in_pieces : (c : Grain) (p : Profile) (g : Geometry) (s : Content) → plan (record { grain = c; profile = p }) (in_pieces c g) s ≡ plan (record { grain = c; profile = p }) g s
+unfolding plan plan_with trailer_of
+plan_in_pieces grains.Call p g s = refl
+plan_in_pieces grains.Unit p g s = refl
+
+-- the chunk plays no part in what an operation does
+apply_pieces : (c : Grain) (g : Geometry) (op : Op) (s : Content) → apply (in_pieces c g) op s ≡ apply g op s
+unfolding apply
+apply_pieces grains.Call g op s = refl
+apply_pieces grains.Unit g (Erase slot sector) s = refl
+apply_pieces grains.Unit g (Program slot at bytes) s = refl
+apply_pieces grains.Unit g (Copy from at to offset len) s = refl
+
+pub keeps_pieces : (c : Grain) (g : Geometry) (P Q : Content → Type 0) (ops : List Op) (s : Content) → Keeps (in_pieces c g) P ops s Q → Keeps g P ops s Q
+keeps_pieces c g P Q [] s k = k
+keeps_pieces c g P Q (op ∷ ops) s k = (k.0, (k.1.0, sym (apply_pieces c g op s) ∙ k.1.1, keeps_pieces c g P Q ops k.1.0 k.1.2))
+
+pub trailer_pieces : (c : Grain) (g : Geometry) (s : Content) → trailer_of (in_pieces c g) s Primary ≡ trailer_of g s Primary
+unfolding trailer_of
+trailer_pieces grains.Call g s = refl
+trailer_pieces grains.Unit g s = refl
+
+pub exchanged_pieces : (c : Grain) (g : Geometry) (n : ℕ) (s z : Content) → AreExchanged (in_pieces c g) n s z → AreExchanged g n s z
+exchanged_pieces grains.Call g n s z are = are
+exchanged_pieces grains.Unit g n s z are = record { primary = are.primary; secondary = are.secondary }
+
+sized_pieces : (c : Grain) (g : Geometry) (s : Content) → IsSized g s → IsSized (in_pieces c g) s
+sized_pieces grains.Call g s sized = sized
+sized_pieces grains.Unit g s sized = record { primary = sized.primary; secondary = sized.secondary }
+
+pub swap_pieces : (c : Grain) (g : Geometry) (start : Content) (size n : ℕ) → Swap g start size n → Swap (in_pieces c g) start size n
+swap_pieces grains.Call g start size n w = w
+swap_pieces grains.Unit g start size n w = record {
+  laws = w.laws;
+  ok = pieces_layout grains.Unit g w.ok;
+  sized = sized_pieces grains.Unit g start w.sized;
+  primary = w.primary;
+  secondary = w.secondary;
+  larger = w.larger;
+  count = w.count;
+  some = w.some;
+  few = w.few;
+  small = w.small;
+}
+
+-- the fields at the start
+secondary_pieces : (c : Grain) (g : Geometry) (s : Content) (v : Field → List ℕ) → FieldsAre g s Secondary v → FieldsAre (in_pieces c g) s Secondary v
+secondary_pieces grains.Call g s v are = are
+secondary_pieces grains.Unit g s v are = λ f i short within. are f i short within
+
+primary_pieces : (c : Grain) (g : Geometry) (s : Content) (v : Field → List ℕ) → FieldsAre g s Primary v → FieldsAre (in_pieces c g) s Primary v
+primary_pieces grains.Call g s v are = are
+primary_pieces grains.Unit g s v are = λ f i short within. are f i short within
+
+pub asked_pieces : (c : Grain) (g : Geometry) (start : Content) (n : ℕ) (b : Bool) → IsSized g start → FieldsAre g start Secondary (asked b) → Asked (in_pieces c g) start n b start
+asked_pieces c g start n b sized are = record { secondary = secondary_pieces c g start (asked b) are; data_ = data_begin (in_pieces c g) n start (sized_pieces c g start sized) }
+
+pub waiting_pieces : (c : Grain) (g : Geometry) (start : Content) (n : ℕ) → IsSized g start → FieldsAre g start Primary tested → FieldsAre g start Secondary unasked → Waiting c (in_pieces c g) start n start
+waiting_pieces c g start n sized primary secondary = record {
+  primary = primary_pieces c g start tested primary;
+  quiet = quiet_blank c (in_pieces c g) start (secondary_pieces c g start unasked secondary field.Magic);
+  data_ = data_begin (in_pieces c g) n start (sized_pieces c g start sized);
+}

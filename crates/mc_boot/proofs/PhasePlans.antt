@@ -1,0 +1,240 @@
+-- The plan of each phase.
+use Rattle.std.specs.Prelude.{◌≡◌, ℕ, zero, suc, ◌-◌, ◌*◌, ◌<◌, ◌≤◌, ◌==◌, ◌&&◌, ◌||◌, Bool, true, false, not, nat_lt, if◌then◌else◌, [], replicate, Option, Some, is_none, refl}
+use Rattle.std.specs.Int.{div_ceil}
+use Rattle.std.proofs.Common.{arith, sym, ap, ◌∙◌}
+use Rattle.std.proofs.lemmas.Bool.Decides.{nat_tests}
+use Rattle.mc_boot.proofs.EntryNumbers.{Entries, entries_last, entries_not}
+use Rattle.mc_boot.proofs.Exchange.{other_number}
+use Rattle.mc_boot.proofs.Phases.{Asked, IsSwapOf, Quiet, Swap, Under, Waiting, asked, larger_size}
+use Rattle.mc_boot.proofs.Plans.{plan_new, plan_resumed, resumed_count}
+use Rattle.mc_boot.proofs.TransferFacts.{left_at}
+use Rattle.mc_boot.specs.Course.{new_list, resumed_list}
+use Rattle.mc_boot.specs.Image.{images_of}
+use Rattle.mc_boot.specs.Plan.{Plan, confirms, first_left, new_plan, new_swap, nothing, plan, resumed_from, resumed_plan, resumed_swap}
+use Rattle.mc_boot.specs.Restart.{forgets_reverts}
+use Rattle.mc_boot.specs.Writes.{is_test, number_of}
+use Rattle.mc_boot.specs.declared.image.Images.{Images}
+use Rattle.mc_flash.specs.Changes.{sized_is}
+use Rattle.mc_flash.specs.Content.{Content, IsSized}
+use Rattle.mc_flash.specs.Geometry.{Geometry, IsLayout, greatest_sectors}
+use Rattle.mc_flash.specs.Pieces.{in_pieces}
+use Rattle.mc_flash.specs.declared.flash.Grain.{Grain}
+use Rattle.mc_image.specs.Valid.{is_valid}
+use Rattle.mc_trailer.specs.Entries.{highest_entry}
+use Rattle.mc_trailer.specs.FieldFacts.{FieldIs, FieldsAre, blank_fields, field_as, reads_absent, reads_copy_done, reads_good, reads_image_ok, reads_info, reads_not_good, reads_size}
+use Rattle.mc_trailer.specs.Fields.{one_unit, trailer_of}
+use Rattle.mc_trailer.specs.TableFacts.{types_are_rows}
+use Rattle.mc_trailer.specs.Tables.{asks_perm, asks_test, is_good, is_resumed, is_set, is_unset, resumes, reverts_at, swap_type, table_of}
+use Rattle.mc_trailer.specs.declared.tables.Profile.{Profile}
+use Rattle.mc_trailer.specs.declared.tables.Rules.{Rules}
+use Rattle.mc_trailer.specs.declared.tables.SwapType.{SwapType}
+use Rattle.mc_trailer.specs.declared.trailer.Flag.{Flag}
+use Rattle.mc_trailer.specs.declared.trailer.Magic.{Magic}
+use Rattle.mc_trailer.specs.declared.trailer.Trailer.{Trailer}
+use Rattle.mc_trailer.specs.declared.trailer.Flag.TheVariants as flags
+use Rattle.mc_trailer.specs.declared.trailer.Magic.TheVariants as magics
+use Rattle.mc_trailer.specs.declared.places.Field.TheVariants as field
+use Rattle.mc_trailer.specs.declared.tables.SwapType.TheVariants as kinds
+use Rattle.mc_flash.specs.declared.flash.Grain.TheVariants as grains
+use Rattle.mc_trailer.specs.declared.tables.Profile.TheVariants as profiles
+use Rattle.mc_flash.specs.declared.op.Slot.TheVariants.{Primary, Secondary}
+
+-- the tests of two trailers
+resumes_when : (p q : Trailer) → p.magic ≡ magics.Good → p.copy_done ≡ flags.Unset → q.magic ≡ magics.Unset → resumes p q ≡ true
+resumes_when p q good unset absent = rw good (rw unset (rw absent refl))
+
+not_when_asked : (p q : Trailer) → q.magic ≡ magics.Good → resumes p q ≡ false
+not_when_asked p q good = rw good (never (is_good p.magic && is_unset p.copy_done))
+  where
+    never : (b : Bool) → (b && false) ≡ false
+    never true = refl
+    never false = refl
+
+not_when_done : (p q : Trailer) → p.copy_done ≡ flags.Set → resumes p q ≡ false
+not_when_done p q set = rw set (never (is_good p.magic))
+  where
+    never : (b : Bool) → (b && false && not (is_good q.magic)) ≡ false
+    never true = refl
+    never false = refl
+
+tests_when : (profile : Profile) (p q : Trailer) → q.magic ≡ magics.Good → q.image_ok ≡ flags.Unset → swap_type profile p q ≡ kinds.Test
+tests_when profile p q good unset = rw good (rw unset refl)
+
+stays_when : (profile : Profile) (p q : Trailer) → q.magic ≡ magics.Good → q.image_ok ≡ flags.Set → swap_type profile p q ≡ kinds.Perm
+stays_when profile p q good set = rw good (rw set refl)
+
+all_hold : (a b c d : Bool) → a ≡ true → b ≡ true → c ≡ true → d ≡ true → (a && b && c && d) ≡ true
+all_hold a b c d at_a at_b at_c at_d = rw at_a (rw at_b (rw at_c (rw at_d refl)))
+
+reverts_when : (profile : Profile) (p q : Trailer) → p.magic ≡ magics.Good → reverts_at profile q.magic ≡ true → p.image_ok ≡ flags.Unset → p.copy_done ≡ flags.Set → swap_type profile p q ≡ kinds.Revert
+reverts_when profile p q good reverts unset set =
+    (types_are_rows profile p q kinds.Revert).1
+    (all_hold (is_good p.magic) (reverts_at profile q.magic) (is_unset p.image_ok) (is_set p.copy_done) (ap is_good good) reverts (ap is_unset unset) (ap is_set set))
+
+third_fails : (a b c d : Bool) → c ≡ false → (a && b && c && d) ≡ false
+third_fails true true c d is = rw is refl
+third_fails true false c d is = refl
+third_fails false b c d is = refl
+
+nothing_asked : (p q : Trailer) → q.magic ≡ magics.Unset → (asks_test p q ≡ false) × (asks_perm p q ≡ false)
+nothing_asked p q absent = (rw absent refl, rw absent refl)
+
+none_when : (profile : Profile) (p q : Trailer) → q.magic ≡ magics.Unset → p.image_ok ≡ flags.Set → swap_type profile p q ≡ kinds.None
+none_when profile p q absent set =
+    let asks = nothing_asked p q absent in
+    (types_are_rows profile p q kinds.None).1 (asks.0, asks.1, third_fails (is_good p.magic) (reverts_at profile q.magic) (is_unset p.image_ok) (is_set p.copy_done) (ap is_unset set))
+
+none_at_all : (profile : Profile) (p q : Trailer) → p.magic ≡ magics.Unset → q.magic ≡ magics.Unset → (resumes p q ≡ false) × (swap_type profile p q ≡ kinds.None)
+none_at_all profile p q absent_p absent_q =
+    let asks = nothing_asked p q absent_q in
+    (rw absent_p refl, (types_are_rows profile p q kinds.None).1 (asks.0, asks.1, rw absent_p refl))
+
+-- a plan where the boot does not resume
+new_is : (r : Rules) (g : Geometry) (s : Content) (kind : SwapType) (p : Plan) → is_resumed g s ≡ false → table_of r.profile g s ≡ kind → new_plan r.grain g (images_of s) kind ≡ p → plan r g s ≡ p
+new_is r g s kind p not_so of is = plan_new r g s not_so ∙ ap (new_plan r.grain g (images_of s)) of ∙ is
+
+pub swap_of : (b : Bool) (kind : SwapType) → IsSwapOf b kind → is_test kind ≡ b
+swap_of b kinds.Test of = sym of
+swap_of b kinds.Perm of = sym of
+swap_of b kinds.Revert of = sym of
+swap_of b kinds.None of = absurd of
+swap_of b kinds.Fail of = absurd of
+swap_of b kinds.Panic of = absurd of
+
+abbrev by_info : Grain → Geometry → Flag → Option ℕ → ℕ → ℕ → Plan
+by_info c g image_ok highest n info =
+    if info == 2 then resumed_swap c g image_ok highest kinds.Test n
+    else if info == 3 then resumed_swap c g image_ok highest kinds.Perm n
+    else if info == 4 then resumed_swap c g image_ok highest kinds.Revert n
+    else nothing kinds.None
+
+of_kind : (c : Grain) (g : Geometry) (image_ok : Flag) (highest : Option ℕ) (n : ℕ) (b : Bool) (kind : SwapType) → IsSwapOf b kind → by_info c g image_ok highest n (number_of kind) ≡ resumed_swap c g image_ok highest kind n
+of_kind c g image_ok highest n b kinds.Test of = refl
+of_kind c g image_ok highest n b kinds.Perm of = refl
+of_kind c g image_ok highest n b kinds.Revert of = refl
+of_kind c g image_ok highest n b kinds.None of = absurd of
+of_kind c g image_ok highest n b kinds.Fail of = absurd of
+of_kind c g image_ok highest n b kinds.Panic of = absurd of
+
+-- the plan of a swap that runs
+abbrev pub running : Geometry → SwapType → ℕ → ℕ → Bool → Plan
+running g kind n k erases = record { kind = kind; sectors = n; list = resumed_list g n k erases false }
+
+running_is : (c : Grain) (g : Geometry) (p : Trailer) (highest : Option ℕ) (b : Bool) (kind : SwapType) (size n k : ℕ) → IsSwapOf b kind → p.swap_info ≡ number_of kind → p.swap_size ≡ size → div_ceil size g.sector ≡ n → 0 < n → n ≤ greatest_sectors g
+    → first_left g n highest ≡ Some k → is_none highest ≡ (k == 0) → confirms kind p.image_ok ≡ false → resumed_plan c g p highest ≡ running (in_pieces c g) kind n k (k == 0)
+running_is c g p highest b kind size n k of info sized_is count some few first any settled =
+    ap (by_info c g p.image_ok highest (div_ceil p.swap_size g.sector)) info
+    ∙ of_kind c g p.image_ok highest (div_ceil p.swap_size g.sector) b kind of
+    ∙ ap (λ z. resumed_swap c g p.image_ok highest kind (div_ceil z g.sector)) sized_is
+    ∙ ap (resumed_swap c g p.image_ok highest kind) count
+    ∙ resumed_count c g p.image_ok highest kind n some few
+    ∙ ap (resumed_from c g p.image_ok highest kind n) first
+    ∙ ap (λ (e : Bool). record { kind = kind; sectors = n; list = resumed_list (in_pieces c g) n k e (confirms kind p.image_ok) }) any
+    ∙ ap (λ (e : Bool). record { kind = kind; sectors = n; list = resumed_list (in_pieces c g) n k (k == 0) e }) settled
+
+confirms_not : (b : Bool) (kind : SwapType) (image_ok : Flag) → is_test kind ≡ b → (b ≡ false → image_ok ≡ flags.Set) → confirms kind image_ok ≡ false
+confirms_not true kind image_ok of set = rw of refl
+confirms_not false kind image_ok of set = rw of (rw (set refl) refl)
+
+-- what the entries tell: the first transfer that is left, and whether any is made
+found : (g : Geometry) (n k : ℕ) (s : Content) → IsLayout g → IsSized g s → n ≤ greatest_sectors g → k ≤ 3 * n → Entries g n k s → (first_left g n (highest_entry g s) ≡ Some k) × (is_none (highest_entry g s) ≡ (k == 0))
+found g n zero s ok sized few most en = let none = entries_not g n s ok sized en in (ap (first_left g n) none, ap (λ (o : Option ℕ). is_none o) none)
+found g n (suc j) s ok sized few most en =
+    let last = entries_last g n (suc j) s ok sized (omega (arith, few)) (omega arith) most en in
+    (ap (first_left g n) last ∙ left_at g n (suc j) ok few (omega arith) most, ap (λ (o : Option ℕ). is_none o) last ∙ sym (other_number (suc j) 0 (λ e. omega (arith, e))))
+
+-- the flag in the primary while the swap runs, and at its end
+pub image_ok_is : (g : Geometry) (s : Content) (kind : SwapType) (b : Bool) → is_test kind ≡ b → FieldIs g s Primary field.ImageOk (if is_test kind then blank_fields field.ImageOk else one_unit g 1) → (trailer_of g s Primary).image_ok ≡ (if b then flags.Unset else flags.Set)
+image_ok_is g s kind true of is = reads_image_ok g s Primary 255 (replicate 7 255) (field_as g s Primary field.ImageOk _ (replicate 8 255) (ap (λ (c : Bool). if c then replicate 8 255 else one_unit g 1) of) is)
+image_ok_is g s kind false of is = reads_image_ok g s Primary 1 (replicate (g.unit - 1) 255) (field_as g s Primary field.ImageOk _ (one_unit g 1) (ap (λ (c : Bool). if c then replicate 8 255 else one_unit g 1) of) is)
+
+pub plan_under : (r : Rules) (g : Geometry) (start : Content) (size n : ℕ) (b : Bool) (kind : SwapType) (k : ℕ) (s : Content) → Swap g start size n → IsSwapOf b kind → k ≤ 3 * n → Under g start size n kind k s → plan r g s ≡ running (in_pieces r.grain g) kind n k (k == 0)
+plan_under r g start size n b kind k s w of most u =
+    let sized = u.data_.sized in
+    let good = reads_good g s Primary w.ok sized (u.primary field.Magic) in
+    let unset = reads_copy_done g s Primary 255 (replicate 7 255) (u.primary field.CopyDone) in
+    let absent = reads_absent g s Secondary w.ok sized (u.secondary field.Magic) in
+    let info = reads_info g s Primary (number_of kind) (replicate (g.unit - 1) 255) (u.primary field.SwapInfo) in
+    let sized_is = reads_size g s Primary size (replicate (g.unit - 4) 255) w.ok sized w.small (u.primary field.SwapSize) in
+    let first = found g n k s w.ok sized w.few most u.entries in
+    let settled = confirms_not b kind (trailer_of g s Primary).image_ok (swap_of b kind of)
+    (λ stays. image_ok_is g s kind false (swap_of b kind of ∙ stays) (u.primary field.ImageOk)) in
+    plan_resumed r g s (resumes_when (trailer_of g s Primary) (trailer_of g s Secondary) good unset absent)
+    ∙ running_is r.grain g (trailer_of g s Primary) (highest_entry g s) b kind size n k of info sized_is w.count w.some w.few first.0 first.1 settled
+
+-- the plan of a swap from its start
+abbrev pub starting : Grain → Geometry → SwapType → ℕ → ℕ → Plan
+starting c g kind size n = record { kind = kind; sectors = n; list = new_list c (in_pieces c g) kind size n }
+
+new_swap_is : (c : Grain) (g : Geometry) (images : Images) (kind : SwapType) (size n : ℕ) → images.valid ≡ true → images.size ≡ size → div_ceil size g.sector ≡ n → n ≤ greatest_sectors g → new_swap c g images kind ≡ starting c g kind size n
+new_swap_is c g images kind size n valid larger count few =
+    ap (λ (z : ℕ). if not images.valid || nat_lt (greatest_sectors g) (div_ceil z g.sector) then nothing kinds.Fail else record { kind = kind; sectors = div_ceil z g.sector; list = new_list c (in_pieces c g) kind z (div_ceil z g.sector) }) larger
+    ∙ ap (λ (m : ℕ). if not images.valid || nat_lt (greatest_sectors g) m then nothing kinds.Fail else record { kind = kind; sectors = m; list = new_list c (in_pieces c g) kind size m }) count
+    ∙ ap (λ (v : Bool). if not v || nat_lt (greatest_sectors g) n then nothing kinds.Fail else starting c g kind size n) valid
+    ∙ ap (λ (v : Bool). if v then nothing kinds.Fail else starting c g kind size n) (no_more (greatest_sectors g) few)
+  where
+    no_more : (most : ℕ) → n ≤ most → nat_lt most n ≡ false
+    no_more most h = grind (arith, nat_tests)
+
+-- the images that the slots begin with, as a plan sees them
+pub record SeesImages (s : Content) (size : ℕ) : Type 0 where
+  pub valid : (images_of s).valid ≡ true
+  pub larger : (images_of s).size ≡ size
+
+pub sees_images : (s : Content) (size : ℕ) → is_valid s.secondary ≡ true → larger_size s ≡ size → SeesImages s size
+unfolding images_of
+sees_images s size valid larger = record { valid = valid; larger = larger }
+
+-- what a swap that is asked for is called
+abbrev pub kind_asked : Bool → SwapType
+kind_asked b = if b then kinds.Test else kinds.Perm
+
+pub plan_asked : (r : Rules) (g : Geometry) (start : Content) (size n : ℕ) (b : Bool) (s : Content) → Swap g start size n → SeesImages s size → Asked g start n b s → plan r g s ≡ starting r.grain g (kind_asked b) size n
+plan_asked r g start size n b s w sees u =
+    let good = reads_good g s Secondary w.ok u.data_.sized (u.secondary field.Magic) in
+    new_is r g s (kind_asked b) (starting r.grain g (kind_asked b) size n) (not_when_asked (trailer_of g s Primary) (trailer_of g s Secondary) good) (table b good u.secondary) (swap b)
+  where
+    table : (e : Bool) → (trailer_of g s Secondary).magic ≡ magics.Good → FieldsAre g s Secondary (asked e) → table_of r.profile g s ≡ kind_asked e
+    table true good are = tests_when r.profile (trailer_of g s Primary) (trailer_of g s Secondary) good (reads_image_ok g s Secondary 255 [] (are field.ImageOk))
+    table false good are = stays_when r.profile (trailer_of g s Primary) (trailer_of g s Secondary) good (reads_image_ok g s Secondary 1 [] (are field.ImageOk))
+
+    swap : (e : Bool) → new_plan r.grain g (images_of s) (kind_asked e) ≡ starting r.grain g (kind_asked e) size n
+    swap true = new_swap_is r.grain g (images_of s) kinds.Test size n sees.valid sees.larger w.count w.few
+    swap false = new_swap_is r.grain g (images_of s) kinds.Perm size n sees.valid sees.larger w.count w.few
+
+-- after a swap: the trailers decide
+pub plan_tested : (r : Rules) (g : Geometry) (s : Content) (size n : ℕ) → (trailer_of g s Primary).magic ≡ magics.Good → (trailer_of g s Primary).image_ok ≡ flags.Unset → (trailer_of g s Primary).copy_done ≡ flags.Set → reverts_at r.profile (trailer_of g s Secondary).magic ≡ true
+    → SeesImages s size → div_ceil size g.sector ≡ n → n ≤ greatest_sectors g → plan r g s ≡ starting r.grain g kinds.Revert size n
+plan_tested r g s size n good unset done reverts sees count few =
+    new_is r g s kinds.Revert (starting r.grain g kinds.Revert size n) (not_when_done (trailer_of g s Primary) (trailer_of g s Secondary) done)
+    (reverts_when r.profile (trailer_of g s Primary) (trailer_of g s Secondary) good reverts unset done)
+    (new_swap_is r.grain g (images_of s) kinds.Revert size n sees.valid sees.larger count few)
+
+pub plan_settled : (r : Rules) (g : Geometry) (s : Content) → (trailer_of g s Primary).copy_done ≡ flags.Set → (trailer_of g s Secondary).magic ≡ magics.Unset → (trailer_of g s Primary).image_ok ≡ flags.Set → plan r g s ≡ nothing kinds.None
+plan_settled r g s done absent set =
+    new_is r g s kinds.None (nothing kinds.None) (not_when_done (trailer_of g s Primary) (trailer_of g s Secondary) done) (none_when r.profile (trailer_of g s Primary) (trailer_of g s Secondary) absent set) refl
+
+-- no magic in either slot
+pub plan_none : (r : Rules) (g : Geometry) (s : Content) → (trailer_of g s Primary).magic ≡ magics.Unset → (trailer_of g s Secondary).magic ≡ magics.Unset → plan r g s ≡ nothing kinds.None
+plan_none r g s p q =
+    let none = none_at_all r.profile (trailer_of g s Primary) (trailer_of g s Secondary) p q in
+    new_is r g s kinds.None (nothing kinds.None) none.0 none.1 refl
+
+-- an unset magic is one that either profile reverts at, and any that is not good is one of the second
+pub absent_reverts : (profile : Profile) (m : Magic) → m ≡ magics.Unset → reverts_at profile m ≡ true
+absent_reverts profiles.One m is = ap (reverts_at profiles.One) is
+absent_reverts profiles.Two m is = ap (reverts_at profiles.Two) is
+
+pub quiet_reverts : (c : Grain) (profile : Profile) (g : Geometry) (s : Content) → forgets_reverts c profile ≡ false → IsLayout g → IsSized g s → Quiet c g s → reverts_at profile (trailer_of g s Secondary).magic ≡ true
+quiet_reverts grains.Call profile g s keeps ok sized quiet = absent_reverts profile (trailer_of g s Secondary).magic (reads_absent g s Secondary ok sized quiet)
+quiet_reverts grains.Unit profiles.One g s keeps ok sized quiet = absurd cc
+quiet_reverts grains.Unit profiles.Two g s keeps ok sized quiet = ap not (reads_not_good g s Secondary quiet)
+
+pub plan_waiting : (r : Rules) (g : Geometry) (start : Content) (size n : ℕ) (s : Content) → forgets_reverts r.grain r.profile ≡ false → Swap g start size n → SeesImages s size → Waiting r.grain g start n s → plan r g s ≡ starting r.grain g kinds.Revert size n
+plan_waiting r g start size n s keeps w sees is =
+    plan_tested r g s size n
+    (reads_good g s Primary w.ok is.data_.sized (is.primary field.Magic))
+    (reads_image_ok g s Primary 255 [] (is.primary field.ImageOk))
+    (reads_copy_done g s Primary 1 [] (is.primary field.CopyDone))
+    (quiet_reverts r.grain r.profile g s keeps w.ok is.data_.sized is.quiet)
+    sees w.count w.few

@@ -1,0 +1,276 @@
+-- The restart law.
+use Rattle.std.specs.Prelude.{◌≡◌, ◌≢◌, ℕ, ◌-◌, Bool, true, false, if◌then◌else◌, List, [], ◌++◌, length, replicate, Option, Some, option_map, refl}
+use Rattle.std.proofs.Common.{sym, ap, subst, ◌∙◌}
+use Rattle.mc_boot.proofs.BootsKeep.{phase_swaps, waiting_swaps}
+use Rattle.mc_boot.proofs.Fronts.{larger_end}
+use Rattle.mc_boot.proofs.InPieces.{asked_pieces, exchanged_pieces, pieces_again, swap_pieces, waiting_pieces}
+use Rattle.mc_boot.proofs.Keeps.{Keeps, restart}
+use Rattle.mc_boot.proofs.PhasePlans.{plan_none, swap_of}
+use Rattle.mc_boot.proofs.Phases.{Ended, Phase, Swap, Waiting, asked, asks, closed, larger_size, tested, unasked, waits}
+use Rattle.mc_boot.proofs.SameImages.{ImageLaws, SameImage, has_same, same_then}
+use Rattle.mc_boot.proofs.StartBytes.{Holding, count_of, primary_image, secondary_image, swap_held}
+use Rattle.mc_boot.proofs.Starts.{perm_asked, perm_holds, placed_holds, placed_unasked, test_asked, test_holds}
+use Rattle.mc_boot.proofs.SwapEnds.{BootsSwap, crossed, exchanges, settled_end, settled_on, swap_ends, tested_end, tested_on}
+use Rattle.mc_boot.proofs.WholeBoots.{ends}
+use Rattle.mc_boot.specs.Outcome.{outcome_of, report, result_of}
+use Rattle.mc_boot.specs.Plan.{Plan, nothing, plain, plan}
+use Rattle.mc_boot.specs.Restart.{AreExchanged, BeginsImage, EndsIn, Holds, IsSettled, IsSwapped, IsTested, RestartLaw, StartsExist, forgets_reverts}
+use Rattle.mc_boot.specs.RunFacts.{left_defined}
+use Rattle.mc_boot.specs.Runs.{after, is_faulted, left_by, ops_of}
+use Rattle.mc_boot.specs.Start.{StartKind, image_bytes, named, no_swap, other, perm, perm_flash, placed, revert, start_flash, test, test_flash}
+use Rattle.mc_boot.specs.declared.outcome.BootResult.{BootResult}
+use Rattle.mc_flash.specs.Content.{Content}
+use Rattle.mc_flash.specs.Geometry.{Geometry, IsLayout}
+use Rattle.mc_flash.specs.Pieces.{in_pieces}
+use Rattle.mc_flash.specs.declared.flash.Grain.{Grain}
+use Rattle.mc_image.specs.Valid.{is_valid}
+use Rattle.mc_trailer.specs.FieldFacts.{FieldsAre, blank_fields, fields_front, reads_absent}
+use Rattle.mc_trailer.specs.Fields.{one_unit}
+use Rattle.mc_trailer.specs.declared.places.Field.{Field}
+use Rattle.mc_trailer.specs.declared.tables.Profile.{Profile}
+use Rattle.mc_trailer.specs.declared.tables.Rules.{Rules}
+use Rattle.mc_trailer.specs.declared.tables.SwapType.{SwapType}
+use Rattle.mc_boot.specs.declared.outcome.BootResult.TheVariants as results
+use Rattle.mc_trailer.specs.declared.places.Field.TheVariants as field
+use Rattle.mc_trailer.specs.declared.tables.SwapType.TheVariants as kinds
+use Rattle.mc_flash.specs.declared.flash.Grain.TheVariants as grains
+use Rattle.mc_trailer.specs.declared.tables.Profile.TheVariants as profiles
+use Rattle.mc_flash.specs.declared.op.Slot.TheVariants.{Primary, Secondary}
+
+-- the same image, whole
+held_whole : (a xs : List ℕ) → SameImage a xs → Holds a xs
+held_whole a xs same = record { id = same.id; whole = same.front }
+
+-- a boot that is not faulted and does not panic boots what it left, where that is valid
+calm_boots : (kind : SwapType) → kind ≢ kinds.Panic → result_of kind false true ≡ results.Boot
+calm_boots kinds.None calm = refl
+calm_boots kinds.Test calm = refl
+calm_boots kinds.Perm calm = refl
+calm_boots kinds.Revert calm = refl
+calm_boots kinds.Fail calm = refl
+calm_boots kinds.Panic calm = absurd (calm refl)
+
+boots_so : (r : Rules) (g : Geometry) (u z : Content) → left_by r g u ≡ Some z → is_faulted r g u ≡ false → (plan r g u).kind ≢ kinds.Panic → is_valid z.primary ≡ true → option_map (λ o. o.result) (outcome_of r g u) ≡ Some results.Boot
+unfolding outcome_of report
+boots_so r g u z end whole calm valid =
+    let kind : SwapType = (plan r g u).kind in
+    ap (λ (x : Option Content). option_map (λ o. o.result) (option_map (λ y. report r g (plan r g u).kind (length (ops_of r g u)) (is_faulted r g u) y) x)) end
+    ∙ ap (λ (e : Bool). Some (result_of (plan r g u).kind e (is_valid z.primary))) whole
+    ∙ ap (λ (e : Bool). Some (result_of (plan r g u).kind false e)) valid
+    ∙ ap (λ (e : BootResult). Some e) (calm_boots (plan r g u).kind calm)
+
+-- no swap
+idle_at : (r : Rules) (g : Geometry) (a b : List ℕ) → ImageLaws → IsLayout g → BeginsImage g a → BeginsImage g b → plan r g (placed g (image_bytes a) (image_bytes b)) ≡ nothing kinds.None
+idle_at r g a b laws ok at_a at_b =
+    let sized = (placed_holds g a b laws ok at_a at_b).sized in
+    plan_none r g (placed g (image_bytes a) (image_bytes b))
+    (reads_absent g (placed g (image_bytes a) (image_bytes b)) Primary ok sized (placed_unasked g a b Primary laws ok at_a at_b field.Magic))
+    (reads_absent g (placed g (image_bytes a) (image_bytes b)) Secondary ok sized (placed_unasked g a b Secondary laws ok at_a at_b field.Magic))
+
+stays_idle : (r : Rules) (g : Geometry) (a b : List ℕ) (s u : Content) (cuts : List ℕ) → plan r g s ≡ nothing kinds.None → SameImage a s.primary → SameImage b s.secondary → after r g s cuts ≡ Some u → (z : Content) × EndsIn r g no_swap a b s u z
+stays_idle r g a b s u cuts idle one two is =
+    let P : Content → Type 0 = λ t. t ≡ s in
+    let stays : (t : Content) → t ≡ s → Keeps g P (plan r g t).list t P = λ t same. (
+    let E : Plan → Type 0 = λ p. Keeps g P p.list t P in
+    let at_t : plan r g t ≡ nothing kinds.None = ap (plan r g) same ∙ idle in
+    subst E (sym at_t) same) in
+    let there : u ≡ s = restart r g P P stays cuts s u refl is in
+    let end = ends r g P P u (stays u there) in
+    let at_u : plan r g u ≡ nothing kinds.None = ap (plan r g) there ∙ idle in
+    let calm : (plan r g u).kind ≢ kinds.Panic = λ panic. no_panic (sym (ap (λ (p : Plan). p.kind) at_u) ∙ panic) in
+    let valid : is_valid end.0.primary ≡ true = ap (λ (t : Content). is_valid t.primary) end.1.so ∙ one.valid in (
+      end.0,
+      record {
+        end = end.1.end;
+        whole = end.1.whole;
+        calm = calm;
+        boots = valid;
+        result = boots_so r g u end.0 end.1.end end.1.whole calm valid;
+        primary = let E : Content → Type 0 = λ t. Holds a t.primary in subst E (sym end.1.so) (held_whole a s.primary one);
+        secondary = let E : Content → Type 0 = λ t. Holds b t.secondary in subst E (sym end.1.so) (held_whole b s.secondary two);
+        swapped = ap (λ (p : Plan). p.list) at_u;
+      },
+    )
+  where
+    no_panic : kinds.None ≡ kinds.Panic → ⊥
+    no_panic e = cc
+
+-- the trailers after a test, and after a swap that stays
+abbrev AtEnd : Bool → Rules → Geometry → Content → Type 0
+AtEnd true r g z = IsTested r g z
+AtEnd false r g z = IsSettled r g z
+
+-- The swap of a start, after every list of cuts. x is what the secondary held at first, and y what the primary held.
+record Law (r : Rules) (g : Geometry) (b : Bool) (x y : List ℕ) (s u z : Content) : Type 0 where
+  end : left_by r g u ≡ Some z
+  whole : is_faulted r g u ≡ false
+  calm : (plan r g u).kind ≢ kinds.Panic
+  primary : SameImage x z.primary
+  secondary : SameImage y z.secondary
+  exchange : AreExchanged g (plan r g s).sectors s z
+  trailer : AtEnd b r g z
+
+trailer_at_end : (c : Grain) (p : Profile) (g : Geometry) (s : Content) (size n : ℕ) (b : Bool) (z : Content) → Swap (in_pieces c g) s size n → Ended (in_pieces c g) s size n b z → AtEnd b (record { grain = c; profile = p }) g z
+trailer_at_end c p g s size n true z w e = tested_on c p g z (tested_end (record { grain = c; profile = p }) (in_pieces c g) s size n z w e)
+trailer_at_end c p g s size n false z w e = settled_on c p g z (settled_end (record { grain = c; profile = p }) (in_pieces c g) s size n z w e)
+
+law : (R : Content → Type 0) (c : Grain) (p : Profile) (g : Geometry) (b : Bool) (x y : List ℕ) (s u : Content) (size n : ℕ) (cuts : List ℕ) → Swap g s size n → BootsSwap R c p g s size n b → Phase R (in_pieces c g) s size n b s
+    → SameImage x s.secondary → SameImage y s.primary → after (record { grain = c; profile = p }) g s cuts ≡ Some u → (z : Content) × Law (record { grain = c; profile = p }) g b x y s u z
+law R c p g b x y s u size n cuts w boots begin at_x at_y is =
+    let end = swap_ends R c p g s size n b cuts u boots begin is in
+    let made = end.1.ends.so in
+    let pieces = swap_pieces c g s size n w in
+    let held = crossed (in_pieces c g) s size n made.0 end.0 pieces made.2 in
+    let E : ℕ → Type 0 = λ m. AreExchanged g m s end.0 in (
+      end.0,
+      record {
+        end = end.1.ends.end;
+        whole = end.1.ends.whole;
+        calm = end.1.calm;
+        primary = same_then x s.secondary end.0.primary at_x held.primary;
+        secondary = same_then y s.primary end.0.secondary at_y held.secondary;
+        exchange = subst E (sym end.1.sectors) (exchanged_pieces c g n s end.0 (exchanges (in_pieces c g) s size n made.0 end.0 pieces made.2));
+        trailer = trailer_at_end c p g s size n b end.0 pieces made;
+      },
+    )
+
+ended : (r : Rules) (g : Geometry) (kind : StartKind) (c : Bool) (a b : List ℕ) (s u z : Content) → named kind a b ≡ b → other kind a b ≡ a → Law r g c b a s u z → IsSwapped r g kind s u z → EndsIn r g kind a b s u z
+ended r g kind c a b s u z is_named is_other l swapped = record {
+  end = l.end;
+  whole = l.whole;
+  calm = l.calm;
+  boots = l.primary.valid;
+  result = boots_so r g u z l.end l.whole l.calm l.primary.valid;
+  primary = let E : List ℕ → Type 0 = λ x. Holds x z.primary in subst E (sym is_named) (held_whole b z.primary l.primary);
+  secondary = let E : List ℕ → Type 0 = λ x. Holds x z.secondary in subst E (sym is_other) (held_whole a z.secondary l.secondary);
+  swapped = swapped;
+}
+
+-- Nothing is before a test or an upgrade that was asked for.
+abbrev Nothing : Content → Type 0
+Nothing s = ⊥
+
+asked_boots : (c : Grain) (p : Profile) (g : Geometry) (s : Content) (size n : ℕ) (b : Bool) → Swap g s size n → BootsSwap Nothing c p g s size n b
+asked_boots c p g s size n b w = phase_swaps Nothing (record { grain = c; profile = p }) (in_pieces c g) s size n b (pieces_again c g) (swap_pieces c g s size n w) (λ t none. absurd none)
+
+asked_law : (c : Grain) (p : Profile) (g : Geometry) (e : Bool) (a b : List ℕ) (s u : Content) (cuts : List ℕ) → ImageLaws → IsLayout g → BeginsImage g a → BeginsImage g b → Holding g a b s → FieldsAre g s Secondary (asked e)
+    → after (record { grain = c; profile = p }) g s cuts ≡ Some u → (z : Content) × Law (record { grain = c; profile = p }) g e b a s u z
+asked_law c p g e a b s u cuts laws ok at_a at_b h are is =
+    let w = swap_held g a b s laws ok at_a at_b h in
+    law Nothing c p g e b a s u (larger_size s) (count_of g s) cuts w (asked_boots c p g s (larger_size s) (count_of g s) e w)
+    (asks Nothing (in_pieces c g) s (larger_size s) (count_of g s) e s (asked_pieces c g s (count_of g s) e h.sized are))
+    (secondary_image g a b s laws ok at_b h) (primary_image g a b s laws ok at_a h) is
+
+-- a revert: from what a test of the images exchanged leaves
+record Reverts (g : Geometry) (a b : List ℕ) (size n : ℕ) (s : Content) : Type 0 where
+  swap : Swap g s size n
+  tested_is : FieldsAre g s Primary tested
+  unasked_is : FieldsAre g s Secondary unasked
+  primary : SameImage a s.primary
+  secondary : SameImage b s.secondary
+
+tested_fields : (g : Geometry) (start : Content) (size n : ℕ) (z : Content) (e : Ended g start size n true z) → FieldsAre g z Primary tested
+tested_fields g start size n z e = fields_front g z Primary (closed g e.0 size) tested less e.2.primary
+  where
+    less : (f : Field) → (rest : List ℕ) × (closed g e.0 size f ≡ tested f ++ rest)
+    less field.Magic = ([], refl)
+    less field.ImageOk = (replicate 7 255, ap (λ (c : Bool). if c then blank_fields field.ImageOk else one_unit g 1) (swap_of true e.0 e.1))
+    less field.CopyDone = (replicate (g.unit - 1) 255, refl)
+    less field.SwapInfo = (_, refl)
+    less field.SwapSize = (_, refl)
+
+swapped_back : (g : Geometry) (start : Content) (size n : ℕ) (z : Content) → Swap g start size n → (e : Ended g start size n true z) → Swap g z size n
+swapped_back g start size n z w e =
+    let held = crossed g start size n e.0 z w e.2 in
+    record {
+      laws = w.laws;
+      ok = w.ok;
+      sized = e.2.data_.sized;
+      primary = has_same start.secondary z.primary w.secondary held.primary;
+      secondary = has_same start.primary z.secondary w.primary held.secondary;
+      larger = (larger_end g start size n z w e.2.data_).1;
+      count = w.count;
+      some = w.some;
+      few = w.few;
+      small = w.small;
+    }
+
+test_leaves : (g : Geometry) (a b : List ℕ) (s : Content) → ImageLaws → IsLayout g → BeginsImage g a → BeginsImage g b → Holding g b a s → FieldsAre g s Secondary (asked true)
+    → (z : Content) × (left_by plain g s ≡ Some z) × Reverts g a b (larger_size s) (count_of g s) z
+test_leaves g a b s laws ok at_a at_b h are =
+    let w = swap_held g b a s laws ok at_b at_a h in
+    let end = swap_ends Nothing grains.Call profiles.One g s (larger_size s) (count_of g s) true [] s (asked_boots grains.Call profiles.One g s (larger_size s) (count_of g s) true w)
+    (asks Nothing g s (larger_size s) (count_of g s) true s (asked_pieces grains.Call g s (count_of g s) true h.sized are)) refl in
+    let made = end.1.ends.so in
+    let held = crossed g s (larger_size s) (count_of g s) made.0 end.0 w made.2 in (
+      end.0,
+      end.1.ends.end,
+      record {
+        swap = swapped_back g s (larger_size s) (count_of g s) end.0 w made;
+        tested_is = tested_fields g s (larger_size s) (count_of g s) end.0 made;
+        unasked_is = made.2.secondary;
+        primary = same_then a s.secondary end.0.primary (secondary_image g b a s laws ok at_a h) held.primary;
+        secondary = same_then b s.primary end.0.secondary (primary_image g b a s laws ok at_b h) held.secondary;
+      },
+    )
+
+revert_law : (c : Grain) (p : Profile) (g : Geometry) (a b : List ℕ) (s u : Content) (size n : ℕ) (cuts : List ℕ) → forgets_reverts c p ≡ false → Reverts g a b size n s → after (record { grain = c; profile = p }) g s cuts ≡ Some u
+    → (z : Content) × Law (record { grain = c; profile = p }) g false b a s u z
+revert_law c p g a b s u size n cuts keeps from is =
+    let w = from.swap in
+    let R : Content → Type 0 = Waiting c (in_pieces c g) s n in
+    let pieces = swap_pieces c g s size n w in
+    law (Waiting c (in_pieces c g) s n) c p g false b a s u size n cuts w
+    (phase_swaps (Waiting c (in_pieces c g) s n) (record { grain = c; profile = p }) (in_pieces c g) s size n false (pieces_again c g) pieces
+    (waiting_swaps (record { grain = c; profile = p }) (in_pieces c g) s size n (pieces_again c g) keeps pieces))
+    (waits (Waiting c (in_pieces c g) s n) (in_pieces c g) s size n false s (waiting_pieces c g s n w.sized from.tested_is from.unasked_is))
+    from.secondary from.primary is
+
+-- for every kind
+same_content : (s t : Content) → Some s ≡ Some t → s ≡ t
+same_content s t e = cc
+
+law_none : (r : Rules) (g : Geometry) (a b : List ℕ) (s u : Content) (cuts : List ℕ) → ImageLaws → IsLayout g → BeginsImage g a → BeginsImage g b → placed g (image_bytes a) (image_bytes b) ≡ s → after r g s cuts ≡ Some u → (z : Content) × EndsIn r g no_swap a b s u z
+law_none r g a b s u cuts laws ok at_a at_b start is =
+    let h = placed_holds g a b laws ok at_a at_b in
+    let E : Content → Type 0 = λ t. (plan r g t ≡ nothing kinds.None) × SameImage a t.primary × SameImage b t.secondary in
+    let there = subst E start (idle_at r g a b laws ok at_a at_b, primary_image g a b (placed g (image_bytes a) (image_bytes b)) laws ok at_a h, secondary_image g a b (placed g (image_bytes a) (image_bytes b)) laws ok at_b h) in
+    stays_idle r g a b s u cuts there.0 there.1 there.2 is
+
+law_test : (r : Rules) (g : Geometry) (a b : List ℕ) (s u : Content) (cuts : List ℕ) → ImageLaws → IsLayout g → BeginsImage g a → BeginsImage g b → test_flash g (image_bytes a) (image_bytes b) ≡ s → after r g s cuts ≡ Some u → (z : Content) × EndsIn r g test a b s u z
+law_test r g a b s u cuts laws ok at_a at_b start is =
+    let E : Content → Type 0 = λ t. Holding g a b t × FieldsAre g t Secondary (asked true) in
+    let there = subst E start (test_holds g a b laws ok at_a at_b, test_asked g a b laws ok at_b) in
+    let end = asked_law r.grain r.profile g true a b s u cuts laws ok at_a at_b there.0 there.1 is in
+    (end.0, ended r g test true a b s u end.0 refl refl end.1 (end.1.exchange, end.1.trailer))
+
+law_perm : (r : Rules) (g : Geometry) (a b : List ℕ) (s u : Content) (cuts : List ℕ) → ImageLaws → IsLayout g → BeginsImage g a → BeginsImage g b → perm_flash g (image_bytes a) (image_bytes b) ≡ s → after r g s cuts ≡ Some u → (z : Content) × EndsIn r g perm a b s u z
+law_perm r g a b s u cuts laws ok at_a at_b start is =
+    let E : Content → Type 0 = λ t. Holding g a b t × FieldsAre g t Secondary (asked false) in
+    let there = subst E start (perm_holds g a b laws ok at_a at_b, perm_asked g a b laws ok at_b) in
+    let end = asked_law r.grain r.profile g false a b s u cuts laws ok at_a at_b there.0 there.1 is in
+    (end.0, ended r g perm false a b s u end.0 refl refl end.1 (end.1.exchange, end.1.trailer))
+
+law_revert : (r : Rules) (g : Geometry) (a b : List ℕ) (s u : Content) (cuts : List ℕ) → ImageLaws → IsLayout g → BeginsImage g a → BeginsImage g b → forgets_reverts r.grain r.profile ≡ false → left_by plain g (test_flash g (image_bytes b) (image_bytes a)) ≡ Some s → after r g s cuts ≡ Some u → (z : Content) × EndsIn r g revert a b s u z
+law_revert r g a b s u cuts laws ok at_a at_b keeps start is =
+    let left = test_leaves g a b (test_flash g (image_bytes b) (image_bytes a)) laws ok at_a at_b (test_holds g b a laws ok at_b at_a) (test_asked g b a laws ok at_a) in
+    let same : left.0 ≡ s = same_content left.0 s (sym left.1 ∙ start) in
+    let size : ℕ = larger_size (test_flash g (image_bytes b) (image_bytes a)) in
+    let n : ℕ = count_of g (test_flash g (image_bytes b) (image_bytes a)) in
+    let E : Content → Type 0 = λ t. Reverts g a b (larger_size (test_flash g (image_bytes b) (image_bytes a))) (count_of g (test_flash g (image_bytes b) (image_bytes a))) t in
+    let end = revert_law r.grain r.profile g a b s u (larger_size (test_flash g (image_bytes b) (image_bytes a))) (count_of g (test_flash g (image_bytes b) (image_bytes a))) cuts keeps (subst E same left.2) is in
+    (end.0, ended r g revert false a b s u end.0 refl refl end.1 (end.1.exchange, end.1.trailer))
+
+pub restart_law : ImageLaws → (r : Rules) → RestartLaw r
+unfolding start_flash
+restart_law laws r g no_swap a b s u cuts ok at_a at_b keeps start is = law_none r g a b s u cuts laws ok at_a at_b (same_content (placed g (image_bytes a) (image_bytes b)) s start) is
+restart_law laws r g test a b s u cuts ok at_a at_b keeps start is = law_test r g a b s u cuts laws ok at_a at_b (same_content (test_flash g (image_bytes a) (image_bytes b)) s start) is
+restart_law laws r g perm a b s u cuts ok at_a at_b keeps start is = law_perm r g a b s u cuts laws ok at_a at_b (same_content (perm_flash g (image_bytes a) (image_bytes b)) s start) is
+restart_law laws r g revert a b s u cuts ok at_a at_b keeps start is = law_revert r g a b s u cuts laws ok at_a at_b (keeps refl) start is
+
+pub starts_exist : StartsExist
+unfolding start_flash
+starts_exist g no_swap a b ok at_a at_b = (placed g (image_bytes a) (image_bytes b), refl)
+starts_exist g test a b ok at_a at_b = (test_flash g (image_bytes a) (image_bytes b), refl)
+starts_exist g perm a b ok at_a at_b = (perm_flash g (image_bytes a) (image_bytes b), refl)
+starts_exist g revert a b ok at_a at_b = left_defined plain g (test_flash g (image_bytes b) (image_bytes a))

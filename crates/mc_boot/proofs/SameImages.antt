@@ -1,0 +1,110 @@
+-- All that a swap uses of images: bytes that agree with a valid image as far as it goes begin with it too.
+use Rattle.std.specs.Prelude.{◌≡◌, ℕ, ◌<◌, ◌≤◌, ◌&&◌, Bool, true, false, if◌then◌else◌, List, length, take, slice_index, Option, Some, None, is_none, refl}
+use Rattle.std.proofs.Common.{arith, sym, ap, ◌∙◌}
+use Rattle.std.proofs.lemmas.Grind.{same_number_lists}
+use Rattle.std.proofs.lemmas.List.{length-take-le, get_or-take}
+use Rattle.mc_boot.proofs.ImageFacts.{front_within, size_read}
+use Rattle.mc_boot.specs.Image.{image_size}
+use Rattle.mc_image.specs.Bytes.{IsBytes}
+use Rattle.mc_image.specs.Faults.{first_fault}
+use Rattle.mc_image.specs.Image.{Begins, Image, header_text, image_in, image_text}
+use Rattle.mc_image.specs.Valid.{Identity, id_of, identity, is_good, is_valid}
+use Rattle.mc_image.specs.declared.error.ImageError.{ImageError}
+
+-- the laws of images that it rests on
+pub record ImageLaws : Type 0 where
+  pub begins : (b : List ℕ) → IsBytes b → first_fault b ≡ None → Begins b (image_in b)
+  pub same : (b c : List ℕ) (i : Identity) → IsBytes b → id_of b ≡ Some i → take i.size c ≡ take i.size b → id_of c ≡ Some i
+
+-- two lists of one front
+pub same_fronts : (xs ys : List ℕ) (n : ℕ) → n ≤ length xs → n ≤ length ys → ((i : ℕ) → i < n → slice_index ys i ≡ slice_index xs i) → take n ys ≡ take n xs
+same_fronts xs ys n at_xs at_ys same =
+    same_number_lists (take n ys) (take n xs) (length-take-le n ys (omega (arith, at_ys)) ∙ sym (length-take-le n xs (omega (arith, at_xs))))
+    (λ i below.
+    let short : i < n = omega (arith, below, length-take-le n ys (omega (arith, at_ys))) in
+    get_or-take n ys i 0 short ∙ same i short ∙ sym (get_or-take n xs i 0 short))
+
+-- valid bytes have an identity, whose size is the image's
+pub id_valid : (b : List ℕ) → is_valid b ≡ true → id_of b ≡ Some (identity (image_in b))
+unfolding id_of
+id_valid b valid = rw valid refl
+
+same_identity : (i j : Identity) → Some i ≡ Some j → i ≡ j
+same_identity i j e = cc
+
+id_parts : (b : List ℕ) (i : Identity) → id_of b ≡ Some i → (is_valid b ≡ true) × (identity (image_in b) ≡ i)
+unfolding id_of
+id_parts b i is = go (is_valid b) refl is
+  where
+    go : (t : Bool) → is_valid b ≡ t → (if t then Some (identity (image_in b)) else None) ≡ Some i → (is_valid b ≡ true) × (identity (image_in b) ≡ i)
+    go true valid e = (valid, same_identity (identity (image_in b)) i e)
+    go false valid e = absurd cc
+
+pub no_fault : (b : List ℕ) → is_valid b ≡ true → first_fault b ≡ None
+unfolding is_valid
+no_fault b valid = go (first_fault b) refl valid
+  where
+    go : (o : Option ImageError) → first_fault b ≡ o → (is_none o && is_good (image_in b)) ≡ true → first_fault b ≡ None
+    go None e _ = e
+    go (Some x) e is = absurd cc
+
+pub size_valid : (b : List ℕ) → is_valid b ≡ true → length (image_text (image_in b)) ≡ image_size b
+size_valid b valid = size_read b (no_fault b valid)
+
+-- an image has a byte, and lies in the bytes that begin with it
+some_text : (v : Image) → 0 < length (image_text v)
+unfolding image_text header_text
+some_text v = omega arith
+
+pub some_size : (b : List ℕ) → is_valid b ≡ true → 0 < image_size b
+some_size b valid = omega (arith, size_valid b valid, some_text (image_in b))
+
+pub inside_size : (b : List ℕ) → ImageLaws → IsBytes b → is_valid b ≡ true → image_size b ≤ length b
+inside_size b laws bytes valid = omega (arith, size_valid b valid, front_within b (image_in b) (laws.begins b bytes (no_fault b valid)))
+
+-- the same image
+pub record SameImage (xs ys : List ℕ) : Type 0 where
+  pub valid : is_valid ys ≡ true
+  pub size : image_size ys ≡ image_size xs
+  pub id : id_of ys ≡ id_of xs
+  pub front : take (image_size xs) ys ≡ take (image_size xs) xs
+
+pub image_front : (xs ys : List ℕ) → ImageLaws → IsBytes xs → is_valid xs ≡ true → take (image_size xs) ys ≡ take (image_size xs) xs → SameImage xs ys
+image_front xs ys laws bytes valid front =
+    let at_xs = id_valid xs valid in
+    let size = size_valid xs valid in
+    let long : take (length (image_text (image_in xs))) ys ≡ take (length (image_text (image_in xs))) xs = ap (λ n. take n ys) size ∙ front ∙ ap (λ n. take n xs) (sym size) in
+    let at_ys = laws.same xs ys (identity (image_in xs)) bytes at_xs long in
+    let parts = id_parts ys (identity (image_in xs)) at_ys in
+    record {
+      valid = parts.0;
+      size = sym (size_valid ys parts.0) ∙ ap (λ (i : Identity). i.size) parts.1 ∙ size;
+      id = at_ys ∙ sym at_xs;
+      front = front;
+    }
+
+-- and on to a third list
+pub same_then : (xs ys zs : List ℕ) → SameImage xs ys → SameImage ys zs → SameImage xs zs
+same_then xs ys zs one two = record {
+  valid = two.valid;
+  size = two.size ∙ one.size;
+  id = two.id ∙ one.id;
+  front = ap (λ n. take n zs) (sym one.size) ∙ two.front ∙ ap (λ n. take n ys) one.size ∙ one.front;
+}
+
+-- bytes that begin with the valid image of a list of bytes
+pub record HasImage (ys : List ℕ) : Type 0 where
+  pub image : List ℕ
+  pub bytes : IsBytes image
+  pub valid : is_valid image ≡ true
+  pub same : SameImage image ys
+
+pub same_image : (ys zs : List ℕ) → ImageLaws → HasImage ys → image_size ys ≤ length ys → image_size ys ≤ length zs → ((i : ℕ) → i < image_size ys → slice_index zs i ≡ slice_index ys i) → SameImage ys zs
+same_image ys zs laws has at_ys at_zs same =
+    let front : take (image_size ys) zs ≡ take (image_size ys) ys = same_fronts ys zs (image_size ys) at_ys at_zs same in
+    let one = has.same in
+    let two = image_front has.image zs laws has.bytes has.valid (ap (λ n. take n zs) (sym one.size) ∙ front ∙ ap (λ n. take n ys) one.size ∙ one.front) in
+    record { valid = two.valid; size = two.size ∙ sym one.size; id = two.id ∙ sym one.id; front = front }
+
+pub has_same : (ys zs : List ℕ) → HasImage ys → SameImage ys zs → HasImage zs
+has_same ys zs has same = record { image = has.image; bytes = has.bytes; valid = has.valid; same = same_then has.image ys zs has.same same }

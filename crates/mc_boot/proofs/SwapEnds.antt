@@ -1,0 +1,118 @@
+-- What a swap leaves, after every list of cuts.
+use Rattle.std.specs.Prelude.{◌≡◌, ◌≢◌, ℕ, ◌-◌, Bool, true, false, List, replicate, Some}
+use Rattle.std.proofs.Common.{sym, ap, subst, ◌∙◌}
+use Rattle.mc_boot.proofs.BootsKeep.{Swaps}
+use Rattle.mc_boot.proofs.Fronts.{front_at_end, front_lists, image_there, sees_end}
+use Rattle.mc_boot.proofs.InPieces.{keeps_pieces, plan_in_pieces, trailer_pieces}
+use Rattle.mc_boot.proofs.Keeps.{Keeps, restart}
+use Rattle.mc_boot.proofs.PhasePlans.{absent_reverts, image_ok_is, plan_settled, plan_tested, swap_of}
+use Rattle.mc_boot.proofs.Phases.{Done, Ended, IsSwapOf, Phase, Swap}
+use Rattle.mc_boot.proofs.SameImages.{SameImage}
+use Rattle.mc_boot.proofs.WholeBoots.{Ends, ends}
+use Rattle.mc_boot.specs.Plan.{Plan, plan}
+use Rattle.mc_boot.specs.Restart.{AreExchanged, IsSettled, IsTested}
+use Rattle.mc_boot.specs.Runs.{after}
+use Rattle.mc_flash.specs.Content.{Content}
+use Rattle.mc_flash.specs.Geometry.{Geometry}
+use Rattle.mc_flash.specs.Pieces.{in_pieces}
+use Rattle.mc_flash.specs.declared.flash.Grain.{Grain}
+use Rattle.mc_trailer.specs.FieldFacts.{reads_absent, reads_copy_done, reads_good}
+use Rattle.mc_trailer.specs.Fields.{trailer_of}
+use Rattle.mc_trailer.specs.declared.tables.Profile.{Profile}
+use Rattle.mc_trailer.specs.declared.tables.Rules.{Rules}
+use Rattle.mc_trailer.specs.declared.tables.SwapType.{SwapType}
+use Rattle.mc_trailer.specs.declared.trailer.Trailer.{Trailer}
+use Rattle.mc_trailer.specs.declared.places.Field.TheVariants as field
+use Rattle.mc_trailer.specs.declared.tables.SwapType.TheVariants as kinds
+use Rattle.mc_flash.specs.declared.op.Slot.TheVariants.{Primary, Secondary}
+
+-- Each boot by the rules, on any layout: the phases are of the layout in pieces.
+abbrev pub BootsSwap : (Content → Type 0) → Grain → Profile → Geometry → Content → ℕ → ℕ → Bool → Type 0
+BootsSwap R c p g start size n b = (s : Content) → Phase R (in_pieces c g) start size n b s → Swaps R (record { grain = c; profile = p }) (in_pieces c g) start size n b s
+
+no_panic : (b : Bool) (kind : SwapType) → IsSwapOf b kind → kind ≢ kinds.Panic
+no_panic b kind of same = let E : SwapType → Type 0 = λ k. IsSwapOf b k in subst E same of
+
+keeps_on : (R : Content → Type 0) (c : Grain) (p : Profile) (g : Geometry) (start : Content) (size n : ℕ) (b : Bool) → BootsSwap R c p g start size n b → (s : Content) → Phase R (in_pieces c g) start size n b s
+    → Keeps g (Phase R (in_pieces c g) start size n b) (plan (record { grain = c; profile = p }) g s).list s (Ended (in_pieces c g) start size n b)
+keeps_on R c p g start size n b boots s is =
+    keeps_pieces c g (Phase R (in_pieces c g) start size n b) (Ended (in_pieces c g) start size n b) (plan (record { grain = c; profile = p }) g s).list s
+    (let E : Plan → Type 0 = λ q. Keeps (in_pieces c g) (Phase R (in_pieces c g) start size n b) q.list s (Ended (in_pieces c g) start size n b) in
+    subst E (plan_in_pieces c p g s) (boots s is).keeps)
+
+-- after every list of cuts the boot ends the swap
+pub record SwapEnds (c : Grain) (p : Profile) (g : Geometry) (start : Content) (size n : ℕ) (b : Bool) (u z : Content) : Type 0 where
+  pub ends : Ends (record { grain = c; profile = p }) g (Ended (in_pieces c g) start size n b) u z
+  pub calm : (plan (record { grain = c; profile = p }) g u).kind ≢ kinds.Panic
+  pub sectors : (plan (record { grain = c; profile = p }) g start).sectors ≡ n
+
+pub swap_ends : (R : Content → Type 0) (c : Grain) (p : Profile) (g : Geometry) (start : Content) (size n : ℕ) (b : Bool) (cuts : List ℕ) (u : Content) → BootsSwap R c p g start size n b → Phase R (in_pieces c g) start size n b start → after (record { grain = c; profile = p }) g start cuts ≡ Some u
+    → (z : Content) × SwapEnds c p g start size n b u z
+swap_ends R c p g start size n b cuts u boots begin is =
+    let at_u = restart (record { grain = c; profile = p }) g (Phase R (in_pieces c g) start size n b) (Ended (in_pieces c g) start size n b) (keeps_on R c p g start size n b boots) cuts start u begin is in
+    let end = ends (record { grain = c; profile = p }) g (Phase R (in_pieces c g) start size n b) (Ended (in_pieces c g) start size n b) u (keeps_on R c p g start size n b boots u at_u) in
+    let planned = (boots u at_u).planned in (
+      end.0,
+      record {
+        ends = end.1;
+        calm = λ same. no_panic b planned.kind planned.of (sym planned.is ∙ ap (λ (q : Plan). q.kind) (plan_in_pieces c p g u) ∙ same);
+        sectors = ap (λ (q : Plan). q.sectors) (sym (plan_in_pieces c p g start)) ∙ (boots start begin).planned.sectors;
+      },
+    )
+
+-- the images at the end
+pub record Crossed (start z : Content) : Type 0 where
+  pub primary : SameImage start.secondary z.primary
+  pub secondary : SameImage start.primary z.secondary
+
+pub crossed : (g : Geometry) (start : Content) (size n : ℕ) (kind : SwapType) (z : Content) → Swap g start size n → Done g start size n kind z → Crossed start z
+crossed g start size n kind z w done = record {
+  primary = image_there g start size n z Primary Secondary w done.data_.sized (front_at_end g start n z Primary w.ok w.few done.data_);
+  secondary = image_there g start size n z Secondary Primary w done.data_.sized (front_at_end g start n z Secondary w.ok w.few done.data_);
+}
+
+-- the sectors at the end
+pub exchanges : (g : Geometry) (start : Content) (size n : ℕ) (kind : SwapType) (z : Content) → Swap g start size n → Done g start size n kind z → AreExchanged g n start z
+exchanges g start size n kind z w done = record {
+  primary = front_lists g start n z Primary Secondary w.ok w.few w.sized done.data_.sized (front_at_end g start n z Primary w.ok w.few done.data_);
+  secondary = front_lists g start n z Secondary Primary w.ok w.few w.sized done.data_.sized (front_at_end g start n z Secondary w.ok w.few done.data_);
+}
+
+-- the trailers at the end
+pub tested_end : (r : Rules) (g : Geometry) (start : Content) (size n : ℕ) (z : Content) → Swap g start size n → (e : Ended g start size n true z) → IsTested r g z
+tested_end r g start size n z w e =
+    let done = e.2 in
+    let unset = image_ok_is g z e.0 true (swap_of true e.0 e.1) (done.primary field.ImageOk) in
+    let set = reads_copy_done g z Primary 1 (replicate (g.unit - 1) 255) (done.primary field.CopyDone) in
+    record {
+      image_ok = unset;
+      copy_done = set;
+      next = ap (λ (q : Plan). q.kind) (plan_tested r g z size n
+          (reads_good g z Primary w.ok done.data_.sized (done.primary field.Magic)) unset set
+          (absent_reverts r.profile (trailer_of g z Secondary).magic (reads_absent g z Secondary w.ok done.data_.sized (done.secondary field.Magic)))
+          (sees_end g start size n z w done.data_) w.count w.few);
+    }
+
+pub settled_end : (r : Rules) (g : Geometry) (start : Content) (size n : ℕ) (z : Content) → Swap g start size n → (e : Ended g start size n false z) → IsSettled r g z
+settled_end r g start size n z w e =
+    let done = e.2 in
+    let set = image_ok_is g z e.0 false (swap_of false e.0 e.1) (done.primary field.ImageOk) in
+    let copied = reads_copy_done g z Primary 1 (replicate (g.unit - 1) 255) (done.primary field.CopyDone) in
+    let stays = plan_settled r g z copied (reads_absent g z Secondary w.ok done.data_.sized (done.secondary field.Magic)) set in
+    record { image_ok = set; copy_done = copied; next = ap (λ (q : Plan). q.kind) stays; idle = ap (λ (q : Plan). q.list) stays }
+
+-- the same on the layout itself
+pub tested_on : (c : Grain) (p : Profile) (g : Geometry) (z : Content) → IsTested (record { grain = c; profile = p }) (in_pieces c g) z → IsTested (record { grain = c; profile = p }) g z
+tested_on c p g z is = record {
+  image_ok = ap (λ (t : Trailer). t.image_ok) (sym (trailer_pieces c g z)) ∙ is.image_ok;
+  copy_done = ap (λ (t : Trailer). t.copy_done) (sym (trailer_pieces c g z)) ∙ is.copy_done;
+  next = ap (λ (q : Plan). q.kind) (sym (plan_in_pieces c p g z)) ∙ is.next;
+}
+
+pub settled_on : (c : Grain) (p : Profile) (g : Geometry) (z : Content) → IsSettled (record { grain = c; profile = p }) (in_pieces c g) z → IsSettled (record { grain = c; profile = p }) g z
+settled_on c p g z is = record {
+  image_ok = ap (λ (t : Trailer). t.image_ok) (sym (trailer_pieces c g z)) ∙ is.image_ok;
+  copy_done = ap (λ (t : Trailer). t.copy_done) (sym (trailer_pieces c g z)) ∙ is.copy_done;
+  next = ap (λ (q : Plan). q.kind) (sym (plan_in_pieces c p g z)) ∙ is.next;
+  idle = ap (λ (q : Plan). q.list) (sym (plan_in_pieces c p g z)) ∙ is.idle;
+}

@@ -1,0 +1,19 @@
+//! The restart theorem.
+ghost use Rattle.mc_trailer.specs.declared.tables.Rules.{Rules};
+ghost use Rattle.mc_boot.specs.Restart.{StartsExist, RestartLaw};
+
+use mc_image::{one_reading, same_front};
+
+/// The restart theorem. For every layout, kind of start and pair of valid images that fit there is a start; and from it,
+/// after every list of power cuts that can occur, however long, the next boot ends what the start asked for: no operation of
+/// it is refused, it does not panic, and the image that the start names boots, whole, with the other whole in the secondary.
+///
+/// It holds by whole calls and unit by unit, and for both profiles. The one exception is a revert unit by unit in the first
+/// profile, which a cut within the secondary's magic makes the boot forget.
+pub fn restart_law()
+    ensures starts { StartsExist }
+    ensures restart { (rules : Rules) → RestartLaw rules }
+{
+    one_reading();
+    same_front();
+}
