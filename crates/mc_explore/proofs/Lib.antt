@@ -3,3 +3,4 @@ mod Left
 mod Stepping
 mod Room
 mod Reading
+mod Cutting

@@ -1,6 +1,6 @@
 -- A step of a boot that is not at its end leaves less to come.
 use Rattle.std.specs.Prelude.{◌≡◌, ℕ, ◌<◌, true, false, List, [], ◌∷◌, length, slice_get, is_some, Option, Some, None, Result, Ok, Err, refl}
-use Rattle.std.proofs.Common.{arith, sym, ap, ◌∙◌}
+use Rattle.std.proofs.Common.{arith, sym, ap, subst, ◌∙◌}
 use Rattle.mc_flash.specs.Geometry.{Geometry}
 use Rattle.mc_flash.specs.Content.{Content}
 use Rattle.mc_flash.specs.Apply.{apply}
@@ -35,3 +35,15 @@ less_to_come g p q s t result some steps fine = by p.to_come refl steps
     by : (ops : List Op) → p.to_come ≡ ops → TriesFirst g ops p q s t result → length q.to_come < length p.to_come
     by [] is d = absurd (omega (arith, some, ap (λ (ops : List Op). length ops) is))
     by (op ∷ rest) is d = shorter p q op rest s t (apply g op s) result is d fine
+
+-- Where an operation was refused nothing is to come, and the count stands.
+pub refused_here : (g : Geometry) (p q : Progress) (s t : Content) (e : FlashError) → e ≡ errors.NotErased → Steps g p q s t (Err e) → (q.to_come ≡ []) × (q.count ≡ p.count)
+refused_here g p q s t e is steps = let P : FlashError → Type 0 = λ x. Steps g p q s t (Err x) in by p.to_come (subst P is steps)
+  where
+    tries : (rest : List Op) (o : Option Content) → Tries o rest p q s t (Err errors.NotErased) → (q.to_come ≡ []) × (q.count ≡ p.count)
+    tries rest (Some given) d = absurd d
+    tries rest None d = (ap (λ (x : Progress). x.to_come) d.0, ap (λ (x : Progress). x.count) d.0)
+
+    by : (ops : List Op) → TriesFirst g ops p q s t (Err errors.NotErased) → (q.to_come ≡ []) × (q.count ≡ p.count)
+    by [] d = absurd d
+    by (op ∷ rest) d = tries rest (apply g op s) d

@@ -3,12 +3,14 @@
 
 mod boots;
 mod kind;
+mod replaying;
 mod schedule;
 mod slots;
 mod start;
 
-pub use schedule::{MOST_CUTS, Schedule, ScheduleError};
 pub use kind::Kind;
+pub use replaying::{ReplayError, replay};
+pub use schedule::{MOST_CUTS, Schedule, ScheduleError};
 pub use start::{Start, StartError};
 
 #[cfg(test)]

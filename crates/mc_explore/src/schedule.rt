@@ -96,7 +96,8 @@ impl Schedule {
 
     /// The cuts, in their order.
     pub fn cuts(&self) -> &[u32]
-        ensures { result.now ≡ self.now }
+        ensures value { result.now ≡ self.now }
+        ensures few { length result.now ≤ 16 }
     {
         &self.cuts[..self.len]
     }

@@ -1,0 +1,45 @@
+-- One schedule, cut by cut.
+use Rattle.std.specs.Prelude.{◌≡◌, ℕ, ◌+◌, ◌<◌, Bool, true, false, List, length, take, Option, Some, None, Result, Ok, Err, ⊤}
+use Rattle.mc_flash.specs.Geometry.{Geometry}
+use Rattle.mc_flash.specs.Content.{Content}
+use Rattle.mc_trailer.specs.declared.tables.Rules.{Rules}
+use Rattle.mc_boot.specs.Boot.{Progress}
+use Rattle.mc_boot.specs.Run.{HasCome}
+use Rattle.mc_boot.specs.Runs.{ops_of, cut_at, after, left_by}
+use Rattle.mc_boot.specs.Outcome.{Report, outcome_of}
+use Rattle.mc_explore.specs.declared.replaying.ReplayError.{ReplayError}
+use Rattle.mc_explore.specs.declared.replaying.ReplayError.TheVariants as errors
+
+-- One more operation happened, or no more can: those that did are all of the uncut boot.
+abbrev pub Goes : Geometry → Progress → Progress → Content → Bool → Type 0
+Goes g p q t true = q.count ≡ p.count + 1
+Goes g p q t false = (r : Rules) (s : Content) → HasCome r g s p t → length (ops_of r g s) ≡ p.count
+
+-- One more operation can happen of a boot that has come to p, or no more can.
+abbrev pub GoesOn : Geometry → Progress → Content → Bool → Type 0
+GoesOn g p t true = (r : Rules) (s : Content) → HasCome r g s p t → p.count < length (ops_of r g s)
+GoesOn g p t false = (r : Rules) (s : Content) → HasCome r g s p t → length (ops_of r g s) ≡ p.count
+
+-- The boot from s was cut there and left t, or that cut can't occur.
+abbrev pub Cuts : Rules → Geometry → Content → ℕ → Bool → Content → Type 0
+Cuts r g s cut true t = cut_at r g s cut ≡ Some t
+Cuts r g s cut false t = cut_at r g s cut ≡ None
+
+-- The cuts from s can occur, and the uncut boot from what they leave has that outcome and leaves z.
+pub record IsReplayed (r : Rules) (g : Geometry) (s : Content) (cuts : List ℕ) (outcome : Report) (z : Content) : Type 0 where
+  pub cut : Content
+  pub occurs : after r g s cuts ≡ Some cut
+  pub outcome_is : outcome_of r g cut ≡ Some outcome
+  pub left : left_by r g cut ≡ Some z
+
+-- The cuts before that place can occur, and the one there can't.
+pub record CannotOccurAt (r : Rules) (g : Geometry) (s : Content) (cuts : List ℕ) (place : ℕ) : Type 0 where
+  pub inside : place < length cuts
+  pub cut : Content
+  pub before : after r g s (take place cuts) ≡ Some cut
+  pub not_there : after r g s (take (place + 1) cuts) ≡ None
+
+-- What is refused: the first cut that can't occur, unless memory ran out.
+abbrev pub Refuses : Rules → Geometry → Content → List ℕ → ReplayError → Type 0
+Refuses r g s cuts (errors.CannotOccur place) = CannotOccurAt r g s cuts place
+Refuses r g s cuts errors.Memory = ⊤

@@ -1,0 +1,127 @@
+//! One schedule of power cuts, replayed.
+ghost use Rattle.std.specs.Prelude.{◌≡◌, Some, IfOk, IfErr, MatchResult};
+ghost use Rattle.mc_flash.specs.Content.{Content};
+ghost use Rattle.mc_trailer.specs.declared.tables.Rules.{Rules};
+ghost use Rattle.mc_boot.specs.Boot.{progress, IsBootOf};
+ghost use Rattle.mc_boot.specs.Run.{HasCome};
+ghost use Rattle.mc_boot.specs.Outcome.{shown};
+ghost use Rattle.mc_explore.specs.Replay.{Goes, GoesOn, Cuts, IsReplayed, Refuses};
+
+use crate::boots::boot_whole;
+use crate::schedule::Schedule;
+use crate::start::Start;
+use mc_boot::{Boot, Outcome};
+use mc_flash::{Flash, FlashError};
+use mc_trailer::Rules;
+use std::alloc::Global;
+use thiserror::Error;
+
+/// Why a schedule is not replayed.
+#[derive(Clone, Copy, Debug, PartialEq, Eq, Error)]
+pub enum ReplayError {
+    /// The cut at that place, counted from 0, is the first that can't occur.
+    #[error("E53 CannotOccur at {0}")]
+    CannotOccur(usize),
+    /// A growth was refused.
+    #[error("E52 Memory")]
+    Memory,
+}
+
+impl From<FlashError> for ReplayError {
+    ghost use Rattle.mc_explore.specs.declared.replaying.ReplayError.TheVariants.{Memory};
+
+    ghost from_gives = { λ _ e. e ≡ Memory };
+
+    fn from(_: FlashError) -> Self {
+        ReplayError::Memory
+    }
+}
+
+// Makes the next operation, and tells whether it happened.
+fn step_on<F: Flash>(boot: &mut Boot, flash: &mut F) -> Result<bool, FlashError>
+    requires { IsBootOf (F.geometry flash.old) boot.old }
+    ensures come { (r : Rules) (s : Content)
+        → HasCome r (F.geometry flash.old) s (progress boot.old) (F.content flash.old)
+        → HasCome r (F.geometry flash.old) s (progress boot.new) (F.content flash.new) }
+    ensures goes { IfOk result (Goes (F.geometry flash.old) (progress boot.old) (progress boot.new) (F.content flash.old)) }
+    ensures layout { IsBootOf (F.geometry flash.new) boot.new }
+    ensures geometry { F.geometry flash.new ≡ F.geometry flash.old }
+    ensures marks { F.marks flash.new ≡ F.marks flash.old }
+    ensures err { IfErr result (λ e. e ≡ FlashError.Memory) }
+{
+    if boot.peek().is_none() {
+        return Ok(false);
+    }
+    match boot.step(flash) {
+        Ok(()) => Ok(true),
+        Err(FlashError::NotErased) => Ok(false),
+        Err(FlashError::Memory) => Err(FlashError::Memory),
+    }
+}
+
+// Whether one more operation can happen. The flash stays as it is.
+fn goes_on<F: Flash>(boot: &Boot, flash: &mut F) -> Result<bool, FlashError>
+    requires { IsBootOf (F.geometry flash.old) boot.now }
+    ensures goes { IfOk result (λ went. GoesOn (F.geometry flash.old) (progress boot.now) (F.content flash.old) went) }
+    ensures content { IfOk result (λ _. F.content flash.new ≡ F.content flash.old) }
+    ensures geometry { F.geometry flash.new ≡ F.geometry flash.old }
+    ensures err { IfErr result (λ e. e ≡ FlashError.Memory) }
+{
+    let here = flash.mark()?;
+    let mut ahead = *boot;
+    let went = step_on(&mut ahead, flash)?;
+    flash.back_to(here);
+    Ok(went)
+}
+
+// Boots, and cuts the power after so many operations, where the uncut boot makes more.
+fn cut_boot<F: Flash>(flash: &mut F, rules: Rules, cut: u32) -> Result<bool, FlashError>
+    ensures cuts { IfOk result (λ went. Cuts rules (F.geometry flash.old) (F.content flash.old) cut went (F.content flash.new)) }
+    ensures geometry { F.geometry flash.new ≡ F.geometry flash.old }
+    ensures err { IfErr result (λ e. e ≡ FlashError.Memory) }
+{
+    let mut boot = Boot::cold(flash, rules);
+    'steps: for _done in 0..cut {
+        if !step_on(&mut boot, flash)? {
+            return Ok(false);
+        }
+    }
+    let went = goes_on(&boot, flash)?;
+    Ok(went)
+}
+
+/// The outcome of the uncut boot after a schedule of cuts, and the flash that it leaves.
+///
+/// # Errors
+///
+/// `CannotOccur` with the place of the first cut that is not less than the operations that its boot makes uncut; `Memory`.
+pub fn replay<F: Flash>(
+    alloc: Global,
+    start: &Start,
+    schedule: &Schedule,
+) -> Result<(Outcome, F), ReplayError>
+    ensures replayed { MatchResult result
+        (λ done. IsReplayed start.now.rules start.now.geometry start.now.content schedule.now (shown done.0) (F.content done.1))
+        (λ e. Refuses start.now.rules start.now.geometry start.now.content schedule.now e) }
+    ensures geometry { IfOk result (λ done. F.geometry done.1 ≡ start.now.geometry) }
+{
+    let rules = start.rules();
+    let cuts = schedule.cuts();
+    let boots = cuts.len() as u32 + 1;
+    let mut flash = F::load(
+        alloc,
+        start.layout(),
+        rules.grain,
+        start.primary(),
+        start.secondary(),
+        boots,
+    )?;
+    for (place, cut) in cuts.iter().enumerate() {
+        if !cut_boot(&mut flash, rules, *cut)? {
+            return Err(ReplayError::CannotOccur(place));
+        }
+    }
+    let boot = boot_whole(&mut flash, rules)?;
+    let outcome = boot.outcome(&flash);
+    Ok((outcome, flash))
+}
