@@ -11,5 +11,6 @@ pub mod Run
 pub mod RunFacts
 pub mod WriteFacts
 pub mod Outcome
+pub mod Texts
 pub mod Start
 pub mod Restart

@@ -6,6 +6,7 @@ mod course;
 mod image;
 mod outcome;
 mod restart;
+mod text;
 mod transfer;
 mod writes;
 

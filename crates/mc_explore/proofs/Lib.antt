@@ -4,3 +4,14 @@ mod Stepping
 mod Room
 mod Reading
 mod Cutting
+mod Landings
+mod Contents
+mod Wants
+mod Order
+mod Precedence
+mod Ascending
+mod Existence
+mod Stacked
+mod Steps
+mod Ends
+mod First

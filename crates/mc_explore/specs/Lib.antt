@@ -2,3 +2,11 @@ pub mod Texts
 pub mod Slots
 pub mod Start
 pub mod Replay
+pub mod Schedules
+pub mod Landing
+pub mod State
+pub mod Rest
+pub mod RowText
+pub mod Stack
+pub mod View
+pub mod Want

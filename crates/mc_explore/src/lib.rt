@@ -1,15 +1,30 @@
-//! The flashes that a swap is explored from, and the power cuts on its way.
+//! The flashes that a swap starts from, the schedules of power cuts on its way, and the explorer of all of them.
 #![tactic(auto)]
 
 mod boots;
+mod error;
+mod explorer;
+mod frames;
 mod kind;
+mod laws;
+mod phase;
 mod replaying;
+mod row;
+mod row_text;
+mod rows;
+mod run;
 mod schedule;
 mod slots;
+mod stack;
 mod start;
+mod walk;
 
+pub use error::ExploreError;
+pub use explorer::Explorer;
 pub use kind::Kind;
+pub use laws::one_list_of_rows;
 pub use replaying::{ReplayError, replay};
+pub use row::Row;
 pub use schedule::{MOST_CUTS, Schedule, ScheduleError};
 pub use start::{Start, StartError};
 

@@ -2,6 +2,8 @@
 ghost use Rattle.std.specs.Prelude.{◌≡◌, IfOk};
 ghost use Rattle.mc_flash.specs.Worked.{worked};
 
+mod exploring;
+
 use super::*;
 use mc_flash::{Layout, LayoutError};
 use mc_image::{ImageError, ImageParts, Version, write_image};

@@ -4,8 +4,8 @@ use Rattle.std.specs.Str.Parse.{digits_value, without_leading_plus}
 use Rattle.clap.specs.Words.{first_value, one_text}
 use Rattle.clap.specs.declared.parser.matches.Found.{Found}
 use Rattle.mc_flash.specs.Geometry.{Geometry, refusal_of}
-use Rattle.mc_explore.specs.declared.start.Kind.{Kind}
-use Rattle.mc_explore.specs.declared.start.Kind.TheVariants as kinds
+use Rattle.mc_explore.specs.declared.kind.Kind.{Kind}
+use Rattle.mc_explore.specs.declared.kind.Kind.TheVariants as kinds
 use Rattle.mcsim.specs.declared.options.Source.{Source}
 use Rattle.mcsim.specs.declared.options.Source.TheVariants as sources
 use Rattle.mcsim.specs.declared.refusal.Refusal.{Refusal}
@@ -50,6 +50,7 @@ abbrev pub kind_text : Kind → List ℕ
 kind_text kinds.None = codes "none"
 kind_text kinds.Test = codes "test"
 kind_text kinds.Perm = codes "perm"
+kind_text kinds.Revert = codes "revert"
 
 -- the arguments tell a flash alone, or two images and a kind
 abbrev pub TellsSource : Found → Source → Type 0

@@ -5,6 +5,8 @@ use Rattle.mc_imgtool.specs.declared.error.ToolError.{ToolError}
 use Rattle.mc_imgtool.specs.declared.error.ToolError.TheVariants as tool_errors
 use Rattle.mc_explore.specs.declared.start.StartError.{StartError}
 use Rattle.mc_explore.specs.declared.start.StartError.TheVariants as start_errors
+use Rattle.mc_explore.specs.declared.replaying.ReplayError.{ReplayError}
+use Rattle.mc_explore.specs.declared.replaying.ReplayError.TheVariants as replay_errors
 use Rattle.mcsim.specs.declared.refusal.Refusal.{Refusal}
 use Rattle.mcsim.specs.declared.refusal.Refusal.TheVariants as refusals
 
@@ -24,6 +26,11 @@ status_of_start (start_errors.ImageA image_errors.Memory) = 3
 status_of_start (start_errors.ImageB image_errors.Memory) = 3
 status_of_start _ = 1
 
+-- the status for a refused replay: 3 where memory failed
+abbrev pub status_of_replay : ReplayError → ℕ
+status_of_replay (replay_errors.CannotOccur _) = 1
+status_of_replay replay_errors.Memory = 3
+
 -- the status for a refusal: 2 where the command line is refused
 abbrev pub status_of : Refusal → ℕ
 status_of refusals.NotText = 2
@@ -31,7 +38,9 @@ status_of refusals.Argument = 2
 status_of (refusals.Version _) = 2
 status_of refusals.Source = 2
 status_of (refusals.Layout _) = 2
+status_of (refusals.Schedule _) = 2
 status_of (refusals.Start e) = status_of_start e
+status_of (refusals.Replay e) = status_of_replay e
 status_of (refusals.Flash _) = 3
 status_of (refusals.Tool e) = status_of_tool e
 status_of refusals.Open = 3

@@ -10,7 +10,7 @@ use std::alloc::{AllocError, Global};
 pub fn parse<'a>(alloc: Global, words: &'a [String]) -> Result<ArgMatches<'a>, Error> {
     let command = Command::new(alloc, "mcsim")
         .about(
-            "Makes, verifies and prints MCUboot images, and reads the flashes that they are swapped in",
+            "Makes, verifies and prints MCUboot images, and boots the flashes that they are swapped in",
         )
         .subcommand_required(true)
         .arg_required_else_help(true)
@@ -18,7 +18,9 @@ pub fn parse<'a>(alloc: Global, words: &'a [String]) -> Result<ArgMatches<'a>, E
         .subcommand(create_command(alloc)?)?
         .subcommand(verify_command(alloc)?)?
         .subcommand(dumpinfo_command(alloc)?)?
-        .subcommand(type_command(alloc)?)?;
+        .subcommand(type_command(alloc)?)?
+        .subcommand(boot_command(alloc)?)?
+        .subcommand(replay_command(alloc)?)?;
     command.try_get_matches_from(words)
 }
 
@@ -153,6 +155,35 @@ fn type_command<'a>(alloc: Global) -> Result<Command<'a>, AllocError> {
     with_source(alloc, with_layout(alloc, command)?)
 }
 
+/// `boot`: what an uncut boot does.
+fn boot_command<'a>(alloc: Global) -> Result<Command<'a>, AllocError> {
+    let command = Command::new(alloc, "boot").about("Prints what a boot that is not cut does");
+    with_source(alloc, with_layout(alloc, command)?)?.arg(out_file(alloc))
+}
+
+/// `replay`: what the boot after a schedule does.
+fn replay_command<'a>(alloc: Global) -> Result<Command<'a>, AllocError> {
+    let command = Command::new(alloc, "replay").about(
+        "Cuts the power as a schedule tells, and prints what the boot after it does",
+    );
+    with_source(alloc, with_layout(alloc, command)?)?
+        .arg(
+            Arg::new(alloc, "schedule")
+                .long("schedule")
+                .value_name("S")
+                .required(true)
+                .help("- for no cut, or for each cut, after how many operations it falls: 9.4"),
+        )?
+        .arg(out_file(alloc))
+}
+
+fn out_file<'a>(alloc: Global) -> Arg<'a> {
+    Arg::new(alloc, "out")
+        .long("out")
+        .value_name("FILE")
+        .help("The file that the flash which is left is written to, the primary's bytes first")
+}
+
 /// A command with the six numbers of a layout.
 fn with_layout<'a>(alloc: Global, command: Command<'a>) -> Result<Command<'a>, AllocError> {
     command
@@ -178,7 +209,7 @@ fn layout_number<'a>(alloc: Global, name: &'static str, help: &'static str) -> A
 }
 
 /// The swaps that a start may ask for.
-static KINDS: [&str; 3] = ["none", "test", "perm"];
+static KINDS: [&str; 4] = ["none", "test", "perm", "revert"];
 
 /// A command with the options of a source: a flash, or two images and what they ask for.
 fn with_source<'a>(alloc: Global, command: Command<'a>) -> Result<Command<'a>, AllocError> {
@@ -193,7 +224,7 @@ fn with_source<'a>(alloc: Global, command: Command<'a>) -> Result<Command<'a>, A
                 .long("kind")
                 .value_name("KIND")
                 .value_parser(KINDS.as_slice())
-                .help("The swap that the secondary's trailer asks for"),
+                .help("The swap that the flash asks for"),
         )?
         .arg(source_file(alloc, "image-a", "The file of the image in the primary"))?
         .arg(source_file(alloc, "image-b", "The file of the image in the secondary"))

@@ -2,5 +2,6 @@
 pub mod create;
 pub mod dumpinfo;
 mod infile;
+pub mod replay;
 pub mod trailers;
 pub mod verify;

@@ -1,4 +1,4 @@
-//! The program `mcsim`: the command line over the image tool and the flashes.
+//! The program `mcsim`: the command line over the image tool, the flashes and the boots.
 #![tactic(auto)]
 
 ghost use Rattle.std.specs.Prelude.{◌≤◌};
@@ -74,6 +74,11 @@ fn run_command<F: Files, R: Read, O: Write>(
             commands::dumpinfo::run(files, alloc, arguments, input, out)
         }
         Some(("type", arguments)) => commands::trailers::run(files, alloc, arguments, out),
+        Some(("boot", arguments)) => commands::replay::run(files, alloc, arguments, "-", out),
+        Some(("replay", arguments)) => {
+            let schedule = options::required(arguments, "schedule")?;
+            commands::replay::run(files, alloc, arguments, schedule, out)
+        }
         _ => Err(Refusal::Argument),
     }
 }

@@ -157,7 +157,7 @@ pub fn layout_options(arguments: &ArgMatches<'_>) -> Result<Layout, Refusal>
 pub enum Source<'a> {
     /// A file of the bytes of both slots.
     Flash(&'a str),
-    /// Two files of images, and what the secondary's trailer asks for.
+    /// Two files of images, and what the flash asks a boot for.
     Images { kind: Kind, a: &'a str, b: &'a str },
 }
 
@@ -169,6 +169,7 @@ fn kind_of(text: &str) -> Option<Kind>
         "none" => Some(Kind::None),
         "test" => Some(Kind::Test),
         "perm" => Some(Kind::Perm),
+        "revert" => Some(Kind::Revert),
         _ => None,
     }
 }

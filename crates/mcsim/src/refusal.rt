@@ -2,7 +2,7 @@
 ghost use Rattle.std.specs.Prelude.{◌≡◌, ◌≤◌};
 ghost use Rattle.mcsim.specs.Statuses.{status_of};
 
-use mc_explore::StartError;
+use mc_explore::{ReplayError, ScheduleError, StartError};
 use mc_flash::{FlashError, LayoutError};
 use mc_image::{ImageError, VersionError};
 use mc_imgtool::ToolError;
@@ -27,9 +27,15 @@ pub enum Refusal {
     /// The numbers of a layout are refused.
     #[error(transparent)]
     Layout(#[from] LayoutError),
+    /// The text of a schedule is refused.
+    #[error(transparent)]
+    Schedule(#[from] ScheduleError),
     /// The images or the bytes of a source are refused.
     #[error(transparent)]
     Start(#[from] StartError),
+    /// The schedule is not replayed.
+    #[error(transparent)]
+    Replay(#[from] ReplayError),
     /// The flash refuses.
     #[error(transparent)]
     Flash(#[from] FlashError),
@@ -59,7 +65,8 @@ impl Refusal {
             | Refusal::Argument
             | Refusal::Version(_)
             | Refusal::Source
-            | Refusal::Layout(_) => 2,
+            | Refusal::Layout(_)
+            | Refusal::Schedule(_) => 2,
             Refusal::Start(error) => match error {
                 StartError::Memory
                 | StartError::ImageA(ImageError::Memory)
@@ -68,6 +75,10 @@ impl Refusal {
                 | StartError::ImageB(_)
                 | StartError::DoesNotFit
                 | StartError::FlashSize => 1,
+            },
+            Refusal::Replay(error) => match error {
+                ReplayError::CannotOccur(_) => 1,
+                ReplayError::Memory => 3,
             },
             Refusal::Tool(error) => match error {
                 ToolError::Image(ImageError::Memory)

@@ -1,4 +1,5 @@
 //! Whole command lines, through `run`.
+mod boots;
 mod creation;
 mod faults;
 mod faulty;

@@ -81,7 +81,7 @@ pub fn create_words<'a>(version: &'a str, infile: &'a str, outfile: &'a str) -> 
     ]
 }
 
-/// A command line over the files `in` and `out`, and how it is to end. Other files are missing.
+/// A command line over the files `in`, `second` and `out`, and how it is to end. Other files are missing.
 #[derive(Clone, Copy)]
 pub struct Case<'a> {
     pub command: &'a str,
@@ -100,6 +100,13 @@ pub struct Case<'a> {
 
 /// Runs a command line, and looks at how it ends.
 pub fn ends(rt: &impl Abort, alloc: Global, case: &Case<'_>) -> Result<(), Fail> {
+    let written = writes(rt, alloc, case)?;
+    assert_eq!(rt; written.as_slice(), case.written);
+    Ok(())
+}
+
+/// Runs a command line, looks at its status and texts, and gives what it wrote to the file `out`.
+pub fn writes(rt: &impl Abort, alloc: Global, case: &Case<'_>) -> Result<Vec<u8>, Fail> {
     let written = RefCell::new(Vec::new(alloc));
     let files = FaultyFiles {
         input: case.input,
@@ -117,6 +124,5 @@ pub fn ends(rt: &impl Abort, alloc: Global, case: &Case<'_>) -> Result<(), Fail>
     let mut input = case.input;
     let ended = outcome_over(alloc, &files, words.as_slice(), &mut input)?;
     assert_eq!(rt; ended.parts(), (case.status, case.out, case.err));
-    assert_eq!(rt; written.into_inner().as_slice(), case.written);
-    Ok(())
+    Ok(written.into_inner())
 }

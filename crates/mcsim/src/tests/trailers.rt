@@ -21,10 +21,10 @@ fn type_of<'a>(input: &'a [u8], layout: &'a str, source: &'a str) -> Case<'a> {
 }
 
 /// The worked layout: slots of 1024 and 768 bytes.
-static WORKED: &str = "--sector 256 --unit 8 --max-sectors 4 --chunk 128 --primary 4 --secondary 3";
+pub static WORKED: &str = "--sector 256 --unit 8 --max-sectors 4 --chunk 128 --primary 4 --secondary 3";
 
 /// A flash of 0xff but for some bytes.
-fn flash_of(bytes: &[(usize, u8)]) -> [u8; 1792] {
+pub fn flash_of(bytes: &[(usize, u8)]) -> [u8; 1792] {
     let mut flash = [0xff; 1792];
     for (place, byte) in bytes {
         if *place < 1792 {
@@ -35,7 +35,7 @@ fn flash_of(bytes: &[(usize, u8)]) -> [u8; 1792] {
 }
 
 /// The magic of the primary, with further bytes.
-fn begun(bytes: &[(usize, u8)]) -> [u8; 1792] {
+pub fn begun(bytes: &[(usize, u8)]) -> [u8; 1792] {
     let mut flash = flash_of(bytes);
     flash[1008..1024].copy_from_slice(&[
         0x77, 0xc2, 0x95, 0xf3, 0x60, 0xd2, 0xef, 0x7f, 0x35, 0x52, 0x50, 0x0f, 0x2c, 0xb6, 0x79,

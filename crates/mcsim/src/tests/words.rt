@@ -37,7 +37,7 @@ fn refuses_command_lines(rt: HostRuntime) -> Result<(), Fail> {
         "mcsim type --flash a",
         "mcsim type --sector 256 --unit 8 --max-sectors 4 --chunk 128 --primary 4 --flash a",
         "mcsim type --sector 4294967296 --unit 8 --max-sectors 4 --chunk 128 --primary 4 --secondary 3 --flash a",
-        "mcsim type --sector 256 --unit 8 --max-sectors 4 --chunk 128 --primary 4 --secondary 3 --kind revert --image-a a --image-b b",
+        "mcsim type --sector 256 --unit 8 --max-sectors 4 --chunk 128 --primary 4 --secondary 3 --kind swap --image-a a --image-b b",
         "mcsim type --sector 256 --unit 8 --max-sectors 4 --chunk 128 --primary 4 --secondary 3 --flash a --flash b",
     ];
     for line in lines {

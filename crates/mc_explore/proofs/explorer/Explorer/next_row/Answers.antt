@@ -1,0 +1,9 @@
+use Rattle.std.proofs.Common.{ap}
+use Rattle.mc_explore.specs.State.{Explored}
+use Rattle.mc_explore.proofs.First.{first_found}
+use Rattle.mc_explore.proofs.explorer.Explorer.next_row.Goals as goal
+
+pub returns-in-Fresh-clause-found : goal.returns-in-Fresh-clause-found
+returns-in-Fresh-clause-found g c =
+    let e = c.self.inside in
+    first_found c.args.self.now.state e.walk (g.F.Flash.geometry e.flash) (g.F.Flash.content e.flash) (g.F.Flash.marks e.flash) (g.F.Flash.ledger e.flash).failed e.frames.items e.last e.here e.phase c.deref.result.now c.in_ok-row-in-Fresh.row (ap (λ (z : Explored). z.state) c.self.view_is) c.in-Fresh.is c.self.invariant.fits c.deref.ensures.value c.in_ok-row-in-Fresh.ensures.schedule c.in_ok-row-in-Fresh.ensures.outcome

@@ -1,0 +1,9 @@
+use Rattle.mc_explore.proofs.Ascending.{one_rest}
+use Rattle.mc_explore.proofs.Existence.{some_rest}
+use Rattle.mc_explore.proofs.laws.one_list_of_rows.Goals as goal
+
+pub returns-clause-some : goal.returns-clause-some
+returns-clause-some c = some_rest
+
+pub returns-clause-only : goal.returns-clause-only
+returns-clause-only c = one_rest

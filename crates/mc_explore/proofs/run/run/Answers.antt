@@ -1,0 +1,24 @@
+use Rattle.std.proofs.Common.{◌≡◌, [], sym, ap, ◌∙◌}
+use Rattle.mc_boot.specs.Boot.{to_come}
+use Rattle.mc_boot.specs.Outcome.{shown}
+use Rattle.mc_explore.specs.Stack.{contents}
+use Rattle.mc_explore.proofs.Ends.{peek_none, outcome_ops, back_there, back_marks}
+use Rattle.mc_explore.proofs.run.run.Goals as goal
+
+pub returns-clause-outcome : goal.returns-clause-outcome
+returns-clause-outcome g c =
+    let i = c.loop-boot.invariant in
+    let none = peek_none c.peek.result (to_come c.loop-boot.boot) c.peek.ensures.first (sym c.loop-boot-test.ensures) in
+    rw (← i.geometry) (c.outcome-outcome.ensures.end c.args.rules (g.F.Flash.content c.args.flash.now) (rw i.geometry i.come) none)
+
+pub returns-clause-ops : goal.returns-clause-ops
+returns-clause-ops g c =
+    outcome_ops c.args.rules (g.F.Flash.geometry c.args.flash.now) (g.F.Flash.content c.args.flash.now) (shown c.outcome-outcome.result) (returns-clause-outcome g c)
+
+pub returns-clause-content : goal.returns-clause-content
+returns-clause-content g c =
+    back_there (g.F.Flash.marks c.loop-boot.flash) (contents (g.F.Flash.marks c.args.flash.now)) (g.F.Flash.content c.args.flash.now) c.in_ok-here.here _ c.loop-boot.invariant.marks c.in_ok-here.ensures.place c.back_to.ensures.content
+
+pub returns-clause-marks : goal.returns-clause-marks
+returns-clause-marks g c =
+    rw c.back_to.ensures.marks (back_marks (g.F.Flash.marks c.loop-boot.flash) (contents (g.F.Flash.marks c.args.flash.now)) (g.F.Flash.content c.args.flash.now) c.in_ok-here.here c.loop-boot.invariant.marks c.in_ok-here.ensures.place)

@@ -1,0 +1,81 @@
+-- The boots that were cut on the way to a schedule.
+use Rattle.std.specs.Prelude.{◌≡◌, ℕ, ◌+◌, ◌<◌, ◌^◌, Bool, true, false, List, [], ◌∷◌, ◌++◌, length, map, get_or}
+use Rattle.mc_flash.specs.Geometry.{Geometry}
+use Rattle.mc_flash.specs.Content.{Content}
+use Rattle.mc_flash.specs.Ledger.{Spot}
+use Rattle.mc_trailer.specs.declared.tables.Rules.{Rules}
+use Rattle.mc_boot.specs.Runs.{ops_of}
+use Rattle.mc_boot.specs.Boot.{IsBootOf, progress}
+use Rattle.mc_boot.specs.Run.{HasCome}
+use Rattle.mc_explore.specs.Schedules.{IsMember, IsNextAfter, NoneAfter}
+use Rattle.mc_explore.specs.Landing.{at_cut, landed, HasNoChild, IsNextBeyond, NoneBeyond}
+use Rattle.mc_explore.specs.declared.frames.Frame.{Frame}
+use Rattle.mc_explore.specs.declared.walk.Walk.{Walk}
+
+abbrev pub no_content : Content
+no_content = record { primary = []; secondary = [] }
+
+-- The contents that are marked, and the one at a place.
+abbrev pub contents : List Spot → List Content
+contents = map (λ m. m.content)
+
+abbrev pub marked_at : List Content → ℕ → Content
+marked_at marks place = get_or marks place no_content
+
+-- The contents at the cuts of a schedule.
+abbrev pub cuts : Rules → Geometry → Content → List ℕ → List Content
+cuts r g start [] = []
+cuts r g start (cut ∷ rest) = at_cut r g start cut ∷ cuts r g (at_cut r g start cut) rest
+
+-- The schedule that a stack stands for.
+abbrev pub dones : List Frame → List ℕ
+dones = map (λ f. f.done)
+
+-- A boot from that content was cut here, and the content at the cut is marked at that place.
+pub record IsFrame (r : Rules) (g : Geometry) (start : Content) (place : ℕ) (f : Frame) : Type 0 where
+  pub place_is : f.place ≡ place
+  pub allowed : f.done < length (ops_of r g start)
+  pub ops_is : f.ops ≡ length (ops_of r g start)
+  pub few : length (ops_of r g start) < 2 ^ 32
+  pub count_is : (progress f.boot).count ≡ f.done
+  pub boot_of : IsBootOf g f.boot
+  pub come : HasCome r g start (progress f.boot) (at_cut r g start f.done)
+
+abbrev pub AreFrames : Rules → Geometry → Content → ℕ → List Frame → Type 0
+AreFrames r g start place [] = Unit {0}
+AreFrames r g start place (f ∷ fs) = IsFrame r g start place f × AreFrames r g (at_cut r g start f.done) (place + 1) fs
+
+-- Each frame's content is marked, over the start, which is marked at home, over what others have marked.
+pub record IsStacked (r : Rules) (g : Geometry) (start : Content) (home : ℕ) (marks : List Content) (fs : List Frame) : Type 0 where
+  pub base : List Content
+  pub base_is : length base ≡ home
+  pub marks_are : marks ≡ base ++ start ∷ cuts r g start (dones fs)
+  pub frames : AreFrames r g start (home + 1) fs
+
+-- And the content is that of the schedule.
+pub record Stands (r : Rules) (g : Geometry) (start : Content) (home : ℕ) (content : Content) (marks : List Content) (fs : List Frame) : Type 0 where
+  pub content_is : content ≡ landed r g start (dones fs)
+  pub stacked : IsStacked r g start home marks fs
+
+-- The start of a walk, from the marks.
+abbrev pub start_of : Walk → List Spot → Content
+start_of w marks = marked_at (contents marks) w.home
+
+-- The walk stands at the schedule of its frames.
+abbrev pub StandsAt : Walk → Geometry → Content → Content → List Spot → List Frame → Type 0
+StandsAt w g start content marks fs = Stands w.rules g start w.home content (contents marks) fs
+
+-- From l one goes down to new, or there is nothing below.
+abbrev pub Descends : Walk → Geometry → Content → List ℕ → Bool → List ℕ → Type 0
+Descends w g start l true new = (new ≡ l ++ 0 ∷ []) × IsMember w.rules g start w.bound new
+Descends w g start l false new = (new ≡ l) × HasNoChild w.rules g start w.bound l
+
+-- From l one goes up and on to new, or there is nothing on.
+abbrev pub Climbs : Walk → Geometry → Content → List ℕ → Bool → List ℕ → Type 0
+Climbs w g start l true new = IsNextBeyond w.rules g start l new
+Climbs w g start l false new = NoneBeyond w.rules g start l
+
+-- From l one goes to new, or there is nothing after it.
+abbrev pub Advances : Walk → Geometry → Content → List ℕ → Bool → List ℕ → Type 0
+Advances w g start l true new = IsNextAfter w.rules g start w.bound l new
+Advances w g start l false new = NoneAfter w.rules g start w.bound l

@@ -1,0 +1,34 @@
+//! Why an explorer gives up.
+ghost use Rattle.std.specs.Prelude.{◌≡◌};
+ghost use Rattle.mc_explore.specs.declared.error.ExploreError.TheVariants.{Memory};
+
+use mc_flash::FlashError;
+use std::alloc::{AllocError, AllocFailed};
+use thiserror::Error;
+
+/// Why an explorer gives up.
+#[derive(Clone, Copy, Debug, PartialEq, Eq, Error)]
+pub enum ExploreError {
+    /// A growth was refused, or the room that the flash took at its start is full. The explorer has failed then.
+    #[error("E52 Memory")]
+    Memory,
+    /// The explorer failed before.
+    #[error("E54 Failed")]
+    Failed,
+}
+
+impl From<FlashError> for ExploreError {
+    ghost from_gives = { λ _ e. e ≡ Memory };
+
+    fn from(_: FlashError) -> Self {
+        ExploreError::Memory
+    }
+}
+
+impl From<AllocError> for ExploreError {
+    ghost from_gives = { λ _ e. e ≡ Memory };
+
+    fn from(_: AllocError) -> Self {
+        ExploreError::Memory
+    }
+}

@@ -1,0 +1,138 @@
+//! Goes through the schedules of power cuts, one after another.
+ghost use Rattle.std.specs.Prelude.{◌≡◌, ◌≤◌, IfOk, IfErr, OnOk, OnErr, IsErrOf, ◌⊎◌};
+ghost use Rattle.mc_explore.specs.State.{State, Lost, Finds, state_after, at_start};
+ghost use Rattle.mc_explore.specs.Want.{WantsMemory};
+
+use crate::error::ExploreError;
+use crate::frames::Frame;
+use crate::phase::Phase;
+use crate::row::Row;
+use crate::rows::{next_row_of, row_here};
+use crate::walk::Walk;
+use crate::{Schedule, Start};
+use mc_flash::Flash;
+use std::alloc::Global;
+use std::marker::Model;
+
+/// Goes through all schedules of at most so many cuts that can occur, in their order, each with its outcome, over one
+/// flash.
+#[derive(Drop)]
+pub struct Explorer<F: Flash> {
+    walk: Walk,
+    flash: F,
+    frames: Vec<Frame>,
+    last: Schedule,
+    // How many operations an uncut boot makes after the last schedule.
+    here: u32,
+    phase: Phase,
+}
+
+impl<F: Flash> Model for Explorer<F> {
+    ghost use Rattle.std.specs.Prelude.{length};
+    ghost use Rattle.std.specs.Vec.{vec_capacity};
+    ghost use Rattle.mc_explore.specs.State.{Explored};
+    ghost use Rattle.mc_explore.specs.View.{state_of, IsSound};
+
+    ghost Value = { Explored };
+
+    ghost view = { λ e. record {
+      state = state_of e.walk (F.geometry e.flash) (F.marks e.flash) (F.ledger e.flash).failed e.last e.phase;
+      ledger = F.ledger e.flash;
+      marked = length (F.marks e.flash);
+    } };
+
+    ghost invariant = { λ e. IsSound e.walk (F.geometry e.flash) (F.content e.flash) (F.marks e.flash) (vec_capacity e.frames) e.frames.items e.last e.here e.phase };
+}
+
+impl<F: Flash + Drop> Explorer<F> {
+    /// An explorer at the start. It takes its own memory here, and none later but through the flash, which it loads for
+    /// one boot more than there are cuts.
+    ///
+    /// # Errors
+    ///
+    /// `Memory` where a growth was refused.
+    pub fn start(alloc: Global, start: &Start, bound: u8) -> Result<Explorer<F>, ExploreError>
+        requires { bound ≤ 16 }
+        ensures ok { IfOk result (λ explorer. explorer.state ≡ at_start start.now bound) }
+        ensures err { IfErr result (λ e. e ≡ ExploreError.Memory) }
+    {
+        let rules = start.rules();
+        let mut flash = F::load(
+            alloc,
+            start.layout(),
+            rules.grain,
+            start.primary(),
+            start.secondary(),
+            u32::from(bound) + 1,
+        )?;
+        let bound = usize::from(bound);
+        let frames = Vec::with_capacity(alloc, bound)?;
+        let home = flash.mark()?;
+        Ok(Explorer {
+            walk: Walk { rules, home, bound },
+            flash,
+            frames,
+            last: Schedule::new(),
+            here: 0,
+            phase: Phase::Fresh,
+        })
+    }
+
+    /// The row of the next schedule, and none where there is no further one.
+    ///
+    /// # Errors
+    ///
+    /// `Memory` where the flash was refused memory, or is full; from then on always `Failed`.
+    pub fn next_row(&mut self) -> Result<Option<Row>, ExploreError>
+        // It is the first row past the position, and there is none exactly where no schedule is past it.
+        ensures found { IfOk result (λ found. Finds self.old.state found) }
+        ensures moved { IfOk result (λ found. self.new.state ≡ state_after self.old.state found) }
+        // Memory is wanted only where the flash has been refused some, or is full.
+        ensures cause { IsErrOf result ExploreError.Memory
+            → WantsMemory F.counted self.new.state.start.geometry self.new.ledger self.new.marked }
+        // After an error the explorer has failed. It stays so, and says so. No other does.
+        ensures lost { OnErr result (self.new.state.position ≡ Lost) }
+        ensures stays_lost { self.old.state.position ≡ Lost → IsErrOf result ExploreError.Failed }
+        ensures not_lost { IsErrOf result ExploreError.Failed → self.old.state.position ≡ Lost }
+        ensures err { IfErr result (λ e. (e ≡ ExploreError.Memory) ⊎ (e ≡ ExploreError.Failed)) }
+    {
+        match self.phase {
+            Phase::Broken => {
+                return Err(ExploreError::Failed);
+            }
+            Phase::Done => {
+                return Ok(None);
+            }
+            Phase::Fresh => {
+                self.phase = Phase::Broken;
+                let row = row_here(self.walk, &mut self.flash, &self.frames)?;
+                self.last = row.schedule;
+                self.here = row.outcome.ops;
+                self.phase = Phase::Going;
+                return Ok(Some(row));
+            }
+            Phase::Going => {
+                self.phase = Phase::Broken;
+                match next_row_of(self.walk, &mut self.flash, &mut self.frames, self.here)? {
+                    Some(row) => {
+                        self.last = row.schedule;
+                        self.here = row.outcome.ops;
+                        self.phase = Phase::Going;
+                        return Ok(Some(row));
+                    }
+                    None => {
+                        self.phase = Phase::Done;
+                        return Ok(None);
+                    }
+                }
+            }
+        }
+    }
+
+    /// The flash as it is.
+    pub fn flash(&self) -> &F
+        ensures { F.ledger result.now ≡ self.now.ledger }
+    {
+        &self.flash
+    }
+}
