@@ -15,3 +15,4 @@ mod Stacked
 mod Steps
 mod Ends
 mod First
+mod Restarts

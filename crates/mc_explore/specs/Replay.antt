@@ -7,6 +7,10 @@ use Rattle.mc_boot.specs.Boot.{Progress}
 use Rattle.mc_boot.specs.Run.{HasCome}
 use Rattle.mc_boot.specs.Runs.{ops_of, cut_at, after, left_by}
 use Rattle.mc_boot.specs.Outcome.{Report, outcome_of}
+use Rattle.mc_boot.specs.Restart.{BeginsImage, EndsIn, forgets_reverts}
+use Rattle.mc_boot.specs.Start.{StartKind, revert, start_flash, named, other}
+use Rattle.mc_boot.specs.declared.outcome.BootResult.TheVariants as results
+use Rattle.mc_image.specs.Valid.{id_of}
 use Rattle.mc_explore.specs.declared.replaying.ReplayError.{ReplayError}
 use Rattle.mc_explore.specs.declared.replaying.ReplayError.TheVariants as errors
 
@@ -43,3 +47,17 @@ pub record CannotOccurAt (r : Rules) (g : Geometry) (s : Content) (cuts : List �
 abbrev pub Refuses : Rules → Geometry → Content → List ℕ → ReplayError → Type 0
 Refuses r g s cuts (errors.CannotOccur place) = CannotOccurAt r g s cuts place
 Refuses r g s cuts errors.Memory = ⊤
+
+-- What is told of that boot: the named image in the primary, the other in the secondary.
+pub record IsSwapOutcome (kind : StartKind) (a b : List ℕ) (outcome : Report) : Type 0 where
+  pub result : outcome.result ≡ results.Boot
+  pub primary : outcome.primary ≡ id_of (named kind a b)
+  pub secondary : outcome.secondary ≡ id_of (other kind a b)
+
+-- From the start of two valid images that fit, under rules that do not forget reverts, a replay that is not refused ends
+-- what the start asks for: its result is to boot, and the images stand in their slots.
+abbrev pub Restarts : Rules → Geometry → Content → Report → Content → Type 0
+Restarts r g s outcome z =
+    (kind : StartKind) (a b : List ℕ) → BeginsImage g a → BeginsImage g b → (kind ≡ revert → forgets_reverts r.grain r.profile ≡ false)
+    → start_flash g kind a b ≡ Some s
+    → (u : Content) × EndsIn r g kind a b s u z × IsSwapOutcome kind a b outcome

@@ -5,12 +5,12 @@ ghost use Rattle.mc_trailer.specs.declared.tables.Rules.{Rules};
 ghost use Rattle.mc_boot.specs.Boot.{progress, IsBootOf};
 ghost use Rattle.mc_boot.specs.Run.{HasCome};
 ghost use Rattle.mc_boot.specs.Outcome.{shown};
-ghost use Rattle.mc_explore.specs.Replay.{Goes, GoesOn, Cuts, IsReplayed, Refuses};
+ghost use Rattle.mc_explore.specs.Replay.{Goes, GoesOn, Cuts, IsReplayed, Refuses, Restarts};
 
 use crate::boots::boot_whole;
 use crate::schedule::Schedule;
 use crate::start::Start;
-use mc_boot::{Boot, Outcome};
+use mc_boot::{Boot, Outcome, restart_law};
 use mc_flash::{Flash, FlashError};
 use mc_trailer::Rules;
 use std::alloc::Global;
@@ -104,7 +104,10 @@ pub fn replay<F: Flash>(
         (λ done. IsReplayed start.now.rules start.now.geometry start.now.content schedule.now (shown done.0) (F.content done.1))
         (λ e. Refuses start.now.rules start.now.geometry start.now.content schedule.now e) }
     ensures geometry { IfOk result (λ done. F.geometry done.1 ≡ start.now.geometry) }
+    // The restart theorem, for the schedule that was replayed.
+    ensures restarts { IfOk result (λ done. Restarts start.now.rules start.now.geometry start.now.content (shown done.0) (F.content done.1)) }
 {
+    restart_law();
     let rules = start.rules();
     let cuts = schedule.cuts();
     let boots = cuts.len() as u32 + 1;

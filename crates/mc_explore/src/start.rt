@@ -2,6 +2,7 @@
 ghost use Rattle.std.specs.Prelude.{◌≡◌, ℕ, ◌≤◌, ◌+◌, ◌++◌, [], ◌∷◌, List, length, IfOk, IfErr, MatchResult, Some, None, string_bytes};
 ghost use Rattle.sha2.specs.Sha256.{sha256};
 ghost use Rattle.mc_image.specs.Valid.{image_fault};
+ghost use Rattle.mc_flash.specs.Geometry.{IsLayout};
 ghost use Rattle.mc_flash.specs.Content.{size_of};
 ghost use Rattle.mc_flash.specs.declared.op.Slot.TheVariants.{Primary, Secondary};
 ghost use Rattle.mc_boot.specs.Image.{image_size};
@@ -72,6 +73,7 @@ pub struct Start {
 impl Model for Start {
     ghost use Rattle.mc_explore.specs.Start.{Begun};
     ghost use Rattle.std.specs.Prelude.{◌≡◌, ◌++◌, ◌∷◌, [], length, string_bytes};
+    ghost use Rattle.mc_flash.specs.Geometry.{IsLayout};
     ghost use Rattle.mc_flash.specs.Content.{IsSized};
     ghost use Rattle.mc_explore.specs.Slots.{content_of};
     ghost use Rattle.mc_explore.specs.Texts.{layout_line};
@@ -80,7 +82,7 @@ impl Model for Start {
 
     ghost view = { λ s. record { geometry = s.layout; rules = s.rules; content = content_of s.slots } };
 
-    ghost invariant = { λ s. IsSized s.layout (content_of s.slots) × (string_bytes s.line ≡ layout_line s.layout ++ 10 ∷ []) };
+    ghost invariant = { λ s. IsLayout s.layout × IsSized s.layout (content_of s.slots) × (string_bytes s.line ≡ layout_line s.layout ++ 10 ∷ []) };
 }
 
 // The line of a layout, with its line feed.
@@ -186,7 +188,8 @@ impl Start {
 
     /// The layout. It takes no memory.
     pub fn layout(&self) -> &Layout
-        ensures { result.now ≡ self.now.geometry }
+        ensures value { result.now ≡ self.now.geometry }
+        ensures valid { IsLayout self.now.geometry }
     {
         &self.layout
     }

@@ -2,6 +2,7 @@ use Rattle.std.specs.Prelude.{◌≡◌, ◌<◌, length}
 use Rattle.std.proofs.Common.{arith, sym, ◌∙◌}
 use Rattle.mc_boot.specs.Boot.{progress}
 use Rattle.mc_boot.specs.Outcome.{shown}
+use Rattle.mc_explore.proofs.Restarts.{replay_restarts}
 use Rattle.mc_explore.proofs.Cutting.{cut_next, cut_refused, replayed, refused_same, replayed_same}
 use Rattle.mc_explore.proofs.replaying.replay.Goals as goal
 
@@ -28,3 +29,8 @@ returns-clause-replayed g c =
     replayed_same c.args.start.now.rules c.rules-rules.result c.args.start.now.geometry c.args.start.now.content (g.F.Flash.content c.boot_whole.new.flash) c.cuts-cuts.result.now c.args.schedule.now (shown c.outcome-outcome.result) c.rules-rules.ensures c.cuts-cuts.ensures.value
     (replayed c.rules-rules.result c.args.start.now.geometry (g.F.Flash.geometry c.loop-place.flash) (g.F.Flash.geometry c.boot_whole.new.flash) c.args.start.now.content (g.F.Flash.content c.loop-place.flash) (g.F.Flash.content c.boot_whole.new.flash)
     c.cuts-cuts.result.now c.loop-place.place (progress c.in_ok-boot.boot) (shown c.outcome-outcome.result) i.geometry e.geometry (omega (arith, c.loop-place-test.false)) i.occurs e.come e.end c.outcome-outcome.ensures.end)
+
+pub returns-clause-restarts : goal.returns-clause-restarts
+returns-clause-restarts g c =
+    replay_restarts c.args.start.now.rules c.args.start.now.geometry c.args.start.now.content (g.F.Flash.content c.boot_whole.new.flash) c.args.schedule.now (shown c.outcome-outcome.result)
+    c.layout.ensures.valid (c.restart_law.ensures.restart c.args.start.now.rules) (returns-clause-replayed g c)
