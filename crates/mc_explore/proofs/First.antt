@@ -7,7 +7,7 @@ use Rattle.mc_explore.specs.Schedules.{Precedes}
 use Rattle.mc_explore.specs.Start.{Begun}
 use Rattle.mc_explore.specs.Stack.{dones, start_of}
 use Rattle.mc_explore.specs.State.{State, AtStart, told, HasOutcome, Finds, IsNext}
-use Rattle.mc_explore.specs.View.{state_of, Fits}
+use Rattle.mc_explore.specs.View.{begun_of, state_of, Fits}
 use Rattle.mc_explore.specs.declared.frames.Frame.{Frame}
 use Rattle.mc_explore.specs.declared.row.Row.{Row}
 use Rattle.mc_explore.specs.declared.phase.Phase.{Phase}
@@ -17,10 +17,6 @@ use Rattle.mc_explore.specs.declared.walk.Walk.{Walk}
 none_before_nil : (m : List ℕ) → Precedes m [] → ⊥
 none_before_nil [] p = p
 none_before_nil (x ∷ xs) p = p
-
--- The start of an explorer on that walk.
-abbrev pub begun_of : Walk → Geometry → List Spot → Begun
-begun_of w g marks = record { geometry = g; rules = w.rules; content = start_of w marks }
 
 -- It is that of no cuts.
 pub first_found : (state : State) (w : Walk) (g : Geometry) (content : Content) (marks : List Spot) (failed : Bool) (frames : List Frame) (last : List ℕ) (here : ℕ) (phase : Phase) (fs : List Frame) (row : Row) → state_of w g marks failed last phase ≡ state → phase ≡ Fresh → Fits w g content marks frames last here phase → fs ≡ frames → row.schedule ≡ dones fs → HasOutcome (begun_of w g marks) (told row) → Finds state (Some row)

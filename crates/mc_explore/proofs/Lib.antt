@@ -16,3 +16,6 @@ mod Steps
 mod Ends
 mod First
 mod Restarts
+mod Streams
+mod PageText
+mod Lines

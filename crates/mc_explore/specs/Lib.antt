@@ -10,3 +10,5 @@ pub mod RowText
 pub mod Stack
 pub mod View
 pub mod Want
+pub mod CursorText
+pub mod Page

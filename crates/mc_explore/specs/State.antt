@@ -71,6 +71,10 @@ abbrev pub state_after : State → Option Row → State
 state_after state (Some row) = moved_to state row.schedule
 state_after state None = state
 
+-- The same, failed.
+abbrev pub lost_at : State → State
+lost_at state = record { start = state.start; bound = state.bound; position = Lost; failed = state.failed }
+
 -- The state at the start.
 abbrev pub at_start : Begun → ℕ → State
 at_start start bound = record { start = start; bound = bound; position = AtStart; failed = false }

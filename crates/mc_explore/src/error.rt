@@ -15,6 +15,9 @@ pub enum ExploreError {
     /// The explorer failed before.
     #[error("E54 Failed")]
     Failed,
+    /// A write failed, or took no bytes. The explorer has failed then.
+    #[error("E59 Write")]
+    Write,
 }
 
 impl From<FlashError> for ExploreError {

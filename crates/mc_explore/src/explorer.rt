@@ -1,8 +1,10 @@
 //! Goes through the schedules of power cuts, one after another.
-ghost use Rattle.std.specs.Prelude.{◌≡◌, ◌≤◌, IfOk, IfErr, OnOk, OnErr, IsErrOf, ◌⊎◌};
-ghost use Rattle.mc_explore.specs.State.{State, Lost, Finds, state_after, at_start};
+ghost use Rattle.std.specs.Prelude.{◌≡◌, ◌≢◌, ◌≤◌, IfOk, IfErr, OnOk, OnErr, IsErrOf, ◌⊎◌};
+ghost use Rattle.mc_explore.specs.Page.{cursor_of};
+ghost use Rattle.mc_explore.specs.State.{State, Lost, Finds, state_after, lost_at, at_start};
 ghost use Rattle.mc_explore.specs.Want.{WantsMemory};
 
+use crate::cursor::Cursor;
 use crate::error::ExploreError;
 use crate::frames::Frame;
 use crate::phase::Phase;
@@ -19,6 +21,8 @@ use std::marker::Model;
 #[derive(Drop)]
 pub struct Explorer<F: Flash> {
     walk: Walk,
+    // The start's, for cursors.
+    digest: [u8; 32],
     flash: F,
     frames: Vec<Frame>,
     last: Schedule,
@@ -41,7 +45,7 @@ impl<F: Flash> Model for Explorer<F> {
       marked = length (F.marks e.flash);
     } };
 
-    ghost invariant = { λ e. IsSound e.walk (F.geometry e.flash) (F.content e.flash) (F.marks e.flash) (vec_capacity e.frames) e.frames.items e.last e.here e.phase };
+    ghost invariant = { λ e. IsSound e.walk (F.geometry e.flash) (F.content e.flash) (F.marks e.flash) (vec_capacity e.frames) e.digest e.frames.items e.last e.here e.phase };
 }
 
 impl<F: Flash + Drop> Explorer<F> {
@@ -70,6 +74,7 @@ impl<F: Flash + Drop> Explorer<F> {
         let home = flash.mark()?;
         Ok(Explorer {
             walk: Walk { rules, home, bound },
+            digest: start.digest(),
             flash,
             frames,
             last: Schedule::new(),
@@ -134,5 +139,26 @@ impl<F: Flash + Drop> Explorer<F> {
         ensures { F.ledger result.now ≡ self.now.ledger }
     {
         &self.flash
+    }
+
+    /// Where to go on behind a schedule.
+    pub(crate) fn cursor(&self, schedule: &Schedule) -> Cursor
+        ensures { self.now.state.position ≢ Lost → result ≡ cursor_of self.now.state.start self.now.state.bound schedule.now }
+    {
+        Cursor {
+            rules: self.walk.rules,
+            digest: self.digest,
+            bound: self.walk.bound as u8,
+            schedule: *schedule,
+        }
+    }
+
+    /// Makes it one that failed, for a caller that could not write a row.
+    pub(crate) fn give_up(&mut self)
+        ensures state { self.new.state ≡ lost_at self.old.state }
+        ensures ledger { self.new.ledger ≡ self.old.ledger }
+        ensures marked { self.new.marked ≡ self.old.marked }
+    {
+        self.phase = Phase::Broken;
     }
 }

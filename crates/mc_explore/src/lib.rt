@@ -2,11 +2,15 @@
 #![tactic(auto)]
 
 mod boots;
+mod cursor;
+mod cursor_text;
 mod error;
 mod explorer;
 mod frames;
 mod kind;
 mod laws;
+mod output;
+mod pages;
 mod phase;
 mod replaying;
 mod row;
@@ -19,10 +23,12 @@ mod stack;
 mod start;
 mod walk;
 
+pub use cursor::Cursor;
 pub use error::ExploreError;
 pub use explorer::Explorer;
 pub use kind::Kind;
 pub use laws::one_list_of_rows;
+pub use pages::write_page;
 pub use replaying::{ReplayError, replay};
 pub use row::Row;
 pub use schedule::{MOST_CUTS, Schedule, ScheduleError};

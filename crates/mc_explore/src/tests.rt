@@ -3,6 +3,7 @@ ghost use Rattle.std.specs.Prelude.{◌≡◌, IfOk};
 ghost use Rattle.mc_flash.specs.Worked.{worked};
 
 mod exploring;
+mod paging;
 
 use super::*;
 use mc_flash::{Layout, LayoutError};

@@ -1,0 +1,23 @@
+-- A text and a line feed in a room.
+use Rattle.std.proofs.Common.{◌≡◌, ℕ, Bool, false, Option, Some, None, Result, Ok, Err, OnOk, OnErr, List, [], ◌∷◌, ◌++◌, refl, sym, ap, subst, ◌∙◌}
+use Rattle.std.specs.Prelude.{IfSome, is_err}
+use Rattle.std.specs.Fmt.{◌++?◌, WritesText, WritesInCalls}
+use Rattle.std.proofs.lemmas.Fmt.{contents_after_writes}
+
+pub line_made : {W E : Type 0} (took : W → List ℕ → W → Type 0) (contents : W → List ℕ) (appends : (w : W) (bs : List ℕ) (v : W) → took w bs v → contents v ≡ contents w ++ bs) (o : Option (List ℕ)) (w v : W) (r : Result (Unit {0}) E) → contents w ≡ [] → OnOk r (WritesText took w (o ++? Some (10 ∷ [])) v) → false ≡ is_err r → IfSome o (λ bs. contents v ≡ bs ++ 10 ∷ [])
+line_made took contents appends None w v r none wrote fine = tt
+line_made took contents appends (Some bs) w v (Err e) none wrote fine = absurd cc
+line_made took contents appends (Some bs) w v (Ok x) none wrote fine =
+    contents_after_writes took contents appends w (bs ++ 10 ∷ []) v wrote ∙ ap (λ (z : List ℕ). z ++ (bs ++ 10 ∷ [])) none
+
+in_line : (P : List ℕ → Type 0) (o : Option (List ℕ)) (text : List ℕ) → IfSome o (λ bs. text ≡ bs ++ 10 ∷ []) → P text → IfSome o (λ bs. P (bs ++ 10 ∷ []))
+in_line P None text is p = tt
+in_line P (Some bs) text is p = subst P is p
+
+pub whole_line : {A E : Type 0} (P : List ℕ → Type 0) (o : Option (List ℕ)) (text : List ℕ) (r : Result A E) → IfSome o (λ bs. text ≡ bs ++ 10 ∷ []) → OnOk r (P text) → OnOk r (IfSome o (λ bs. P (bs ++ 10 ∷ [])))
+whole_line P o text (Ok x) is p = in_line P o text is p
+whole_line P o text (Err e) is p = tt
+
+pub part_of_line : {A E : Type 0} (P : List ℕ → Type 0) (o : Option (List ℕ)) (text : List ℕ) (r : Result A E) → IfSome o (λ bs. text ≡ bs ++ 10 ∷ []) → OnErr r (P text) → OnErr r (IfSome o (λ bs. P (bs ++ 10 ∷ [])))
+part_of_line P o text (Ok x) is p = tt
+part_of_line P o text (Err e) is p = in_line P o text is p

@@ -1,0 +1,15 @@
+use Rattle.std.proofs.Common.{arith}
+use Rattle.std.proofs.lemmas.List.{take_rest}
+use Rattle.mc_explore.proofs.Streams.{Appends_more}
+use Rattle.mc_explore.proofs.output.write_text.Goals as goal
+
+pub loop-done-preserved : goal.loop-done-preserved
+loop-done-preserved g c =
+    let rest = take_rest c.args.text.now c.loop-done.done in
+    let told = c.in-Ok.ensures in
+    let fits = rw rest at told.bound in
+    let more = rw rest at told.bytes in
+    record {
+      within = grind (arith, fits);
+      front = Appends_more _ _ _ c.args.text.now c.loop-done.done c.in-Ok.count c.loop-done.invariant.front more;
+    }

@@ -1,0 +1,62 @@
+use Rattle.std.proofs.Common.{◌≡◌, ◌-◌, ◌⊎◌, suc, List, [], ◌∷◌, ◌++◌, codes, Ok, Err, inl, inr, sym, ap, ◌∙◌, arith}
+use Rattle.std.proofs.lemmas.Result.{err_from_is_err_and}
+use Rattle.mc_explore.specs.CursorText.{cursor_text}
+use Rattle.mc_explore.specs.State.{State, Lost, After}
+use Rattle.mc_explore.specs.Page.{next_line}
+use Rattle.mc_explore.specs.declared.error.ExploreError.TheVariants as errors
+use Rattle.mc_explore.proofs.PageText.{began_before, began_in_row, out_at_end, began_at_end, out_when_full, began_when_full, page_on}
+use Rattle.mc_explore.proofs.Streams.{on_err, on_ok}
+use Rattle.mc_explore.proofs.pages.write_lines.Goals as goal
+
+pub returns-in_err-row-clause-began : goal.returns-in_err-row-clause-began
+returns-in_err-row-clause-began g c =
+    let p = err_from_is_err_and c.from_residual.result c.from_residual.ensures.1 in
+    rw p.1 (began_before c.args.explorer.now.state c.fill.explorer.state c.args.limit c.fill.room c.fill.last _ _ c.fill.invariant.page)
+
+pub returns-in_err-write_line-in-Some-clause-began : goal.returns-in_err-write_line-in-Some-clause-began
+returns-in_err-write_line-in-Some-clause-began g c =
+    let p = err_from_is_err_and c.from_residual-in_err-write_line-in-Some.result c.from_residual-in_err-write_line-in-Some.ensures.1 in
+    let found = rw c.in-Some.is at c.in_ok-row.ensures.found in
+    let room : c.fill.room ≡ suc (c.fill.room - 1) = omega arith in
+    rw p.1 (began_in_row c.args.explorer.now.state c.fill.explorer.state c.args.limit c.fill.room (c.fill.room - 1) c.fill.last _ (g.W.Write.contents c.fill.writer) _ c.in-Some.row room c.fill.invariant.page found c.in_err-write_line-in-Some.ensures.front)
+
+pub returns-in-None-clause-page : goal.returns-in-None-clause-page
+returns-in-None-clause-page g c =
+    let found = rw c.in-None.is at c.in_ok-row.ensures.found in
+    let moved = rw c.in-None.is at c.in_ok-row.ensures.moved in
+    let room : c.fill.room ≡ suc (c.fill.room - 1) = omega arith in
+    on_ok c.write_text.result _ _ (out_at_end c.args.explorer.now.state c.fill.explorer.state c.next_row.new.self.state c.args.limit c.fill.room (c.fill.room - 1) c.fill.last _ (g.W.Write.contents c.fill.writer) (g.W.Write.contents c.write_text.new.writer) room c.fill.invariant.page found moved) c.write_text.ensures.whole
+
+pub returns-in-None-clause-began : goal.returns-in-None-clause-began
+returns-in-None-clause-began g c =
+    let found = rw c.in-None.is at c.in_ok-row.ensures.found in
+    let room : c.fill.room ≡ suc (c.fill.room - 1) = omega arith in
+    on_err c.write_text.result _ _ (began_at_end c.args.explorer.now.state c.fill.explorer.state c.args.limit c.fill.room (c.fill.room - 1) c.fill.last _ (g.W.Write.contents c.fill.writer) (g.W.Write.contents c.write_text.new.writer) room c.fill.invariant.page found) c.write_text.ensures.front
+
+pub fill-preserved : goal.fill-preserved
+fill-preserved g c =
+    let found = rw c.in-Some.is at c.in_ok-row.ensures.found in
+    let moved = rw c.in-Some.is at c.in_ok-row.ensures.moved in
+    let room : c.fill.room ≡ suc (c.fill.room - 1) = omega arith in
+    record {
+      page = page_on c.args.explorer.now.state c.fill.explorer.state c.next_row.new.self.state c.args.limit c.fill.room (c.fill.room - 1) c.fill.last _ (g.W.Write.contents c.fill.writer) _ c.in-Some.row room c.fill.invariant.page found moved c.in_ok-write_line-in-Some.ensures.whole;
+      not_lost = λ e. let q : Lost ≡ After c.in-Some.row.schedule = sym e ∙ ap (λ (s : State). s.position) moved in absurd cc;
+      stuck = λ e. let q : Ok c.in_ok-row.field-0 ≡ Err errors.Failed = rw c.in_ok-row.was at (c.next_row.ensures.stays_lost (c.fill.invariant.stuck e).0) in absurd cc;
+      full = inr (λ e. let q : Lost ≡ After c.in-Some.row.schedule = sym e ∙ ap (λ (s : State). s.position) moved in absurd cc);
+    }
+
+pub returns-clause-page : goal.returns-clause-page
+returns-clause-page g c =
+    let none : c.fill.room ≡ 0 = omega arith in
+    let going : c.fill.explorer.state.position ≡ Lost → ⊥ = elim c.fill.invariant.full [ inl some ↦ absurd (omega arith) | inr h ↦ h ] in
+    let cursor = c.cursor-cursor.ensures going in
+    let line : (codes "next " ++ cursor_text c.cursor-cursor.result) ++ 10 ∷ [] ≡ next_line c.fill.explorer.state.start c.fill.explorer.state.bound c.fill.last = ap (λ k. (codes "next " ++ cursor_text k) ++ 10 ∷ []) cursor in
+    on_ok c.write_line-2.result _ _ (out_when_full c.args.explorer.now.state c.fill.explorer.state c.args.limit c.fill.room c.fill.last _ (g.W.Write.contents c.fill.writer) (g.W.Write.contents c.write_line-2.new.writer) _ none c.fill.invariant.page line) c.write_line-2.ensures.whole
+
+pub returns-clause-began : goal.returns-clause-began
+returns-clause-began g c =
+    let none : c.fill.room ≡ 0 = omega arith in
+    let going : c.fill.explorer.state.position ≡ Lost → ⊥ = elim c.fill.invariant.full [ inl some ↦ absurd (omega arith) | inr h ↦ h ] in
+    let cursor = c.cursor-cursor.ensures going in
+    let line : (codes "next " ++ cursor_text c.cursor-cursor.result) ++ 10 ∷ [] ≡ next_line c.fill.explorer.state.start c.fill.explorer.state.bound c.fill.last = ap (λ k. (codes "next " ++ cursor_text k) ++ 10 ∷ []) cursor in
+    on_err c.write_line-2.result _ _ (began_when_full c.args.explorer.now.state c.fill.explorer.state c.args.limit c.fill.room c.fill.last _ (g.W.Write.contents c.fill.writer) (g.W.Write.contents c.write_line-2.new.writer) _ none c.fill.invariant.page line) c.write_line-2.ensures.front

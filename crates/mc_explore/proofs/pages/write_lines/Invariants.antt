@@ -1,0 +1,16 @@
+use Rattle.std.proofs.Common.{◌≡◌, ℕ, ◌<◌, ◌⊎◌, List}
+use Rattle.mc_explore.specs.State.{Lost}
+use Rattle.mc_explore.proofs.PageText.{AreInPage}
+use Rattle.mc_explore.proofs.pages.write_lines.Given as goal
+
+abbrev pub invariant-fill : goal.invariant-fill
+invariant-fill g l =
+    record {
+      page : AreInPage l.fn.explorer.state l.explorer.state l.limit l.room l.last (g.W.Write.contents l.fn.writer) (g.W.Write.contents l.writer);
+      not_lost : l.explorer.state.position ≡ Lost → l.fn.explorer.state.position ≡ Lost;
+      stuck : l.fn.explorer.state.position ≡ Lost → (l.explorer.state.position ≡ Lost) × (0 < l.room);
+      full : (0 < l.room) ⊎ (l.explorer.state.position ≡ Lost → ⊥);
+    }
+
+abbrev pub decreases-fill : goal.decreases-fill
+decreases-fill g l = l.room

@@ -1,0 +1,22 @@
+-- Where to go on with an exploration, as text: this project's own.
+use Rattle.std.specs.Prelude.{ℕ, List, ◌++◌, codes, decimal}
+use Rattle.hex.specs.Hex.{encode_lower}
+use Rattle.mc_flash.specs.declared.flash.Grain.{Grain}
+use Rattle.mc_flash.specs.declared.flash.Grain.TheVariants as grains
+use Rattle.mc_trailer.specs.declared.tables.Profile.{Profile}
+use Rattle.mc_trailer.specs.declared.tables.Profile.TheVariants as profiles
+use Rattle.mc_trailer.specs.declared.tables.Rules.{Rules}
+use Rattle.mc_explore.specs.Texts.{schedule_text}
+use Rattle.mc_explore.specs.declared.cursor.Cursor.{Cursor}
+
+-- The rules. Whole calls and the first profile have a form of their own.
+abbrev pub head_text : Grain → Profile → List ℕ
+head_text grains.Call profiles.One = codes "mc1:"
+head_text grains.Call profiles.Two = codes "mc2:call:2:"
+head_text grains.Unit profiles.One = codes "mc2:unit:1:"
+head_text grains.Unit profiles.Two = codes "mc2:unit:2:"
+
+-- Then the digest of the start in 64 digits, the most cuts, and the schedule.
+abbrev pub cursor_text : Cursor → List ℕ
+cursor_text c =
+    head_text c.rules.grain c.rules.profile ++ (encode_lower c.digest ++ (codes ":" ++ (decimal c.bound ++ (codes ":" ++ schedule_text c.schedule))))

@@ -1,0 +1,15 @@
+//! Where to go on with an exploration.
+ghost use Rattle.std.specs.Prelude.{◌≡◌};
+
+use crate::Schedule;
+use mc_trailer::Rules;
+
+/// Where to go on with an exploration: behind a schedule, of a start (told by its digest) under some rules, with so many
+/// cuts at most. It takes no memory.
+#[derive(Clone, Copy, Debug)]
+pub struct Cursor {
+    pub(crate) rules: Rules,
+    pub(crate) digest: [u8; 32],
+    pub(crate) bound: u8,
+    pub(crate) schedule: Schedule,
+}

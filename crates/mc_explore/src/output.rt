@@ -1,0 +1,49 @@
+//! Lines of text, written whole and without memory.
+ghost use Rattle.std.specs.Prelude.{◌≡◌, ◌++◌, ◌∷◌, [], IfErr, IfSome, OnOk, OnErr};
+ghost use Rattle.std.specs.Io.KnownBytes.{Appends};
+ghost use Rattle.mc_explore.specs.Page.{AppendsFront};
+
+use crate::error::ExploreError;
+use arrayvec::ArrayString;
+use std::fmt::{Display, Write as _};
+use std::io::Write;
+
+/// The most bytes of a line. The longest row has some 300.
+const MOST_BYTES: usize = 512;
+
+/// Writes the whole text, or a front of it.
+///
+/// # Errors
+///
+/// `Write` where a write fails or takes no bytes.
+pub fn write_text<W: Write>(writer: &mut W, text: &[u8]) -> Result<(), ExploreError>
+    ensures whole { OnOk result (Appends (W.contents writer.old) (W.contents writer.new) text.now) }
+    ensures front { OnErr result (AppendsFront (W.contents writer.old) (W.contents writer.new) text.now) }
+    ensures err { IfErr result (λ e. e ≡ ExploreError.Write) }
+{
+    let mut done = 0;
+    while done < text.len() {
+        match writer.write(&text[done..]) {
+            Ok(0) | Err(_) => return Err(ExploreError::Write),
+            Ok(count) => done += count,
+        }
+    }
+    Ok(())
+}
+
+/// Writes a text and a line feed, or a front of them.
+///
+/// # Errors
+///
+/// `Write` where a write fails or takes no bytes, or the line is too long.
+pub fn write_line<D: Display + Drop, W: Write>(writer: &mut W, text: D) -> Result<(), ExploreError>
+    ensures whole { OnOk result (IfSome (D.Display.output text) (λ bytes. Appends (W.contents writer.old) (W.contents writer.new) (bytes ++ 10 ∷ []))) }
+    ensures front { OnErr result (IfSome (D.Display.output text) (λ bytes. AppendsFront (W.contents writer.old) (W.contents writer.new) (bytes ++ 10 ∷ []))) }
+    ensures err { IfErr result (λ e. e ≡ ExploreError.Write) }
+{
+    let mut line = ArrayString::<MOST_BYTES>::new();
+    if write!(line, "{text}\n").is_err() {
+        return Err(ExploreError::Write);
+    }
+    write_text(writer, line.as_str().as_bytes())
+}

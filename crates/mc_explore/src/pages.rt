@@ -1,0 +1,74 @@
+//! Pages: several rows at a time, as text.
+ghost use Rattle.std.specs.Prelude.{◌≡◌, ◌≤◌, ◌⊎◌, IfErr, OnOk, OnErr, IsErrOf};
+ghost use Rattle.mc_explore.specs.State.{Lost};
+ghost use Rattle.mc_explore.specs.Page.{PageIsOut, PageBegan};
+ghost use Rattle.mc_explore.specs.Want.{WantsMemory};
+
+use crate::error::ExploreError;
+use crate::explorer::Explorer;
+use crate::output::{write_line, write_text};
+use crate::schedule::Schedule;
+use mc_flash::Flash;
+use std::io::Write;
+
+// Writes a page, and leaves it to the caller to make the explorer fail where that fails.
+fn write_lines<F: Flash + Drop, W: Write>(
+    explorer: &mut Explorer<F>,
+    limit: u32,
+    writer: &mut W,
+) -> Result<(), ExploreError>
+    requires { 1 ≤ limit }
+    ensures page { OnOk result (PageIsOut explorer.old.state explorer.new.state limit (W.contents writer.old) (W.contents writer.new)) }
+    ensures began { OnErr result (PageBegan explorer.old.state limit (W.contents writer.old) (W.contents writer.new)) }
+    ensures cause { IsErrOf result ExploreError.Memory
+        → WantsMemory F.counted explorer.new.state.start.geometry explorer.new.ledger explorer.new.marked }
+    ensures stays_lost { explorer.old.state.position ≡ Lost → IsErrOf result ExploreError.Failed }
+    ensures not_lost { IsErrOf result ExploreError.Failed → explorer.old.state.position ≡ Lost }
+    ensures err { IfErr result (λ e. (e ≡ ExploreError.Memory) ⊎ (e ≡ ExploreError.Failed) ⊎ (e ≡ ExploreError.Write)) }
+{
+    let mut last = Schedule::new();
+    let mut room = limit;
+    'fill: while room > 0 {
+        match explorer.next_row()? {
+            Some(row) => {
+                last = row.schedule;
+                write_line(writer, row)?;
+            }
+            None => {
+                return write_text(writer, b"end\n");
+            }
+        }
+        room -= 1;
+    }
+    let cursor = explorer.cursor(&last);
+    write_line(writer, format_args!("next {cursor}"))
+}
+
+/// Writes the next rows, at most so many, a line each; then where to go on, or `end` where there were fewer. It takes no
+/// memory but through the flash.
+///
+/// # Errors
+///
+/// `Write`, `Memory`, `Failed`: a beginning of that page is out, and from then on the explorer answers `Failed`.
+pub fn write_page<F: Flash + Drop, W: Write>(
+    explorer: &mut Explorer<F>,
+    limit: u32,
+    writer: &mut W,
+) -> Result<(), ExploreError>
+    requires { 1 ≤ limit }
+    // The page of the rows to come is out, and what is to come afterwards is the rest of them.
+    ensures page { OnOk result (PageIsOut explorer.old.state explorer.new.state limit (W.contents writer.old) (W.contents writer.new)) }
+    ensures began { OnErr result (PageBegan explorer.old.state limit (W.contents writer.old) (W.contents writer.new)) }
+    ensures cause { IsErrOf result ExploreError.Memory
+        → WantsMemory F.counted explorer.new.state.start.geometry explorer.new.ledger explorer.new.marked }
+    ensures lost { OnErr result (explorer.new.state.position ≡ Lost) }
+    ensures stays_lost { explorer.old.state.position ≡ Lost → IsErrOf result ExploreError.Failed }
+    ensures not_lost { IsErrOf result ExploreError.Failed → explorer.old.state.position ≡ Lost }
+    ensures err { IfErr result (λ e. (e ≡ ExploreError.Memory) ⊎ (e ≡ ExploreError.Failed) ⊎ (e ≡ ExploreError.Write)) }
+{
+    let done = write_lines(explorer, limit, writer);
+    if done.is_err() {
+        explorer.give_up();
+    }
+    done
+}

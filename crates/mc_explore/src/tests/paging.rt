@@ -1,0 +1,79 @@
+//! The pages of a test swap of two small images.
+ghost use Rattle.std.specs.Prelude.{◌≤◌};
+
+use super::{FIRST, SECOND, worked};
+use crate::{ExploreError, Explorer, Kind, Start, write_page};
+use mc_flash::SnapFlash;
+use std::alloc::Global;
+use std::io::{self, Write};
+use std::test::Fail;
+
+/// An explorer of at most so many cuts.
+fn explorer(alloc: Global, bound: u8) -> Result<Explorer<SnapFlash>, Fail>
+    requires { bound ≤ 16 }
+{
+    let layout = worked()?;
+    let start = Start::from_images(alloc, &layout, Kind::Test, &FIRST, &SECOND)?;
+    Ok(Explorer::start(alloc, &start, bound)?)
+}
+
+#[test]
+fn a_full_page_ends_with_a_cursor(rt: HostRuntime) -> Result<(), Fail> {
+    let mut explorer = explorer(rt.alloc(), 0)?;
+    let mut page = Vec::new(rt.alloc());
+    write_page(&mut explorer, 1, &mut page)?;
+    let page = String::from_utf8(page)?;
+    let row = "- boot test 18 2.0.0+0/80 1.0.0+0/80 revert\nnext mc1:";
+    assert!(rt; page.as_str().starts_with(row));
+    assert!(rt; page.as_str().ends_with(":0:-\n"));
+    let mut last = Vec::new(rt.alloc());
+    write_page(&mut explorer, 1, &mut last)?;
+    assert_eq!(rt; last.as_slice(), b"end\n".as_slice());
+    Ok(())
+}
+
+#[test]
+fn a_page_with_room_left_ends(rt: HostRuntime) -> Result<(), Fail> {
+    let mut explorer = explorer(rt.alloc(), 1)?;
+    let mut page = Vec::new(rt.alloc());
+    write_page(&mut explorer, 20, &mut page)?;
+    let page = String::from_utf8(page)?;
+    assert_eq!(rt; page.as_str().lines().count(), 20);
+    assert!(rt;
+        page.as_str()
+            .ends_with("\n17 boot test 1 2.0.0+0/80 1.0.0+0/80 revert\nend\n")
+    );
+    Ok(())
+}
+
+/// Takes so many bytes, one at a time, and then fails.
+#[derive(Drop)]
+struct Narrow {
+    room: usize,
+}
+
+impl Write for Narrow {
+    fn write(&mut self, bytes: &[u8]) -> io::Result<usize> {
+        if self.room == 0 {
+            return Err(io::Error::from(io::ErrorKind::Other));
+        }
+        self.room -= 1;
+        Ok(bytes.len().min(1))
+    }
+
+    fn flush(&mut self) -> io::Result<()> {
+        Ok(())
+    }
+}
+
+#[test]
+fn a_failed_write_ends_the_exploration(rt: HostRuntime) -> Result<(), Fail> {
+    let mut explorer = explorer(rt.alloc(), 1)?;
+    let mut narrow = Narrow { room: 50 };
+    let refused = write_page(&mut explorer, 9, &mut narrow);
+    assert_eq!(rt; refused, Err(ExploreError::Write));
+    let again = write_page(&mut explorer, 9, &mut Narrow { room: 50 });
+    assert_eq!(rt; again, Err(ExploreError::Failed));
+    assert!(rt; explorer.next_row().is_err());
+    Ok(())
+}
