@@ -41,6 +41,7 @@ status_of (refusals.Layout _) = 2
 status_of (refusals.Schedule _) = 2
 status_of (refusals.Start e) = status_of_start e
 status_of (refusals.Replay e) = status_of_replay e
+status_of (refusals.Explore e) = 3
 status_of (refusals.Flash _) = 3
 status_of (refusals.Tool e) = status_of_tool e
 status_of refusals.Open = 3

@@ -20,7 +20,8 @@ pub fn parse<'a>(alloc: Global, words: &'a [String]) -> Result<ArgMatches<'a>, E
         .subcommand(dumpinfo_command(alloc)?)?
         .subcommand(type_command(alloc)?)?
         .subcommand(boot_command(alloc)?)?
-        .subcommand(replay_command(alloc)?)?;
+        .subcommand(replay_command(alloc)?)?
+        .subcommand(explore_command(alloc)?)?;
     command.try_get_matches_from(words)
 }
 
@@ -175,6 +176,30 @@ fn replay_command<'a>(alloc: Global) -> Result<Command<'a>, AllocError> {
                 .help("- for no cut, or for each cut, after how many operations it falls: 9.4"),
         )?
         .arg(out_file(alloc))
+}
+
+/// `explore`: what the boots after all schedules do.
+fn explore_command<'a>(alloc: Global) -> Result<Command<'a>, AllocError> {
+    let command = Command::new(alloc, "explore").about(
+        "Prints every schedule of power cuts that can occur, and what the boot after it does",
+    );
+    with_source(alloc, with_layout(alloc, command)?)?
+        .arg(
+            Arg::new(alloc, "cuts")
+                .long("cuts")
+                .value_name("K")
+                .value_parser(value_parser!(u8).range(0..=16))
+                .required(true)
+                .help("The most cuts of a schedule, from 0 to 16"),
+        )?
+        .arg(
+            Arg::new(alloc, "limit")
+                .long("limit")
+                .value_name("N")
+                .value_parser(value_parser!(u32).range(1..=4294967295))
+                .default_value("1000")
+                .help("The most rows, from 1 to 4294967295"),
+        )
 }
 
 fn out_file<'a>(alloc: Global) -> Arg<'a> {

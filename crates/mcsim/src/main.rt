@@ -79,6 +79,7 @@ fn run_command<F: Files, R: Read, O: Write>(
             let schedule = options::required(arguments, "schedule")?;
             commands::replay::run(files, alloc, arguments, schedule, out)
         }
+        Some(("explore", arguments)) => commands::explore::run(files, alloc, arguments, out),
         _ => Err(Refusal::Argument),
     }
 }

@@ -196,3 +196,28 @@ pub fn source_options<'a>(arguments: &ArgMatches<'a>) -> Result<Source<'a>, Refu
         _ => Err(Refusal::Source),
     }
 }
+
+/// How far an exploration goes.
+#[derive(Clone, Copy, Debug)]
+pub struct ExploreOptions {
+    /// The most cuts of a schedule, at most 16.
+    pub cuts: u8,
+    /// The most rows of a page, at least 1.
+    pub limit: u32,
+}
+
+/// The most cuts and the most rows.
+///
+/// # Errors
+///
+/// `Argument` where one is missing, or out of its range.
+pub fn explore_options(arguments: &ArgMatches<'_>) -> Result<ExploreOptions, Refusal>
+    ensures cuts { IfOk result (λ o. (told_number (found_of arguments.now) (codes "cuts") ≡ Some o.cuts) × (o.cuts ≤ 16)) }
+    ensures limit { IfOk result (λ o. (told_number (found_of arguments.now) (codes "limit") ≡ Some o.limit) × (1 ≤ o.limit)) }
+    ensures err { IfErr result (λ r. r ≡ Refusal.Argument) }
+{
+    Ok(ExploreOptions {
+        cuts: number(arguments, "cuts", 0, 16)? as u8,
+        limit: number(arguments, "limit", 1, u32::MAX)?,
+    })
+}

@@ -2,7 +2,7 @@
 ghost use Rattle.std.specs.Prelude.{◌≡◌, ◌≤◌};
 ghost use Rattle.mcsim.specs.Statuses.{status_of};
 
-use mc_explore::{ReplayError, ScheduleError, StartError};
+use mc_explore::{ExploreError, ReplayError, ScheduleError, StartError};
 use mc_flash::{FlashError, LayoutError};
 use mc_image::{ImageError, VersionError};
 use mc_imgtool::ToolError;
@@ -36,6 +36,9 @@ pub enum Refusal {
     /// The schedule is not replayed.
     #[error(transparent)]
     Replay(#[from] ReplayError),
+    /// The exploration ends early.
+    #[error(transparent)]
+    Explore(#[from] ExploreError),
     /// The flash refuses.
     #[error(transparent)]
     Flash(#[from] FlashError),
@@ -90,6 +93,9 @@ impl Refusal {
                 | ToolError::NotZeros
                 | ToolError::SlotTooSmall
                 | ToolError::InputTooLong => 1,
+            },
+            Refusal::Explore(error) => match error {
+                ExploreError::Memory | ExploreError::Failed | ExploreError::Write => 3,
             },
             Refusal::Flash(_) | Refusal::Open | Refusal::Write | Refusal::Memory => 3,
         }

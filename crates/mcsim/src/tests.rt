@@ -3,6 +3,7 @@ mod boots;
 mod creation;
 mod faults;
 mod faulty;
+mod pages;
 mod slots;
 mod support;
 mod trailers;

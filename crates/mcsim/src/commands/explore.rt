@@ -1,0 +1,34 @@
+//! `explore`: every schedule of power cuts, with what the boot after it does.
+use crate::options::{explore_options, layout_options, source_options};
+use crate::refusal::Refusal;
+use crate::source::read_start;
+use clap::ArgMatches;
+use mc_explore::{ExploreError, Explorer, write_page};
+use mc_flash::SnapFlash;
+use std::alloc::Global;
+use std::io::{BufWriter, Write};
+use std::rt::Files;
+
+/// Prints a page of rows: one for each schedule of at most so many cuts that can occur, in their order. The words are judged
+/// before a file is touched.
+///
+/// # Errors
+///
+/// `Source`, `Layout` and the numbers of the words; what `read_start` refuses; `Explore` for want of memory, or where the
+/// output cannot be written.
+pub fn run<F: Files, O: Write>(
+    files: &F,
+    alloc: Global,
+    arguments: &ArgMatches<'_>,
+    out: &mut O,
+) -> Result<(), Refusal> {
+    let source = source_options(arguments)?;
+    let layout = layout_options(arguments)?;
+    let options = explore_options(arguments)?;
+    let start = read_start(files, alloc, &layout, &source)?;
+    let mut explorer = Explorer::<SnapFlash>::start(alloc, &start, options.cuts)?;
+    let mut page = BufWriter::new(alloc, out).map_err(|_| ExploreError::Memory)?;
+    write_page(&mut explorer, options.limit, &mut page)?;
+    page.flush().map_err(|_| ExploreError::Write)?;
+    Ok(())
+}
