@@ -4,6 +4,8 @@ ghost use Rattle.mc_flash.specs.Worked.{worked};
 
 mod exploring;
 mod paging;
+mod replays;
+mod vectors;
 
 use super::*;
 use mc_flash::{Layout, LayoutError};
