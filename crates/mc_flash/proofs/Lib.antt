@@ -1,3 +1,6 @@
 mod Counts
 mod Limits
 mod Worked
+mod Undo
+mod Kept
+mod Popped

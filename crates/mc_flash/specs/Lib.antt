@@ -4,8 +4,12 @@ pub mod Room
 pub mod Content
 pub mod Apply
 pub mod Ledger
+pub mod Slots
+pub mod Reserve
+pub mod Journal
 pub mod Snap
 pub mod Facts
+pub mod LedgerFacts
 pub mod Changes
 pub mod Pieces
 pub mod Worked

@@ -1,17 +1,25 @@
-//! The layout of two slots in a flash, the flash itself as a model, and a flash in memory that keeps copies.
+//! The layout of two slots in a flash, the flash itself as a model, and two flashes in memory: one keeps copies, the other
+//! a journal.
 #![tactic(auto)]
 
+mod entry;
 mod erased;
 mod flash;
+mod journal;
 mod layout;
 mod op;
+mod reserve;
+mod slots;
 mod snap;
 
 pub use erased::blank;
 pub use flash::{Flash, FlashError, Grain};
+pub use journal::JournalFlash;
 pub use layout::{Layout, LayoutError};
 pub use op::{Bytes16, Op, Slot};
 pub use snap::SnapFlash;
 
+#[cfg(test)]
+mod journal_tests;
 #[cfg(test)]
 mod tests;

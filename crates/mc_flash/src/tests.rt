@@ -1,4 +1,4 @@
-//! The worked layout, the limits of a layout, and the flash of copies through the trait.
+//! The worked layout, the limits of a layout, and both flashes through the trait.
 ghost use Rattle.std.specs.Prelude.{◌≡◌, [], IfOk};
 ghost use Rattle.mc_flash.specs.Worked.{worked};
 
@@ -209,6 +209,21 @@ fn copies_are_copied(rt: HostRuntime) -> Result<(), Fail> {
 #[test]
 fn copies_are_given_back(rt: HostRuntime) -> Result<(), Fail> {
     marks_are_given_back::<SnapFlash>(&rt, rt.alloc())
+}
+
+#[test]
+fn a_journal_is_programmed(rt: HostRuntime) -> Result<(), Fail> {
+    bytes_are_programmed::<JournalFlash>(&rt, rt.alloc())
+}
+
+#[test]
+fn a_journal_is_copied(rt: HostRuntime) -> Result<(), Fail> {
+    bytes_are_copied::<JournalFlash>(&rt, rt.alloc())
+}
+
+#[test]
+fn a_journal_is_given_back(rt: HostRuntime) -> Result<(), Fail> {
+    marks_are_given_back::<JournalFlash>(&rt, rt.alloc())
 }
 
 /// A mark that is refused changes nothing. `scripts/refuse-tests` refuses each allocation of the tests in turn.

@@ -1,0 +1,91 @@
+-- A journal of operations, and what taking them back gives.
+use Rattle.std.specs.Prelude.{◌≡◌, ℕ, ◌+◌, ◌≤◌, false, List, [], ◌∷◌, length, take, drop, map, replicate}
+use Rattle.std.specs.List.{AllByRecursion}
+use Rattle.mc_flash.specs.Geometry.{Geometry}
+use Rattle.mc_flash.specs.Content.{Content, bytes_of, with_bytes, put, size_of}
+use Rattle.mc_flash.specs.Ledger.{Ledger, Limits, Spot}
+use Rattle.mc_flash.specs.declared.op.Slot.{Slot}
+use Rattle.mc_flash.specs.declared.entry.Entry.{Entry}
+use Rattle.mc_flash.specs.declared.entry.Entry.TheVariants.{Written, Erased}
+
+-- Bytes of a slot that were changed, from an offset on, as they were before.
+pub record Change : Type 0 where
+  pub slot : Slot
+  pub at : ℕ
+  pub old : List ℕ
+
+-- The changes that entries stand for: bytes that were written were 0xff, and those of erased sectors were saved, one
+-- behind the other.
+abbrev pub changes : List Entry → List ℕ → List Change
+changes [] saved = []
+changes (Written slot at len ∷ entries) saved =
+    record { slot = slot; at = at; old = replicate len 255 } ∷ changes entries saved
+changes (Erased slot at len ∷ entries) saved =
+    record { slot = slot; at = at; old = take len saved } ∷ changes entries (drop len saved)
+
+-- The content before a change.
+abbrev pub taken_back : Change → Content → Content
+taken_back change s = with_bytes s change.slot (put (bytes_of s change.slot) change.at change.old)
+
+-- The content before several, the newest of which is taken back first.
+abbrev pub all_taken_back : List Change → Content → Content
+all_taken_back [] s = s
+all_taken_back (change ∷ rest) s = taken_back change (all_taken_back rest s)
+
+-- How many bytes entries have saved.
+abbrev pub saved_by : Entry → ℕ
+saved_by (Written slot at len) = 0
+saved_by (Erased slot at len) = len
+
+abbrev pub all_saved : List Entry → ℕ
+all_saved [] = 0
+all_saved (entry ∷ rest) = saved_by entry + all_saved rest
+
+-- What the flash held after so many of the entries, where it holds this after all of them, and the counts there.
+abbrev pub spot_after : List Entry → List ℕ → Content → ℕ → Spot
+spot_after entries saved s n = record {
+  content = all_taken_back (drop n (changes entries saved)) s;
+  counts = record { entries = n; saved = all_saved (take n entries) };
+}
+
+-- A flash with a journal, as it is seen.
+pub record Journal : Type 0 where
+  pub geometry : Geometry
+  pub content : Content
+  pub marks : List Spot
+  pub ledger : Ledger
+
+abbrev pub journal_of : Geometry → Content → Limits → List Entry → List ℕ → List ℕ → ℕ → Journal
+journal_of g s limits entries saved marks applied = record {
+  geometry = g;
+  content = s;
+  marks = map (spot_after entries saved s) marks;
+  ledger = record {
+    counts = record { entries = length entries; saved = length saved };
+    limits = limits;
+    applied = applied;
+    failed = false;
+  };
+}
+
+-- The bytes of an entry lie in its slot.
+abbrev pub IsInside : Geometry → Entry → Type 0
+IsInside g (Written slot at len) = at + len ≤ size_of g slot
+IsInside g (Erased slot at len) = at + len ≤ size_of g slot
+
+-- Each number is at most the next, and all are between the two.
+abbrev pub Ascend : ℕ → List ℕ → ℕ → Type 0
+Ascend low [] top = low ≤ top
+Ascend low (n ∷ rest) top = (low ≤ n) × Ascend n rest top
+
+-- A journal in room for the limits and at most that full, whose entries and saved bytes go together, with marks in order.
+pub record IsSound (g : Geometry) (limits : Limits) (entries_room saved_room marks_room : ℕ) (entries : List Entry) (saved marks : List ℕ) : Type 0 where
+  pub room_entries : limits.entries ≤ entries_room
+  pub room_saved : limits.saved ≤ saved_room
+  pub room_marks : limits.marks ≤ marks_room
+  pub few_entries : length entries ≤ limits.entries
+  pub few_saved : length saved ≤ limits.saved
+  pub few_marks : length marks ≤ limits.marks
+  pub saved_for : length saved ≡ all_saved entries
+  pub inside : AllByRecursion (IsInside g) entries
+  pub ascend : Ascend 0 marks (length entries)

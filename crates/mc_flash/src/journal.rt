@@ -1,0 +1,210 @@
+//! A flash in memory that keeps one content and a journal, which takes its operations back.
+ghost use Rattle.std.specs.Prelude.{◌≡◌, ℕ, ◌≤◌, ◌+◌, [], length, true, take};
+ghost use Rattle.std.specs.Vec.{vec_capacity};
+ghost use Rattle.std.specs.List.{AllByRecursion};
+ghost use Rattle.mc_flash.specs.Slots.{held};
+ghost use Rattle.mc_flash.specs.Journal.{IsInside, all_saved, spot_after};
+
+use crate::entry::Entry;
+use crate::flash::{Flash, FlashError, Grain};
+use crate::layout::Layout;
+use crate::op::Slot;
+use crate::reserve::Reserve;
+use crate::slots::Slots;
+use std::alloc::Global;
+use std::marker::Model;
+
+/// A flash in memory that keeps one content and a journal of what each operation changed. It takes all its memory when
+/// it is loaded, and counts what it uses of that.
+#[derive(Drop)]
+pub struct JournalFlash {
+    slots: Slots,
+    reserve: Reserve,
+    entries: Vec<Entry>,
+    // The bytes that erased sectors held, the newest last.
+    saved: Vec<u8>,
+    // After how many entries a content was marked.
+    marks: Vec<usize>,
+    applied: u64,
+}
+
+impl Model for JournalFlash {
+    ghost use Rattle.std.specs.Vec.{vec_capacity};
+    ghost use Rattle.mc_flash.specs.Slots.{held};
+    ghost use Rattle.mc_flash.specs.Reserve.{limits_of};
+    ghost use Rattle.mc_flash.specs.Journal.{Journal, journal_of, IsSound};
+
+    ghost Value = { Journal };
+
+    ghost view = { λ f. journal_of f.slots.layout (held f.slots) (limits_of f.reserve) f.entries.items f.saved.items f.marks.items f.applied };
+
+    ghost invariant = { λ f. IsSound f.slots.layout (limits_of f.reserve) (vec_capacity f.entries) (vec_capacity f.saved) (vec_capacity f.marks) f.entries.items f.saved.items f.marks.items };
+}
+
+// Takes the newest entries back, until so many are left.
+fn undo_to(slots: &mut Slots, entries: &mut Vec<Entry>, saved: &mut Vec<u8>, count: usize)
+    requires above { count ≤ length entries.old.items }
+    requires saved_for { length saved.old.items ≡ all_saved entries.old.items }
+    requires inside { AllByRecursion (IsInside slots.old.layout) entries.old.items }
+    ensures same { (n : ℕ) → n ≤ count → spot_after entries.new.items saved.new.items (held slots.new) n ≡ spot_after entries.old.items saved.old.items (held slots.old) n }
+    ensures layout { slots.new.layout ≡ slots.old.layout }
+    ensures left { entries.new.items ≡ take count entries.old.items }
+    ensures saved_for { length saved.new.items ≡ all_saved entries.new.items }
+    ensures fewer { length saved.new.items ≤ length saved.old.items }
+    ensures room_entries { vec_capacity entries.new ≡ vec_capacity entries.old }
+    ensures room_saved { vec_capacity saved.new ≡ vec_capacity saved.old }
+{
+    'undo: while entries.len() > count {
+        if let Some(entry) = entries.pop() {
+            match entry {
+                Entry::Written(slot, at, len) => slots.fill(slot, at as usize, len as usize),
+                Entry::Erased(slot, at, len) => {
+                    let from = saved.len() - len as usize;
+                    slots.put(slot, at as usize, &saved[from..]);
+                    saved.truncate(from);
+                }
+            }
+        }
+    }
+}
+
+impl JournalFlash {
+    /// How many operations can be taken back.
+    pub fn entries(&self) -> u64
+        ensures value { result ≡ self.now.ledger.counts.entries }
+        ensures few { result ≤ self.now.ledger.limits.entries }
+    {
+        self.entries.len() as u64
+    }
+
+    /// How many bytes are saved for that.
+    pub fn saved_bytes(&self) -> u64
+        ensures value { result ≡ self.now.ledger.counts.saved }
+        ensures few { result ≤ self.now.ledger.limits.saved }
+    {
+        self.saved.len() as u64
+    }
+
+    /// How many contents are marked.
+    pub fn marks(&self) -> u64
+        ensures value { result ≡ length self.now.marks }
+        ensures few { result ≤ self.now.ledger.limits.marks }
+    {
+        self.marks.len() as u64
+    }
+
+    /// How many operations it has done since it was loaded.
+    pub fn applied(&self) -> u64
+        ensures { result ≡ self.now.ledger.applied }
+    {
+        self.applied
+    }
+}
+
+impl Flash for JournalFlash {
+    ghost counted = { true };
+
+    ghost geometry = { λ f. f.geometry };
+
+    ghost content = { λ f. f.content };
+
+    ghost marks = { λ f. f.marks };
+
+    ghost ledger = { λ f. f.ledger };
+
+    fn load(
+        alloc: Global,
+        layout: &Layout,
+        grain: Grain,
+        primary: &[u8],
+        secondary: &[u8],
+        boots: u32,
+    ) -> Result<Self, FlashError> {
+        let reserve = Reserve::new(layout, grain, boots);
+        Ok(JournalFlash {
+            slots: Slots::new(alloc, *layout, primary, secondary)?,
+            reserve,
+            entries: Vec::with_capacity(alloc, reserve.entries)?,
+            saved: Vec::with_capacity(alloc, reserve.saved)?,
+            marks: Vec::with_capacity(alloc, reserve.marks)?,
+            applied: 0,
+        })
+    }
+
+    fn layout(&self) -> &Layout {
+        self.slots.layout()
+    }
+
+    fn read(&self, slot: Slot) -> &[u8] {
+        self.slots.read(slot)
+    }
+
+    #[tactic(auto, unfolding(crate::specs::Apply::apply))]
+    fn erase(&mut self, slot: Slot, sector: u32) -> Result<(), FlashError> {
+        let size = self.slots.layout().sector();
+        if self.entries.len() >= self.reserve.entries {
+            return Err(FlashError::Memory);
+        }
+        if self.reserve.saved - self.saved.len() < size as usize {
+            return Err(FlashError::Memory);
+        }
+        self.saved
+            .extend_from_slice(self.slots.sector(slot, sector))?;
+        self.entries.push(Entry::Erased(slot, sector * size, size))?;
+        self.slots.erase(slot, sector);
+        self.applied = self.applied.saturating_add(1);
+        Ok(())
+    }
+
+    #[tactic(auto, unfolding(crate::specs::Apply::apply))]
+    fn program(&mut self, slot: Slot, offset: u32, bytes: &[u8]) -> Result<(), FlashError> {
+        if !self.slots.is_blank(slot, offset as usize, bytes.len()) {
+            return Err(FlashError::NotErased);
+        }
+        if self.entries.len() >= self.reserve.entries {
+            return Err(FlashError::Memory);
+        }
+        self.entries
+            .push(Entry::Written(slot, offset, bytes.len() as u32))?;
+        self.slots.put(slot, offset as usize, bytes);
+        self.applied = self.applied.saturating_add(1);
+        Ok(())
+    }
+
+    #[tactic(auto, unfolding(crate::specs::Apply::apply))]
+    fn copy(
+        &mut self,
+        from: Slot,
+        at: u32,
+        to: Slot,
+        offset: u32,
+        len: u32,
+    ) -> Result<(), FlashError> {
+        if !self.slots.is_blank(to, offset as usize, len as usize) {
+            return Err(FlashError::NotErased);
+        }
+        if self.entries.len() >= self.reserve.entries {
+            return Err(FlashError::Memory);
+        }
+        self.entries.push(Entry::Written(to, offset, len))?;
+        self.slots
+            .put_copy(from, at as usize, to, offset as usize, len as usize);
+        self.applied = self.applied.saturating_add(1);
+        Ok(())
+    }
+
+    fn mark(&mut self) -> Result<usize, FlashError> {
+        let place = self.marks.len();
+        if place >= self.reserve.marks {
+            return Err(FlashError::Memory);
+        }
+        self.marks.push(self.entries.len())?;
+        Ok(place)
+    }
+
+    fn back_to(&mut self, place: usize) {
+        let count = self.marks[place];
+        self.marks.truncate(place);
+        undo_to(&mut self.slots, &mut self.entries, &mut self.saved, count);
+    }
+}
