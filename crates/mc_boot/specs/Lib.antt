@@ -9,6 +9,7 @@ pub mod CourseList
 pub mod Boot
 pub mod Run
 pub mod RunFacts
+pub mod Bounds
 pub mod WriteFacts
 pub mod Outcome
 pub mod Texts

@@ -1,10 +1,10 @@
 //! The boot as a machine that makes one operation at a time.
-ghost use Rattle.std.specs.Prelude.{◌≡◌, ◌<◌, [], slice_get, Some, IfSome};
+ghost use Rattle.std.specs.Prelude.{◌≡◌, ◌<◌, ◌≤◌, [], length, slice_get, Some, IfSome};
 ghost use Rattle.mc_trailer.specs.Entries.{highest_entry};
 ghost use Rattle.mc_flash.specs.Geometry.{Geometry};
 ghost use Rattle.mc_flash.specs.Content.{Content};
 ghost use Rattle.mc_flash.specs.Apply.{CanTry, Does, apply};
-ghost use Rattle.mc_flash.specs.Ledger.{Notes};
+ghost use Rattle.mc_flash.specs.Ledger.{Notes, most_operations, most_saved};
 ghost use Rattle.mc_trailer.specs.declared.tables.Rules.{Rules};
 ghost use Rattle.mc_boot.specs.Image.{images_of};
 ghost use Rattle.mc_boot.specs.Plan.{confirms, nothing, new_swap, new_plan, resumed_swap, resumed_plan, plan};
@@ -56,6 +56,7 @@ fn confirms(kind: SwapType, image_ok: Flag) -> bool
 impl Boot {
     ghost use Rattle.mc_boot.specs.Boot.{to_come, progress, IsBootOf, Steps, NotesFirst, begun};
     ghost use Rattle.mc_boot.specs.Run.{HasCome};
+    ghost use Rattle.mc_boot.specs.Bounds.{all_saves};
     ghost use Rattle.mc_boot.specs.Outcome.{shown, report, outcome_of};
 
     // A boot with no operations.
@@ -189,13 +190,19 @@ impl Boot {
     }
 
     /// A boot at power-on. It reads and hashes images only where it begins a swap.
+    #[tactic(auto, using(crate::specs::Bounds::plan_few, crate::specs::Bounds::plan_saves))]
     pub fn cold<F: Flash>(flash: &F, rules: Rules) -> Boot
         ensures progress { progress result
             ≡ begun rules (plan rules (F.geometry flash.now) (F.content flash.now)) }
         ensures layout { IsBootOf (F.geometry flash.now) result }
         ensures come { HasCome rules (F.geometry flash.now) (F.content flash.now)
             (progress result) (F.content flash.now) }
+        // It has few operations, and what their erases save is little.
+        ensures few { length (progress result).to_come ≤ most_operations rules.grain (F.geometry flash.now) }
+        ensures few_saves { all_saves (F.geometry flash.now) (progress result).to_come ≤ most_saved (F.geometry flash.now) }
     {
+        // Each number of a layout tells that it is one.
+        let _sector = flash.layout().sector();
         Boot::begin(flash, rules, None)
     }
 

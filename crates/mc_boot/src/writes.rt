@@ -193,9 +193,8 @@ pub fn preparation_write(layout: &Layout, grain: Grain, size: u32, index: u32) -
     ensures at { slice_get (preparation_writes grain layout.now size) index ≡ Some result }
     ensures inside { CanTry layout.now result }
 {
-    if index == 0 {
-        image_ok_write(layout, Slot::Secondary)
-    } else {
-        marking_write(layout, grain, Slot::Secondary, size, index - 1)
+    match index {
+        0 => image_ok_write(layout, Slot::Secondary),
+        _ => marking_write(layout, grain, Slot::Secondary, size, index - 1),
     }
 }
