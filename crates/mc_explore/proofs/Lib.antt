@@ -19,3 +19,5 @@ mod Restarts
 mod Streams
 mod PageText
 mod Lines
+mod Down
+mod Cursors

@@ -59,26 +59,26 @@ pub come_back : (r : Rules) (g : Geometry) (start : Content) (home : ℕ) (marks
 come_back r g start home marks fs f restored p e =
     subst (λ z. HasCome r g (landed r g start (dones fs)) (progress f.boot) z) (sym (e ∙ p.restored)) p.frame.come
 
--- Its step: one operation more, or memory is wanted.
-pub record WentOn (r : Rules) (g : Geometry) (here : Content) (f : Frame) (boot : Boot) (content : Content) (result : Result (Unit {0}) FlashError) : Type 0 where
-  pub goes : Goes (progress f.boot) (progress boot) result
-  pub boot_of : IsBootOf g boot
-  pub come : HasCome r g here (progress boot) content
-  pub some : to_come f.boot ≡ [] → ⊥
+-- A step where an operation is left: it is made, or memory is wanted.
+pub record SteppedOn (r : Rules) (g : Geometry) (here : Content) (p q : Progress) (content : Content) (result : Result (Unit {0}) FlashError) : Type 0 where
+  pub goes : Goes p q result
+  pub come : HasCome r g here q content
+  pub some : p.to_come ≡ [] → ⊥
 
-pub went_on : (r : Rules) (g now : Geometry) (start : Content) (home : ℕ) (marks : List Content) (fs : List Frame) (f : Frame) (boot : Boot) (restored content : Content) (result : Result (Unit {0}) FlashError) → Popped r g start home marks fs f → restored ≡ marked_at marks f.place → now ≡ g → Steps now (progress f.boot) (progress boot) restored content result → (HasCome r now (landed r g start (dones fs)) (progress f.boot) restored → HasCome r now (landed r g start (dones fs)) (progress boot) content) → IsBootOf now boot → WentOn r g (landed r g start (dones fs)) f boot content result
-went_on r g now start home marks fs f boot restored content result p e same steps come boot_of =
-    let here = landed r g start (dones fs) in
-    let back = come_back r g start home marks fs f restored p e in
-    let below : (progress f.boot).count < length (ops_of r g here) = omega (arith, p.frame.count_is, p.frame.allowed) in
-    let there = come (subst (λ (z : Geometry). HasCome r z here (progress f.boot) restored) (sym same) back) in
-    let next = has_next r g here (progress f.boot) restored back below in
+pub step_on : (r : Rules) (g now : Geometry) (here old new : Content) (p q : Progress) (result : Result (Unit {0}) FlashError) → HasCome r g here p old → p.count < length (ops_of r g here) → now ≡ g → Steps now p q old new result → (HasCome r now here p old → HasCome r now here q new) → SteppedOn r g here p q new result
+step_on r g now here old new p q result at below same steps come =
+    let there = come (subst (λ (z : Geometry). HasCome r z here p old) (sym same) at) in
+    let next = has_next r g here p old at below in
     record {
-      goes = step_goes r g here (progress f.boot) (progress boot) restored content result back below (subst (λ (z : Geometry). Steps z (progress f.boot) (progress boot) restored content result) same steps);
-      boot_of = subst (λ (z : Geometry). IsBootOf z boot) same boot_of;
-      come = subst (λ (z : Geometry). HasCome r z here (progress boot) content) same there;
-      some = λ none. let q : next.op ∷ next.rest ≡ [] = sym next.next ∙ none in absurd cc;
+      goes = step_goes r g here p q old new result at below (subst (λ (z : Geometry). Steps z p q old new result) same steps);
+      come = subst (λ (z : Geometry). HasCome r z here q new) same there;
+      some = λ none. let f : next.op ∷ next.rest ≡ [] = sym next.next ∙ none in absurd cc;
     }
+
+-- So it is with the boot of a frame that was taken off.
+pub went_on : (r : Rules) (g now : Geometry) (start : Content) (home : ℕ) (marks : List Content) (fs : List Frame) (f : Frame) (boot : Boot) (restored content : Content) (result : Result (Unit {0}) FlashError) → Popped r g start home marks fs f → restored ≡ marked_at marks f.place → now ≡ g → Steps now (progress f.boot) (progress boot) restored content result → (HasCome r now (landed r g start (dones fs)) (progress f.boot) restored → HasCome r now (landed r g start (dones fs)) (progress boot) content) → SteppedOn r g (landed r g start (dones fs)) (progress f.boot) (progress boot) content result
+went_on r g now start home marks fs f boot restored content result p e same steps come =
+    step_on r g now (landed r g start (dones fs)) restored content (progress f.boot) (progress boot) result (come_back r g start home marks fs f restored p e) (omega (arith, p.frame.count_is, p.frame.allowed)) same steps come
 
 pub goes_done : (p q : Progress) (result : Result (Unit {0}) FlashError) (v : Unit {0}) → Goes p q result → result ≡ Ok v → q.count ≡ p.count + 1
 goes_done p q (Ok w) v goes is = goes

@@ -1,13 +1,14 @@
 -- Where to go on with an exploration, as text: this project's own.
-use Rattle.std.specs.Prelude.{ℕ, List, ◌++◌, codes, decimal}
-use Rattle.hex.specs.Hex.{encode_lower}
+use Rattle.std.specs.Prelude.{◌≡◌, ℕ, ◌≤◌, List, ◌++◌, length, codes, decimal, Result, Ok, Err}
+use Rattle.hex.specs.Hex.{IsBytes, encode_lower}
 use Rattle.mc_flash.specs.declared.flash.Grain.{Grain}
 use Rattle.mc_flash.specs.declared.flash.Grain.TheVariants as grains
 use Rattle.mc_trailer.specs.declared.tables.Profile.{Profile}
 use Rattle.mc_trailer.specs.declared.tables.Profile.TheVariants as profiles
 use Rattle.mc_trailer.specs.declared.tables.Rules.{Rules}
-use Rattle.mc_explore.specs.Texts.{schedule_text}
+use Rattle.mc_explore.specs.Texts.{IsSchedule, schedule_text}
 use Rattle.mc_explore.specs.declared.cursor.Cursor.{Cursor}
+use Rattle.mc_explore.specs.declared.cursor.CursorError.{CursorError}
 
 -- The rules. Whole calls and the first profile have a form of their own.
 abbrev pub head_text : Grain → Profile → List ℕ
@@ -20,3 +21,15 @@ head_text grains.Unit profiles.Two = codes "mc2:unit:2:"
 abbrev pub cursor_text : Cursor → List ℕ
 cursor_text c =
     head_text c.rules.grain c.rules.profile ++ (encode_lower c.digest ++ (codes ":" ++ (decimal c.bound ++ (codes ":" ++ schedule_text c.schedule))))
+
+-- A cursor of 32 bytes, at most 16 cuts, and a schedule that can be told.
+pub record IsCursor (c : Cursor) : Type 0 where
+  pub digest : length c.digest ≡ 32
+  pub bytes : IsBytes c.digest
+  pub few : c.bound ≤ 16
+  pub schedule : IsSchedule c.schedule
+
+-- A text is read as the cursor of that text, and is refused where it is that of none.
+abbrev pub ReadsCursor : List ℕ → Result Cursor CursorError → Type 0
+ReadsCursor text (Ok c) = text ≡ cursor_text c
+ReadsCursor text (Err _) = (c : Cursor) → IsCursor c → text ≡ cursor_text c → ⊥

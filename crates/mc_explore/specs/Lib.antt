@@ -12,3 +12,4 @@ pub mod View
 pub mod Want
 pub mod CursorText
 pub mod Page
+pub mod Resume

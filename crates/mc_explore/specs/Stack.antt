@@ -1,5 +1,5 @@
 -- The boots that were cut on the way to a schedule.
-use Rattle.std.specs.Prelude.{◌≡◌, ℕ, ◌+◌, ◌<◌, ◌^◌, Bool, true, false, List, [], ◌∷◌, ◌++◌, length, map, get_or}
+use Rattle.std.specs.Prelude.{◌≡◌, ℕ, ◌+◌, ◌<◌, ◌≤◌, ◌^◌, Bool, true, false, List, [], ◌∷◌, ◌++◌, length, map, get_or}
 use Rattle.mc_flash.specs.Geometry.{Geometry}
 use Rattle.mc_flash.specs.Content.{Content}
 use Rattle.mc_flash.specs.Ledger.{Spot}
@@ -7,7 +7,7 @@ use Rattle.mc_trailer.specs.declared.tables.Rules.{Rules}
 use Rattle.mc_boot.specs.Runs.{ops_of}
 use Rattle.mc_boot.specs.Boot.{IsBootOf, progress}
 use Rattle.mc_boot.specs.Run.{HasCome}
-use Rattle.mc_explore.specs.Schedules.{IsMember, IsNextAfter, NoneAfter}
+use Rattle.mc_explore.specs.Schedules.{CanOccur, IsMember, IsNextAfter, NoneAfter}
 use Rattle.mc_explore.specs.Landing.{at_cut, landed, HasNoChild, IsNextBeyond, NoneBeyond}
 use Rattle.mc_explore.specs.declared.frames.Frame.{Frame}
 use Rattle.mc_explore.specs.declared.walk.Walk.{Walk}
@@ -79,3 +79,13 @@ Climbs w g start l false new = NoneBeyond w.rules g start l
 abbrev pub Advances : Walk → Geometry → Content → List ℕ → Bool → List ℕ → Type 0
 Advances w g start l true new = IsNextAfter w.rules g start w.bound l new
 Advances w g start l false new = NoneAfter w.rules g start w.bound l
+
+-- From l one goes down by that cut to new, or the cut can't occur there.
+abbrev pub GoesDown : Walk → Geometry → Content → List ℕ → ℕ → Bool → List ℕ → Type 0
+GoesDown w g start l cut true new = (new ≡ l ++ cut ∷ []) × (cut < length (ops_of w.rules g (landed w.rules g start l)))
+GoesDown w g start l cut false new = (new ≡ l) × (length (ops_of w.rules g (landed w.rules g start l)) ≤ cut)
+
+-- One came down to that schedule, or it can't occur.
+abbrev pub Follows : Walk → Geometry → Content → List ℕ → Bool → List ℕ → Type 0
+Follows w g start l true new = (new ≡ l) × CanOccur w.rules g start l
+Follows w g start l false new = CanOccur w.rules g start l → ⊥

@@ -1,8 +1,13 @@
 //! Where to go on with an exploration.
-ghost use Rattle.std.specs.Prelude.{◌≡◌};
 
 use crate::Schedule;
 use mc_trailer::Rules;
+use thiserror::Error;
+
+/// A text that is no cursor's.
+#[derive(Clone, Copy, Debug, PartialEq, Eq, Error)]
+#[error("E55 Syntax")]
+pub struct CursorError;
 
 /// Where to go on with an exploration: behind a schedule, of a start (told by its digest) under some rules, with so many
 /// cuts at most. It takes no memory.

@@ -1,5 +1,6 @@
 //! Cursors as text.
 ghost use Rattle.std.specs.Prelude.{◌≡◌, Some};
+ghost use Rattle.hex.specs.Hex.{encode_lower};
 ghost use Rattle.mc_explore.specs.CursorText.{head_text, cursor_text};
 
 use crate::cursor::Cursor;
@@ -7,8 +8,8 @@ use mc_flash::Grain;
 use mc_trailer::{Profile, Rules};
 use std::{fmt, str};
 
-// What a cursor begins with under these rules.
-fn head(rules: Rules) -> &'static str
+/// What a cursor begins with under these rules.
+pub fn head(rules: Rules) -> &'static str
     ensures { result.now ≡ head_text rules.grain rules.profile }
 {
     match (rules.grain, rules.profile) {
@@ -19,13 +20,21 @@ fn head(rules: Rules) -> &'static str
     }
 }
 
+/// The digits of a digest.
+pub fn digits_of(digest: &[u8; 32]) -> [u8; 64]
+    ensures { result ≡ encode_lower digest.now }
+{
+    let mut digits = [0; 64];
+    let _whole = hex::encode_to_slice(digest.as_slice(), &mut digits);
+    digits
+}
+
 /// The rules, the start's digest, the most cuts and the schedule.
 impl fmt::Display for Cursor {
     ghost output = { λ cursor. Some (cursor_text cursor) };
 
     fn fmt<W: fmt::Write>(&self, f: &mut fmt::Formatter<W>) -> fmt::Result {
-        let mut room = [0; 64];
-        hex::encode_to_slice(self.digest.as_slice(), &mut room).map_err(|_| fmt::Error)?;
+        let room = digits_of(&self.digest);
         let digits = str::from_utf8(&room).map_err(|_| fmt::Error)?;
         let head = head(self.rules);
         let bound = self.bound;

@@ -15,9 +15,21 @@ pub enum ExploreError {
     /// The explorer failed before.
     #[error("E54 Failed")]
     Failed,
+    /// The cursor is of another start.
+    #[error("E56 OtherStart")]
+    OtherStart,
+    /// The cursor is of another bound.
+    #[error("E57 OtherBound")]
+    OtherBound,
+    /// The cursor's schedule is none of those to go through.
+    #[error("E58 CannotOccur")]
+    CannotOccur,
     /// A write failed, or took no bytes. The explorer has failed then.
     #[error("E59 Write")]
     Write,
+    /// The cursor is of other rules.
+    #[error("E61 OtherRules")]
+    OtherRules,
 }
 
 impl From<FlashError> for ExploreError {

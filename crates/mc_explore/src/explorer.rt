@@ -1,15 +1,18 @@
 //! Goes through the schedules of power cuts, one after another.
 ghost use Rattle.std.specs.Prelude.{◌≡◌, ◌≢◌, ◌≤◌, IfOk, IfErr, OnOk, OnErr, IsErrOf, ◌⊎◌};
 ghost use Rattle.mc_explore.specs.Page.{cursor_of};
+ghost use Rattle.mc_explore.specs.Resume.{Resumes};
 ghost use Rattle.mc_explore.specs.State.{State, Lost, Finds, state_after, lost_at, at_start};
 ghost use Rattle.mc_explore.specs.Want.{WantsMemory};
 
 use crate::cursor::Cursor;
 use crate::error::ExploreError;
 use crate::frames::Frame;
+use crate::loading::{ask, load};
 use crate::phase::Phase;
 use crate::row::Row;
 use crate::rows::{next_row_of, row_here};
+use crate::run::run;
 use crate::walk::Walk;
 use crate::{Schedule, Start};
 use mc_flash::Flash;
@@ -60,26 +63,53 @@ impl<F: Flash + Drop> Explorer<F> {
         ensures ok { IfOk result (λ explorer. explorer.state ≡ at_start start.now bound) }
         ensures err { IfErr result (λ e. e ≡ ExploreError.Memory) }
     {
-        let rules = start.rules();
-        let mut flash = F::load(
-            alloc,
-            start.layout(),
-            rules.grain,
-            start.primary(),
-            start.secondary(),
-            u32::from(bound) + 1,
-        )?;
-        let bound = usize::from(bound);
-        let frames = Vec::with_capacity(alloc, bound)?;
-        let home = flash.mark()?;
+        let (flash, walk) = load(alloc, start, bound)?;
+        let frames = Vec::with_capacity(alloc, walk.bound)?;
         Ok(Explorer {
-            walk: Walk { rules, home, bound },
+            walk,
             digest: start.digest(),
             flash,
             frames,
             last: Schedule::new(),
             here: 0,
             phase: Phase::Fresh,
+        })
+    }
+
+    /// An explorer that goes on behind the schedule of a cursor, straight down along its cuts. It takes memory as one at
+    /// the start does.
+    ///
+    /// # Errors
+    ///
+    /// The first of `OtherStart`, `OtherRules`, `OtherBound` and `CannotOccur` that holds of the cursor; `Memory`.
+    pub fn resume(
+        alloc: Global,
+        start: &Start,
+        bound: u8,
+        cursor: &Cursor,
+    ) -> Result<Explorer<F>, ExploreError>
+        requires { bound ≤ 16 }
+        ensures { Resumes start.now bound cursor.now result }
+    {
+        ask(start, bound, cursor)?;
+        let cuts = cursor.schedule.cuts();
+        if cuts.len() > usize::from(bound) {
+            return Err(ExploreError::CannotOccur);
+        }
+        let (mut flash, walk) = load(alloc, start, bound)?;
+        let mut frames = Vec::with_capacity(alloc, walk.bound)?;
+        if !walk.follow(&mut flash, &mut frames, cuts)? {
+            return Err(ExploreError::CannotOccur);
+        }
+        let outcome = run(&mut flash, walk.rules)?;
+        Ok(Explorer {
+            walk,
+            digest: cursor.digest,
+            flash,
+            frames,
+            last: cursor.schedule,
+            here: outcome.ops,
+            phase: Phase::Going,
         })
     }
 
@@ -140,7 +170,6 @@ impl<F: Flash + Drop> Explorer<F> {
     {
         &self.flash
     }
-
     /// Where to go on behind a schedule.
     pub(crate) fn cursor(&self, schedule: &Schedule) -> Cursor
         ensures { self.now.state.position ≢ Lost → result ≡ cursor_of self.now.state.start self.now.state.bound schedule.now }

@@ -3,12 +3,15 @@
 
 mod boots;
 mod cursor;
+mod cursor_reading;
 mod cursor_text;
 mod error;
 mod explorer;
+mod follow;
 mod frames;
 mod kind;
 mod laws;
+mod loading;
 mod output;
 mod pages;
 mod phase;
@@ -23,7 +26,7 @@ mod stack;
 mod start;
 mod walk;
 
-pub use cursor::Cursor;
+pub use cursor::{Cursor, CursorError};
 pub use error::ExploreError;
 pub use explorer::Explorer;
 pub use kind::Kind;

@@ -2,9 +2,11 @@
 ghost use Rattle.std.specs.Prelude.{◌≡◌, IfOk};
 ghost use Rattle.mc_flash.specs.Worked.{worked};
 
+mod cursors;
 mod exploring;
 mod paging;
 mod replays;
+mod resuming;
 mod vectors;
 
 use super::*;

@@ -48,7 +48,7 @@ returns-in_err-step-clause-cause g c =
     let f = c.in-Some.frame in
     let p = popped w.rules layout start w.home marks fs f (subst (IsStacked w.rules layout start w.home marks) c.in-Some.ensures.items c.loop-frame.invariant.stacked) in
     let there = marked_is (g.F.Flash.marks c.loop-frame.flash) f.place _ c.back_to.ensures.content in
-    let on = went_on w.rules layout (g.F.Flash.geometry c.back_to.new.self) start w.home marks fs f c.step.new.self (g.F.Flash.content c.back_to.new.self) (g.F.Flash.content c.step.new.flash) c.step.result p there (c.back_to.ensures.geometry ∙ c.loop-frame.invariant.geometry) c.step.ensures.step (c.step.ensures.come w.rules (landed w.rules layout start (dones fs))) (rw (← c.step.ensures.geometry) c.step.ensures.layout) in
+    let on = went_on w.rules layout (g.F.Flash.geometry c.back_to.new.self) start w.home marks fs f c.step.new.self (g.F.Flash.content c.back_to.new.self) (g.F.Flash.content c.step.new.flash) c.step.result p there (c.back_to.ensures.geometry ∙ c.loop-frame.invariant.geometry) c.step.ensures.step (c.step.ensures.come w.rules (landed w.rules layout start (dones fs))) in
     let q = err_from_is_err_and c.from_residual.result c.from_residual.ensures.1 in
     rw (q.1, c.step.ensures.geometry) (step_wants g.F.Flash.counted (g.F.Flash.geometry c.back_to.new.self) (to_come f.boot) (length (g.F.Flash.marks c.step.new.flash)) c.step.result _ _ c.step.ensures.notes (goes_wants (progress f.boot) (progress c.step.new.self) c.step.result _ on.goes c.in_err-step.was) on.some)
 
@@ -62,11 +62,11 @@ returns-then-next-frame-clause-stands g c _ =
     let f = c.in-Some.frame in
     let p = popped w.rules layout start w.home marks fs f (subst (IsStacked w.rules layout start w.home marks) c.in-Some.ensures.items c.loop-frame.invariant.stacked) in
     let there = marked_is (g.F.Flash.marks c.loop-frame.flash) f.place _ c.back_to.ensures.content in
-    let on = went_on w.rules layout (g.F.Flash.geometry c.back_to.new.self) start w.home marks fs f c.step.new.self (g.F.Flash.content c.back_to.new.self) (g.F.Flash.content c.step.new.flash) c.step.result p there (c.back_to.ensures.geometry ∙ c.loop-frame.invariant.geometry) c.step.ensures.step (c.step.ensures.come w.rules (landed w.rules layout start (dones fs))) (rw (← c.step.ensures.geometry) c.step.ensures.layout) in
+    let on = went_on w.rules layout (g.F.Flash.geometry c.back_to.new.self) start w.home marks fs f c.step.new.self (g.F.Flash.content c.back_to.new.self) (g.F.Flash.content c.step.new.flash) c.step.result p there (c.back_to.ensures.geometry ∙ c.loop-frame.invariant.geometry) c.step.ensures.step (c.step.ensures.come w.rules (landed w.rules layout start (dones fs))) in
     let counts = goes_done (progress f.boot) (progress c.step.new.self) c.step.result _ on.goes c.in_ok-step.was in
     let lt : f.done + 1 < f.ops = omega arith in
     let e = c.in_ok-push_frame.ensures in
-    rw (e.content, e.marks, e.pushed, c.step.ensures.marks, c.back_to.ensures.marks, contents_take f.place (g.F.Flash.marks c.loop-frame.flash)) (found_stands w.rules layout start w.home marks fs f c.step.new.self (g.F.Flash.content c.step.new.flash) p counts on.boot_of on.come lt)
+    rw (e.content, e.marks, e.pushed, c.step.ensures.marks, c.back_to.ensures.marks, contents_take f.place (g.F.Flash.marks c.loop-frame.flash)) (found_stands w.rules layout start w.home marks fs f c.step.new.self (g.F.Flash.content c.step.new.flash) p counts (rw (← c.back_to.ensures.geometry ∙ c.loop-frame.invariant.geometry, ← c.step.ensures.geometry) c.step.ensures.layout) on.come lt)
 
 pub returns-then-next-frame-clause-start : goal.returns-then-next-frame-clause-start
 returns-then-next-frame-clause-start g c =

@@ -1,0 +1,51 @@
+-- Where a cursor serves to go on, and the first reason why it does not.
+use Rattle.std.specs.Prelude.{◌≡◌, ◌≢◌, ℕ, List, [], ◌∷◌, false, Result, Ok, Err, ⊤}
+use Rattle.mc_flash.specs.Geometry.{Geometry}
+use Rattle.mc_flash.specs.Content.{Content}
+use Rattle.mc_flash.specs.Ledger.{Ledger, Spot}
+use Rattle.mc_explore.specs.Schedules.{IsMember}
+use Rattle.mc_explore.specs.Stack.{contents}
+use Rattle.mc_explore.specs.Start.{Begun, start_digest}
+use Rattle.mc_explore.specs.State.{Explored, State, After}
+use Rattle.mc_explore.specs.declared.cursor.Cursor.{Cursor}
+use Rattle.mc_explore.specs.declared.error.ExploreError.{ExploreError}
+use Rattle.mc_explore.specs.declared.error.ExploreError.TheVariants as errors
+use Rattle.mc_explore.specs.declared.walk.Walk.{Walk}
+
+-- The cursor names this start, its rules and this bound.
+pub record Names (start : Begun) (bound : ℕ) (c : Cursor) : Type 0 where
+  pub digest_is : c.digest ≡ start_digest start
+  pub rules_are : c.rules ≡ start.rules
+  pub bound_is : c.bound ≡ bound
+
+-- Why a cursor is refused: another start; else other rules; else another bound; else its schedule is none of those to go
+-- through. Besides, memory can run out.
+abbrev pub Refuses : Begun → ℕ → Cursor → ExploreError → Type 0
+Refuses start bound c errors.OtherStart = c.digest ≢ start_digest start
+Refuses start bound c errors.OtherRules = (c.digest ≡ start_digest start) × (c.rules ≢ start.rules)
+Refuses start bound c errors.OtherBound = (c.digest ≡ start_digest start) × (c.rules ≡ start.rules) × (c.bound ≢ bound)
+Refuses start bound c errors.CannotOccur =
+    Names start bound c × (IsMember start.rules start.geometry start.content bound c.schedule → ⊥)
+Refuses start bound c errors.Memory = ⊤
+Refuses start bound c errors.Failed = ⊥
+Refuses start bound c errors.Write = ⊥
+
+-- The state behind a schedule.
+abbrev pub behind : Begun → ℕ → List ℕ → State
+behind start bound l = record { start = start; bound = bound; position = After l; failed = false }
+
+-- An explorer that goes on behind the cursor's schedule, or the first reason why there is none.
+abbrev pub Resumes : Begun → ℕ → Cursor → Result Explored ExploreError → Type 0
+Resumes start bound c (Ok explorer) =
+    Names start bound c × IsMember start.rules start.geometry start.content bound c.schedule × (explorer.state ≡ behind start bound c.schedule)
+Resumes start bound c (Err e) = Refuses start bound c e
+
+-- A flash was loaded for a walk, and marked.
+pub record IsLoaded (start : Begun) (bound : ℕ) (w : Walk) (g : Geometry) (content : Content) (marks : List Spot) (ledger : Ledger) : Type 0 where
+  pub rules_are : w.rules ≡ start.rules
+  pub bound_is : w.bound ≡ bound
+  pub home_is : w.home ≡ 0
+  pub geometry_is : g ≡ start.geometry
+  pub content_is : content ≡ start.content
+  pub marks_are : contents marks ≡ start.content ∷ []
+  pub calm : ledger.failed ≡ false
