@@ -7,6 +7,8 @@ use Rattle.mc_explore.specs.declared.start.StartError.{StartError}
 use Rattle.mc_explore.specs.declared.start.StartError.TheVariants as start_errors
 use Rattle.mc_explore.specs.declared.replaying.ReplayError.{ReplayError}
 use Rattle.mc_explore.specs.declared.replaying.ReplayError.TheVariants as replay_errors
+use Rattle.mc_explore.specs.declared.error.ExploreError.{ExploreError}
+use Rattle.mc_explore.specs.declared.error.ExploreError.TheVariants as explore_errors
 use Rattle.mcsim.specs.declared.refusal.Refusal.{Refusal}
 use Rattle.mcsim.specs.declared.refusal.Refusal.TheVariants as refusals
 
@@ -31,6 +33,16 @@ abbrev pub status_of_replay : ReplayError → ℕ
 status_of_replay (replay_errors.CannotOccur _) = 1
 status_of_replay replay_errors.Memory = 3
 
+-- the status for an exploration that ends early: 1 where a cursor does not serve, 3 where memory or a write failed
+abbrev pub status_of_exploration : ExploreError → ℕ
+status_of_exploration explore_errors.OtherStart = 1
+status_of_exploration explore_errors.OtherRules = 1
+status_of_exploration explore_errors.OtherBound = 1
+status_of_exploration explore_errors.CannotOccur = 1
+status_of_exploration explore_errors.Memory = 3
+status_of_exploration explore_errors.Failed = 3
+status_of_exploration explore_errors.Write = 3
+
 -- the status for a refusal: 2 where the command line is refused
 abbrev pub status_of : Refusal → ℕ
 status_of refusals.NotText = 2
@@ -41,7 +53,8 @@ status_of (refusals.Layout _) = 2
 status_of (refusals.Schedule _) = 2
 status_of (refusals.Start e) = status_of_start e
 status_of (refusals.Replay e) = status_of_replay e
-status_of (refusals.Explore e) = 3
+status_of (refusals.Cursor _) = 2
+status_of (refusals.Explore e) = status_of_exploration e
 status_of (refusals.Flash _) = 3
 status_of (refusals.Tool e) = status_of_tool e
 status_of refusals.Open = 3

@@ -199,6 +199,12 @@ fn explore_command<'a>(alloc: Global) -> Result<Command<'a>, AllocError> {
                 .value_parser(value_parser!(u32).range(1..=4294967295))
                 .default_value("1000")
                 .help("The most rows, from 1 to 4294967295"),
+        )?
+        .arg(
+            Arg::new(alloc, "cursor")
+                .long("cursor")
+                .value_name("C")
+                .help("Where to go on: what an earlier page printed behind next"),
         )
 }
 

@@ -2,7 +2,7 @@
 ghost use Rattle.std.specs.Prelude.{◌≡◌, ◌≤◌};
 ghost use Rattle.mcsim.specs.Statuses.{status_of};
 
-use mc_explore::{ExploreError, ReplayError, ScheduleError, StartError};
+use mc_explore::{CursorError, ExploreError, ReplayError, ScheduleError, StartError};
 use mc_flash::{FlashError, LayoutError};
 use mc_image::{ImageError, VersionError};
 use mc_imgtool::ToolError;
@@ -30,6 +30,9 @@ pub enum Refusal {
     /// The text of a schedule is refused.
     #[error(transparent)]
     Schedule(#[from] ScheduleError),
+    /// The text of a cursor is refused.
+    #[error(transparent)]
+    Cursor(#[from] CursorError),
     /// The images or the bytes of a source are refused.
     #[error(transparent)]
     Start(#[from] StartError),
@@ -69,7 +72,8 @@ impl Refusal {
             | Refusal::Version(_)
             | Refusal::Source
             | Refusal::Layout(_)
-            | Refusal::Schedule(_) => 2,
+            | Refusal::Schedule(_)
+            | Refusal::Cursor(_) => 2,
             Refusal::Start(error) => match error {
                 StartError::Memory
                 | StartError::ImageA(ImageError::Memory)
@@ -95,6 +99,10 @@ impl Refusal {
                 | ToolError::InputTooLong => 1,
             },
             Refusal::Explore(error) => match error {
+                ExploreError::OtherStart
+                | ExploreError::OtherRules
+                | ExploreError::OtherBound
+                | ExploreError::CannotOccur => 1,
                 ExploreError::Memory | ExploreError::Failed | ExploreError::Write => 3,
             },
             Refusal::Flash(_) | Refusal::Open | Refusal::Write | Refusal::Memory => 3,

@@ -3,19 +3,19 @@ use crate::options::{explore_options, layout_options, source_options};
 use crate::refusal::Refusal;
 use crate::source::read_start;
 use clap::ArgMatches;
-use mc_explore::{ExploreError, Explorer, write_page};
-use mc_flash::SnapFlash;
+use mc_explore::{Cursor, ExploreError, Explorer, write_page};
+use mc_flash::JournalFlash;
 use std::alloc::Global;
 use std::io::{BufWriter, Write};
 use std::rt::Files;
 
-/// Prints a page of rows: one for each schedule of at most so many cuts that can occur, in their order. The words are judged
-/// before a file is touched.
+/// Prints a page of rows: one for each schedule of at most so many cuts that can occur, in their order, from the first or
+/// behind a cursor's. The words are judged before a file is touched.
 ///
 /// # Errors
 ///
-/// `Source`, `Layout` and the numbers of the words; what `read_start` refuses; `Explore` for want of memory, or where the
-/// output cannot be written.
+/// `Source`, `Layout`, the numbers and `Cursor` of the words; what `read_start` refuses; `Explore` where the cursor does not
+/// serve here, for want of memory, or where the output cannot be written.
 pub fn run<F: Files, O: Write>(
     files: &F,
     alloc: Global,
@@ -25,8 +25,15 @@ pub fn run<F: Files, O: Write>(
     let source = source_options(arguments)?;
     let layout = layout_options(arguments)?;
     let options = explore_options(arguments)?;
+    let cursor = match arguments.get_str("cursor") {
+        Some(text) => Some(Cursor::read(text)?),
+        None => None,
+    };
     let start = read_start(files, alloc, &layout, &source)?;
-    let mut explorer = Explorer::<SnapFlash>::start(alloc, &start, options.cuts)?;
+    let mut explorer: Explorer<JournalFlash> = match &cursor {
+        Some(cursor) => Explorer::resume(alloc, &start, options.cuts, cursor)?,
+        None => Explorer::start(alloc, &start, options.cuts)?,
+    };
     let mut page = BufWriter::new(alloc, out).map_err(|_| ExploreError::Memory)?;
     write_page(&mut explorer, options.limit, &mut page)?;
     page.flush().map_err(|_| ExploreError::Write)?;

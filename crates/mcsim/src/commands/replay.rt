@@ -4,7 +4,7 @@ use crate::refusal::Refusal;
 use crate::source::read_start;
 use clap::ArgMatches;
 use mc_explore::{Schedule, replay};
-use mc_flash::{Flash, Slot, SnapFlash};
+use mc_flash::{Flash, JournalFlash, Slot};
 use std::alloc::Global;
 use std::fs;
 use std::io::Write;
@@ -28,7 +28,7 @@ pub fn run<F: Files, O: Write>(
     let layout = layout_options(arguments)?;
     let schedule = Schedule::read(schedule)?;
     let start = read_start(files, alloc, &layout, &source)?;
-    let (outcome, flash) = replay::<SnapFlash>(alloc, &start, &schedule)?;
+    let (outcome, flash) = replay::<JournalFlash>(alloc, &start, &schedule)?;
     if let Some(path) = arguments.get_str("out") {
         write_flash(files, path, &flash)?;
     }

@@ -3,7 +3,7 @@ use crate::options::{layout_options, source_options};
 use crate::refusal::Refusal;
 use crate::source::read_start;
 use clap::ArgMatches;
-use mc_flash::{Flash, Grain, Slot, SnapFlash};
+use mc_flash::{Flash, Grain, JournalFlash, Slot};
 use mc_trailer::{Profile, Trailer, resumes, swap_type};
 use std::alloc::Global;
 use std::io::Write;
@@ -25,7 +25,7 @@ pub fn run<F: Files, O: Write>(
     let source = source_options(arguments)?;
     let layout = layout_options(arguments)?;
     let start = read_start(files, alloc, &layout, &source)?;
-    let flash = SnapFlash::load(
+    let flash = JournalFlash::load(
         alloc,
         start.layout(),
         Grain::Call,

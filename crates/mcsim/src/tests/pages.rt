@@ -5,6 +5,7 @@ use super::support::{Case, ends, outcome_over};
 use super::trailers::{WORKED, begun, flash_of};
 use super::vectors::FIRST_IMAGE;
 use sha2::{Digest, Sha256};
+use std::alloc::Global;
 use std::cell::RefCell;
 use std::test::Fail;
 
@@ -44,32 +45,43 @@ static PAGES: [(&str, &str, u32, u32, usize, &str); 18] = [
     ("two", "test", 2, 1000, 203, "721e5f4d55d96c91f80cb9f91f85c274c023cd6ce55e8f890cbc53ccd1909994"),
 ];
 
+/// What an exploration with these options prints.
+fn prints_at(alloc: Global, layout: &str, options: &str, more: &str) -> Result<String, Fail> {
+    let written = RefCell::new(Vec::new(alloc));
+    let files = FaultyFiles {
+        input: &FIRST_IMAGE,
+        written: &written,
+        reads: u32::MAX,
+        writes: u32::MAX,
+        fault: Fault::Error,
+    };
+    let mut words = Vec::new(alloc);
+    for part in ["mcsim explore", layout, options, more] {
+        for word in part.split_whitespace() {
+            words.push(word)?;
+        }
+    }
+    let ended = outcome_over(alloc, &files, words.as_slice(), &mut [].as_slice())?;
+    if ended.status != 0 {
+        return Err(Fail::from("the exploration is refused"));
+    }
+    Ok(ended.out)
+}
+
+/// The same at the worked layout.
+fn prints(alloc: Global, options: &str, more: &str) -> Result<String, Fail> {
+    prints_at(alloc, WORKED, options, more)
+}
+
 #[test]
 fn prints_the_pages_of_images(rt: HostRuntime) -> Result<(), Fail> {
     let alloc = rt.alloc();
+    let images = "--image-a in --image-b second";
     for (layout, kind, cuts, limit, lines, digest) in PAGES {
-        let written = RefCell::new(Vec::new(alloc));
-        let files = FaultyFiles {
-            input: &FIRST_IMAGE,
-            written: &written,
-            reads: u32::MAX,
-            writes: u32::MAX,
-            fault: Fault::Error,
-        };
-        let layout = layout_words(layout);
-        let head = format!(in alloc; "mcsim explore {layout} --kind {kind} --image-a in")?;
-        let rest = format!(in alloc; "--image-b second --cuts {cuts} --limit {limit}")?;
-        let mut words = Vec::new(alloc);
-        for part in [head.as_str(), rest.as_str()] {
-            for word in part.split_whitespace() {
-                words.push(word)?;
-            }
-        }
-        let ended = outcome_over(alloc, &files, words.as_slice(), &mut [].as_slice())?;
-        let (status, out, _) = ended.parts();
-        assert_eq!(rt; status, 0);
-        assert_eq!(rt; out.lines().count(), lines, "{kind} {cuts}");
-        let sum = hex::encode(alloc, Sha256::digest(out.as_bytes()))?;
+        let options = format!(in alloc; "--kind {kind} --cuts {cuts} --limit {limit}")?;
+        let page = prints_at(alloc, layout_words(layout), options.as_str(), images)?;
+        assert_eq!(rt; page.as_str().lines().count(), lines, "{kind} {cuts}");
+        let sum = hex::encode(alloc, Sha256::digest(page.as_str().as_bytes()))?;
         assert_eq!(rt; sum.as_str(), digest, "{kind} {cuts}");
     }
     Ok(())
@@ -110,4 +122,106 @@ fn prints_the_rows_of_a_flash(rt: HostRuntime) -> Result<(), Fail> {
     stuck[888] = 1;
     let panic = "- panic panic 0 none none panic\nend\n";
     ends(&rt, alloc, &explore_of(&stuck, "--cuts 16", panic))
+}
+
+/// The digest of the start of a test.
+static START: &str = "9b07a99687c30f1c748c995c0d4df48a8af881b571e209fd613b03ba09e2b5b7";
+
+/// An exploration of the images' test swap.
+fn explore_images<'a>(options: &'a str) -> Case<'a> {
+    Case {
+        options: "--kind test --image-a in --image-b second",
+        ..explore_of(&FIRST_IMAGE, options, "")
+    }
+}
+
+#[test]
+fn goes_on_behind_cursors(rt: HostRuntime) -> Result<(), Fail> {
+    let alloc = rt.alloc();
+    let images = "2.0.0+0/80 1.0.0+0/80 revert";
+    for (cuts, schedule, limit, rows, next) in [
+        (2, "0.17", 1, "1 boot test 18", "1"),
+        (2, "17.0", 1000, "", ""),
+        (1, "16", 1, "17 boot test 1", "17"),
+        (1, "16", 2, "17 boot test 1", ""),
+        (0, "-", 1, "", ""),
+    ] {
+        let options = format!(in alloc;
+            "--cuts {cuts} --limit {limit} --cursor mc1:{START}:{cuts}:{schedule}"
+        )?;
+        let mut out = if rows == "" {
+            String::new(alloc)
+        } else {
+            format!(in alloc; "{rows} {images}\n")?
+        };
+        if next == "" {
+            out.push_str("end\n")?;
+        } else {
+            let last = format!(in alloc; "next mc1:{START}:{cuts}:{next}\n")?;
+            out.push_str(last.as_str())?;
+        }
+        let case = Case {
+            out: out.as_str(),
+            ..explore_images(options.as_str())
+        };
+        ends(&rt, alloc, &case)?;
+    }
+    Ok(())
+}
+
+#[test]
+fn refuses_cursors(rt: HostRuntime) -> Result<(), Fail> {
+    let alloc = rt.alloc();
+    let other = "0cf2f5a1b9a451dc9bb060b1858a94da9927942d58635a051bee1bff2fd4356b";
+    for (cuts, head, digest, tail, status, error) in [
+        (2, "mc1", START, "2:18", 1, "E58 CannotOccur"),
+        (1, "mc1", START, "1:0.0", 1, "E58 CannotOccur"),
+        (2, "mc1", START, "1:0", 1, "E57 OtherBound"),
+        // The first reason is answered.
+        (2, "mc1", other, "1:18", 1, "E56 OtherStart"),
+        (2, "mc2:unit:1", START, "1:18", 1, "E61 OtherRules"),
+        (2, "mc2:call:1", START, "2:-", 2, "E55 Syntax"),
+        (2, "mc1", START, "02:-", 2, "E55 Syntax"),
+        (2, "mc1", START, "17:-", 2, "E55 Syntax"),
+        (2, "mc1", START, "2:00", 2, "E55 Syntax"),
+        (2, "MC1", START, "2:-", 2, "E55 Syntax"),
+    ] {
+        let options = format!(in alloc; "--cuts {cuts} --cursor {head}:{digest}:{tail}")?;
+        let err = format!(in alloc; "mcsim: {error}\n")?;
+        let case = Case {
+            status,
+            err: err.as_str(),
+            ..explore_images(options.as_str())
+        };
+        ends(&rt, alloc, &case)?;
+    }
+    // The text is judged before a file is opened.
+    let case = Case {
+        status: 2,
+        err: "mcsim: E55 Syntax\n",
+        options: "--flash missing",
+        ..explore_of(&[], "--cuts 0 --cursor -", "")
+    };
+    ends(&rt, alloc, &case)
+}
+
+#[test]
+fn pages_join_up(rt: HostRuntime) -> Result<(), Fail> {
+    let alloc = rt.alloc();
+    let source = "--kind test --image-a in --image-b second";
+    for (limit, lines) in [(1000u32, [1001usize, 1001, 59]), (1029, [1030, 1030, 1])] {
+        let mut cursor = String::new(alloc);
+        for count in lines {
+            let options = format!(in alloc; "{source} --cuts 3 --limit {limit}")?;
+            let page = prints(alloc, options.as_str(), cursor.as_str())?;
+            assert_eq!(rt; page.as_str().lines().count(), count);
+            let last = page.as_str().lines().last().unwrap_or("");
+            cursor = match last.strip_prefix("next ") {
+                Some(next) => format!(in alloc; "--cursor {next}")?,
+                None => String::from_str(alloc, last)?,
+            };
+        }
+        assert_eq!(rt; cursor.as_str(), "end");
+    }
+    Ok(())
 }
