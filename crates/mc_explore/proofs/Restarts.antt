@@ -1,5 +1,5 @@
 -- What the restart theorem says of a replay.
-use Rattle.std.specs.Prelude.{◌≡◌, ℕ, false, List, length, Option, Some, option_map, refl}
+use Rattle.std.specs.Prelude.{◌≡◌, ℕ, false, List, length, Option, Some, None, option_map, option_and_then, refl}
 use Rattle.std.proofs.Common.{sym, ap, subst, ◌∙◌}
 use Rattle.mc_flash.specs.Geometry.{Geometry, IsLayout}
 use Rattle.mc_flash.specs.Content.{Content}
@@ -13,6 +13,9 @@ use Rattle.mc_boot.specs.Restart.{BeginsImage, EndsIn, RestartLaw, forgets_rever
 use Rattle.mc_boot.specs.Runs.{after, left_by, ops_of, is_faulted}
 use Rattle.mc_boot.specs.Start.{StartKind, revert, start_flash, named, other}
 use Rattle.mc_explore.specs.Replay.{IsReplayed, IsSwapOutcome, Restarts}
+use Rattle.mc_explore.specs.Restarts.{RowRestarts}
+use Rattle.mc_explore.specs.Start.{Begun}
+use Rattle.mc_explore.specs.State.{Told, HasOutcome, outcome_after}
 
 -- The slots of an outcome are those of the flash that the boot leaves.
 told_slots : (r : Rules) (g : Geometry) (u z : Content) (o : Report) → outcome_of r g u ≡ Some o → left_by r g u ≡ Some z → (o.primary ≡ id_of z.primary) × (o.secondary ≡ id_of z.secondary)
@@ -35,3 +38,19 @@ replay_restarts r g s z cuts o layout law done = λ kind a b first second rules 
     let P : Content → Type 0 = λ x. EndsIn r g kind a b s done.cut x in
     let ends_in : EndsIn r g kind a b s done.cut z = subst P same ends.1 in
     (done.cut, ends_in, swap_outcome r g kind a b s done.cut z o done.outcome_is done.left ends_in)
+
+row_ends : (start : Begun) (row : Told) (kind : StartKind) (a b : List ℕ) → RestartLaw start.rules → IsLayout start.geometry → BeginsImage start.geometry a → BeginsImage start.geometry b
+    → (kind ≡ revert → forgets_reverts start.rules.grain start.rules.profile ≡ false) → start_flash start.geometry kind a b ≡ Some start.content
+    → (o : Option Content) → after start.rules start.geometry start.content row.schedule ≡ o → option_and_then (λ u. outcome_of start.rules start.geometry u) o ≡ Some row.outcome
+    → (u : Content) × (z : Content) × (after start.rules start.geometry start.content row.schedule ≡ Some u)
+    × EndsIn start.rules start.geometry kind a b start.content u z × IsSwapOutcome kind a b row.outcome
+row_ends start row kind a b law layout first second rules at None is outcome = absurd cc
+row_ends start row kind a b law layout first second rules at (Some u) is outcome =
+    let ends = law start.geometry kind a b start.content u row.schedule layout first second rules at is in
+    (u, ends.0, is, ends.1, swap_outcome start.rules start.geometry kind a b start.content u ends.0 row.outcome outcome ends.1.end ends.1)
+
+-- What the restart theorem says of a row.
+pub row_restarts : (start : Begun) (row : Told) → ((rules : Rules) → RestartLaw rules) → HasOutcome start row → RowRestarts start row
+unfolding outcome_after
+row_restarts start row law outcome = λ kind a b layout first second rules at.
+    row_ends start row kind a b (law start.rules) layout first second rules at (after start.rules start.geometry start.content row.schedule) refl outcome

@@ -13,3 +13,4 @@ pub mod Want
 pub mod CursorText
 pub mod Page
 pub mod Resume
+pub mod Restarts

@@ -1,8 +1,9 @@
 //! Goes through the schedules of power cuts, one after another.
-ghost use Rattle.std.specs.Prelude.{◌≡◌, ◌≢◌, ◌≤◌, IfOk, IfErr, OnOk, OnErr, IsErrOf, ◌⊎◌};
+ghost use Rattle.std.specs.Prelude.{◌≡◌, ◌≢◌, ◌≤◌, IfOk, IfErr, IfSome, OnOk, OnErr, IsErrOf, ◌⊎◌};
 ghost use Rattle.mc_explore.specs.Page.{cursor_of};
 ghost use Rattle.mc_explore.specs.Resume.{Resumes};
-ghost use Rattle.mc_explore.specs.State.{State, Lost, Finds, state_after, lost_at, at_start};
+ghost use Rattle.mc_explore.specs.Restarts.{RowRestarts};
+ghost use Rattle.mc_explore.specs.State.{State, Lost, Finds, told, state_after, lost_at, at_start};
 ghost use Rattle.mc_explore.specs.Want.{WantsMemory};
 
 use crate::cursor::Cursor;
@@ -15,6 +16,7 @@ use crate::rows::{next_row_of, row_here};
 use crate::run::run;
 use crate::walk::Walk;
 use crate::{Schedule, Start};
+use mc_boot::restart_law;
 use mc_flash::Flash;
 use std::alloc::Global;
 use std::marker::Model;
@@ -122,6 +124,8 @@ impl<F: Flash + Drop> Explorer<F> {
         // It is the first row past the position, and there is none exactly where no schedule is past it.
         ensures found { IfOk result (λ found. Finds self.old.state found) }
         ensures moved { IfOk result (λ found. self.new.state ≡ state_after self.old.state found) }
+        // The restart theorem, for that row.
+        ensures restarts { IfOk result (λ found. IfSome found (λ row. RowRestarts self.old.state.start (told row))) }
         // Memory is wanted only where the flash has been refused some, or is full.
         ensures cause { IsErrOf result ExploreError.Memory
             → WantsMemory F.counted self.new.state.start.geometry self.new.ledger self.new.marked }
@@ -131,6 +135,7 @@ impl<F: Flash + Drop> Explorer<F> {
         ensures not_lost { IsErrOf result ExploreError.Failed → self.old.state.position ≡ Lost }
         ensures err { IfErr result (λ e. (e ≡ ExploreError.Memory) ⊎ (e ≡ ExploreError.Failed)) }
     {
+        restart_law();
         match self.phase {
             Phase::Broken => {
                 return Err(ExploreError::Failed);
