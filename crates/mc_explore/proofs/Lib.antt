@@ -21,3 +21,4 @@ mod PageText
 mod Lines
 mod Down
 mod Cursors
+mod Joined

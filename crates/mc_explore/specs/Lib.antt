@@ -14,3 +14,4 @@ pub mod CursorText
 pub mod Page
 pub mod Resume
 pub mod Restarts
+pub mod Chain

@@ -1,5 +1,8 @@
 //! What holds of the rows to come.
-ghost use Rattle.std.specs.Prelude.{◌≡◌, List};
+ghost use Rattle.std.specs.Prelude.{◌≡◌, ◌<◌, ℕ, Bool, false, List, [], length, take, All};
+ghost use Rattle.mc_explore.specs.Chain.{Chain, JoinUp, last_schedule};
+ghost use Rattle.mc_explore.specs.Page.{state_past};
+ghost use Rattle.mc_explore.specs.Resume.{behind};
 ghost use Rattle.mc_explore.specs.State.{State, Told};
 ghost use Rattle.mc_explore.specs.Rest.{IsRest};
 
@@ -7,4 +10,16 @@ ghost use Rattle.mc_explore.specs.Rest.{IsRest};
 pub fn one_list_of_rows()
     ensures some { (state : State) → (rows : List Told) × IsRest state rows }
     ensures only { (state : State) (xs ys : List Told) → IsRest state xs → IsRest state ys → xs ≡ ys }
+{}
+
+/// Pages join up: the rows of pages that are continued from their cursors are a front of the rows to come where the first one
+/// began, and all of them where the last one says `end`.
+pub fn pages_join_up()
+    ensures joined { (limits : List ℕ) (state : State) (whole rows : List Told) (ended : Bool)
+        → state.failed ≡ false → All (λ n. 0 < n) limits → IsRest state whole
+        → Chain state limits ended rows → JoinUp whole rows ended }
+    // After a full page an explorer is where one begins that goes on from its cursor.
+    ensures resumed { (state : State) (rows : List Told) (limit : ℕ)
+        → state.failed ≡ false → 0 < limit → length (take limit rows) ≡ limit
+        → state_past state limit rows ≡ behind state.start state.bound (last_schedule [] (take limit rows)) }
 {}

@@ -30,7 +30,7 @@ pub use cursor::{Cursor, CursorError};
 pub use error::ExploreError;
 pub use explorer::Explorer;
 pub use kind::Kind;
-pub use laws::one_list_of_rows;
+pub use laws::{one_list_of_rows, pages_join_up};
 pub use pages::write_page;
 pub use replaying::{ReplayError, replay};
 pub use row::Row;
