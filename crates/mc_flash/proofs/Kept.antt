@@ -1,16 +1,16 @@
 -- What a journal keeps: its room, the order of its marks, and the marked contents.
-use Rattle.std.proofs.Common.{◌≡◌, ℕ, ◌+◌, ◌*◌, ◌<◌, ◌≤◌, true, false, List, [], ◌∷◌, ◌++◌, length, map, take, get_or, refl, sym, ap, subst, ◌∙◌, arith, length-append}
-use Rattle.std.specs.Prelude.{if◌then◌else◌, zero, suc, replicate, slice_get, Option, Some, None, option_map, Ok, Err}
+use Rattle.std.proofs.Common.{◌≡◌, ℕ, ◌+◌, ◌<◌, ◌≤◌, true, false, List, [], ◌∷◌, ◌++◌, length, map, take, get_or, refl, sym, ap, subst, ◌∙◌, arith, length-append}
+use Rattle.std.specs.Prelude.{if◌then◌else◌, zero, suc, replicate, slice_get, Some, None, option_map, Ok, Err}
 use Rattle.std.specs.List.{between, AllByRecursion}
-use Rattle.std.proofs.lemmas.List.{map-append, take-map, length-map, length-take-le}
+use Rattle.std.proofs.lemmas.List.{map-append, take-map, length-take-le}
 use Rattle.std.proofs.lemmas.List.Edits.{length-between}
 use Rattle.std.proofs.lemmas.Option.{slice_get-map, slice_get-get_or}
 use Rattle.mc_flash.specs.Blank.{is_blank}
 use Rattle.mc_flash.specs.Geometry.{Geometry}
-use Rattle.mc_flash.specs.Content.{Content, bytes_of, with_bytes, put, size_of, IsSized}
-use Rattle.mc_flash.specs.Apply.{apply, Does, CanTry, programmed, in_slot}
+use Rattle.mc_flash.specs.Content.{Content, bytes_of, with_bytes, put, size_of}
+use Rattle.mc_flash.specs.Apply.{apply, Does, in_slot}
 use Rattle.mc_flash.specs.Ledger.{Limits, Spot}
-use Rattle.mc_flash.specs.Journal.{Change, changes, taken_back, saved_by, all_saved, spot_after, IsInside, Ascend, IsSound}
+use Rattle.mc_flash.specs.Journal.{Change, changes, taken_back, all_saved, spot_after, IsInside, Ascend, IsSound}
 use Rattle.mc_flash.specs.declared.op.Slot.{Slot}
 use Rattle.mc_flash.specs.declared.op.Slot.TheVariants.{Primary, Secondary}
 use Rattle.mc_flash.specs.declared.op.Op.TheVariants as ops
@@ -78,11 +78,11 @@ marks_push es es' saved saved' marks s t e c order more noted back =
     same_marks (spot_after es' saved' t) (spot_after es saved s) 0 marks (length es) order (λ n early.
     spot_push n es es' saved saved' t e c more noted early ∙ ap (λ (x : Content). spot_after es saved x n) back)
 
-pub marks_write : (g : Geometry) (es es' : List Entry) (saved marks : List ℕ) (s t : Content) (slot : Slot) (at len : ℕ) (new : List ℕ)
+pub marks_write : (es es' : List Entry) (saved marks : List ℕ) (s t : Content) (slot : Slot) (at len : ℕ) (new : List ℕ)
     → Ascend 0 marks (length es) → es' ≡ es ++ Written slot at len ∷ [] → t ≡ with_bytes s slot (put (bytes_of s slot) at new) → length new ≡ len → at + len ≤ length (bytes_of s slot)
     → is_blank (between at (at + len) (bytes_of s slot)) ≡ true
     → map (spot_after es' saved t) marks ≡ map (spot_after es saved s) marks
-marks_write g es es' saved marks s t slot at len new order more is long fits blank =
+marks_write es es' saved marks s t slot at len new order more is long fits blank =
     marks_push es es' saved saved marks s t (Written slot at len) (record { slot = slot; at = at; old = replicate len 255 }) order more
     (ap (λ (z : List Entry). changes z saved) more ∙ push_written es saved slot at len)
     (write_back s t slot at len new is long fits blank)

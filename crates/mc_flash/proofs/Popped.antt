@@ -1,11 +1,11 @@
 -- Taking back the newest entry.
-use Rattle.std.proofs.Common.{◌≡◌, ℕ, ◌+◌, ◌-◌, ◌<◌, ◌≤◌, List, [], ◌∷◌, ◌++◌, length, take, drop, refl, sym, ap, subst, ◌∙◌, arith, length-append}
+use Rattle.std.proofs.Common.{◌≡◌, ℕ, ◌+◌, ◌-◌, ◌≤◌, List, [], ◌∷◌, ◌++◌, length, take, drop, sym, ap, subst, ◌∙◌, arith, length-append}
 use Rattle.std.specs.Prelude.{replicate}
 use Rattle.std.specs.List.{AllByRecursion}
 use Rattle.std.proofs.lemmas.List.{take-append-le, take_all, take-append-drop, length-take-le, length-drop}
 use Rattle.mc_flash.specs.Geometry.{Geometry}
-use Rattle.mc_flash.specs.Content.{Content, bytes_of, with_bytes, put, size_of}
-use Rattle.mc_flash.specs.Journal.{Change, changes, saved_by, all_saved, spot_after, IsInside}
+use Rattle.mc_flash.specs.Content.{Content, bytes_of, with_bytes, put}
+use Rattle.mc_flash.specs.Journal.{changes, saved_by, all_saved, spot_after, IsInside}
 use Rattle.mc_flash.specs.declared.op.Slot.{Slot}
 use Rattle.mc_flash.specs.declared.entry.Entry.{Entry}
 use Rattle.mc_flash.specs.declared.entry.Entry.TheVariants.{Written, Erased}

@@ -14,7 +14,7 @@ pub struct Reserve {
     pub marks: usize,
 }
 
-// The operations of the transfers of so many sectors, each of so many pieces.
+// The operations of three transfers for each of so many sectors, each transfer of so many pieces: at most 3,072 of 65,538.
 fn transfer_operations(sectors: u32, pieces: u32) -> u64
     requires sectors { sectors ≤ 1024 }
     requires pieces { pieces ≤ 65536 }
@@ -24,7 +24,7 @@ fn transfer_operations(sectors: u32, pieces: u32) -> u64
     3 * sectors as u64 * (pieces as u64 + 2)
 }
 
-// The most operations of a boot.
+// The most operations of a boot: those of its transfers, and those on the trailers.
 fn most_operations(layout: &Layout, grain: Grain) -> u64
     ensures value { result ≡ most_operations grain layout.now }
     ensures few { result ≤ 204000000 }
@@ -46,7 +46,7 @@ fn most_operations(layout: &Layout, grain: Grain) -> u64
     }
 }
 
-// The most bytes that a boot's erases save.
+// The most bytes that a boot's erases save: at most three slots of 2^24.
 #[tactic(auto, using(crate::specs::LedgerFacts::few_saved))]
 fn most_saved(layout: &Layout) -> u64
     ensures value { result ≡ most_saved layout.now }

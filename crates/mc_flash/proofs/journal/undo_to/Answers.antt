@@ -1,9 +1,9 @@
-use Rattle.std.proofs.Common.{◌≡◌, ℕ, ◌+◌, ◌-◌, ◌<◌, ◌≤◌, List, [], ◌∷◌, ◌++◌, length, take, refl, sym, ap, subst, ◌∙◌, arith}
+use Rattle.std.proofs.Common.{◌≡◌, ◌+◌, ◌-◌, ◌≤◌, [], ◌∷◌, ◌++◌, length, sym, ap, subst, ◌∙◌, arith}
 use Rattle.std.proofs.lemmas.List.{length-take-le}
 use Rattle.std.specs.List.{AllByRecursion}
 use Rattle.mc_flash.specs.Geometry.{Geometry}
 use Rattle.mc_flash.specs.Slots.{held}
-use Rattle.mc_flash.specs.Journal.{IsInside, all_saved, spot_after}
+use Rattle.mc_flash.specs.Journal.{IsInside}
 use Rattle.mc_flash.specs.declared.entry.Entry.{Entry}
 use Rattle.mc_flash.specs.declared.entry.Entry.TheVariants.{Written, Erased}
 use Rattle.mc_flash.proofs.Popped.{one_less, same_front, saves_less, inside_less, write_undone, newest_length, erase_undone}
@@ -53,7 +53,6 @@ undo-preserved-in-Erased c =
     let fewer = one_less c.undo.entries.items c.pop.new.self.items e all in
     let early : c.args.count ≤ length c.pop.new.self.items = omega (arith, fewer, c.undo-test.true) in
     let saves = saves_less c.undo.entries.items c.pop.new.self.items e c.undo.saved.items all i.saved_for in
-    let k : ℕ = c.len-in-Erased.result - c.in-Erased.len in
     let whole : c.len-in-Erased.result - c.in-Erased.len + c.in-Erased.len ≡ length c.undo.saved.items = omega (arith, saves, c.undo.saved.ok.0) in
     let left : length c.truncate.new.self.items ≡ c.len-in-Erased.result - c.in-Erased.len = ap length c.truncate.ensures.items ∙ length-take-le (c.len-in-Erased.result - c.in-Erased.len) c.undo.saved.items (omega (arith, whole)) in
     record {

@@ -1,10 +1,10 @@
-use Rattle.std.proofs.Common.{◌≡◌, ◌+◌, ◌<◌, ◌≤◌, length, subst, sym, ap, ◌∙◌, arith}
+use Rattle.std.proofs.Common.{◌≡◌, ◌+◌, length, subst, sym, ap, ◌∙◌, arith}
 use Rattle.std.specs.Prelude.{Ok, Err}
 use Rattle.std.specs.List.{between}
 use Rattle.std.specs.Vec.{vec_capacity}
 use Rattle.std.proofs.lemmas.List.Edits.{length-between}
 use Rattle.mc_flash.specs.Geometry.{Geometry}
-use Rattle.mc_flash.specs.Content.{bytes_of, size_of}
+use Rattle.mc_flash.specs.Content.{bytes_of}
 use Rattle.mc_flash.specs.Apply.{CanTry, Does, apply}
 use Rattle.mc_flash.specs.Slots.{held}
 use Rattle.mc_flash.specs.Reserve.{limits_of}
@@ -58,6 +58,6 @@ returns-clause-marks c =
     let target = length_of f.slots.layout (held f.slots) c.args.to f.slots.primary_sized f.slots.secondary_sized in
     let new = between c.args.at (c.args.at + c.args.len) (bytes_of (held f.slots) c.args.from) in
     let n : length (between c.args.at (c.args.at + c.args.len) (bytes_of (held f.slots) c.args.from)) ≡ c.args.len = omega (arith, length-between (bytes_of (held f.slots) c.args.from) c.args.at (c.args.at + c.args.len) (omega (arith, can.0.inside, source))) in
-    marks_write f.slots.layout f.entries.items c.push.new.self.items f.saved.items f.marks.items (held f.slots) (held c.put_copy.new.self) c.args.to c.args.offset c.args.len new
+    marks_write f.entries.items c.push.new.self.items f.saved.items f.marks.items (held f.slots) (held c.put_copy.new.self) c.args.to c.args.offset c.args.len new
     c.self.invariant.ascend c.in_ok-push.ensures.items c.put_copy.ensures.held n (omega (arith, can.1.inside, target)) (sym c.if-not-is_blank.ensures)
     ∙ ap (λ (j : Journal). j.marks) c.self.view_is

@@ -1,9 +1,9 @@
-use Rattle.std.proofs.Common.{◌≡◌, [], ◌∷◌, ◌++◌, ◌+◌, ◌*◌, ◌<◌, ◌≤◌, length, subst, sym, ap, ◌∙◌, arith}
+use Rattle.std.proofs.Common.{[], ◌∷◌, ◌++◌, ◌*◌, ◌<◌, subst, sym, ap, ◌∙◌, arith}
 use Rattle.std.specs.Prelude.{replicate}
 use Rattle.std.specs.Vec.{vec_capacity}
 use Rattle.std.proofs.lemmas.List.{length-replicate}
 use Rattle.mc_flash.specs.Geometry.{Geometry}
-use Rattle.mc_flash.specs.Content.{sectors_of, size_of}
+use Rattle.mc_flash.specs.Content.{sectors_of}
 use Rattle.mc_flash.specs.Facts.{sector_inside}
 use Rattle.mc_flash.specs.Slots.{held}
 use Rattle.mc_flash.specs.Reserve.{limits_of}

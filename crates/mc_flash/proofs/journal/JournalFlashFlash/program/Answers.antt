@@ -1,4 +1,4 @@
-use Rattle.std.proofs.Common.{◌≡◌, ◌+◌, ◌<◌, ◌≤◌, length, refl, subst, sym, ap, ◌∙◌, arith}
+use Rattle.std.proofs.Common.{◌+◌, ◌≤◌, length, refl, subst, sym, ap, ◌∙◌, arith}
 use Rattle.std.specs.Vec.{vec_capacity}
 use Rattle.mc_flash.specs.Geometry.{Geometry}
 use Rattle.mc_flash.specs.Content.{size_of}
@@ -21,6 +21,6 @@ returns-clause-marks c =
     let f = c.self.inside in
     let fits : c.args.offset + length c.args.bytes.now ≤ size_of f.slots.layout c.args.slot = subst (λ (j : Journal). c.args.offset + length c.args.bytes.now ≤ size_of j.geometry c.args.slot) (sym c.self.view_is) c.requires.inside in
     let long = length_of f.slots.layout (held f.slots) c.args.slot f.slots.primary_sized f.slots.secondary_sized in
-    marks_write f.slots.layout f.entries.items c.push.new.self.items f.saved.items f.marks.items (held f.slots) (held c.put.new.self) c.args.slot c.args.offset (length c.args.bytes.now) c.args.bytes.now
+    marks_write f.entries.items c.push.new.self.items f.saved.items f.marks.items (held f.slots) (held c.put.new.self) c.args.slot c.args.offset (length c.args.bytes.now) c.args.bytes.now
     c.self.invariant.ascend c.in_ok-push.ensures.items c.put.ensures.held refl (omega (arith, fits, long)) (sym c.if-not-is_blank.ensures)
     ∙ ap (λ (j : Journal). j.marks) c.self.view_is
