@@ -1,10 +1,10 @@
 -- How much a boot does at most: how many operations, and how many bytes their erases save. Proved here, so that the
 -- crates above can cite it.
-use Rattle.std.specs.Prelude.{◌≡◌, ◌⊎◌, ℕ, zero, suc, ◌+◌, ◌-◌, ◌*◌, ◌/◌, ◌<◌, ◌≤◌, ◌==◌, ◌||◌, not, nat_lt, Bool, true, false, if◌then◌else◌, List, [], ◌∷◌, ◌++◌, length, take, drop, map, flat_map, Option, Some, None, refl}
+use Rattle.std.specs.Prelude.{◌≡◌, ◌⊎◌, ℕ, zero, suc, ◌+◌, ◌-◌, ◌*◌, ◌/◌, ◌≤◌, ◌==◌, ◌||◌, not, nat_lt, Bool, true, false, if◌then◌else◌, List, [], ◌∷◌, ◌++◌, length, take, drop, map, flat_map, Option, Some, None, refl}
 use Rattle.std.specs.Int.{div_ceil}
 use Rattle.std.specs.List.{range_with_len}
-use Rattle.std.proofs.Common.{arith, sym, ap, subst, ◌∙◌, length-append, inl, inr}
-use Rattle.std.proofs.Math.Nat.{mul-le-mul_left, mul-le-mul_right}
+use Rattle.std.proofs.Common.{arith, sym, ap, subst, length-append, inl, inr}
+use Rattle.std.proofs.Math.Nat.{mul-le-mul_right}
 use Rattle.std.proofs.lemmas.Bool.Decides.{nat_tests}
 use Rattle.std.proofs.lemmas.List.{length-drop}
 use Rattle.std.proofs.lemmas.List.FromFn.{length-range_with_len}
@@ -34,9 +34,9 @@ use Rattle.mc_boot.specs.declared.image.Images.{Images}
 use Rattle.mc_boot.specs.declared.transfer.Transfer.{Transfer}
 use Rattle.mc_boot.specs.Image.{images_of}
 use Rattle.mc_boot.specs.Transfers.{transfers, moved_up, brought_in, taken_out, copy_of, entry_of, steps}
-use Rattle.mc_boot.specs.Writes.{trailer_erase, trailer_erases, piece, write, write_count, image_ok_write, copy_done_write, info_write, marking, is_test, is_revert, preparation_writes, opening_writes}
+use Rattle.mc_boot.specs.Writes.{trailer_erase, trailer_erases, piece, write, write_count, image_ok_write, info_write, marking, is_test, is_revert, preparation_writes, opening_writes}
 use Rattle.mc_boot.specs.Course.{closing, from_transfer, resumed_list, swap_list, new_list}
-use Rattle.mc_boot.specs.Plan.{Plan, nothing, first_left, confirms, new_swap, new_plan, resumed_from, resumed_swap, resumed_plan, plan_with, plan}
+use Rattle.mc_boot.specs.Plan.{Plan, nothing, first_left, new_swap, new_plan, resumed_from, resumed_swap, resumed_plan, plan_with, plan}
 use Rattle.mc_boot.specs.Runs.{first_then, happening, ops_of}
 use Rattle.mc_boot.specs.Boot.{Progress}
 use Rattle.mc_boot.specs.Run.{HasCome}

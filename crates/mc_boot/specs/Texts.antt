@@ -1,5 +1,5 @@
 -- How outcomes are printed: this project's own texts.
-use Rattle.std.specs.Prelude.{ℕ, List, ◌++◌, codes, decimal, Option, Some, None, option_map}
+use Rattle.std.specs.Prelude.{ℕ, List, ◌++◌, codes, decimal, Option, Some, None}
 use Rattle.hex.specs.Hex.{encode_lower}
 use Rattle.mc_image.specs.Valid.{Identity}
 use Rattle.mc_image.specs.VersionText.{version_line}

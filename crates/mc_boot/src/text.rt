@@ -6,8 +6,7 @@ ghost use Rattle.mc_boot.specs.Texts.{result_text, identity_text, slot_text, out
 
 use crate::image::ImageId;
 use crate::outcome::{BootResult, Outcome};
-use std::fmt;
-use std::str;
+use std::{fmt, str};
 
 impl fmt::Display for BootResult {
     ghost output = { λ result. Some (result_text result) };

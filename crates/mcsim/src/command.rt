@@ -209,10 +209,9 @@ fn explore_command<'a>(alloc: Global) -> Result<Command<'a>, AllocError> {
 }
 
 fn out_file<'a>(alloc: Global) -> Arg<'a> {
-    Arg::new(alloc, "out")
-        .long("out")
-        .value_name("FILE")
-        .help("The file that the flash which is left is written to, the primary's bytes first")
+    Arg::new(alloc, "out").long("out").value_name("FILE").help(
+        "The file that the flash which is left is written to, the primary's bytes first",
+    )
 }
 
 /// A command with the six numbers of a layout.

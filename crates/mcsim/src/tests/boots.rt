@@ -64,7 +64,9 @@ impl<'a> Told<'a> {
         let next = self.next;
         let primary = self.primary;
         let secondary = self.secondary;
-        let mut text = format!(in alloc; "result {result}\ntype {kind}\nops {ops}\nprimary {primary}\n")?;
+        let mut text = format!(in alloc;
+            "result {result}\ntype {kind}\nops {ops}\nprimary {primary}\n"
+        )?;
         let rest = format!(in alloc; "secondary {secondary}\nnext {next}\n")?;
         text.push_str(rest.as_str())?;
         Ok(text)
@@ -74,10 +76,14 @@ impl<'a> Told<'a> {
 /// Boots, and looks at what is told; gives what is written to the file `out`.
 fn tells(rt: &impl Abort, alloc: Global, case: &Case<'_>, told: Told<'_>) -> Result<Vec<u8>, Fail> {
     let text = told.text(alloc)?;
-    writes(rt, alloc, &Case {
-        out: text.as_str(),
-        ..*case
-    })
+    writes(
+        rt,
+        alloc,
+        &Case {
+            out: text.as_str(),
+            ..*case
+        },
+    )
 }
 
 #[test]
@@ -85,7 +91,10 @@ fn boots_tests_and_takes_them_back(rt: HostRuntime) -> Result<(), Fail> {
     let alloc = rt.alloc();
     let source = "--kind test --image-a in --image-b second";
     let swap = boot_of(&FIRST_IMAGE, source, "");
-    let case = Case { words: "--out out", ..swap };
+    let case = Case {
+        words: "--out out",
+        ..swap
+    };
     let swapped = tells(&rt, alloc, &case, Told::swapped("test", 18, "revert"))?;
     assert_eq!(rt; swapped.len(), 1792);
     let trailers = Case {
@@ -104,7 +113,12 @@ table revert
         secondary: SECOND_TOLD,
         ..Told::swapped("revert", 23, "none")
     };
-    tells(&rt, alloc, &boot_of(swapped.as_slice(), "--flash in", ""), back)?;
+    tells(
+        &rt,
+        alloc,
+        &boot_of(swapped.as_slice(), "--flash in", ""),
+        back,
+    )?;
     Ok(())
 }
 

@@ -13,9 +13,7 @@ use std::test::Fail;
 /// trailers have two sectors.
 fn layout_words(name: &str) -> &'static str {
     match name {
-        "three" => {
-            "--sector 256 --unit 8 --max-sectors 4 --chunk 128 --primary 3 --secondary 3"
-        }
+        "three" => { "--sector 256 --unit 8 --max-sectors 4 --chunk 128 --primary 3 --secondary 3" }
         "small" => "--sector 64 --unit 1 --max-sectors 4 --chunk 32 --primary 4 --secondary 3",
         "two" => "--sector 128 --unit 8 --max-sectors 4 --chunk 128 --primary 5 --secondary 4",
         _ => WORKED,
@@ -25,24 +23,150 @@ fn layout_words(name: &str) -> &'static str {
 /// Pages: the layout, the kind of the start, the most cuts and the most rows; how many lines there are, and the SHA-256 of
 /// the whole text.
 static PAGES: [(&str, &str, u32, u32, usize, &str); 18] = [
-    ("worked", "none", 0, 1000, 2, "eaf7f46f80686a31573b868b1ff258b3ecd9cd759dbe45c605cb87e15bf1dd76"),
-    ("worked", "none", 1, 1000, 2, "eaf7f46f80686a31573b868b1ff258b3ecd9cd759dbe45c605cb87e15bf1dd76"),
-    ("worked", "none", 2, 1000, 2, "eaf7f46f80686a31573b868b1ff258b3ecd9cd759dbe45c605cb87e15bf1dd76"),
-    ("worked", "test", 0, 1000, 2, "5985f74d9148e8a889b656b1c6cc8a40cbb05e08f0f764f7bed382636480df5f"),
-    ("worked", "test", 1, 1000, 20, "5351f1776370a163f104fd101d91ff525f16dc6c73307f6efb6a96b56657a842"),
-    ("worked", "test", 2, 1000, 223, "6da2093ccc59a6a6cffe7abb3f50387701995290a861e85dc53174e182632a8d"),
-    ("worked", "perm", 0, 1000, 2, "df46cc25f931a2250a2a0df7761412a06b0488935e07c342d73116d9f7bd8170"),
-    ("worked", "perm", 1, 1000, 21, "879f87e19c22a28e136af3f4f41181bd981285b8be8b56d8d44aba65f3eed9e6"),
-    ("worked", "perm", 2, 1000, 248, "5a7ce0a348b168bbbc156bbf895fc3cfb0ced8c632684bf6631c10023cb33414"),
-    ("worked", "revert", 0, 1000, 2, "427004488f5a3670994f49ec38178adaa05b009b0855632efa9f1c8023c5a952"),
-    ("worked", "revert", 1, 1000, 25, "b3903f94b622f70b2c38d8100521ba312dbfcfae4483571da6db6fbd4846cf75"),
-    ("worked", "revert", 2, 1000, 344, "38eb48c4fbcef3d3eaa2f9fd0ff406703c3ede671d330804618242d4a9e0b995"),
-    ("worked", "test", 3, 1000, 1001, "cbbc159fd1c120d4589e67526f09163220dcd3188b290b1be2b46e8a3e04cfeb"),
-    ("worked", "test", 3, 1029, 1030, "38bb39d6af1cc2f6b9e8b850b5bb1ec9898ed0f53ac01fe3682e7646d305cc10"),
-    ("worked", "test", 3, 100000, 2059, "04273fb0967639449da89aeda4132aa01defa5bc44d96713b3fbacd293944327"),
-    ("three", "test", 2, 1000, 223, "6da2093ccc59a6a6cffe7abb3f50387701995290a861e85dc53174e182632a8d"),
-    ("small", "test", 2, 1000, 547, "b82383337f19d7cf22480a3c449c34cb669727b279e1d527a2fe7e428ea95a28"),
-    ("two", "test", 2, 1000, 203, "721e5f4d55d96c91f80cb9f91f85c274c023cd6ce55e8f890cbc53ccd1909994"),
+    (
+        "worked",
+        "none",
+        0,
+        1000,
+        2,
+        "eaf7f46f80686a31573b868b1ff258b3ecd9cd759dbe45c605cb87e15bf1dd76",
+    ),
+    (
+        "worked",
+        "none",
+        1,
+        1000,
+        2,
+        "eaf7f46f80686a31573b868b1ff258b3ecd9cd759dbe45c605cb87e15bf1dd76",
+    ),
+    (
+        "worked",
+        "none",
+        2,
+        1000,
+        2,
+        "eaf7f46f80686a31573b868b1ff258b3ecd9cd759dbe45c605cb87e15bf1dd76",
+    ),
+    (
+        "worked",
+        "test",
+        0,
+        1000,
+        2,
+        "5985f74d9148e8a889b656b1c6cc8a40cbb05e08f0f764f7bed382636480df5f",
+    ),
+    (
+        "worked",
+        "test",
+        1,
+        1000,
+        20,
+        "5351f1776370a163f104fd101d91ff525f16dc6c73307f6efb6a96b56657a842",
+    ),
+    (
+        "worked",
+        "test",
+        2,
+        1000,
+        223,
+        "6da2093ccc59a6a6cffe7abb3f50387701995290a861e85dc53174e182632a8d",
+    ),
+    (
+        "worked",
+        "perm",
+        0,
+        1000,
+        2,
+        "df46cc25f931a2250a2a0df7761412a06b0488935e07c342d73116d9f7bd8170",
+    ),
+    (
+        "worked",
+        "perm",
+        1,
+        1000,
+        21,
+        "879f87e19c22a28e136af3f4f41181bd981285b8be8b56d8d44aba65f3eed9e6",
+    ),
+    (
+        "worked",
+        "perm",
+        2,
+        1000,
+        248,
+        "5a7ce0a348b168bbbc156bbf895fc3cfb0ced8c632684bf6631c10023cb33414",
+    ),
+    (
+        "worked",
+        "revert",
+        0,
+        1000,
+        2,
+        "427004488f5a3670994f49ec38178adaa05b009b0855632efa9f1c8023c5a952",
+    ),
+    (
+        "worked",
+        "revert",
+        1,
+        1000,
+        25,
+        "b3903f94b622f70b2c38d8100521ba312dbfcfae4483571da6db6fbd4846cf75",
+    ),
+    (
+        "worked",
+        "revert",
+        2,
+        1000,
+        344,
+        "38eb48c4fbcef3d3eaa2f9fd0ff406703c3ede671d330804618242d4a9e0b995",
+    ),
+    (
+        "worked",
+        "test",
+        3,
+        1000,
+        1001,
+        "cbbc159fd1c120d4589e67526f09163220dcd3188b290b1be2b46e8a3e04cfeb",
+    ),
+    (
+        "worked",
+        "test",
+        3,
+        1029,
+        1030,
+        "38bb39d6af1cc2f6b9e8b850b5bb1ec9898ed0f53ac01fe3682e7646d305cc10",
+    ),
+    (
+        "worked",
+        "test",
+        3,
+        100000,
+        2059,
+        "04273fb0967639449da89aeda4132aa01defa5bc44d96713b3fbacd293944327",
+    ),
+    (
+        "three",
+        "test",
+        2,
+        1000,
+        223,
+        "6da2093ccc59a6a6cffe7abb3f50387701995290a861e85dc53174e182632a8d",
+    ),
+    (
+        "small",
+        "test",
+        2,
+        1000,
+        547,
+        "b82383337f19d7cf22480a3c449c34cb669727b279e1d527a2fe7e428ea95a28",
+    ),
+    (
+        "two",
+        "test",
+        2,
+        1000,
+        203,
+        "721e5f4d55d96c91f80cb9f91f85c274c023cd6ce55e8f890cbc53ccd1909994",
+    ),
 ];
 
 /// What an exploration with these options prints.
@@ -106,13 +230,16 @@ fn explore_of<'a>(input: &'a [u8], options: &'a str, out: &'a str) -> Case<'a> {
 fn prints_the_rows_of_a_flash(rt: HostRuntime) -> Result<(), Fail> {
     let alloc = rt.alloc();
     let erased = flash_of(&[]);
-    let blank = explore_of(
-        &erased,
-        "--cuts 2",
-        "- none none 0 none none none\nend\n",
-    );
+    let blank = explore_of(&erased, "--cuts 2", "- none none 0 none none none\nend\n");
     ends(&rt, alloc, &blank)?;
-    let mut stuck = begun(&[(976, 0x50), (977, 0), (978, 0), (979, 0), (984, 2), (993, 0)]);
+    let mut stuck = begun(&[
+        (976, 0x50),
+        (977, 0),
+        (978, 0),
+        (979, 0),
+        (984, 2),
+        (993, 0),
+    ]);
     stuck[920] = 1;
     for cuts in ["--cuts 0", "--cuts 2", "--cuts 16"] {
         let fault = "- fault test 0 none none test\nend\n";

@@ -21,7 +21,8 @@ fn type_of<'a>(input: &'a [u8], layout: &'a str, source: &'a str) -> Case<'a> {
 }
 
 /// The worked layout: slots of 1024 and 768 bytes.
-pub static WORKED: &str = "--sector 256 --unit 8 --max-sectors 4 --chunk 128 --primary 4 --secondary 3";
+pub static WORKED: &str =
+    "--sector 256 --unit 8 --max-sectors 4 --chunk 128 --primary 4 --secondary 3";
 
 /// A flash of 0xff but for some bytes.
 pub fn flash_of(bytes: &[(usize, u8)]) -> [u8; 1792] {

@@ -53,6 +53,7 @@ pub static SECOND_IMAGE: [u8; 80] = [
 /// What is told of `FIRST_IMAGE` and `SECOND_IMAGE` in a slot.
 pub static FIRST_TOLD: &str =
     "1.0.0+0 80 e3103e985884e987aaeb3091f107d4ad2ae5ff4720f4c43459c3d0ff3a12650d";
+
 pub static SECOND_TOLD: &str =
     "2.0.0+0 80 a4f848b4db0bbed96a7c7fd25b79a0484fc03fbfc5a5efb662f200b2693923ee";
 
