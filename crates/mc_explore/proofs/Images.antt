@@ -4,9 +4,14 @@ use Rattle.std.proofs.Common.{arith, ap, ◌∙◌, length-append}
 use Rattle.std.proofs.lemmas.List.{length-take-le}
 use Rattle.mc_image.specs.Faults.{fault_if, ◌<+>◌, first_fault}
 use Rattle.mc_image.specs.Image.{Image, Begins, image_in, image_text}
-use Rattle.mc_image.specs.Valid.{image_fault}
+use Rattle.mc_image.specs.Valid.{Identity, id_of, image_fault}
 use Rattle.mc_image.specs.declared.error.ImageError.{ImageError}
-use Rattle.mc_boot.specs.Image.{image_size}
+use Rattle.mc_boot.specs.Image.{image_size, identity_of}
+use Rattle.mc_boot.specs.declared.image.ImageId.{ImageId}
+use Rattle.mc_explore.specs.Slots.{kind_of}
+use Rattle.mc_explore.specs.Start.{in_order, named_ids}
+use Rattle.mc_explore.specs.declared.kind.Kind.{Kind}
+use Rattle.mc_explore.specs.declared.kind.Kind.TheVariants as kinds
 
 none_first : (o p : Option ImageError) → (o <+> p) ≡ None → o ≡ None
 none_first None p is = refl
@@ -25,9 +30,32 @@ size_read b none = rw none refl
 front_within : (b : List ℕ) (v : Image) → Begins b v → length (image_text v) ≤ length b
 front_within b v begins = omega (arith, ap (λ (xs : List ℕ). length xs) begins.front.1, length-append (image_text v) begins.front.0)
 
--- The bytes of the image that was read are as many as its size, and are the front of that size.
-pub read_size : (b : List ℕ) (v : Image) (size : ℕ) → image_fault b ≡ None → v ≡ image_in b → Begins b v → size ≡ length (image_text v)
+-- The image that was read has that size, and its bytes are the front of that size.
+pub read_size : (b : List ℕ) (v : Image) → image_fault b ≡ None → v ≡ image_in b → length (image_text v) ≡ image_size b
+read_size b v fine is = ap (λ (w : Image). length (image_text w)) is ∙ size_read b (no_fault b fine)
+
+pub read_front : (b : List ℕ) (v : Image) (size : ℕ) → image_fault b ≡ None → v ≡ image_in b → Begins b v → size ≡ length (image_text v)
     → (length (take size b) ≡ image_size b) × (take size b ≡ take (image_size b) b)
-read_size b v size fine is begins size_is =
-    let same : size ≡ image_size b = size_is ∙ ap (λ (w : Image). length (image_text w)) is ∙ size_read b (no_fault b fine) in
+read_front b v size fine is begins size_is =
+    let same : size ≡ image_size b = size_is ∙ read_size b v fine is in
     (length-take-le size b (omega (arith, size_is, front_within b v begins)) ∙ same, ap (λ n. take n b) same)
+
+-- The identities of two valid images, the named one first.
+pub names : (kind : Kind) (a b : List ℕ) (x y : Identity) → id_of a ≡ Some x → id_of b ≡ Some y → Some (in_order (kind_of kind) x y) ≡ named_ids (kind_of kind) a b
+names kinds.None a b x y first second = rw first (rw second refl)
+names kinds.Test a b x y first second = rw first (rw second refl)
+names kinds.Perm a b x y first second = rw first (rw second refl)
+names kinds.Revert a b x y first second = rw first (rw second refl)
+
+abbrev pub pair : Identity → Identity → Identity × Identity
+pair x y = (x, y)
+
+two : (a b x y : Identity) → a ≡ x → b ≡ y → pair a b ≡ pair x y
+two a b x y first second = ap (λ z. pair z b) first ∙ ap (pair x) second
+
+pub told_ids : (kind : Kind) (p : ImageId × ImageId) (i j : ImageId) (x y : Identity) → p ≡ in_order (kind_of kind) i j → identity_of i ≡ x → identity_of j ≡ y
+    → pair (identity_of p.0) (identity_of p.1) ≡ in_order (kind_of kind) x y
+told_ids kinds.None p i j x y is first second = ap (λ (q : ImageId × ImageId). pair (identity_of q.0) (identity_of q.1)) is ∙ two (identity_of i) (identity_of j) x y first second
+told_ids kinds.Test p i j x y is first second = ap (λ (q : ImageId × ImageId). pair (identity_of q.0) (identity_of q.1)) is ∙ two (identity_of j) (identity_of i) y x second first
+told_ids kinds.Perm p i j x y is first second = ap (λ (q : ImageId × ImageId). pair (identity_of q.0) (identity_of q.1)) is ∙ two (identity_of j) (identity_of i) y x second first
+told_ids kinds.Revert p i j x y is first second = ap (λ (q : ImageId × ImageId). pair (identity_of q.0) (identity_of q.1)) is ∙ two (identity_of j) (identity_of i) y x second first

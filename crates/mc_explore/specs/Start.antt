@@ -1,7 +1,7 @@
 -- The starts of an exploration: from two images, or from the bytes of both slots.
 use Rattle.std.specs.Prelude.{◌≡◌, ℕ, ◌+◌, ◌&&◌, not, if◌then◌else◌, List, [], ◌∷◌, ◌++◌, length, take, drop, Option, Some, None, Result, Ok, Err, ⊤, ◌==◌}
 use Rattle.sha2.specs.Sha256.{sha256}
-use Rattle.mc_image.specs.Valid.{image_fault}
+use Rattle.mc_image.specs.Valid.{Identity, id_of, image_fault}
 use Rattle.mc_image.specs.declared.error.ImageError.{ImageError}
 use Rattle.mc_flash.specs.Geometry.{Geometry, fits}
 use Rattle.mc_flash.specs.Content.{Content, size_of}
@@ -9,7 +9,8 @@ use Rattle.mc_flash.specs.declared.op.Slot.TheVariants.{Primary, Secondary}
 use Rattle.mc_trailer.specs.declared.tables.Rules.{Rules}
 use Rattle.mc_boot.specs.Image.{image_size}
 use Rattle.mc_boot.specs.Plan.{plain}
-use Rattle.mc_boot.specs.Start.{start_flash}
+use Rattle.mc_boot.specs.Start.{StartKind, start_flash, named, other}
+use Rattle.mc_boot.specs.Start as starts
 use Rattle.mc_explore.specs.Texts.{layout_line}
 use Rattle.mc_explore.specs.Slots.{kind_of}
 use Rattle.mc_explore.specs.declared.kind.Kind.{Kind}
@@ -29,17 +30,44 @@ refusal_of g a b = in_first (image_fault a)
     in_first (Some e) = Some (errors.ImageA e)
     in_first None = in_second (image_fault b)
 
--- What callers see of a start: its layout, the rules of the boots from there on, and its flash.
+-- Where an exploration begins: the layout, the rules of the boots from there on, and the flash.
 pub record Begun : Type 0 where
   pub geometry : Geometry
   pub rules : Rules
   pub content : Content
 
+-- And the start itself, which also knows its two images where it was made of them: what tells the named one apart, and the
+-- other one.
+pub record Started : Type 0 where
+  pub geometry : Geometry
+  pub rules : Rules
+  pub content : Content
+  pub named : Option (Identity × Identity)
+
+abbrev pub begun : Started → Begun
+begun s = record { geometry = s.geometry; rules = s.rules; content = s.content }
+
+-- The named one first.
+abbrev pub in_order : {A : Type 0} → StartKind → A → A → A × A
+in_order starts.no_swap a b = (a, b)
+in_order starts.test a b = (b, a)
+in_order starts.perm a b = (b, a)
+in_order starts.revert a b = (b, a)
+
+abbrev both : Option Identity → Option Identity → Option (Identity × Identity)
+both (Some x) (Some y) = Some (x, y)
+both _ _ = None
+
+-- The identities of the named image and of the other, of two valid images.
+abbrev pub named_ids : StartKind → List ℕ → List ℕ → Option (Identity × Identity)
+named_ids kind a b = both (id_of (named kind a b)) (id_of (other kind a b))
+
 -- The start of two images: it has the defined flash, and whole calls and the first profile are its rules. Where there is
 -- none the first refusal is answered, unless memory ran out.
-abbrev pub Starts : Geometry → Kind → List ℕ → List ℕ → Result Begun StartError → Type 0
+abbrev pub Starts : Geometry → Kind → List ℕ → List ℕ → Result Started StartError → Type 0
 Starts g kind a b (Ok s) =
     (refusal_of g a b ≡ None) × (s.geometry ≡ g) × (s.rules ≡ plain) × (start_flash g (kind_of kind) a b ≡ Some s.content)
+    × (s.named ≡ named_ids (kind_of kind) a b)
 Starts g kind a b (Err errors.Memory) = ⊤
 Starts g kind a b (Err e) = refusal_of g a b ≡ Some e
 
@@ -50,9 +78,9 @@ of_flash g bytes =
     then Ok (record { primary = take (size_of g Primary) bytes; secondary = drop (size_of g Primary) bytes })
     else Err errors.FlashSize
 
--- The start of bytes, in the same way.
-abbrev pub Gives : Geometry → Result Begun StartError → Result Content StartError → Type 0
-Gives g (Ok s) wanted = (s.geometry ≡ g) × (s.rules ≡ plain) × (wanted ≡ Ok s.content)
+-- The start of bytes, in the same way. It names no images.
+abbrev pub Gives : Geometry → Result Started StartError → Result Content StartError → Type 0
+Gives g (Ok s) wanted = (s.geometry ≡ g) × (s.rules ≡ plain) × (wanted ≡ Ok s.content) × (s.named ≡ None)
 Gives g (Err errors.Memory) wanted = ⊤
 Gives g (Err e) wanted = wanted ≡ Err e
 

@@ -3,6 +3,7 @@ ghost use Rattle.std.specs.Prelude.{◌≡◌, ◌≢◌, ◌≤◌, IfOk, IfErr
 ghost use Rattle.mc_explore.specs.Page.{cursor_of};
 ghost use Rattle.mc_explore.specs.Resume.{Resumes};
 ghost use Rattle.mc_explore.specs.Restarts.{RowRestarts};
+ghost use Rattle.mc_explore.specs.Start.{begun};
 ghost use Rattle.mc_explore.specs.State.{State, Lost, Finds, told, state_after, lost_at, at_start};
 ghost use Rattle.mc_explore.specs.Want.{WantsMemory};
 
@@ -62,7 +63,7 @@ impl<F: Flash + Drop> Explorer<F> {
     /// `Memory` where a growth was refused.
     pub fn start(alloc: Global, start: &Start, bound: u8) -> Result<Explorer<F>, ExploreError>
         requires { bound ≤ 16 }
-        ensures ok { IfOk result (λ explorer. explorer.state ≡ at_start start.now bound) }
+        ensures ok { IfOk result (λ explorer. explorer.state ≡ at_start (begun start.now) bound) }
         ensures err { IfErr result (λ e. e ≡ ExploreError.Memory) }
     {
         let (flash, walk) = load(alloc, start, bound)?;
@@ -91,7 +92,7 @@ impl<F: Flash + Drop> Explorer<F> {
         cursor: &Cursor,
     ) -> Result<Explorer<F>, ExploreError>
         requires { bound ≤ 16 }
-        ensures { Resumes start.now bound cursor.now result }
+        ensures { Resumes (begun start.now) bound cursor.now result }
     {
         ask(start, bound, cursor)?;
         let cuts = cursor.schedule.cuts();

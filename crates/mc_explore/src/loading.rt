@@ -1,6 +1,7 @@
 //! The flash of a start, and whether a cursor is of that start.
 ghost use Rattle.std.specs.Prelude.{◌≡◌, ◌≤◌, IfOk, IfErr, OnOk};
 ghost use Rattle.mc_explore.specs.Resume.{IsLoaded, Names, Refuses};
+ghost use Rattle.mc_explore.specs.Start.{begun};
 
 use crate::Start;
 use crate::cursor::Cursor;
@@ -17,7 +18,7 @@ use std::alloc::Global;
 /// `Memory` where a growth was refused.
 pub fn load<F: Flash>(alloc: Global, start: &Start, bound: u8) -> Result<(F, Walk), FlashError>
     requires { bound ≤ 16 }
-    ensures { IfOk result (λ loaded. IsLoaded start.now bound loaded.1 (F.geometry loaded.0) (F.content loaded.0) (F.marks loaded.0) (F.ledger loaded.0)) }
+    ensures { IfOk result (λ loaded. IsLoaded (begun start.now) bound loaded.1 (F.geometry loaded.0) (F.content loaded.0) (F.marks loaded.0) (F.ledger loaded.0)) }
 {
     let rules = start.rules();
     let mut flash = F::load(
@@ -39,8 +40,8 @@ pub fn load<F: Flash>(alloc: Global, start: &Start, bound: u8) -> Result<(F, Wal
 ///
 /// `OtherStart`, `OtherRules`, `OtherBound`: the first that holds.
 pub fn ask(start: &Start, bound: u8, cursor: &Cursor) -> Result<(), ExploreError>
-    ensures names { OnOk result (Names start.now bound cursor.now) }
-    ensures refused { IfErr result (λ e. Refuses start.now bound cursor.now e) }
+    ensures names { OnOk result (Names (begun start.now) bound cursor.now) }
+    ensures refused { IfErr result (λ e. Refuses (begun start.now) bound cursor.now e) }
 {
     if cursor.digest != start.digest() {
         return Err(ExploreError::OtherStart);

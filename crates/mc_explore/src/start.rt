@@ -1,17 +1,20 @@
 //! The flash that an exploration starts from.
-ghost use Rattle.std.specs.Prelude.{◌≡◌, ℕ, ◌≤◌, ◌+◌, ◌++◌, [], ◌∷◌, List, length, IfOk, IfErr, MatchResult, Some, None, string_bytes};
+ghost use Rattle.std.specs.Prelude.{◌≡◌, ℕ, ◌≤◌, ◌+◌, ◌^◌, ◌++◌, [], ◌∷◌, List, length, IfOk, IfErr, MatchResult, Some, None, option_map, string_bytes};
 ghost use Rattle.sha2.specs.Sha256.{sha256};
-ghost use Rattle.mc_image.specs.Valid.{image_fault};
+ghost use Rattle.mc_image.specs.Image.{image_text};
+ghost use Rattle.mc_image.specs.Valid.{identity, id_of, image_fault};
 ghost use Rattle.mc_flash.specs.Geometry.{IsLayout};
 ghost use Rattle.mc_flash.specs.Content.{size_of};
 ghost use Rattle.mc_flash.specs.declared.op.Slot.TheVariants.{Primary, Secondary};
-ghost use Rattle.mc_boot.specs.Image.{image_size};
+ghost use Rattle.mc_boot.specs.Image.{image_size, identity_of};
 ghost use Rattle.mc_boot.specs.Start.{image_bytes};
 ghost use Rattle.mc_explore.specs.Texts.{layout_line};
-ghost use Rattle.mc_explore.specs.Start.{Starts, Gives, of_flash, start_digest};
+ghost use Rattle.mc_explore.specs.Start.{Starts, Gives, begun, in_order, of_flash, start_digest};
+ghost use Rattle.mc_explore.specs.Slots.{kind_of};
 
 use crate::kind::Kind;
 use crate::slots::{PLAIN, Slots, start_slots};
+use mc_boot::ImageId;
 use mc_flash::{FlashError, Layout, Slot};
 use mc_image::{ImageError, ImageView};
 use mc_trailer::Rules;
@@ -68,19 +71,23 @@ pub struct Start {
     // The layout's text and a line feed, for the digest.
     line: String,
     slots: Slots,
+    // The named image and the other one.
+    named: Option<(ImageId, ImageId)>,
 }
 
 impl Model for Start {
-    ghost use Rattle.mc_explore.specs.Start.{Begun};
+    ghost use Rattle.mc_explore.specs.Start.{Started};
+    ghost use Rattle.std.specs.Prelude.{option_map};
+    ghost use Rattle.mc_boot.specs.Image.{identity_of};
     ghost use Rattle.std.specs.Prelude.{◌≡◌, ◌++◌, ◌∷◌, [], length, string_bytes};
     ghost use Rattle.mc_flash.specs.Geometry.{IsLayout};
     ghost use Rattle.mc_flash.specs.Content.{IsSized};
     ghost use Rattle.mc_explore.specs.Slots.{content_of};
     ghost use Rattle.mc_explore.specs.Texts.{layout_line};
 
-    ghost Value = { Begun };
+    ghost Value = { Started };
 
-    ghost view = { λ s. record { geometry = s.layout; rules = s.rules; content = content_of s.slots } };
+    ghost view = { λ s. record { geometry = s.layout; rules = s.rules; content = content_of s.slots; named = option_map (λ p. (identity_of p.0, identity_of p.1)) s.named } };
 
     ghost invariant = { λ s. IsLayout s.layout × IsSized s.layout (content_of s.slots) × (string_bytes s.line ≡ layout_line s.layout ++ 10 ∷ []) };
 }
@@ -113,13 +120,53 @@ fn digest_of(first: &[u8], second: &[u8], third: &[u8]) -> [u8; 32]
     hasher.finalize()
 }
 
-// The bytes of the valid image that some bytes begin with.
-fn image_of(bytes: &[u8]) -> Result<&[u8], ImageError>
-    ensures value { MatchResult result (λ image. (image_fault bytes.now ≡ None) × (image.now ≡ image_bytes bytes.now)) (λ e. image_fault bytes.now ≡ Some e) }
-    ensures len { IfOk result (λ image. length image.now ≡ image_size bytes.now) }
+// A valid image: its bytes, and what was read of them.
+#[derive(Drop)]
+struct ValidImage<'a> {
+    bytes: &'a [u8],
+    view: ImageView<'a>,
+}
+
+impl<'a> ValidImage<'a> {
+    // The valid image that some bytes begin with.
+    fn read(bytes: &'a [u8]) -> Result<ValidImage<'a>, ImageError>
+        ensures value { MatchResult result
+            (λ image. (image_fault bytes.entry.now ≡ None) × (image.bytes.now ≡ image_bytes bytes.entry.now) × (id_of bytes.entry.now ≡ Some (identity image.view)))
+            (λ e. image_fault bytes.entry.now ≡ Some e) }
+        ensures len { IfOk result (λ image. length image.bytes.now ≡ image_size bytes.entry.now) }
+        ensures size { IfOk result (λ image. length (image_text image.view) ≡ image_size bytes.entry.now) }
+    {
+        let view = ImageView::read_valid(bytes)?;
+        let size = view.size() as usize;
+        Ok(ValidImage {
+            bytes: &bytes[..size],
+            view,
+        })
+    }
+
+    // What tells it apart.
+    fn id(&self) -> ImageId
+        requires { length (image_text self.now.view) ≤ 2 ^ 24 }
+        ensures { identity_of result ≡ identity self.now.view }
+    {
+        let mut digest = [0; 32];
+        digest.copy_from_slice(self.view.digest());
+        ImageId {
+            version: self.view.version(),
+            size: self.view.size() as u32,
+            digest,
+        }
+    }
+}
+
+// The image that a kind of start names, and the other.
+fn named_of(kind: Kind, first: ImageId, second: ImageId) -> (ImageId, ImageId)
+    ensures { result ≡ in_order (kind_of kind) first second }
 {
-    let size = ImageView::read_valid(bytes)?.size() as usize;
-    Ok(&bytes[..size])
+    match kind {
+        Kind::None => (first, second),
+        _ => (second, first),
+    }
 }
 
 impl Start {
@@ -139,25 +186,26 @@ impl Start {
     ) -> Result<Start, StartError>
         ensures { Starts layout.now kind a.now b.now result }
     {
-        let first = match image_of(a) {
+        let first = match ValidImage::read(a) {
             Ok(image) => image,
             Err(error) => return Err(StartError::ImageA(error)),
         };
-        let second = match image_of(b) {
+        let second = match ValidImage::read(b) {
             Ok(image) => image,
             Err(error) => return Err(StartError::ImageB(error)),
         };
-        if !layout.fits(first.len() as u64) {
+        if !layout.fits(first.bytes.len() as u64) {
             return Err(StartError::DoesNotFit);
         }
-        if !layout.fits(second.len() as u64) {
+        if !layout.fits(second.bytes.len() as u64) {
             return Err(StartError::DoesNotFit);
         }
         Ok(Start {
             layout: *layout,
             rules: PLAIN,
             line: layout_line(alloc, layout)?,
-            slots: start_slots(alloc, layout, kind, first, second)?,
+            slots: start_slots(alloc, layout, kind, first.bytes, second.bytes)?,
+            named: Some(named_of(kind, first.id(), second.id())),
         })
     }
 
@@ -183,6 +231,7 @@ impl Start {
                 primary: low.to_vec(alloc)?,
                 secondary: high.to_vec(alloc)?,
             },
+            named: None,
         })
     }
 
@@ -203,7 +252,7 @@ impl Start {
 
     /// The same start under other rules. Its flash stays as it is. It takes no memory.
     pub fn with_rules(self, rules: Rules) -> Start
-        ensures { result ≡ record { geometry = self.geometry; rules = rules; content = self.content } }
+        ensures { result ≡ record { geometry = self.geometry; rules = rules; content = self.content; named = self.named } }
     {
         Start { rules, ..self }
     }
@@ -224,10 +273,18 @@ impl Start {
         &self.slots.secondary
     }
 
+    /// The image that is to be in the primary at the end, and the other one, of a start of two images; none for one of bytes. It
+    /// takes no memory.
+    pub fn named(&self) -> Option<(ImageId, ImageId)>
+        ensures { option_map (λ p. (identity_of p.0, identity_of p.1)) result ≡ self.now.named }
+    {
+        self.named
+    }
+
     /// What tells starts apart in a cursor: the SHA-256 of the layout's line, a line feed, the primary and the secondary. It
     /// takes no memory.
     pub fn digest(&self) -> [u8; 32]
-        ensures { result ≡ start_digest self.now }
+        ensures { result ≡ start_digest (begun self.now) }
     {
         digest_of(
             self.line.as_bytes(),

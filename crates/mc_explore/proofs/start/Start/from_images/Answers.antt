@@ -1,14 +1,36 @@
-use Rattle.std.proofs.Common.{length, arith, sym, ◌∙◌}
+use Rattle.std.proofs.Common.{rules, Some, length, arith, refl, sym, ap, ◌∙◌}
 use Rattle.mc_flash.specs.Facts.{fits_inside}
 use Rattle.mc_flash.specs.declared.op.Slot.TheVariants.{Primary, Secondary}
+use Rattle.mc_image.specs.Valid.{Identity, identity}
+use Rattle.mc_explore.proofs.Images.{names, told_ids}
 use Rattle.mc_explore.proofs.start.Start.from_images.Goals as goal
 
 pub start_slots-requires-clause-first : goal.start_slots-requires-clause-first
 start_slots-requires-clause-first c =
     let fits = sym (c.if-not-fits.ensures.value) in
-    (fits_inside c.args.layout.now Primary (length c.in-Ok.image.now) c.fits.ensures.valid fits, fits_inside c.args.layout.now Secondary (length c.in-Ok.image.now) c.fits.ensures.valid fits)
+    let size = length c.in-Ok.image.bytes.now in
+    (fits_inside c.args.layout.now Primary size c.fits.ensures.valid fits, fits_inside c.args.layout.now Secondary size c.fits.ensures.valid fits)
 
 pub start_slots-requires-clause-second : goal.start_slots-requires-clause-second
 start_slots-requires-clause-second c =
     let fits = sym (c.if-not-fits-2.ensures.value) in
-    (fits_inside c.args.layout.now Primary (length c.in-Ok-image_of.image.now) c.fits.ensures.valid fits, fits_inside c.args.layout.now Secondary (length c.in-Ok-image_of.image.now) c.fits.ensures.valid fits)
+    let size = length c.in-Ok-read.image.bytes.now in
+    (fits_inside c.args.layout.now Primary size c.fits.ensures.valid fits, fits_inside c.args.layout.now Secondary size c.fits.ensures.valid fits)
+
+pub id-requires : goal.id-requires
+id-requires c =
+    let inside = fits_inside c.args.layout.now Primary (length c.in-Ok.image.bytes.now) c.fits.ensures.valid (sym (c.if-not-fits.ensures.value)) in
+    omega (arith, inside, c.fits.ensures.valid.size, c.in-Ok.ensures.size, c.in-Ok.ensures.len)
+
+pub id-requires-2 : goal.id-requires-2
+id-requires-2 c =
+    let inside = fits_inside c.args.layout.now Primary (length c.in-Ok-read.image.bytes.now) c.fits.ensures.valid (sym (c.if-not-fits-2.ensures.value)) in
+    omega (arith, inside, c.fits.ensures.valid.size, c.in-Ok-read.ensures.size, c.in-Ok-read.ensures.len)
+
+pub returns : goal.returns
+returns c =
+    let first = c.in-Ok.ensures.value in
+    let second = c.in-Ok-read.ensures.value in
+    let told = names c.args.kind c.args.a.now c.args.b.now (identity c.in-Ok.image.view) (identity c.in-Ok-read.image.view) first.2 second.2 in
+    let ids = told_ids c.args.kind c.named_of.result c.id.result c.id-2.result (identity c.in-Ok.image.view) (identity c.in-Ok-read.image.view) c.named_of.ensures c.id.ensures c.id-2.ensures in
+    (search rules, refl, refl, search rules, ap (λ (p : Identity × Identity). Some p) ids ∙ told)
