@@ -1,10 +1,10 @@
 -- The list of the rows to come: there is at most one, and a row or none is taken off at its front.
-use Rattle.std.proofs.Common.{◌≡◌, ℕ, ◌⊎◌, List, [], ◌∷◌, Option, Some, inl, inr, refl, sym, ap, subst, ◌∙◌}
+use Rattle.std.proofs.Common.{◌≡◌, ℕ, List, [], ◌∷◌, Option, Some, inl, inr, refl, sym, ap, subst, ◌∙◌}
 use Rattle.mc_boot.specs.Outcome.{Report}
 use Rattle.mc_explore.specs.Schedules.{Precedes}
 use Rattle.mc_explore.specs.Start.{Begun}
 use Rattle.mc_explore.specs.State.{Position, AtStart, After, Lost, State, Told, IsPast, IsNext, IsOver, HasOutcome, outcome_after, moved_to}
-use Rattle.mc_explore.specs.Rest.{IsIn, Ascends, IsToCome, IsRest}
+use Rattle.mc_explore.specs.Rest.{IsIn, Ascends, IsRest}
 use Rattle.mc_explore.proofs.Precedence.{precedes_asym, precedes_trans}
 
 never_itself : (l : List ℕ) → Precedes l l → ⊥

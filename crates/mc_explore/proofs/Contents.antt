@@ -1,10 +1,10 @@
 -- Marks by their contents.
-use Rattle.std.specs.Prelude.{◌≡◌, ℕ, zero, suc, ◌<◌, List, [], ◌∷◌, ◌++◌, length, map, take, get_or, slice_get, Option, Some, None, refl}
-use Rattle.std.proofs.Common.{arith, sym, ap, ◌∙◌}
+use Rattle.std.specs.Prelude.{◌≡◌, ℕ, zero, suc, List, [], ◌∷◌, ◌++◌, length, take, slice_get, Some, refl}
+use Rattle.std.proofs.Common.{ap}
 use Rattle.std.proofs.lemmas.List.{map-append, length-map}
 use Rattle.mc_flash.specs.Content.{Content}
-use Rattle.mc_flash.specs.Ledger.{Spot, Ledger, spot_at}
-use Rattle.mc_explore.specs.Stack.{contents, marked_at, no_content}
+use Rattle.mc_flash.specs.Ledger.{Spot}
+use Rattle.mc_explore.specs.Stack.{contents, marked_at}
 
 pub contents_push : (marks : List Spot) (spot : Spot) → contents (marks ++ spot ∷ []) ≡ contents marks ++ spot.content ∷ []
 contents_push marks spot = map-append (λ (m : Spot). m.content) marks (spot ∷ [])

@@ -1,5 +1,5 @@
 -- Straight down along the cuts of a schedule.
-use Rattle.std.proofs.Common.{◌≡◌, ℕ, suc, zero, ◌+◌, ◌<◌, ◌≤◌, ◌^◌, Bool, true, false, List, [], ◌∷◌, ◌++◌, length, take, drop, get_or, refl, sym, ap, subst, ◌∙◌, arith}
+use Rattle.std.proofs.Common.{◌≡◌, ℕ, suc, zero, ◌+◌, ◌<◌, ◌^◌, Bool, true, false, List, [], ◌∷◌, ◌++◌, length, take, get_or, refl, ap, subst, ◌∙◌, arith}
 use Rattle.std.proofs.lemmas.List.{take_more}
 use Rattle.mc_flash.specs.Geometry.{Geometry}
 use Rattle.mc_flash.specs.Content.{Content}
@@ -10,7 +10,7 @@ use Rattle.mc_boot.specs.Run.{HasCome}
 use Rattle.mc_boot.specs.declared.boot.Boot.{Boot}
 use Rattle.mc_explore.specs.Schedules.{CanOccur}
 use Rattle.mc_explore.specs.Landing.{at_cut, landed, Allowed}
-use Rattle.mc_explore.specs.Stack.{dones, IsFrame, Stands, GoesDown}
+use Rattle.mc_explore.specs.Stack.{dones, Stands, GoesDown}
 use Rattle.mc_explore.specs.declared.frames.Frame.{Frame}
 use Rattle.mc_explore.specs.declared.walk.Walk.{Walk}
 use Rattle.mc_explore.proofs.Landings.{come_lands, occurs_allowed, allowed_occurs}

@@ -1,6 +1,6 @@
 -- The end of the boot that is not cut, and the way back from there.
-use Rattle.std.specs.Prelude.{◌≡◌, ℕ, ◌+◌, Bool, false, is_some, List, [], ◌∷◌, ◌++◌, length, take, slice_get, Option, Some, None, option_map, refl}
-use Rattle.std.proofs.Common.{arith, sym, ap, ◌∙◌}
+use Rattle.std.specs.Prelude.{◌≡◌, ℕ, ◌+◌, false, is_some, List, [], ◌∷◌, ◌++◌, length, take, slice_get, Option, Some, None, option_map, refl}
+use Rattle.std.proofs.Common.{sym, ap, ◌∙◌}
 use Rattle.std.proofs.lemmas.List.{take_at, get_or_at}
 use Rattle.mc_flash.specs.Geometry.{Geometry}
 use Rattle.mc_flash.specs.Content.{Content}

@@ -4,8 +4,7 @@ use Rattle.mc_flash.specs.Geometry.{Geometry}
 use Rattle.mc_flash.specs.Content.{Content}
 use Rattle.mc_flash.specs.Ledger.{Spot}
 use Rattle.mc_explore.specs.Schedules.{Precedes}
-use Rattle.mc_explore.specs.Start.{Begun}
-use Rattle.mc_explore.specs.Stack.{dones, start_of}
+use Rattle.mc_explore.specs.Stack.{dones}
 use Rattle.mc_explore.specs.State.{State, AtStart, told, HasOutcome, Finds, IsNext}
 use Rattle.mc_explore.specs.View.{begun_of, state_of, Fits}
 use Rattle.mc_explore.specs.declared.frames.Frame.{Frame}

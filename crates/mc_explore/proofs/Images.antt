@@ -2,7 +2,7 @@
 use Rattle.std.specs.Prelude.{◌≡◌, ◌≤◌, List, ℕ, length, take, Option, Some, None, refl}
 use Rattle.std.proofs.Common.{arith, ap, ◌∙◌, length-append}
 use Rattle.std.proofs.lemmas.List.{length-take-le}
-use Rattle.mc_image.specs.Faults.{fault_if, ◌<+>◌, first_fault}
+use Rattle.mc_image.specs.Faults.{◌<+>◌, first_fault}
 use Rattle.mc_image.specs.Image.{Image, Begins, image_in, image_text}
 use Rattle.mc_image.specs.Valid.{Identity, id_of, image_fault}
 use Rattle.mc_image.specs.declared.error.ImageError.{ImageError}

@@ -5,7 +5,7 @@ use Rattle.std.proofs.Math.Seq.{take-add}
 use Rattle.std.proofs.lemmas.List.{length-take, take-append-drop, take_all}
 use Rattle.std.proofs.lemmas.List.Elements.{All-head, All-tail}
 use Rattle.mc_explore.specs.Schedules.{Precedes}
-use Rattle.mc_explore.specs.Rest.{IsIn, IsToCome, IsRest}
+use Rattle.mc_explore.specs.Rest.{IsIn, IsRest}
 use Rattle.mc_explore.specs.Resume.{behind}
 use Rattle.mc_explore.specs.State.{State, Position, AtStart, After, Lost, Told, IsPast, moved_to}
 use Rattle.mc_explore.specs.Page.{state_past}
@@ -24,8 +24,8 @@ rest_tail state row rows rest = record {
   ascends = rest.ascends.1;
   only = λ m in_rows. let c = rest.only m (inr in_rows) in record { listed = c.listed; past = rest.ascends.0 m in_rows; outcome = c.outcome };
   all = λ m c.
-  let first = rest.only row (inl refl) in
-  among m c.past (rest.all m (record { listed = c.listed; past = still_past state.position row.schedule m.schedule first.past c.past; outcome = c.outcome }));
+      let first = rest.only row (inl refl) in
+      among m c.past (rest.all m (record { listed = c.listed; past = still_past state.position row.schedule m.schedule first.past c.past; outcome = c.outcome }));
 }
   where
     among : (m : Told) → Precedes row.schedule m.schedule → (m ≡ row) ⊎ IsIn m rows → IsIn m rows

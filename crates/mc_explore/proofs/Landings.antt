@@ -11,9 +11,9 @@ use Rattle.mc_flash.specs.declared.flash.FlashError.TheVariants as errors
 use Rattle.mc_trailer.specs.declared.tables.Rules.{Rules}
 use Rattle.mc_boot.specs.Plan.{plan}
 use Rattle.mc_boot.specs.Runs.{first_then, happening, ops_of, at, cut_at, after}
-use Rattle.mc_boot.specs.Boot.{Progress, begun, stepped, refused, Tries, TriesFirst, Steps}
+use Rattle.mc_boot.specs.Boot.{Progress, begun, Tries, TriesFirst, Steps}
 use Rattle.mc_boot.specs.Run.{HasCome}
-use Rattle.mc_boot.specs.RunFacts.{at_defined, come_at, come_ops, come_count, come_front}
+use Rattle.mc_boot.specs.RunFacts.{at_defined, come_at, come_count, come_front}
 use Rattle.mc_explore.specs.Schedules.{CanOccur, IsMember}
 use Rattle.mc_explore.specs.Landing.{content_or, at_cut, landed, Allowed}
 

@@ -1,7 +1,7 @@
 -- A text and a line feed in a room.
-use Rattle.std.proofs.Common.{◌≡◌, ℕ, Bool, false, Option, Some, None, Result, Ok, Err, OnOk, OnErr, List, [], ◌∷◌, ◌++◌, refl, sym, ap, subst, ◌∙◌}
+use Rattle.std.proofs.Common.{◌≡◌, ℕ, false, Option, Some, None, Result, Ok, Err, OnOk, OnErr, List, [], ◌∷◌, ◌++◌, ap, subst, ◌∙◌}
 use Rattle.std.specs.Prelude.{IfSome, is_err}
-use Rattle.std.specs.Fmt.{◌++?◌, WritesText, WritesInCalls}
+use Rattle.std.specs.Fmt.{◌++?◌, WritesText}
 use Rattle.std.proofs.lemmas.Fmt.{contents_after_writes}
 
 pub line_made : {W E : Type 0} (took : W → List ℕ → W → Type 0) (contents : W → List ℕ) (appends : (w : W) (bs : List ℕ) (v : W) → took w bs v → contents v ≡ contents w ++ bs) (o : Option (List ℕ)) (w v : W) (r : Result (Unit {0}) E) → contents w ≡ [] → OnOk r (WritesText took w (o ++? Some (10 ∷ [])) v) → false ≡ is_err r → IfSome o (λ bs. contents v ≡ bs ++ 10 ∷ [])

@@ -1,12 +1,11 @@
-use Rattle.std.proofs.Common.{◌≡◌, ℕ, ◌+◌, ◌<◌, ◌≤◌, ◌⊎◌, List, [], ◌∷◌, ◌++◌, length, inl, inr, refl, sym, ap, subst, arith, length-append}
-use Rattle.std.proofs.lemmas.Bool.{cases_lt}
+use Rattle.std.proofs.Common.{ℕ, ◌+◌, ◌<◌, ◌≤◌, ◌⊎◌, List, [], ◌∷◌, ◌++◌, length, inl, inr, refl, sym, subst, arith, length-append}
 use Rattle.mc_flash.specs.Geometry.{Geometry}
 use Rattle.mc_flash.specs.Content.{Content}
 use Rattle.mc_trailer.specs.declared.tables.Rules.{Rules}
 use Rattle.mc_boot.specs.Runs.{ops_of}
-use Rattle.mc_explore.specs.Schedules.{CanOccur, IsMember, Precedes, IsNextAfter, NoneAfter}
+use Rattle.mc_explore.specs.Schedules.{IsMember, Precedes, IsNextAfter, NoneAfter}
 use Rattle.mc_explore.specs.Landing.{at_cut, landed, Allowed, Beyond, IsNextBeyond, NoneBeyond, HasNoChild}
-use Rattle.mc_explore.proofs.Landings.{occurs_allowed, allowed_occurs, member_of}
+use Rattle.mc_explore.proofs.Landings.{occurs_allowed, allowed_occurs}
 
 -- l and what goes on from l: each allowed list after l goes on from l by one cut, or lies beyond it
 pub on_or_beyond : (r : Rules) (g : Geometry) (start : Content) (l m : List ℕ) → Allowed r g start m → Precedes l m →

@@ -1,11 +1,11 @@
 -- A page, as its lines are written one after another.
-use Rattle.std.proofs.Common.{◌≡◌, ℕ, zero, suc, ◌+◌, List, [], ◌∷◌, ◌++◌, length, take, drop, Some, None, Option, refl, sym, ap, subst, ◌∙◌, arith, append_assoc, append-nil}
+use Rattle.std.proofs.Common.{◌≡◌, ℕ, suc, List, [], ◌++◌, length, take, drop, Some, None, Option, refl, sym, ap, subst, ◌∙◌, append_assoc, append-nil}
 use Rattle.std.proofs.lemmas.List.{take_at, take-append-drop}
 use Rattle.std.specs.Io.KnownBytes.{Appends}
 use Rattle.mc_explore.specs.CursorText.{cursor_text}
 use Rattle.mc_explore.specs.Rest.{IsRest}
 use Rattle.mc_explore.specs.Start.{Begun}
-use Rattle.mc_explore.specs.State.{State, Told, told, moved_to, state_after, Finds, IsOver}
+use Rattle.mc_explore.specs.State.{State, Told, told, state_after, Finds, IsOver}
 use Rattle.mc_explore.specs.Page.{page_of, page_from, state_past, row_line, next_line, end_line, cursor_of, AppendsFront, PageIsOut, PageBegan}
 use Rattle.mc_explore.specs.declared.cursor.Cursor.{Cursor}
 use Rattle.mc_explore.specs.declared.row.Row.{Row}

@@ -3,15 +3,14 @@ use Rattle.std.specs.Prelude.{◌≡◌, ℕ, false, List, length, Option, Some,
 use Rattle.std.proofs.Common.{sym, ap, subst, ◌∙◌}
 use Rattle.mc_flash.specs.Geometry.{Geometry, IsLayout}
 use Rattle.mc_flash.specs.Content.{Content}
-use Rattle.mc_image.specs.Valid.{Identity, id_of}
+use Rattle.mc_image.specs.Valid.{id_of}
 use Rattle.mc_trailer.specs.declared.tables.Rules.{Rules}
-use Rattle.mc_boot.specs.declared.outcome.BootResult.{BootResult}
 use Rattle.mc_boot.specs.declared.outcome.BootResult.TheVariants as results
 use Rattle.mc_boot.specs.Outcome.{Report, report, outcome_of}
 use Rattle.mc_boot.specs.Plan.{plan}
 use Rattle.mc_boot.specs.Restart.{BeginsImage, EndsIn, RestartLaw, forgets_reverts}
 use Rattle.mc_boot.specs.Runs.{after, left_by, ops_of, is_faulted}
-use Rattle.mc_boot.specs.Start.{StartKind, revert, start_flash, named, other}
+use Rattle.mc_boot.specs.Start.{StartKind, revert, start_flash}
 use Rattle.mc_explore.specs.Replay.{IsReplayed, IsSwapOutcome, Restarts}
 use Rattle.mc_explore.specs.Restarts.{RowRestarts}
 use Rattle.mc_explore.specs.Start.{Begun}

@@ -1,5 +1,5 @@
 -- The fixed room of a schedule: behind its cuts stand zeros.
-use Rattle.std.specs.Prelude.{◌≡◌, ℕ, ◌+◌, ◌-◌, ◌<◌, List, length, drop, replicate, slice_set, refl}
+use Rattle.std.specs.Prelude.{◌≡◌, ℕ, ◌+◌, ◌-◌, ◌<◌, List, drop, replicate, slice_set}
 use Rattle.std.proofs.Common.{arith, sym, ap, ◌∙◌}
 use Rattle.std.proofs.lemmas.List.{drop-set-lt, drop-replicate, drop-drop}
 use Rattle.mc_flash.specs.Room.{zeros_after}

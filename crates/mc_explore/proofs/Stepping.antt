@@ -1,13 +1,13 @@
 -- A step of a boot that is not at its end leaves less to come.
-use Rattle.std.specs.Prelude.{◌≡◌, ℕ, ◌<◌, true, false, List, [], ◌∷◌, length, slice_get, is_some, Option, Some, None, Result, Ok, Err, refl}
-use Rattle.std.proofs.Common.{arith, sym, ap, subst, ◌∙◌}
+use Rattle.std.specs.Prelude.{◌≡◌, ◌<◌, true, false, List, [], ◌∷◌, length, slice_get, is_some, Option, Some, None, Result, Ok, Err, refl}
+use Rattle.std.proofs.Common.{arith, ap, subst}
 use Rattle.mc_flash.specs.Geometry.{Geometry}
 use Rattle.mc_flash.specs.Content.{Content}
 use Rattle.mc_flash.specs.Apply.{apply}
 use Rattle.mc_flash.specs.declared.op.Op.{Op}
 use Rattle.mc_flash.specs.declared.flash.FlashError.{FlashError}
 use Rattle.mc_flash.specs.declared.flash.FlashError.TheVariants as errors
-use Rattle.mc_boot.specs.Boot.{Progress, Tries, TriesFirst, Steps, stepped, refused}
+use Rattle.mc_boot.specs.Boot.{Progress, Tries, TriesFirst, Steps}
 
 -- Something is to come where the first operation to come is there.
 pub some_first : (ops : List Op) (peeked : Option Op) → peeked ≡ slice_get ops 0 → is_some peeked ≡ true → 0 < length ops

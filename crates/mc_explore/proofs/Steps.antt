@@ -1,26 +1,24 @@
 -- One step of the walk, over plain variables.
-use Rattle.std.proofs.Common.{◌≡◌, ◌≢◌, ℕ, ◌+◌, ◌<◌, ◌≤◌, ◌^◌, Bool, true, false, List, [], ◌∷◌, ◌++◌, length, take, get_or, Result, Ok, Err, Some, refl, sym, ap, subst, ◌∙◌, arith, length-append}
+use Rattle.std.proofs.Common.{◌≡◌, ℕ, ◌+◌, ◌<◌, ◌≤◌, ◌^◌, Bool, true, false, List, [], ◌∷◌, ◌++◌, length, take, Result, Ok, Err, refl, sym, ap, subst, ◌∙◌, arith, length-append}
 use Rattle.std.proofs.lemmas.List.{get_or_at}
-use Rattle.std.specs.Prelude.{slice_get}
 use Rattle.mc_flash.specs.Geometry.{Geometry}
 use Rattle.mc_flash.specs.Content.{Content}
-use Rattle.mc_flash.specs.Ledger.{Spot}
 use Rattle.mc_flash.specs.declared.flash.FlashError.{FlashError}
 use Rattle.mc_flash.specs.declared.flash.FlashError.TheVariants as errors
 use Rattle.mc_trailer.specs.declared.tables.Rules.{Rules}
 use Rattle.mc_boot.specs.Plan.{plan}
 use Rattle.mc_boot.specs.Runs.{ops_of}
-use Rattle.mc_boot.specs.Boot.{Progress, IsBootOf, Steps, begun, progress, to_come}
+use Rattle.mc_boot.specs.Boot.{Progress, IsBootOf, Steps, begun, progress}
 use Rattle.mc_boot.specs.Run.{HasCome}
 use Rattle.mc_boot.specs.declared.boot.Boot.{Boot}
 use Rattle.mc_explore.specs.Schedules.{IsMember, IsNextAfter}
-use Rattle.mc_explore.specs.Landing.{at_cut, landed, Allowed, HasNoChild, IsNextBeyond, NoneBeyond}
-use Rattle.mc_explore.specs.Stack.{no_content, contents, marked_at, start_of, StandsAt, cuts, dones, IsFrame, IsStacked, Stands, Descends, Climbs, Advances}
+use Rattle.mc_explore.specs.Landing.{at_cut, landed, HasNoChild, IsNextBeyond, NoneBeyond}
+use Rattle.mc_explore.specs.Stack.{no_content, marked_at, cuts, dones, Stands, Descends, Climbs, Advances}
 use Rattle.mc_explore.specs.declared.frames.Frame.{Frame}
 use Rattle.mc_explore.specs.declared.walk.Walk.{Walk}
-use Rattle.mc_explore.proofs.Landings.{occurs_allowed, allowed_occurs, lands_at_zero, come_lands, member_of, Goes, has_next, step_goes}
+use Rattle.mc_explore.proofs.Landings.{occurs_allowed, lands_at_zero, come_lands, member_of, Goes, has_next, step_goes}
 use Rattle.mc_explore.proofs.Order.{Rises, rises_on, rises_found, allowed-push, allowed-last, next_below, next_above, none_above}
-use Rattle.mc_explore.proofs.Stacked.{dones-push, length-dones, landed-push, stands-push, allowed_by_frames, popped, Popped}
+use Rattle.mc_explore.proofs.Stacked.{dones-push, length-dones, stands-push, allowed_by_frames, Popped}
 
 -- a boot with nothing to do can't be cut
 pub none_below : (r : Rules) (g : Geometry) (start : Content) (bound : ℕ) (l : List ℕ) (content : Content) → content ≡ landed r g start l → length (ops_of r g content) ≡ 0 → HasNoChild r g start bound l

@@ -1,8 +1,8 @@
 -- Why a mark or a step wants memory.
-use Rattle.std.specs.Prelude.{◌≡◌, ℕ, Bool, true, false, List, [], ◌∷◌, length, Result, Ok, Err, OnOk, OnErr, refl}
-use Rattle.std.proofs.Common.{inl, inr, arith, sym, ap, subst, ◌∙◌}
+use Rattle.std.specs.Prelude.{◌≡◌, ℕ, Bool, true, false, List, [], ◌∷◌, Result, Ok, Err, OnOk, OnErr, refl}
+use Rattle.std.proofs.Common.{inl, inr, ap, subst}
 use Rattle.mc_flash.specs.Geometry.{Geometry}
-use Rattle.mc_flash.specs.Ledger.{Ledger, IsFull, Notes, NotesMark}
+use Rattle.mc_flash.specs.Ledger.{Ledger, Notes, NotesMark}
 use Rattle.mc_flash.specs.declared.op.Op.{Op}
 use Rattle.mc_flash.specs.declared.flash.FlashError.{FlashError}
 use Rattle.mc_flash.specs.declared.flash.FlashError.TheVariants as errors

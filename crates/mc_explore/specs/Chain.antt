@@ -1,5 +1,5 @@
 -- Pages that are continued from their cursors.
-use Rattle.std.specs.Prelude.{◌≡◌, ℕ, ◌<◌, ◌≤◌, ◌⊎◌, Bool, true, false, List, [], ◌∷◌, ◌++◌, length, take, All}
+use Rattle.std.specs.Prelude.{◌≡◌, ℕ, ◌<◌, ◌⊎◌, Bool, true, false, List, [], ◌∷◌, ◌++◌, length, take}
 use Rattle.mc_explore.specs.Rest.{IsRest}
 use Rattle.mc_explore.specs.Resume.{behind}
 use Rattle.mc_explore.specs.State.{State, Told}

@@ -1,9 +1,7 @@
 -- What the restart theorem says of a row.
 use Rattle.std.specs.Prelude.{◌≡◌, ℕ, false, List, Some}
-use Rattle.mc_flash.specs.Geometry.{Geometry, IsLayout}
+use Rattle.mc_flash.specs.Geometry.{IsLayout}
 use Rattle.mc_flash.specs.Content.{Content}
-use Rattle.mc_trailer.specs.declared.tables.Rules.{Rules}
-use Rattle.mc_boot.specs.Outcome.{Report}
 use Rattle.mc_boot.specs.Restart.{BeginsImage, EndsIn, forgets_reverts}
 use Rattle.mc_boot.specs.Runs.{after}
 use Rattle.mc_boot.specs.Start.{StartKind, revert, start_flash}

@@ -1,5 +1,5 @@
 -- What an explorer goes through, where it has come to, and the row that comes next.
-use Rattle.std.specs.Prelude.{◌≡◌, ℕ, Bool, false, List, [], ◌∷◌, Option, Some, None, option_and_then}
+use Rattle.std.specs.Prelude.{◌≡◌, ℕ, Bool, false, List, Option, Some, None, option_and_then}
 use Rattle.mc_flash.specs.Ledger.{Ledger}
 use Rattle.mc_boot.specs.Runs.{after}
 use Rattle.mc_boot.specs.Outcome.{Report, shown, outcome_of}

@@ -74,7 +74,12 @@ fn write_image_ok(layout: &Layout, secondary: &mut [u8])
 }
 
 // The slots that ask for a test.
-fn test_slots(alloc: Global, layout: &Layout, first: &[u8], second: &[u8]) -> Result<Slots, AllocError>
+fn test_slots(
+    alloc: Global,
+    layout: &Layout,
+    first: &[u8],
+    second: &[u8],
+) -> Result<Slots, AllocError>
     requires first { length first.now ≤ size_of layout.now Primary }
     requires second { length second.now ≤ size_of layout.now Secondary }
     ensures content { IfOk result (λ s. content_of s ≡ test_flash layout.now first.now second.now) }
@@ -86,7 +91,12 @@ fn test_slots(alloc: Global, layout: &Layout, first: &[u8], second: &[u8]) -> Re
 }
 
 // The slots that ask for a swap for good.
-fn perm_slots(alloc: Global, layout: &Layout, first: &[u8], second: &[u8]) -> Result<Slots, AllocError>
+fn perm_slots(
+    alloc: Global,
+    layout: &Layout,
+    first: &[u8],
+    second: &[u8],
+) -> Result<Slots, AllocError>
     requires first { length first.now ≤ size_of layout.now Primary }
     requires second { length second.now ≤ size_of layout.now Secondary }
     ensures content { IfOk result (λ s. content_of s ≡ perm_flash layout.now first.now second.now) }
@@ -128,7 +138,12 @@ fn booted<F: Flash>(
 }
 
 // The slots after the whole swap of the exchanged images for a test.
-fn revert_slots(alloc: Global, layout: &Layout, first: &[u8], second: &[u8]) -> Result<Slots, FlashError>
+fn revert_slots(
+    alloc: Global,
+    layout: &Layout,
+    first: &[u8],
+    second: &[u8],
+) -> Result<Slots, FlashError>
     requires first { length first.now ≤ size_of layout.now Secondary }
     requires second { length second.now ≤ size_of layout.now Primary }
     ensures content { IfOk result (λ s. left_by plain layout.now (test_flash layout.now second.now first.now) ≡ Some (content_of s)) }
@@ -145,7 +160,13 @@ fn revert_slots(alloc: Global, layout: &Layout, first: &[u8], second: &[u8]) -> 
 ///
 /// `Memory` where a growth was refused.
 #[tactic(auto, unfolding(mc_boot::specs::Start::start_flash))]
-pub(crate) fn start_slots(alloc: Global, layout: &Layout, kind: Kind, first: &[u8], second: &[u8]) -> Result<Slots, FlashError>
+pub(crate) fn start_slots(
+    alloc: Global,
+    layout: &Layout,
+    kind: Kind,
+    first: &[u8],
+    second: &[u8],
+) -> Result<Slots, FlashError>
     requires first { (length first.now ≤ size_of layout.now Primary) × (length first.now ≤ size_of layout.now Secondary) }
     requires second { (length second.now ≤ size_of layout.now Primary) × (length second.now ≤ size_of layout.now Secondary) }
     ensures content { (a b : List ℕ) → first.now ≡ image_bytes a → second.now ≡ image_bytes b

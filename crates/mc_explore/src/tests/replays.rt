@@ -2,7 +2,7 @@
 use super::{FIRST, SECOND, worked};
 use crate::{Explorer, Kind, ReplayError, Schedule, ScheduleError, Start, replay};
 use mc_boot::{BootResult, Outcome};
-use mc_flash::{Flash, SnapFlash, Slot};
+use mc_flash::{Flash, Slot, SnapFlash};
 use std::test::Fail;
 
 #[test]
@@ -36,7 +36,10 @@ fn schedules_are_read_and_printed(rt: HostRuntime) -> Result<(), Fail> {
         "4294967296",
         "0.0.0.0.0.0.0.0.0.0.0.0.0.0.0.0.0",
     ] {
-        assert!(rt; matches!(Schedule::read(text), Err(ScheduleError)), "{text}");
+        assert!(rt;
+            matches!(Schedule::read(text), Err(ScheduleError)),
+            "{text}"
+        );
     }
     Ok(())
 }
@@ -69,8 +72,11 @@ fn rows_are_replayed(rt: HostRuntime) -> Result<(), Fail> {
 fn a_replay_leaves_its_flash(rt: HostRuntime) -> Result<(), Fail> {
     let layout = worked()?;
     let start = Start::from_images(rt.alloc(), &layout, Kind::Test, &FIRST, &SECOND)?;
-    let (outcome, flash): (Outcome, SnapFlash) =
-        replay(rt.alloc(), &start, &Schedule::read("9.4")?)?;
+    let (outcome, flash): (Outcome, SnapFlash) = replay(
+        rt.alloc(),
+        &start,
+        &Schedule::read("9.4")?,
+    )?;
     assert_eq!(rt; (outcome.result, outcome.ops), (BootResult::Boot, 5));
     assert!(rt; flash.read(Slot::Primary).starts_with(SECOND.as_slice()));
     assert!(rt; flash.read(Slot::Secondary).starts_with(FIRST.as_slice()));

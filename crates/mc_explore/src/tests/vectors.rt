@@ -12,10 +12,22 @@ use std::test::Fail;
 
 /// The digests of the starts of both images.
 static STARTS: [(Kind, &str); 4] = [
-    (Kind::None, "0cf2f5a1b9a451dc9bb060b1858a94da9927942d58635a051bee1bff2fd4356b"),
-    (Kind::Test, "9b07a99687c30f1c748c995c0d4df48a8af881b571e209fd613b03ba09e2b5b7"),
-    (Kind::Perm, "c1acc523518e005291cca9b26b70342829592a50f06a98e839aafbfe601fe472"),
-    (Kind::Revert, "5edff685018cbbd815451fafd7b656a67325e6d209b625e9ef416bcfb3c46295"),
+    (
+        Kind::None,
+        "0cf2f5a1b9a451dc9bb060b1858a94da9927942d58635a051bee1bff2fd4356b",
+    ),
+    (
+        Kind::Test,
+        "9b07a99687c30f1c748c995c0d4df48a8af881b571e209fd613b03ba09e2b5b7",
+    ),
+    (
+        Kind::Perm,
+        "c1acc523518e005291cca9b26b70342829592a50f06a98e839aafbfe601fe472",
+    ),
+    (
+        Kind::Revert,
+        "5edff685018cbbd815451fafd7b656a67325e6d209b625e9ef416bcfb3c46295",
+    ),
 ];
 
 #[test]
@@ -52,13 +64,55 @@ fn page_is(
 
 /// Explorations unit by unit: the kind of the start, the profile, the most cuts, how many lines there are, and the digest.
 static UNITS: [(Kind, Profile, u8, usize, &str); 7] = [
-    (Kind::Test, Profile::One, 1, 111, "741fe452e0061a1afc9de69b49afe5b6b9a04fbba9b8a4ac97cde553a74c5b2e"),
-    (Kind::Test, Profile::Two, 1, 111, "741fe452e0061a1afc9de69b49afe5b6b9a04fbba9b8a4ac97cde553a74c5b2e"),
-    (Kind::Perm, Profile::One, 1, 112, "ff40396a4b43df9c42591ac68387797f46bc1a8dd119142a44697a0a2a59359a"),
-    (Kind::Perm, Profile::Two, 1, 112, "ff40396a4b43df9c42591ac68387797f46bc1a8dd119142a44697a0a2a59359a"),
-    (Kind::Revert, Profile::One, 1, 117, "dd41bcc4988457c2a68dfb49cf4cb7dde40aeb0055aa1e9f2cc18e589fa066c5"),
-    (Kind::Revert, Profile::One, 2, 8420, "95c4baa6b32f4a7c2d90a80d2b943a074fff8a421f7521c7d0d1c83a0da4a0ce"),
-    (Kind::Revert, Profile::Two, 1, 117, "8d927f6b93714a3d2d24456dd20981c391e9d9ab53efbb6fa115741afde0d27e"),
+    (
+        Kind::Test,
+        Profile::One,
+        1,
+        111,
+        "741fe452e0061a1afc9de69b49afe5b6b9a04fbba9b8a4ac97cde553a74c5b2e",
+    ),
+    (
+        Kind::Test,
+        Profile::Two,
+        1,
+        111,
+        "741fe452e0061a1afc9de69b49afe5b6b9a04fbba9b8a4ac97cde553a74c5b2e",
+    ),
+    (
+        Kind::Perm,
+        Profile::One,
+        1,
+        112,
+        "ff40396a4b43df9c42591ac68387797f46bc1a8dd119142a44697a0a2a59359a",
+    ),
+    (
+        Kind::Perm,
+        Profile::Two,
+        1,
+        112,
+        "ff40396a4b43df9c42591ac68387797f46bc1a8dd119142a44697a0a2a59359a",
+    ),
+    (
+        Kind::Revert,
+        Profile::One,
+        1,
+        117,
+        "dd41bcc4988457c2a68dfb49cf4cb7dde40aeb0055aa1e9f2cc18e589fa066c5",
+    ),
+    (
+        Kind::Revert,
+        Profile::One,
+        2,
+        8420,
+        "95c4baa6b32f4a7c2d90a80d2b943a074fff8a421f7521c7d0d1c83a0da4a0ce",
+    ),
+    (
+        Kind::Revert,
+        Profile::Two,
+        1,
+        117,
+        "8d927f6b93714a3d2d24456dd20981c391e9d9ab53efbb6fa115741afde0d27e",
+    ),
 ];
 
 #[test]
@@ -85,5 +139,12 @@ fn an_image_of_two_sectors_is_explored(rt: HostRuntime) -> Result<(), Fail> {
     let larger = image_of(rt.alloc(), &payload)?;
     assert_eq!(rt; larger.len(), 300);
     let start = Start::from_images(rt.alloc(), &layout, Kind::Test, &FIRST, larger.as_slice())?;
-    page_is(&rt, rt.alloc(), &start, 2, 547, "ebe6527a1a7ebba32511e755d5ed61e6d13afed11fcbb92eb457c56553b1b0ee")
+    page_is(
+        &rt,
+        rt.alloc(),
+        &start,
+        2,
+        547,
+        "ebe6527a1a7ebba32511e755d5ed61e6d13afed11fcbb92eb457c56553b1b0ee",
+    )
 }

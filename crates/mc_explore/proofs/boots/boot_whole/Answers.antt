@@ -1,4 +1,3 @@
-use Rattle.std.proofs.Common.{sym, ◌∙◌}
 use Rattle.mc_boot.specs.Boot.{to_come}
 use Rattle.mc_explore.proofs.Stepping.{none_first}
 use Rattle.mc_explore.proofs.boots.boot_whole.Goals as goal

@@ -1,4 +1,4 @@
-use Rattle.std.proofs.Common.{◌≡◌, ℕ, ◌<◌, ◌⊎◌, List}
+use Rattle.std.proofs.Common.{◌≡◌, ◌<◌, ◌⊎◌}
 use Rattle.mc_explore.specs.State.{Lost}
 use Rattle.mc_explore.proofs.PageText.{AreInPage}
 use Rattle.mc_explore.proofs.pages.write_lines.Given as goal

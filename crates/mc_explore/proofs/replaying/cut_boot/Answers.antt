@@ -1,5 +1,5 @@
 use Rattle.std.specs.Prelude.{◌≡◌}
-use Rattle.std.proofs.Common.{arith, ◌∙◌}
+use Rattle.std.proofs.Common.{arith}
 use Rattle.mc_boot.specs.Boot.{progress}
 use Rattle.mc_explore.proofs.Cutting.{cut_there}
 use Rattle.mc_explore.proofs.replaying.cut_boot.Goals as goal

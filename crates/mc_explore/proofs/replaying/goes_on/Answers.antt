@@ -1,4 +1,4 @@
-use Rattle.std.proofs.Common.{ap, ◌∙◌}
+use Rattle.std.proofs.Common.{◌∙◌}
 use Rattle.mc_flash.specs.Ledger.{spot_at}
 use Rattle.mc_boot.specs.Boot.{progress}
 use Rattle.mc_explore.proofs.Cutting.{goes_then, back_last}

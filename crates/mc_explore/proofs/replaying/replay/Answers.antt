@@ -1,5 +1,4 @@
-use Rattle.std.specs.Prelude.{◌≡◌, ◌<◌, length}
-use Rattle.std.proofs.Common.{arith, sym, ◌∙◌}
+use Rattle.std.proofs.Common.{arith, ◌∙◌}
 use Rattle.mc_boot.specs.Boot.{progress}
 use Rattle.mc_boot.specs.Outcome.{shown}
 use Rattle.mc_explore.proofs.Restarts.{replay_restarts}
@@ -18,7 +17,7 @@ loop-place-preserved g c =
     let i = c.loop-place.invariant in
     record {
       occurs = cut_next c.rules-rules.result c.args.start.now.geometry (g.F.Flash.geometry c.loop-place.flash) c.args.start.now.content (g.F.Flash.content c.loop-place.flash) (g.F.Flash.content c.cut_boot.new.flash)
-      c.cuts-cuts.result.now c.loop-place.place c.in_ok-cut_boot.field-0 i.geometry (omega (arith, c.loop-place-test.true)) i.occurs c.if-not-branch.false c.in_ok-cut_boot.ensures.cuts;
+          c.cuts-cuts.result.now c.loop-place.place c.in_ok-cut_boot.field-0 i.geometry (omega (arith, c.loop-place-test.true)) i.occurs c.if-not-branch.false c.in_ok-cut_boot.ensures.cuts;
       geometry = c.cut_boot.ensures.geometry ∙ i.geometry;
     }
 

@@ -1,4 +1,4 @@
-use Rattle.std.proofs.Common.{◌≡◌, [], sym, ap, ◌∙◌}
+use Rattle.std.proofs.Common.{sym}
 use Rattle.mc_boot.specs.Boot.{to_come}
 use Rattle.mc_boot.specs.Outcome.{shown}
 use Rattle.mc_explore.specs.Stack.{contents}

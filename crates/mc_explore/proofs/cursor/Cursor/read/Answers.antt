@@ -1,6 +1,5 @@
 use Rattle.std.specs.Prelude.{◌≡◌, Ok, Some, None}
 use Rattle.std.proofs.Common.{sym, ap, ◌∙◌}
-use Rattle.mc_explore.specs.CursorText.{IsCursor}
 use Rattle.mc_explore.specs.declared.cursor.Cursor.{Cursor}
 use Rattle.mc_explore.proofs.Cursors.{rules_read, parted, one_piece, digits_read, no_digits, number_read, no_number, cursor_is}
 use Rattle.mc_explore.proofs.cursor.Cursor.read.Goals as goal

@@ -1,5 +1,5 @@
-use Rattle.std.specs.Prelude.{length, ◌≡◌, ◌<◌, ◌≤◌}
-use Rattle.std.proofs.Common.{arith, sym, ap, ◌∙◌}
+use Rattle.std.specs.Prelude.{length, ◌<◌}
+use Rattle.std.proofs.Common.{arith, ap, ◌∙◌}
 use Rattle.std.proofs.lemmas.List.{length-set}
 use Rattle.mc_flash.specs.Room.{len_again}
 use Rattle.mc_explore.proofs.Room.{zeros_behind}

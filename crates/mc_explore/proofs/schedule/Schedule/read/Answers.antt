@@ -2,7 +2,7 @@ use Rattle.std.specs.Prelude.{Ok, codes, List, ℕ}
 use Rattle.std.proofs.Common.{rules, sym, ap, ◌∙◌}
 use Rattle.std.proofs.lemmas.Result.{err_from_is_err_and}
 use Rattle.std.proofs.lemmas.Slice.Eq.{bytes_eq-Decides}
-use Rattle.mc_explore.proofs.Reading.{dash, none_read, not_next, not_last, left_next, text_next, text_last, all_read, parted, one_piece}
+use Rattle.mc_explore.proofs.Reading.{dash, not_next, not_last, left_next, text_next, text_last, all_read, parted, one_piece}
 use Rattle.mc_explore.proofs.schedule.Schedule.read.Goals as goal
 
 pub returns-then-eq-clause-only : goal.returns-then-eq-clause-only

@@ -1,4 +1,4 @@
-use Rattle.std.specs.Prelude.{◌≡◌, ℕ, ◌≤◌, List, ◌++◌, length}
+use Rattle.std.specs.Prelude.{◌≡◌, ℕ, List, ◌++◌, length}
 use Rattle.std.specs.Str.{IsUtf8}
 use Rattle.mc_explore.specs.Texts.{IsSchedule, schedule_text}
 use Rattle.mc_explore.proofs.Reading.{behind, IsLeft}

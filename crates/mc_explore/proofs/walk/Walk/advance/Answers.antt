@@ -1,5 +1,5 @@
-use Rattle.std.proofs.Common.{◌≡◌, ◌≤◌, length, subst, arith}
-use Rattle.mc_explore.specs.Stack.{Climbs, dones, start_of, contents}
+use Rattle.std.proofs.Common.{◌≤◌, length, subst, arith}
+use Rattle.mc_explore.specs.Stack.{Climbs, dones, start_of}
 use Rattle.mc_explore.proofs.Stacked.{length-dones}
 use Rattle.mc_explore.proofs.Steps.{advanced_down, advanced_up, start_stays}
 use Rattle.mc_explore.proofs.walk.Walk.advance.Goals as goal

@@ -1,4 +1,4 @@
-use Rattle.std.proofs.Common.{◌≡◌, ◌<◌, refl, arith}
+use Rattle.std.proofs.Common.{◌<◌, refl, arith}
 use Rattle.mc_explore.specs.Stack.{start_of, contents, dones}
 use Rattle.mc_explore.proofs.Steps.{none_below, stands_below, descends}
 use Rattle.mc_explore.proofs.walk.Walk.descend.Goals as goal

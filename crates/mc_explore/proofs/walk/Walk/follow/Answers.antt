@@ -1,6 +1,6 @@
-use Rattle.std.proofs.Common.{rules, ◌≡◌, length, take, get_or, false, refl, sym, ap, subst, ◌∙◌, arith}
+use Rattle.std.proofs.Common.{rules, ◌≡◌, length, get_or, refl, ap, ◌∙◌, arith}
 use Rattle.std.proofs.lemmas.List.{take_all, length-take-le}
-use Rattle.mc_explore.specs.Stack.{StandsAt, GoesDown, contents, start_of, dones}
+use Rattle.mc_explore.specs.Stack.{GoesDown, start_of, dones}
 use Rattle.mc_explore.proofs.Down.{refused_at, occurs_by_stack}
 use Rattle.mc_explore.proofs.Stacked.{length-dones}
 use Rattle.mc_explore.proofs.Steps.{start_stays}

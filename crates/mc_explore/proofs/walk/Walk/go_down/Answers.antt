@@ -1,8 +1,7 @@
-use Rattle.std.proofs.Common.{◌≡◌, ◌<◌, ◌^◌, length, sym, ap, subst, ◌∙◌, arith}
-use Rattle.mc_flash.specs.Content.{Content}
+use Rattle.std.proofs.Common.{◌<◌, arith}
 use Rattle.mc_boot.specs.Boot.{IsBootOf, progress}
 use Rattle.mc_boot.specs.Run.{HasCome}
-use Rattle.mc_explore.specs.Stack.{contents, start_of, dones}
+use Rattle.mc_explore.specs.Stack.{contents, start_of}
 use Rattle.mc_explore.proofs.Down.{stands_at}
 use Rattle.mc_explore.proofs.walk.Walk.go_down.Goals as goal
 
