@@ -144,3 +144,23 @@ fn a_flash_has_the_bytes_of_both_slots(rt: HostRuntime) -> Result<(), Fail> {
     assert_eq!(rt; start.secondary(), [0xaa; 768].as_slice());
     Ok(())
 }
+
+#[test]
+fn a_start_names_its_images(rt: HostRuntime) -> Result<(), Fail> {
+    let layout = worked()?;
+    for (kind, named, other) in [
+        (Kind::None, 1, 2),
+        (Kind::Test, 2, 1),
+        (Kind::Perm, 2, 1),
+        (Kind::Revert, 2, 1),
+    ] {
+        let start = Start::from_images(rt.alloc(), &layout, kind, &FIRST, &SECOND)?;
+        let versions = start
+            .named()
+            .map(|(image, rest)| (image.version.major, rest.version.major));
+        assert_eq!(rt; versions, Some((named, other)), "{kind:?}");
+    }
+    let start = Start::from_flash(rt.alloc(), &layout, &[0xff; 1792])?;
+    assert_eq!(rt; start.named(), None);
+    Ok(())
+}
