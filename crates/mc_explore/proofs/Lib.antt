@@ -7,6 +7,7 @@ mod Cutting
 mod Landings
 mod Contents
 mod Wants
+mod Bounds
 mod Order
 mod Precedence
 mod Ascending
@@ -15,6 +16,7 @@ mod Stacked
 mod Steps
 mod Ends
 mod First
+mod Over
 mod Restarts
 mod Streams
 mod PageText

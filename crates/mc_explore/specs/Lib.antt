@@ -10,6 +10,7 @@ pub mod RowText
 pub mod Stack
 pub mod View
 pub mod Want
+pub mod Bounds
 pub mod CursorText
 pub mod Page
 pub mod Resume

@@ -3,6 +3,7 @@ use Rattle.std.specs.Prelude.{◌≡◌, ◌≢◌, ℕ, List, [], ◌∷◌, fa
 use Rattle.mc_flash.specs.Geometry.{Geometry}
 use Rattle.mc_flash.specs.Content.{Content}
 use Rattle.mc_flash.specs.Ledger.{Ledger, Spot}
+use Rattle.mc_explore.specs.Bounds.{IsRoomyAt}
 use Rattle.mc_explore.specs.Schedules.{IsMember}
 use Rattle.mc_explore.specs.Stack.{contents}
 use Rattle.mc_explore.specs.Start.{Begun, start_digest}
@@ -40,7 +41,7 @@ Resumes start bound c (Ok explorer) =
     Names start bound c × IsMember start.rules start.geometry start.content bound c.schedule × (explorer.state ≡ behind start bound c.schedule)
 Resumes start bound c (Err e) = Refuses start bound c e
 
--- A flash was loaded for a walk, and marked.
+-- A flash was loaded for a walk, and marked. It has room for the walk, and did no operation.
 pub record IsLoaded (start : Begun) (bound : ℕ) (w : Walk) (g : Geometry) (content : Content) (marks : List Spot) (ledger : Ledger) : Type 0 where
   pub rules_are : w.rules ≡ start.rules
   pub bound_is : w.bound ≡ bound
@@ -49,3 +50,5 @@ pub record IsLoaded (start : Begun) (bound : ℕ) (w : Walk) (g : Geometry) (con
   pub content_is : content ≡ start.content
   pub marks_are : contents marks ≡ start.content ∷ []
   pub calm : ledger.failed ≡ false
+  pub idle : ledger.applied ≡ 0
+  pub roomy : IsRoomyAt w g ledger marks []

@@ -2,8 +2,9 @@
 use Rattle.std.specs.Prelude.{◌≡◌, ℕ, Bool, ◌≤◌, List, [], length}
 use Rattle.mc_flash.specs.Geometry.{Geometry}
 use Rattle.mc_flash.specs.Content.{Content}
-use Rattle.mc_flash.specs.Ledger.{Spot}
+use Rattle.mc_flash.specs.Ledger.{Ledger, Spot}
 use Rattle.mc_boot.specs.Runs.{ops_of}
+use Rattle.mc_explore.specs.Bounds.{IsRoomyAt}
 use Rattle.mc_explore.specs.Schedules.{NoneAfter}
 use Rattle.mc_explore.specs.Start.{Begun, start_digest}
 use Rattle.mc_explore.specs.Stack.{StandsAt, start_of, dones}
@@ -32,9 +33,10 @@ state_of w g marks failed last phase = record {
   failed = failed;
 }
 
--- The stack stands for the last schedule.
-pub record IsGoing (w : Walk) (g : Geometry) (content : Content) (marks : List Spot) (frames : List Frame) (last : List ℕ) : Type 0 where
+-- The stack stands for the last schedule, and leaves room.
+pub record IsGoing (w : Walk) (g : Geometry) (content : Content) (marks : List Spot) (ledger : Ledger) (frames : List Frame) (last : List ℕ) : Type 0 where
   pub stands : StandsAt w g (start_of w marks) content marks frames
+  pub roomy : IsRoomyAt w g ledger marks frames
   pub last_is : dones frames ≡ last
   pub few : length last ≤ w.bound
 
@@ -45,15 +47,15 @@ KnowsDigest w g marks digest Going = digest ≡ start_digest (begun_of w g marks
 KnowsDigest w g marks digest Done = digest ≡ start_digest (begun_of w g marks)
 KnowsDigest w g marks digest Broken = Unit {0}
 
-abbrev pub Fits : Walk → Geometry → Content → List Spot → List Frame → List ℕ → ℕ → Phase → Type 0
-Fits w g content marks frames last here Fresh = IsGoing w g content marks frames []
-Fits w g content marks frames last here Going = IsGoing w g content marks frames last × (here ≡ length (ops_of w.rules g content))
-Fits w g content marks frames last here Done = NoneAfter w.rules g (start_of w marks) w.bound last
-Fits w g content marks frames last here Broken = Unit {0}
+abbrev pub Fits : Walk → Geometry → Content → List Spot → Ledger → List Frame → List ℕ → ℕ → Phase → Type 0
+Fits w g content marks ledger frames last here Fresh = IsGoing w g content marks ledger frames []
+Fits w g content marks ledger frames last here Going = IsGoing w g content marks ledger frames last × (here ≡ length (ops_of w.rules g content))
+Fits w g content marks ledger frames last here Done = NoneAfter w.rules g (start_of w marks) w.bound last
+Fits w g content marks ledger frames last here Broken = Unit {0}
 
 -- What holds of an explorer's fields.
-pub record IsSound (w : Walk) (g : Geometry) (content : Content) (marks : List Spot) (capacity : ℕ) (digest : List ℕ) (frames : List Frame) (last : List ℕ) (here : ℕ) (phase : Phase) : Type 0 where
+pub record IsSound (w : Walk) (g : Geometry) (content : Content) (marks : List Spot) (ledger : Ledger) (capacity : ℕ) (digest : List ℕ) (frames : List Frame) (last : List ℕ) (here : ℕ) (phase : Phase) : Type 0 where
   pub reserved : w.bound ≤ capacity
   pub room : w.bound ≤ 16
   pub digest_is : KnowsDigest w g marks digest phase
-  pub fits : Fits w g content marks frames last here phase
+  pub fits : Fits w g content marks ledger frames last here phase

@@ -1,11 +1,13 @@
 //! Goes through the schedules of power cuts, one after another.
-ghost use Rattle.std.specs.Prelude.{◌≡◌, ◌≢◌, ◌≤◌, IfOk, IfErr, IfSome, OnOk, OnErr, IsErrOf, ◌⊎◌};
+ghost use Rattle.std.specs.Prelude.{◌≡◌, ◌≢◌, ◌+◌, ◌*◌, ◌≤◌, true, length, IfOk, IfErr, IfSome, OnOk, OnErr, IsErrOf, ◌⊎◌};
+ghost use Rattle.mc_flash.specs.Ledger.{limits_for, most_operations};
+ghost use Rattle.mc_explore.specs.Bounds.{row_cost};
 ghost use Rattle.mc_explore.specs.Page.{cursor_of};
 ghost use Rattle.mc_explore.specs.Resume.{Resumes};
 ghost use Rattle.mc_explore.specs.Restarts.{RowRestarts};
 ghost use Rattle.mc_explore.specs.Start.{begun};
 ghost use Rattle.mc_explore.specs.State.{State, Lost, Finds, told, state_after, lost_at, at_start};
-ghost use Rattle.mc_explore.specs.Want.{WantsMemory};
+ghost use Rattle.mc_explore.specs.Want.{RanOut};
 
 use crate::cursor::Cursor;
 use crate::error::ExploreError;
@@ -51,7 +53,7 @@ impl<F: Flash> Model for Explorer<F> {
       marked = length (F.marks e.flash);
     } };
 
-    ghost invariant = { λ e. IsSound e.walk (F.geometry e.flash) (F.content e.flash) (F.marks e.flash) (vec_capacity e.frames) e.digest e.frames.items e.last e.here e.phase };
+    ghost invariant = { λ e. IsSound e.walk (F.geometry e.flash) (F.content e.flash) (F.marks e.flash) (F.ledger e.flash) (vec_capacity e.frames) e.digest e.frames.items e.last e.here e.phase };
 }
 
 impl<F: Flash + Drop> Explorer<F> {
@@ -64,6 +66,9 @@ impl<F: Flash + Drop> Explorer<F> {
     pub fn start(alloc: Global, start: &Start, bound: u8) -> Result<Explorer<F>, ExploreError>
         requires { bound ≤ 16 }
         ensures ok { IfOk result (λ explorer. explorer.state ≡ at_start (begun start.now) bound) }
+        // No operation is done yet, and a flash that counts has room for exactly so many boots.
+        ensures applied { IfOk result (λ explorer. explorer.ledger.applied ≡ 0) }
+        ensures exact { IfOk result (λ explorer. F.counted ≡ true → explorer.ledger.limits ≡ limits_for start.now.rules.grain start.now.geometry (bound + 1)) }
         ensures err { IfErr result (λ e. e ≡ ExploreError.Memory) }
     {
         let (flash, walk) = load(alloc, start, bound)?;
@@ -92,7 +97,10 @@ impl<F: Flash + Drop> Explorer<F> {
         cursor: &Cursor,
     ) -> Result<Explorer<F>, ExploreError>
         requires { bound ≤ 16 }
-        ensures { Resumes (begun start.now) bound cursor.now result }
+        ensures resumes { Resumes (begun start.now) bound cursor.now result }
+        // It takes at most two boots a cut, and one.
+        ensures applied { IfOk result (λ explorer. explorer.ledger.applied ≤ 2 * (bound + 1) * most_operations start.now.rules.grain start.now.geometry) }
+        ensures exact { IfOk result (λ explorer. F.counted ≡ true → explorer.ledger.limits ≡ limits_for start.now.rules.grain start.now.geometry (bound + 1)) }
     {
         ask(start, bound, cursor)?;
         let cuts = cursor.schedule.cuts();
@@ -120,16 +128,18 @@ impl<F: Flash + Drop> Explorer<F> {
     ///
     /// # Errors
     ///
-    /// `Memory` where the flash was refused memory, or is full; from then on always `Failed`.
+    /// `Memory` where the flash was refused memory, which one that counts never is; from then on always `Failed`.
     pub fn next_row(&mut self) -> Result<Option<Row>, ExploreError>
         // It is the first row past the position, and there is none exactly where no schedule is past it.
         ensures found { IfOk result (λ found. Finds self.old.state found) }
         ensures moved { IfOk result (λ found. self.new.state ≡ state_after self.old.state found) }
         // The restart theorem, for that row.
         ensures restarts { IfOk result (λ found. IfSome found (λ row. RowRestarts self.old.state.start (told row))) }
-        // Memory is wanted only where the flash has been refused some, or is full.
-        ensures cause { IsErrOf result ExploreError.Memory
-            → WantsMemory F.counted self.new.state.start.geometry self.new.ledger self.new.marked }
+        // It takes at most one boot and two operations, and none where there is no row. The limits never change.
+        ensures applied { IfOk result (λ found. self.new.ledger.applied ≤ self.old.ledger.applied + row_cost self.old.state.start.rules self.old.state.start.geometry found) }
+        ensures limits { self.new.ledger.limits ≡ self.old.ledger.limits }
+        // Memory is wanted only where the flash does not count, and was refused some: one that counts has enough.
+        ensures cause { IsErrOf result ExploreError.Memory → RanOut F.counted self.new.ledger.failed }
         // After an error the explorer has failed. It stays so, and says so. No other does.
         ensures lost { OnErr result (self.new.state.position ≡ Lost) }
         ensures stays_lost { self.old.state.position ≡ Lost → IsErrOf result ExploreError.Failed }
@@ -172,7 +182,8 @@ impl<F: Flash + Drop> Explorer<F> {
 
     /// The flash as it is.
     pub fn flash(&self) -> &F
-        ensures { F.ledger result.now ≡ self.now.ledger }
+        ensures ledger { F.ledger result.now ≡ self.now.ledger }
+        ensures marked { length (F.marks result.now) ≡ self.now.marked }
     {
         &self.flash
     }

@@ -1,5 +1,6 @@
 //! The flash of a start, and whether a cursor is of that start.
-ghost use Rattle.std.specs.Prelude.{◌≡◌, ◌≤◌, IfOk, IfErr, OnOk};
+ghost use Rattle.std.specs.Prelude.{◌≡◌, ◌+◌, ◌≤◌, true, IfOk, IfErr, OnOk};
+ghost use Rattle.mc_flash.specs.Ledger.{limits_for};
 ghost use Rattle.mc_explore.specs.Resume.{IsLoaded, Names, Refuses};
 ghost use Rattle.mc_explore.specs.Start.{begun};
 
@@ -18,7 +19,8 @@ use std::alloc::Global;
 /// `Memory` where a growth was refused.
 pub fn load<F: Flash>(alloc: Global, start: &Start, bound: u8) -> Result<(F, Walk), FlashError>
     requires { bound ≤ 16 }
-    ensures { IfOk result (λ loaded. IsLoaded (begun start.now) bound loaded.1 (F.geometry loaded.0) (F.content loaded.0) (F.marks loaded.0) (F.ledger loaded.0)) }
+    ensures loaded { IfOk result (λ loaded. IsLoaded (begun start.now) bound loaded.1 (F.geometry loaded.0) (F.content loaded.0) (F.marks loaded.0) (F.ledger loaded.0)) }
+    ensures exact { IfOk result (λ loaded. F.counted ≡ true → (F.ledger loaded.0).limits ≡ limits_for start.now.rules.grain start.now.geometry (bound + 1)) }
 {
     let rules = start.rules();
     let mut flash = F::load(

@@ -1,8 +1,9 @@
 //! Pages: several rows at a time, as text.
-ghost use Rattle.std.specs.Prelude.{◌≡◌, ◌≤◌, ◌⊎◌, IfErr, OnOk, OnErr, IsErrOf};
+ghost use Rattle.std.specs.Prelude.{◌≡◌, ◌+◌, ◌*◌, ◌≤◌, ◌⊎◌, IfErr, OnOk, OnErr, IsErrOf};
 ghost use Rattle.mc_explore.specs.State.{Lost};
+ghost use Rattle.mc_explore.specs.Bounds.{most_for_row};
 ghost use Rattle.mc_explore.specs.Page.{PageIsOut, PageBegan};
-ghost use Rattle.mc_explore.specs.Want.{WantsMemory};
+ghost use Rattle.mc_explore.specs.Want.{RanOut};
 
 use crate::error::ExploreError;
 use crate::explorer::Explorer;
@@ -20,8 +21,9 @@ fn write_lines<F: Flash + Drop, W: Write>(
     requires { 1 ≤ limit }
     ensures page { OnOk result (PageIsOut explorer.old.state explorer.new.state limit (W.contents writer.old) (W.contents writer.new)) }
     ensures began { OnErr result (PageBegan explorer.old.state limit (W.contents writer.old) (W.contents writer.new)) }
-    ensures cause { IsErrOf result ExploreError.Memory
-        → WantsMemory F.counted explorer.new.state.start.geometry explorer.new.ledger explorer.new.marked }
+    ensures applied { OnOk result (explorer.new.ledger.applied ≤ explorer.old.ledger.applied + limit * most_for_row explorer.old.state.start.rules explorer.old.state.start.geometry) }
+    ensures limits { explorer.new.ledger.limits ≡ explorer.old.ledger.limits }
+    ensures cause { IsErrOf result ExploreError.Memory → RanOut F.counted explorer.new.ledger.failed }
     ensures stays_lost { explorer.old.state.position ≡ Lost → IsErrOf result ExploreError.Failed }
     ensures not_lost { IsErrOf result ExploreError.Failed → explorer.old.state.position ≡ Lost }
     ensures err { IfErr result (λ e. (e ≡ ExploreError.Memory) ⊎ (e ≡ ExploreError.Failed) ⊎ (e ≡ ExploreError.Write)) }
@@ -59,8 +61,10 @@ pub fn write_page<F: Flash + Drop, W: Write>(
     // The page of the rows to come is out, and what is to come afterwards is the rest of them.
     ensures page { OnOk result (PageIsOut explorer.old.state explorer.new.state limit (W.contents writer.old) (W.contents writer.new)) }
     ensures began { OnErr result (PageBegan explorer.old.state limit (W.contents writer.old) (W.contents writer.new)) }
-    ensures cause { IsErrOf result ExploreError.Memory
-        → WantsMemory F.counted explorer.new.state.start.geometry explorer.new.ledger explorer.new.marked }
+    // Each row takes as much as one by itself. The limits never change.
+    ensures applied { OnOk result (explorer.new.ledger.applied ≤ explorer.old.ledger.applied + limit * most_for_row explorer.old.state.start.rules explorer.old.state.start.geometry) }
+    ensures limits { explorer.new.ledger.limits ≡ explorer.old.ledger.limits }
+    ensures cause { IsErrOf result ExploreError.Memory → RanOut F.counted explorer.new.ledger.failed }
     ensures lost { OnErr result (explorer.new.state.position ≡ Lost) }
     ensures stays_lost { explorer.old.state.position ≡ Lost → IsErrOf result ExploreError.Failed }
     ensures not_lost { IsErrOf result ExploreError.Failed → explorer.old.state.position ≡ Lost }

@@ -2,6 +2,7 @@
 ghost use Rattle.std.specs.Prelude.{◌≡◌, IfOk};
 ghost use Rattle.mc_flash.specs.Worked.{worked};
 
+mod bounds;
 mod cursors;
 mod exploring;
 mod paging;

@@ -1,4 +1,5 @@
-use Rattle.std.proofs.Common.{◌≡◌, ◌<◌, ◌⊎◌}
+use Rattle.std.proofs.Common.{◌≡◌, ◌+◌, ◌*◌, ◌<◌, ◌≤◌, ◌⊎◌}
+use Rattle.mc_explore.specs.Bounds.{most_for_row}
 use Rattle.mc_explore.specs.State.{Lost}
 use Rattle.mc_explore.proofs.PageText.{AreInPage}
 use Rattle.mc_explore.proofs.pages.write_lines.Given as goal
@@ -9,6 +10,9 @@ invariant-fill g l =
       page : AreInPage l.fn.explorer.state l.explorer.state l.limit l.room l.last (g.W.Write.contents l.fn.writer) (g.W.Write.contents l.writer);
       not_lost : l.explorer.state.position ≡ Lost → l.fn.explorer.state.position ≡ Lost;
       stuck : l.fn.explorer.state.position ≡ Lost → (l.explorer.state.position ≡ Lost) × (0 < l.room);
+      start : l.explorer.state.start ≡ l.fn.explorer.state.start;
+      limits : l.explorer.ledger.limits ≡ l.fn.explorer.ledger.limits;
+      applied : l.explorer.ledger.applied + l.room * most_for_row l.fn.explorer.state.start.rules l.fn.explorer.state.start.geometry ≤ l.fn.explorer.ledger.applied + l.limit * most_for_row l.fn.explorer.state.start.rules l.fn.explorer.state.start.geometry;
       full : (0 < l.room) ⊎ (l.explorer.state.position ≡ Lost → ⊥);
     }
 

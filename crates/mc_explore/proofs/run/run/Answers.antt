@@ -1,8 +1,14 @@
-use Rattle.std.proofs.Common.{sym}
+use Rattle.std.proofs.Common.{◌≡◌, length, Err, sym, ap, ◌∙◌, arith}
+use Rattle.mc_flash.specs.Ledger.{Limits}
+use Rattle.mc_flash.specs.declared.flash.FlashError.TheVariants as errors
 use Rattle.mc_boot.specs.Boot.{to_come}
 use Rattle.mc_boot.specs.Outcome.{shown}
 use Rattle.mc_explore.specs.Stack.{contents}
+use Rattle.mc_explore.proofs.Bounds.{last_counts}
+use Rattle.mc_explore.proofs.Contents.{length_contents}
 use Rattle.mc_explore.proofs.Ends.{peek_none, outcome_ops, back_there, back_marks}
+use Rattle.mc_explore.proofs.Stepping.{some_first}
+use Rattle.mc_explore.proofs.Wants.{step_wants}
 use Rattle.mc_explore.proofs.run.run.Goals as goal
 
 pub returns-clause-outcome : goal.returns-clause-outcome
@@ -22,3 +28,14 @@ returns-clause-content g c =
 pub returns-clause-marks : goal.returns-clause-marks
 returns-clause-marks g c =
     rw c.back_to.ensures.marks (back_marks (g.F.Flash.marks c.loop-boot.flash) (contents (g.F.Flash.marks c.args.flash.now)) (g.F.Flash.content c.args.flash.now) c.in_ok-here.here c.loop-boot.invariant.marks c.in_ok-here.ensures.place)
+
+pub returns-clause-counts : goal.returns-clause-counts
+returns-clause-counts g c =
+    last_counts (g.F.Flash.marks c.loop-boot.flash) (g.F.Flash.marks c.args.flash.now) (g.F.Flash.content c.args.flash.now) _ (g.F.Flash.ledger c.args.flash.now) (g.F.Flash.ledger c.back_to.new.self) c.in_ok-here.here c.loop-boot.invariant.spots c.back_to.ensures.content (c.in_ok-here.ensures.place ∙ length_contents (g.F.Flash.marks c.args.flash.now))
+
+pub returns-in-Err-Memory-clause-cause : goal.returns-in-Err-Memory-clause-cause
+returns-in-Err-Memory-clause-cause g c =
+    let i = c.loop-boot.invariant in
+    let some = some_first (to_come c.loop-boot.boot) c.peek.result c.peek.ensures.first (sym c.loop-boot-test.ensures) in
+    let memory : c.step.result ≡ Err errors.Memory = cc in
+    step_wants g.F.Flash.counted (g.F.Flash.geometry c.args.flash.now) (g.F.Flash.geometry c.loop-boot.flash) (to_come c.loop-boot.boot) c.step.result _ _ _ _ i.geometry c.step.ensures.notes memory (λ none. omega (arith, some, ap length none)) i.room (omega (arith, ap (λ (l : Limits). l.entries) i.limits)) (omega (arith, ap (λ (l : Limits). l.saved) i.limits))

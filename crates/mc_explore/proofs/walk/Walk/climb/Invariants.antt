@@ -1,5 +1,6 @@
 use Rattle.std.proofs.Common.{◌≡◌, ◌≤◌, vec_len}
 use Rattle.std.specs.Vec.{vec_capacity}
+use Rattle.mc_explore.specs.Bounds.{IsRoomy}
 use Rattle.mc_explore.specs.Stack.{IsStacked, contents, dones, start_of}
 use Rattle.mc_explore.proofs.Order.{Rises}
 use Rattle.mc_explore.proofs.walk.Walk.climb.Given as goal
@@ -14,6 +15,9 @@ invariant-loop-frame g l =
       few : vec_len l.frames ≤ vec_capacity l.frames;
       geometry : g.F.Flash.geometry l.flash ≡ layout;
       stacked : IsStacked l.fn.self.rules layout start l.fn.self.home (contents (g.F.Flash.marks l.flash)) l.frames.items;
+      applied : (g.F.Flash.ledger l.flash).applied ≡ (g.F.Flash.ledger l.fn.flash).applied;
+      limits : (g.F.Flash.ledger l.flash).limits ≡ (g.F.Flash.ledger l.fn.flash).limits;
+      roomy : IsRoomy l.fn.self layout (g.F.Flash.ledger l.fn.flash).limits (g.F.Flash.marks l.flash) l.frames.items;
       rises : Rises l.fn.self.rules layout start (dones l.fn.frames.items) (dones l.frames.items);
     }
 

@@ -38,3 +38,11 @@ returns-clause-step g c =
     let i = c.loop-cut.invariant in
     let came : dones c.loop-cut.frames.items ≡ c.args.cuts.now = i.came ∙ take_all c.loop-cut.cut-index c.args.cuts.now c.loop-cut-test.false in
     (came, occurs_by_stack w.rules layout start w.home _ _ c.loop-cut.frames.items c.args.cuts.now i.stands came)
+
+pub go_down-requires-clause-roomy : goal.go_down-requires-clause-roomy
+go_down-requires-clause-roomy g c = let i = c.loop-cut.invariant in rw i.geometry i.roomy
+
+pub go_down-requires-clause-few : goal.go_down-requires-clause-few
+go_down-requires-clause-few g c =
+    let i = c.loop-cut.invariant in
+    omega (arith, length-dones c.loop-cut.frames.items, ap length i.came, length-take-le c.loop-cut.cut-index c.args.cuts.now (omega (arith, c.loop-cut-test.true)), c.loop-cut-test.true, c.requires.few, c.loop-cut.frames.ok.0)
