@@ -50,6 +50,7 @@ fn a_page_with_room_left_ends(rt: HostRuntime) -> Result<(), Fail> {
 #[derive(Drop)]
 struct Narrow {
     room: usize,
+    taken: Vec<u8>,
 }
 
 impl Write for Narrow {
@@ -58,7 +59,9 @@ impl Write for Narrow {
             return Err(io::Error::from(io::ErrorKind::Other));
         }
         self.room -= 1;
-        Ok(bytes.len().min(1))
+        let count = bytes.len().min(1);
+        self.taken.extend_from_slice(&bytes[..count])?;
+        Ok(count)
     }
 
     fn flush(&mut self) -> io::Result<()> {
@@ -68,12 +71,25 @@ impl Write for Narrow {
 
 #[test]
 fn a_failed_write_ends_the_exploration(rt: HostRuntime) -> Result<(), Fail> {
-    let mut explorer = explorer(rt.alloc(), 1)?;
-    let mut narrow = Narrow { room: 50 };
-    let refused = write_page(&mut explorer, 9, &mut narrow);
-    assert_eq!(rt; refused, Err(ExploreError::Write));
-    let again = write_page(&mut explorer, 9, &mut Narrow { room: 50 });
-    assert_eq!(rt; again, Err(ExploreError::Failed));
-    assert!(rt; explorer.next_row().is_err());
+    let alloc = rt.alloc();
+    let mut page = Vec::new(alloc);
+    write_page(&mut explorer(alloc, 1)?, 3, &mut page)?;
+    for room in 0..page.len() {
+        let mut explorer = explorer(alloc, 1)?;
+        let mut narrow = Narrow {
+            room,
+            taken: Vec::new(alloc),
+        };
+        let refused = write_page(&mut explorer, 3, &mut narrow);
+        assert_eq!(rt; refused, Err(ExploreError::Write), "{room}");
+        assert_eq!(rt; narrow.taken.len(), room);
+        assert!(rt;
+            page.as_slice().starts_with(narrow.taken.as_slice()),
+            "{room}"
+        );
+        let again = write_page(&mut explorer, 3, &mut narrow);
+        assert_eq!(rt; again, Err(ExploreError::Failed), "{room}");
+        assert!(rt; explorer.next_row().is_err());
+    }
     Ok(())
 }

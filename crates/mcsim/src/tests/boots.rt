@@ -6,6 +6,13 @@ use std::alloc::{AllocError, Global};
 use std::process::Abort;
 use std::test::Fail;
 
+/// Puts bytes into a flash.
+fn put(flash: &mut [u8; 1792], place: usize, bytes: &[u8]) {
+    for (cell, byte) in flash.iter_mut().skip(place).zip(bytes) {
+        *cell = *byte;
+    }
+}
+
 /// A boot of a source after a schedule; `-` is told to `boot`.
 fn boot_of<'a>(input: &'a [u8], source: &'a str, schedule: &'a str) -> Case<'a> {
     Case {
@@ -122,40 +129,53 @@ table revert
     Ok(())
 }
 
-/// Which boot follows a cut that falls from one place to another: the kind of the start, the places, the type and how
-/// many operations the next boot makes.
-static NEXT_BOOTS: [(&str, u32, u32, &str, u32); 16] = [
-    ("test", 0, 4, "test", 18),
-    ("test", 5, 8, "test", 14),
-    ("test", 9, 12, "test", 9),
-    ("test", 13, 16, "test", 5),
-    ("test", 17, 17, "test", 1),
-    ("perm", 0, 5, "perm", 19),
-    ("perm", 6, 9, "perm", 14),
-    ("perm", 10, 13, "perm", 9),
-    ("perm", 14, 17, "perm", 5),
-    ("perm", 18, 18, "perm", 1),
-    ("revert", 0, 3, "revert", 23),
-    ("revert", 4, 9, "perm", 19),
-    ("revert", 10, 13, "revert", 14),
-    ("revert", 14, 17, "revert", 9),
-    ("revert", 18, 21, "revert", 5),
-    ("revert", 22, 22, "revert", 1),
-];
-
-#[test]
-fn each_cut_of_the_first_boot_ends_in_the_same_flash(rt: HostRuntime) -> Result<(), Fail> {
-    let alloc = rt.alloc();
-    for (start, first, last, kind, ops) in NEXT_BOOTS {
-        let source = format!(in alloc; "--kind {start} --image-a in --image-b second")?;
-        let next = if start == "test" { "revert" } else { "none" };
-        for cut in first..last + 1 {
+/// Cuts the first boot of a start at each place: of each row the cuts from the first to the last are followed by a boot of
+/// that type, which makes so many operations.
+fn cuts_end(
+    rt: &impl Abort,
+    alloc: Global,
+    start: &str,
+    next: &str,
+    rows: &[(u32, u32, &str, u32)],
+) -> Result<(), Fail> {
+    let source = format!(in alloc; "--kind {start} --image-a in --image-b second")?;
+    for (first, last, kind, ops) in rows {
+        for cut in *first..=*last {
             let schedule = format!(in alloc; "--schedule {cut}")?;
             let case = boot_of(&FIRST_IMAGE, source.as_str(), schedule.as_str());
-            tells(&rt, alloc, &case, Told::swapped(kind, ops, next))?;
+            tells(rt, alloc, &case, Told::swapped(kind, *ops, next))?;
         }
     }
     Ok(())
+}
+
+#[test]
+fn each_cut_of_the_first_boot_ends_in_the_same_flash(rt: HostRuntime) -> Result<(), Fail> {
+    let test = [
+        (0, 4, "test", 18),
+        (5, 8, "test", 14),
+        (9, 12, "test", 9),
+        (13, 16, "test", 5),
+        (17, 17, "test", 1),
+    ];
+    cuts_end(&rt, rt.alloc(), "test", "revert", &test)?;
+    let perm = [
+        (0, 5, "perm", 19),
+        (6, 9, "perm", 14),
+        (10, 13, "perm", 9),
+        (14, 17, "perm", 5),
+        (18, 18, "perm", 1),
+    ];
+    cuts_end(&rt, rt.alloc(), "perm", "none", &perm)?;
+    let revert = [
+        (0, 3, "revert", 23),
+        (4, 9, "perm", 19),
+        (10, 13, "revert", 14),
+        (14, 17, "revert", 9),
+        (18, 21, "revert", 5),
+        (22, 22, "revert", 1),
+    ];
+    cuts_end(&rt, rt.alloc(), "revert", "none", &revert)
 }
 
 #[test]
@@ -190,14 +210,12 @@ static MAGIC: [u8; 16] = [
 fn boots_flashes_that_no_swap_left(rt: HostRuntime) -> Result<(), Fail> {
     let alloc = rt.alloc();
     let mut asked = flash_of(&[]);
-    asked[1776..].copy_from_slice(&MAGIC);
-    let size = [(976, 0x50), (977, 0), (978, 0), (979, 0)];
-    let mut stuck = begun(&size);
-    stuck[984] = 2;
-    stuck[993] = 0;
+    put(&mut asked, 1776, &MAGIC);
+    let mut stuck = begun(&[(984, 2), (993, 0)]);
+    put(&mut stuck, 976, &[0x50, 0, 0, 0]);
     let mut lost = stuck;
-    stuck[920] = 1;
-    lost[888] = 1;
+    put(&mut stuck, 920, &[1]);
+    put(&mut lost, 888, &[1]);
     for (flash, told) in [
         (flash_of(&[]), Told::empty("none", "none", "none")),
         (asked, Told::empty("none", "fail", "fail")),
@@ -220,8 +238,8 @@ fn boots_flashes_that_no_swap_left(rt: HostRuntime) -> Result<(), Fail> {
 fn boots_where_the_first_image_is_lost(rt: HostRuntime) -> Result<(), Fail> {
     let alloc = rt.alloc();
     let mut flash = flash_of(&[]);
-    flash[1024..1104].copy_from_slice(&SECOND_IMAGE);
-    flash[1776..].copy_from_slice(&MAGIC);
+    put(&mut flash, 1024, &SECOND_IMAGE);
+    put(&mut flash, 1776, &MAGIC);
     let told = Told {
         secondary: "none",
         ..Told::swapped("test", 18, "fail")
@@ -253,5 +271,31 @@ fn refuses_replays(rt: HostRuntime) -> Result<(), Fail> {
         };
         ends(&rt, alloc, &case)?;
     }
+    Ok(())
+}
+
+/// The digest of an image of 441 zeros, of version 2.0.0+0, with a header of 32 bytes.
+static LARGER_DIGEST: [u8; 32] = [
+    0x31, 0xe5, 0x1c, 0xad, 0xa9, 0x10, 0xd1, 0x8b, 0xe5, 0x41, 0xc1, 0xfe, 0xd4, 0x59, 0x24, 0xa8,
+    0x44, 0x9c, 0x61, 0x16, 0x17, 0x19, 0x0b, 0xed, 0x4e, 0x31, 0xca, 0x87, 0x6b, 0x33, 0x85, 0xce,
+];
+
+#[test]
+fn boots_no_image_that_does_not_fit(rt: HostRuntime) -> Result<(), Fail> {
+    let mut flash = flash_of(&[]);
+    put(&mut flash, 0, &FIRST_IMAGE);
+    // The secondary's image has 513 bytes: its header, 441 zeros, and the entry of its digest.
+    put(&mut flash, 1024, &SECOND_IMAGE[..32]);
+    put(&mut flash, 1036, &[0xb9, 0x01]);
+    put(&mut flash, 1056, &[0; 441]);
+    put(&mut flash, 1497, &SECOND_IMAGE[40..48]);
+    put(&mut flash, 1505, &LARGER_DIGEST);
+    put(&mut flash, 1776, &MAGIC);
+    let told = Told {
+        primary: FIRST_TOLD,
+        secondary: "2.0.0+0 513 31e51cada910d18be541c1fed45924a8449c611617190bed4e31ca876b3385ce",
+        ..Told::swapped("fail", 0, "fail")
+    };
+    tells(&rt, rt.alloc(), &boot_of(&flash, "--flash in", ""), told)?;
     Ok(())
 }

@@ -5,7 +5,7 @@ use super::support::{Case, ends, outcome_over};
 use super::trailers::{WORKED, begun, flash_of};
 use super::vectors::FIRST_IMAGE;
 use sha2::{Digest, Sha256};
-use std::alloc::Global;
+use std::alloc::{AllocError, Global};
 use std::cell::RefCell;
 use std::test::Fail;
 
@@ -241,6 +241,15 @@ fn prints_the_rows_of_a_flash(rt: HostRuntime) -> Result<(), Fail> {
         (993, 0),
     ]);
     stuck[920] = 1;
+    let none = Case {
+        options: "--kind none --image-a in --image-b second",
+        ..explore_of(
+            &FIRST_IMAGE,
+            "--cuts 16",
+            "- boot none 0 1.0.0+0/80 2.0.0+0/80 none\nend\n",
+        )
+    };
+    ends(&rt, alloc, &none)?;
     for cuts in ["--cuts 0", "--cuts 2", "--cuts 16"] {
         let fault = "- fault test 0 none none test\nend\n";
         ends(&rt, alloc, &explore_of(&stuck, cuts, fault))?;
@@ -262,11 +271,26 @@ fn explore_images<'a>(options: &'a str) -> Case<'a> {
     }
 }
 
+/// The page of one row at most, and where it goes on.
+fn page_of(alloc: Global, cuts: u32, row: &str, next: &str) -> Result<String, AllocError> {
+    let mut page = String::new(alloc);
+    if row != "" {
+        let line = format!(in alloc; "{row} 2.0.0+0/80 1.0.0+0/80 revert\n")?;
+        page.push_str(line.as_str())?;
+    }
+    if next == "" {
+        page.push_str("end\n")?;
+    } else {
+        let line = format!(in alloc; "next mc1:{START}:{cuts}:{next}\n")?;
+        page.push_str(line.as_str())?;
+    }
+    Ok(page)
+}
+
 #[test]
 fn goes_on_behind_cursors(rt: HostRuntime) -> Result<(), Fail> {
     let alloc = rt.alloc();
-    let images = "2.0.0+0/80 1.0.0+0/80 revert";
-    for (cuts, schedule, limit, rows, next) in [
+    for (cuts, schedule, limit, row, next) in [
         (2, "0.17", 1, "1 boot test 18", "1"),
         (2, "17.0", 1000, "", ""),
         (1, "16", 1, "17 boot test 1", "17"),
@@ -276,19 +300,9 @@ fn goes_on_behind_cursors(rt: HostRuntime) -> Result<(), Fail> {
         let options = format!(in alloc;
             "--cuts {cuts} --limit {limit} --cursor mc1:{START}:{cuts}:{schedule}"
         )?;
-        let mut out = if rows == "" {
-            String::new(alloc)
-        } else {
-            format!(in alloc; "{rows} {images}\n")?
-        };
-        if next == "" {
-            out.push_str("end\n")?;
-        } else {
-            let last = format!(in alloc; "next mc1:{START}:{cuts}:{next}\n")?;
-            out.push_str(last.as_str())?;
-        }
+        let page = page_of(alloc, cuts, row, next)?;
         let case = Case {
-            out: out.as_str(),
+            out: page.as_str(),
             ..explore_images(options.as_str())
         };
         ends(&rt, alloc, &case)?;
