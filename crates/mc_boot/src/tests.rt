@@ -9,12 +9,6 @@ use mc_trailer::{MAGIC, Profile, Rules, SwapType};
 use std::alloc::Global;
 use std::test::Fail;
 
-/// Whole calls, by the first profile.
-const PLAIN: Rules = Rules {
-    grain: Grain::Call,
-    profile: Profile::One,
-};
-
 /// Version 1.0.0, with a payload of eight bytes.
 const A: [u8; 80] = [
     0x3d, 0xb8, 0xf3, 0x96, 0x00, 0x00, 0x00, 0x00, 0x20, 0x00, 0x00, 0x00, 0x08, 0x00, 0x00, 0x00,
@@ -137,9 +131,9 @@ fn told<F: Flash>(flash: &mut F, rules: Rules) -> Outcome
 /// How many operations the boot has that follows a cut. The flash is as it was then.
 fn ops_after<F: Flash>(flash: &mut F, cut: u32) -> Result<u32, FlashError> {
     let place = flash.mark()?;
-    let mut boot = Boot::cold(flash, PLAIN);
+    let mut boot = Boot::cold(flash, Rules::PLAIN);
     run(flash, &mut boot, cut);
-    let ops = told(flash, PLAIN).ops;
+    let ops = told(flash, Rules::PLAIN).ops;
     flash.back_to(place);
     Ok(ops)
 }
@@ -166,7 +160,7 @@ fn makes<F: Flash>(flash: &mut F, boot: &mut Boot, ops: &[Op]) -> bool
 #[test]
 fn a_swap_for_a_test(rt: HostRuntime) -> Result<(), Fail> {
     let mut flash = test_flash(rt.alloc())?;
-    let mut boot = Boot::cold(&flash, PLAIN);
+    let mut boot = Boot::cold(&flash, Rules::PLAIN);
     let info = Bytes16::new(&[2, 0xff, 0xff, 0xff, 0xff, 0xff, 0xff, 0xff]);
     let size = Bytes16::new(&[80, 0, 0, 0, 0xff, 0xff, 0xff, 0xff]);
     let ops = [
@@ -212,8 +206,8 @@ fn after_a_cut(rt: HostRuntime) -> Result<(), Fail> {
 #[test]
 fn a_revert(rt: HostRuntime) -> Result<(), Fail> {
     let mut flash = test_flash(rt.alloc())?;
-    let _ = told(&mut flash, PLAIN);
-    let outcome = told(&mut flash, PLAIN);
+    let _ = told(&mut flash, Rules::PLAIN);
+    let outcome = told(&mut flash, Rules::PLAIN);
     assert_eq!(rt; (outcome.kind, outcome.ops), (SwapType::Revert, 23));
     assert_eq!(rt; outcome.primary, Some(id_of(&A, 1)));
     assert_eq!(rt; outcome.secondary, Some(id_of(&B, 2)));
@@ -236,7 +230,7 @@ fn by_units(rt: HostRuntime) -> Result<(), Fail> {
 #[test]
 fn a_kept_boot_serves_again(rt: HostRuntime) -> Result<(), Fail> {
     let mut flash = test_flash(rt.alloc())?;
-    let mut boot = Boot::cold(&flash, PLAIN);
+    let mut boot = Boot::cold(&flash, Rules::PLAIN);
     run(&mut flash, &mut boot, 7);
     let place = flash.mark()?;
     let kept = boot;
@@ -255,12 +249,12 @@ fn no_images(rt: HostRuntime) -> Result<(), Fail> {
     let alloc = rt.alloc();
     let mut erased = flash_of(alloc, &[0xff; 1024], &[0xff; 768])?;
     let none = bare(BootResult::None, SwapType::None, SwapType::None);
-    assert_eq!(rt; told(&mut erased, PLAIN), none);
+    assert_eq!(rt; told(&mut erased, Rules::PLAIN), none);
     let mut secondary = [0xff; 768];
     secondary[752..].copy_from_slice(&MAGIC);
     let mut asking = flash_of(alloc, &[0xff; 1024], &secondary)?;
     let fail = bare(BootResult::None, SwapType::Fail, SwapType::Fail);
-    assert_eq!(rt; told(&mut asking, PLAIN), fail);
+    assert_eq!(rt; told(&mut asking, Rules::PLAIN), fail);
     Ok(())
 }
 
@@ -269,16 +263,16 @@ fn trailers_that_contradict_themselves(rt: HostRuntime) -> Result<(), Fail> {
     let alloc = rt.alloc();
     let panic = bare(BootResult::Panic, SwapType::Panic, SwapType::Panic);
     let mut sizeless = begun_flash(alloc, 0xff, 0)?;
-    assert_eq!(rt; told(&mut sizeless, PLAIN), panic);
+    assert_eq!(rt; told(&mut sizeless, Rules::PLAIN), panic);
     let mut entry = begun_flash(alloc, 80, 888)?;
-    assert_eq!(rt; told(&mut entry, PLAIN), panic);
+    assert_eq!(rt; told(&mut entry, Rules::PLAIN), panic);
     Ok(())
 }
 
 #[test]
 fn a_refused_operation(rt: HostRuntime) -> Result<(), Fail> {
     let mut flash = begun_flash(rt.alloc(), 80, 920)?;
-    let mut boot = Boot::cold(&flash, PLAIN);
+    let mut boot = Boot::cold(&flash, Rules::PLAIN);
     assert!(rt; boot.peek().is_some());
     assert_eq!(rt; boot.step(&mut flash), Err(FlashError::NotErased));
     assert!(rt; boot.peek().is_none());

@@ -13,3 +13,4 @@ pub mod LedgerFacts
 pub mod Changes
 pub mod Pieces
 pub mod Worked
+pub mod Texts

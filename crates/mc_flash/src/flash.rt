@@ -9,7 +9,9 @@ use thiserror::Error;
 /// What happens whole or not at all: a write call, or the write of one unit.
 #[derive(Clone, Copy, Debug, PartialEq, Eq)]
 pub enum Grain {
+    /// A write call.
     Call,
+    /// The write of one unit.
     Unit,
 }
 

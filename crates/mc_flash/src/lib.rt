@@ -11,6 +11,7 @@ mod op;
 mod reserve;
 mod slots;
 mod snap;
+mod text;
 
 pub use erased::blank;
 pub use flash::{Flash, FlashError, Grain};

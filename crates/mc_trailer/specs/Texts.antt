@@ -1,9 +1,11 @@
--- How fields and types are printed: this project's own texts.
+-- How fields, types and profiles are written: this project's own texts.
 use Rattle.std.specs.Prelude.{ℕ, List, ◌++◌, codes}
 use Rattle.mc_trailer.specs.declared.trailer.Magic.{Magic}
 use Rattle.mc_trailer.specs.declared.trailer.Magic.TheVariants as magics
 use Rattle.mc_trailer.specs.declared.trailer.Flag.{Flag}
 use Rattle.mc_trailer.specs.declared.trailer.Flag.TheVariants as flags
+use Rattle.mc_trailer.specs.declared.tables.Profile.{Profile}
+use Rattle.mc_trailer.specs.declared.tables.Profile.TheVariants as profiles
 use Rattle.mc_trailer.specs.declared.tables.SwapType.{SwapType}
 use Rattle.mc_trailer.specs.declared.tables.SwapType.TheVariants as types
 
@@ -24,3 +26,7 @@ type_text types.Perm = codes "perm"
 type_text types.Revert = codes "revert"
 type_text types.Fail = codes "fail"
 type_text types.Panic = codes "panic"
+
+abbrev pub profile_text : Profile → List ℕ
+profile_text profiles.One = codes "1"
+profile_text profiles.Two = codes "2"

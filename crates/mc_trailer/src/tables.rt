@@ -40,6 +40,14 @@ pub struct Rules {
     pub profile: Profile,
 }
 
+impl Rules {
+    /// Whole calls and the first profile: the rules where no others are told.
+    pub const PLAIN: Rules = Rules {
+        grain: Grain::Call,
+        profile: Profile::One,
+    };
+}
+
 // Whether a revert takes this magic of the secondary.
 fn reverts_at(profile: Profile, magic: Magic) -> bool
     ensures { result ≡ reverts_at profile magic }

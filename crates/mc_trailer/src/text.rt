@@ -1,8 +1,9 @@
-//! Fields and types as text.
-ghost use Rattle.std.specs.Prelude.{Some};
-ghost use Rattle.mc_trailer.specs.Texts.{magic_text, flag_text, type_text};
+//! Fields, types and profiles as text.
+ghost use Rattle.std.specs.Prelude.{◌≡◌, Some, MatchOption};
+ghost use Rattle.mc_trailer.specs.declared.tables.Profile.{Profile};
+ghost use Rattle.mc_trailer.specs.Texts.{magic_text, flag_text, type_text, profile_text};
 
-use crate::tables::SwapType;
+use crate::tables::{Profile, SwapType};
 use crate::trailer::{Flag, Magic, Trailer};
 use std::fmt;
 
@@ -41,6 +42,30 @@ impl fmt::Display for SwapType {
             SwapType::Revert => f.write_str("revert"),
             SwapType::Fail => f.write_str("fail"),
             SwapType::Panic => f.write_str("panic"),
+        }
+    }
+}
+
+impl Profile {
+    /// The profile that a text names: `1` or `2`. It takes no memory.
+    pub fn read(text: &str) -> Option<Profile>
+        ensures { MatchOption result ((p : Profile) → text.now ≡ profile_text p → ⊥) (λ p. text.now ≡ profile_text p) }
+    {
+        match text {
+            "1" => Some(Profile::One),
+            "2" => Some(Profile::Two),
+            _ => None,
+        }
+    }
+}
+
+impl fmt::Display for Profile {
+    ghost output = { λ profile. Some (profile_text profile) };
+
+    fn fmt<W: fmt::Write>(&self, f: &mut fmt::Formatter<W>) -> fmt::Result {
+        match self {
+            Profile::One => f.write_str("1"),
+            Profile::Two => f.write_str("2"),
         }
     }
 }
