@@ -1,5 +1,5 @@
 -- How the text of a cursor is taken apart.
-use Rattle.std.specs.Prelude.{◌≡◌, ◌≢◌, ℕ, suc, ◌*◌, ◌/◌, ◌%◌, ◌<◌, ◌≤◌, ◌^◌, List, [], ◌∷◌, ◌++◌, length, drop, get_or, slice_index, Option, Some, None, decimal, Result, Ok, Err, MatchResult, true, false, is_err, refl, ⊤}
+use Rattle.std.specs.Prelude.{◌≡◌, ◌≢◌, ℕ, suc, ◌*◌, ◌/◌, ◌%◌, ◌<◌, ◌≤◌, ◌^◌, List, [], ◌∷◌, ◌++◌, length, drop, get_or, slice_index, Option, Some, None, codes, decimal, IfNone, Result, Ok, Err, MatchResult, true, false, is_err, refl, ⊤}
 use Rattle.std.specs.Borrow.{Bor}
 use Rattle.std.specs.Str.Parse.{AllDigits, ParsesUnsigned}
 use Rattle.std.proofs.Common.{arith, sym, ap, ◌∙◌}
@@ -14,7 +14,8 @@ use Rattle.mc_flash.specs.declared.flash.Grain.TheVariants as grains
 use Rattle.mc_trailer.specs.declared.tables.Profile.{Profile}
 use Rattle.mc_trailer.specs.declared.tables.Profile.TheVariants as profiles
 use Rattle.mc_trailer.specs.declared.tables.Rules.{Rules}
-use Rattle.mc_explore.specs.CursorText.{head_text, cursor_text, IsCursor}
+use Rattle.mc_boot.specs.Plan.{plain}
+use Rattle.mc_explore.specs.CursorText.{rules_text, head_text, cursor_text, IsCursor}
 use Rattle.mc_explore.specs.Texts.{schedule_text}
 use Rattle.mc_explore.specs.declared.cursor.Cursor.{Cursor}
 
@@ -132,6 +133,28 @@ one_head grains.Unit grains.Unit profiles.Two profiles.Two xs ys e = (refl, refl
 rules_are : (r s : Rules) → r.grain ≡ s.grain → r.profile ≡ s.profile → r ≡ s
 rules_are r s a b =
     ap (λ (x : Grain). record { grain = x; profile = r.profile }) a ∙ ap (λ (y : Profile). record { grain = s.grain; profile = y }) b
+
+-- A text that tells no rules by name, and does not tell the plain ones in their own form, tells none.
+pub no_rules : {A : Type 0} (text after : List ℕ) (told : Option A) → ((rest : List ℕ) → text ≢ codes "mc1:" ++ rest) → text ≡ codes "mc2:" ++ after
+    → IfNone told ((rules : Rules) (rest : List ℕ) → rules ≢ plain → after ≢ rules_text rules.grain rules.profile ++ rest)
+    → IfNone told ((grain : Grain) (profile : Profile) (rest : List ℕ) → text ≢ head_text grain profile ++ rest)
+no_rules text after (Some _) other parted none = tt
+no_rules text after None other parted none = by
+  where
+    after_is : (tail : List ℕ) → text ≡ codes "mc2:" ++ tail → after ≡ tail
+    after_is tail e = ap (λ (z : List ℕ). drop 4 z) (sym parted ∙ e)
+
+    second : {grain : Grain} → record { grain = grain; profile = profiles.Two } ≡ plain → ⊥
+    second e = let same : profiles.Two ≡ profiles.One = ap (λ (r : Rules). r.profile) e in absurd (cc)
+
+    units : {profile : Profile} → record { grain = grains.Unit; profile = profile } ≡ plain → ⊥
+    units e = let same : grains.Unit ≡ grains.Call = ap (λ (r : Rules). r.grain) e in absurd (cc)
+
+    by : (grain : Grain) (profile : Profile) (rest : List ℕ) → text ≢ head_text grain profile ++ rest
+    by grains.Call profiles.One rest e = other rest e
+    by grains.Call profiles.Two rest e = none (record { grain = grains.Call; profile = profiles.Two }) rest second (after_is _ e)
+    by grains.Unit profiles.One rest e = none (record { grain = grains.Unit; profile = profiles.One }) rest units (after_is _ e)
+    by grains.Unit profiles.Two rest e = none (record { grain = grains.Unit; profile = profiles.Two }) rest second (after_is _ e)
 
 -- A text with these rules at its front, told as that cursor.
 pub record HasRules (r : Rules) (rest : List ℕ) (c : Cursor) : Type 0 where

@@ -3,6 +3,8 @@ use Rattle.std.specs.Prelude.{◌≡◌, ℕ, ◌≤◌, List, ◌++◌, length,
 use Rattle.hex.specs.Hex.{IsBytes, encode_lower}
 use Rattle.mc_flash.specs.declared.flash.Grain.{Grain}
 use Rattle.mc_flash.specs.declared.flash.Grain.TheVariants as grains
+use Rattle.mc_flash.specs.Texts.{grain_text}
+use Rattle.mc_trailer.specs.Texts.{profile_text}
 use Rattle.mc_trailer.specs.declared.tables.Profile.{Profile}
 use Rattle.mc_trailer.specs.declared.tables.Profile.TheVariants as profiles
 use Rattle.mc_explore.specs.Texts.{IsSchedule, schedule_text}
@@ -10,11 +12,12 @@ use Rattle.mc_explore.specs.declared.cursor.Cursor.{Cursor}
 use Rattle.mc_explore.specs.declared.cursor.CursorError.{CursorError}
 
 -- The rules. Whole calls and the first profile have a form of their own.
+abbrev pub rules_text : Grain → Profile → List ℕ
+rules_text grain profile = grain_text grain ++ (codes ":" ++ (profile_text profile ++ codes ":"))
+
 abbrev pub head_text : Grain → Profile → List ℕ
 head_text grains.Call profiles.One = codes "mc1:"
-head_text grains.Call profiles.Two = codes "mc2:call:2:"
-head_text grains.Unit profiles.One = codes "mc2:unit:1:"
-head_text grains.Unit profiles.Two = codes "mc2:unit:2:"
+head_text grain profile = codes "mc2:" ++ rules_text grain profile
 
 -- Then the digest of the start in 64 digits, the most cuts, and the schedule.
 abbrev pub cursor_text : Cursor → List ℕ

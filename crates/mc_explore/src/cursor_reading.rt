@@ -3,26 +3,31 @@ ghost use Rattle.std.specs.Prelude.{◌≡◌, ◌≢◌, ℕ, ◌≤◌, List, 
 ghost use Rattle.hex.specs.Hex.{IsBytes, encode_lower};
 ghost use Rattle.mc_flash.specs.declared.flash.Grain.{Grain};
 ghost use Rattle.mc_trailer.specs.declared.tables.Profile.{Profile};
-ghost use Rattle.mc_explore.specs.CursorText.{head_text, cursor_text, IsCursor, ReadsCursor};
+ghost use Rattle.mc_explore.specs.CursorText.{rules_text, head_text, cursor_text, IsCursor, ReadsCursor};
+ghost use Rattle.mc_trailer.specs.declared.tables.Rules.{Rules};
 
 use crate::cursor::{Cursor, CursorError};
-use crate::cursor_text::{digits_of, head};
+use crate::cursor_text::digits_of;
 use crate::schedule::{MOST_CUTS, Schedule};
 use mc_flash::Grain;
 use mc_trailer::{Profile, Rules};
 
-const fn rules(grain: Grain, profile: Profile) -> Rules
-    ensures { result ≡ record { grain = grain; profile = profile } }
+// The rules that a text tells, and what follows them. Whole calls and the first profile are told in another way.
+fn told_rules(text: &str) -> Option<(Rules, &str)>
+    ensures some { IfSome result (λ found. text.now ≡ rules_text found.0.grain found.0.profile ++ found.1.now) }
+    ensures other { IfSome result (λ found. found.0 ≢ Rules.PLAIN) }
+    ensures none { IfNone result ((rules : Rules) (rest : List ℕ) → rules ≢ Rules.PLAIN
+        → text.now ≢ rules_text rules.grain rules.profile ++ rest) }
 {
-    Rules { grain, profile }
-}
-
-// What follows the beginning of a cursor under these rules.
-fn behind<'a>(text: &'a str, rules: Rules) -> Option<(Rules, &'a str)>
-    ensures { MatchOption result ((rest : List ℕ) → text.now ≢ head_text rules.grain rules.profile ++ rest)
-        (λ found. (found.0 ≡ rules) × (text.now ≡ head_text rules.grain rules.profile ++ found.1.now)) }
-{
-    let rest = text.strip_prefix(head(rules))?;
+    let (grain, rest) = text.split_once(':')?;
+    let (profile, rest) = rest.split_once(':')?;
+    let rules = Rules {
+        grain: Grain::read(grain)?,
+        profile: Profile::read(profile)?,
+    };
+    if rules == Rules::PLAIN {
+        return None;
+    }
     Some((rules, rest))
 }
 
@@ -31,19 +36,10 @@ fn rules_of(text: &str) -> Option<(Rules, &str)>
     ensures some { IfSome result (λ found. text.now ≡ head_text found.0.grain found.0.profile ++ found.1.now) }
     ensures none { IfNone result ((grain : Grain) (profile : Profile) (rest : List ℕ) → text.now ≢ head_text grain profile ++ rest) }
 {
-    let call_one = behind(text, rules(Grain::Call, Profile::One));
-    if call_one.is_some() {
-        return call_one;
+    if let Some(rest) = text.strip_prefix("mc1:") {
+        return Some((Rules::PLAIN, rest));
     }
-    let call_two = behind(text, rules(Grain::Call, Profile::Two));
-    if call_two.is_some() {
-        return call_two;
-    }
-    let unit_one = behind(text, rules(Grain::Unit, Profile::One));
-    if unit_one.is_some() {
-        return unit_one;
-    }
-    behind(text, rules(Grain::Unit, Profile::Two))
+    told_rules(text.strip_prefix("mc2:")?)
 }
 
 // The digest that 64 digits write.

@@ -8,15 +8,20 @@ use mc_flash::Grain;
 use mc_trailer::{Profile, Rules};
 use std::{fmt, str};
 
-/// What a cursor begins with under these rules.
-pub fn head(rules: Rules) -> &'static str
-    ensures { result.now ≡ head_text rules.grain rules.profile }
-{
-    match (rules.grain, rules.profile) {
-        (Grain::Call, Profile::One) => "mc1:",
-        (Grain::Call, Profile::Two) => "mc2:call:2:",
-        (Grain::Unit, Profile::One) => "mc2:unit:1:",
-        (Grain::Unit, Profile::Two) => "mc2:unit:2:",
+// What a cursor begins with under these rules.
+#[derive(Clone, Copy)]
+struct Head(Rules);
+
+impl fmt::Display for Head {
+    ghost output = { λ head. Some (head_text head.0.grain head.0.profile) };
+
+    fn fmt<W: fmt::Write>(&self, f: &mut fmt::Formatter<W>) -> fmt::Result {
+        let grain = self.0.grain;
+        let profile = self.0.profile;
+        match (grain, profile) {
+            (Grain::Call, Profile::One) => f.write_str("mc1:"),
+            _ => write!(f, "mc2:{grain}:{profile}:"),
+        }
     }
 }
 
@@ -36,7 +41,7 @@ impl fmt::Display for Cursor {
     fn fmt<W: fmt::Write>(&self, f: &mut fmt::Formatter<W>) -> fmt::Result {
         let room = digits_of(&self.digest);
         let digits = str::from_utf8(&room).map_err(|_| fmt::Error)?;
-        let head = head(self.rules);
+        let head = Head(self.rules);
         let bound = self.bound;
         let schedule = self.schedule;
         write!(f, "{head}{digits}:{bound}:{schedule}")

@@ -10,15 +10,9 @@ ghost use Rattle.mc_explore.specs.Slots.{content_of, kind_of};
 
 use crate::boots::boot_whole;
 use crate::kind::Kind;
-use mc_flash::{Flash, FlashError, Grain, Layout, Slot, SnapFlash};
-use mc_trailer::{Field, MAGIC, Profile, Rules, place};
+use mc_flash::{Flash, FlashError, Layout, Slot, SnapFlash};
+use mc_trailer::{Field, MAGIC, Rules, place};
 use std::alloc::{AllocError, Global};
-
-/// Whole calls, by the first profile: the rules of a start that was given no others.
-pub(crate) const PLAIN: Rules = Rules {
-    grain: Grain::Call,
-    profile: Profile::One,
-};
 
 /// The bytes of both slots.
 #[derive(Drop)]
@@ -132,8 +126,8 @@ fn booted<F: Flash>(
     ensures sized { IfOk result (λ s. IsSized layout.now (content_of s)) }
     ensures err { IfErr result (λ e. e ≡ FlashError.Memory) }
 {
-    let mut flash = F::load(alloc, layout, Grain::Call, primary, secondary, 1)?;
-    boot_whole(&mut flash, PLAIN)?;
+    let mut flash = F::load(alloc, layout, Rules::PLAIN.grain, primary, secondary, 1)?;
+    boot_whole(&mut flash, Rules::PLAIN)?;
     Ok(slots_of(alloc, &flash)?)
 }
 

@@ -13,7 +13,7 @@ ghost use Rattle.mc_explore.specs.Start.{Starts, Gives, begun, in_order, of_flas
 ghost use Rattle.mc_explore.specs.Slots.{kind_of};
 
 use crate::kind::Kind;
-use crate::slots::{PLAIN, Slots, start_slots};
+use crate::slots::{Slots, start_slots};
 use mc_boot::ImageId;
 use mc_flash::{FlashError, Layout, Slot};
 use mc_image::{ImageError, ImageView};
@@ -202,7 +202,7 @@ impl Start {
         }
         Ok(Start {
             layout: *layout,
-            rules: PLAIN,
+            rules: Rules::PLAIN,
             line: layout_line(alloc, layout)?,
             slots: start_slots(alloc, layout, kind, first.bytes, second.bytes)?,
             named: Some(named_of(kind, first.id(), second.id())),
@@ -225,7 +225,7 @@ impl Start {
         let (low, high) = bytes.split_at(primary);
         Ok(Start {
             layout: *layout,
-            rules: PLAIN,
+            rules: Rules::PLAIN,
             line: layout_line(alloc, layout)?,
             slots: Slots {
                 primary: low.to_vec(alloc)?,

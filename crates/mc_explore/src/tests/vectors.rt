@@ -63,48 +63,13 @@ fn page_is(
 }
 
 /// Explorations unit by unit: the kind of the start, the profile, the most cuts, how many lines there are, and the digest.
-static UNITS: [(Kind, Profile, u8, usize, &str); 7] = [
-    (
-        Kind::Test,
-        Profile::One,
-        1,
-        111,
-        "741fe452e0061a1afc9de69b49afe5b6b9a04fbba9b8a4ac97cde553a74c5b2e",
-    ),
-    (
-        Kind::Test,
-        Profile::Two,
-        1,
-        111,
-        "741fe452e0061a1afc9de69b49afe5b6b9a04fbba9b8a4ac97cde553a74c5b2e",
-    ),
-    (
-        Kind::Perm,
-        Profile::One,
-        1,
-        112,
-        "ff40396a4b43df9c42591ac68387797f46bc1a8dd119142a44697a0a2a59359a",
-    ),
-    (
-        Kind::Perm,
-        Profile::Two,
-        1,
-        112,
-        "ff40396a4b43df9c42591ac68387797f46bc1a8dd119142a44697a0a2a59359a",
-    ),
+static UNITS: [(Kind, Profile, u8, usize, &str); 2] = [
     (
         Kind::Revert,
         Profile::One,
         1,
         117,
         "dd41bcc4988457c2a68dfb49cf4cb7dde40aeb0055aa1e9f2cc18e589fa066c5",
-    ),
-    (
-        Kind::Revert,
-        Profile::One,
-        2,
-        8420,
-        "95c4baa6b32f4a7c2d90a80d2b943a074fff8a421f7521c7d0d1c83a0da4a0ce",
     ),
     (
         Kind::Revert,
