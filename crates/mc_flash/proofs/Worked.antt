@@ -48,6 +48,10 @@ abbrev numbers : ℕ → ℕ → ℕ → ℕ → ℕ → ℕ → Geometry
 numbers sector unit max_sectors chunk primary secondary =
     record { sector = sector; unit = unit; max_sectors = max_sectors; chunk = chunk; primary = primary; secondary = secondary }
 
+-- and of a boot at a layout of units of one byte
+small_operations : most_operations grains.Unit (numbers 64 1 4 32 4 3) ≡ 444
+small_operations = refl
+
 no_unit : refusal_of (numbers 256 3 4 128 4 3) ≡ Some refusals.Unit
 no_unit = refl
 

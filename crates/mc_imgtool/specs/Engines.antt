@@ -41,6 +41,13 @@ Refuses wanted known old new SlotTooSmall = IsWantedRefusal wanted known old new
 Refuses wanted known old new NeedsSlotSize = IsWantedRefusal wanted known old new NeedsSlotSize
 Refuses wanted known old new InputTooLong = IsWantedRefusal wanted known old new InputTooLong
 
+-- a refusal that an engine may give which reads an image: none of a payload, a slot or options
+abbrev pub RefusesAnImage : ToolError → Type 0
+RefusesAnImage NotZeros = ⊥
+RefusesAnImage SlotTooSmall = ⊥
+RefusesAnImage NeedsSlotSize = ⊥
+RefusesAnImage _ = ⊤
+
 -- the wanted text is out, or it is a refusal
 abbrev pub Answers : {A : Type 0} → (List ℕ → Result (List ℕ) ToolError) → Option (List ℕ) → Option (List ℕ) → Option (List ℕ) → Result A ToolError → Type 0
 Answers wanted known old new (Ok _) = IfSome known (λ xs. (text : List ℕ) × (wanted xs ≡ Ok text) × Appends old new text)

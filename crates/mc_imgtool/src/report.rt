@@ -1,8 +1,8 @@
 //! `dumpinfo`: the fields and entries of an image, as text.
-ghost use Rattle.std.specs.Prelude.{◌≡◌, ℕ, List, ◌+◌, ◌≤◌, ◌^◌, ◌++◌, length, IfOk, OnOk, string_bytes};
+ghost use Rattle.std.specs.Prelude.{◌≡◌, ℕ, List, ◌+◌, ◌≤◌, ◌^◌, ◌++◌, length, IfOk, IfErr, OnOk, string_bytes};
 ghost use Rattle.std.specs.Io.KnownBytes.{Consumes, IsAtEnd};
 ghost use Rattle.mc_image.specs.Valid.{is_good};
-ghost use Rattle.mc_imgtool.specs.Engines.{Answers, Gives};
+ghost use Rattle.mc_imgtool.specs.Engines.{Answers, Gives, RefusesAnImage};
 ghost use Rattle.mc_imgtool.specs.Lines.{load_lines, size_lines, version_lines, header_lines, entry_line, entry_lines, value_text, last_lines, report, dumped};
 
 use crate::ToolError;
@@ -123,7 +123,8 @@ fn report_of(alloc: Global, image: &ImageView<'_>, rest: usize) -> Result<String
 /// The report for an input that was read whole.
 fn report_for(alloc: Global, input: &[u8]) -> Result<String, ToolError>
     requires { length input.now ≤ 2 ^ 24 }
-    ensures { Gives string_bytes result (dumped input.now) }
+    ensures report { Gives string_bytes result (dumped input.now) }
+    ensures never { IfErr result RefusesAnImage }
 {
     let image = match ImageView::read(input) {
         Ok(image) => image,
@@ -152,6 +153,8 @@ pub fn dumpinfo<R: Read, W: Write>(
 ) -> Result<(), ToolError>
     ensures answer { Answers dumped (R.remaining input.old) (W.contents output.old)
         (W.contents output.new) result }
+    // Whatever is known of the reader.
+    ensures never { IfErr result RefusesAnImage }
     ensures end { OnOk result (IsAtEnd (R.remaining input.new)) }
     ensures taken { (bs : List ℕ) × Consumes (R.remaining input.old) (R.remaining input.new) bs
         × (length bs ≤ 2 ^ 24 + 1) }

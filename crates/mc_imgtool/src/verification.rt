@@ -1,7 +1,7 @@
 //! `verify`: is an input a valid image?
-ghost use Rattle.std.specs.Prelude.{◌≡◌, ℕ, List, ◌+◌, ◌≤◌, ◌^◌, length, IfOk, OnOk, string_bytes};
+ghost use Rattle.std.specs.Prelude.{◌≡◌, ℕ, List, ◌+◌, ◌≤◌, ◌^◌, length, IfOk, IfErr, OnOk, string_bytes};
 ghost use Rattle.std.specs.Io.KnownBytes.{Consumes, IsAtEnd};
-ghost use Rattle.mc_imgtool.specs.Engines.{Answers, Gives};
+ghost use Rattle.mc_imgtool.specs.Engines.{Answers, Gives, RefusesAnImage};
 ghost use Rattle.mc_imgtool.specs.Lines.{good_line, verified};
 
 use crate::ToolError;
@@ -26,7 +26,8 @@ fn good_line(alloc: Global, image: &ImageView<'_>) -> Result<String, AllocError>
 #[tactic(auto, using(crate::proofs::Wanted::verified_good, crate::proofs::Wanted::verified_bad))]
 fn line_for(alloc: Global, input: &[u8]) -> Result<String, ToolError>
     requires { length input.now ≤ 2 ^ 24 }
-    ensures { Gives string_bytes result (verified input.now) }
+    ensures line { Gives string_bytes result (verified input.now) }
+    ensures never { IfErr result RefusesAnImage }
 {
     let image = match ImageView::read_valid(input) {
         Ok(image) => image,
@@ -52,6 +53,8 @@ pub fn verify<R: Read, W: Write>(
 ) -> Result<(), ToolError>
     ensures answer { Answers verified (R.remaining input.old) (W.contents output.old)
         (W.contents output.new) result }
+    // Whatever is known of the reader.
+    ensures never { IfErr result RefusesAnImage }
     ensures end { OnOk result (IsAtEnd (R.remaining input.new)) }
     ensures taken { (bs : List ℕ) × Consumes (R.remaining input.old) (R.remaining input.new) bs
         × (length bs ≤ 2 ^ 24 + 1) }

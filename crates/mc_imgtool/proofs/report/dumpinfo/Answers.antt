@@ -12,4 +12,4 @@ returns-in_err-bytes-clause-answer g c =
 pub returns-in_err-report-clause-answer : goal.returns-in_err-report-clause-answer
 returns-in_err-report-clause-answer g c =
     let p = err_from_is_err_and c.from_residual-in_err-report.result c.from_residual-in_err-report.ensures.1 in
-    rw (p.1, p.2) (refused_making dumped dumped_wanted _ _ c.in_ok-bytes.bytes.items _ c.in_ok-bytes.ensures.whole.1 (rw c.as_slice.ensures.value at c.in_err-report.ensures))
+    rw (p.1, p.2) (refused_making dumped dumped_wanted _ _ c.in_ok-bytes.bytes.items _ c.in_ok-bytes.ensures.whole.1 (rw c.as_slice.ensures.value at c.in_err-report.ensures.report))
