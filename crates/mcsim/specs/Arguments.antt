@@ -1,11 +1,17 @@
 -- What the words of an argument say.
-use Rattle.std.specs.Prelude.{◌≡◌, ◌⊎◌, ℕ, Bool, true, false, List, Option, Some, None, option_map, codes, ⊤}
+use Rattle.std.specs.Prelude.{◌≡◌, ◌⊎◌, ℕ, Bool, true, false, List, Option, Some, None, option_map, unwrap_or, codes, ⊤}
 use Rattle.std.specs.Str.Parse.{digits_value, without_leading_plus}
 use Rattle.clap.specs.Words.{first_value, one_text}
 use Rattle.clap.specs.declared.parser.matches.Found.{Found}
 use Rattle.mc_flash.specs.Geometry.{Geometry, refusal_of}
 use Rattle.mc_explore.specs.declared.kind.Kind.{Kind}
 use Rattle.mc_explore.specs.declared.kind.Kind.TheVariants as kinds
+use Rattle.mc_flash.specs.declared.flash.Grain.{Grain}
+use Rattle.mc_flash.specs.Texts.{grain_text}
+use Rattle.mc_trailer.specs.declared.tables.Profile.{Profile}
+use Rattle.mc_trailer.specs.declared.tables.Rules.{Rules}
+use Rattle.mc_trailer.specs.Texts.{profile_text}
+use Rattle.mcsim.specs.declared.options.FlashOptions.{FlashOptions}
 use Rattle.mcsim.specs.declared.options.Source.{Source}
 use Rattle.mcsim.specs.declared.options.Source.TheVariants as sources
 use Rattle.mcsim.specs.declared.refusal.Refusal.{Refusal}
@@ -73,3 +79,26 @@ RefusesSource found refusals.Source =
     is_source (first_value found (codes "flash")) (first_value found (codes "kind")) (first_value found (codes "image-a")) (first_value found (codes "image-b")) ≡ false
 RefusesSource found refusals.Argument = (kind : Kind) → first_value found (codes "kind") ≡ Some (kind_text kind) → ⊥
 RefusesSource found _ = ⊥
+
+-- the arguments tell the rules of boots; where nothing is told, they are whole calls and the first profile
+pub record TellsRules (found : Found) (rules : Rules) : Type 0 where
+  pub grain : unwrap_or (first_value found (codes "grain")) (codes "call") ≡ grain_text rules.grain
+  pub profile : unwrap_or (first_value found (codes "profile")) (codes "1") ≡ profile_text rules.profile
+
+-- when rules are refused: a text is told that names none
+abbrev pub RefusesRules : Found → Refusal → Type 0
+RefusesRules found refusals.Argument = (rules : Rules) → TellsRules found rules → ⊥
+RefusesRules found _ = ⊥
+
+-- the arguments tell a source, a layout and rules
+pub record TellsFlash (found : Found) (o : FlashOptions) : Type 0 where
+  pub source : TellsSource found o.source
+  pub layout : TellsLayout found o.layout
+  pub rules : TellsRules found o.rules
+
+-- when they are refused: the source, or the layout where there is a source; a word out of clap's reach is refused wherever it stands
+abbrev pub RefusesFlash : Found → Refusal → Type 0
+RefusesFlash found refusals.Source = RefusesSource found refusals.Source
+RefusesFlash found (refusals.Layout e) = (s : Source) × TellsSource found s × RefusesLayout found (refusals.Layout e)
+RefusesFlash found refusals.Argument = ⊤
+RefusesFlash found _ = ⊥

@@ -153,13 +153,13 @@ fn type_command<'a>(alloc: Global) -> Result<Command<'a>, AllocError> {
     let command = Command::new(alloc, "type").about(
         "Prints the trailers of both slots, and the swap that they ask for",
     );
-    with_source(alloc, with_layout(alloc, command)?)
+    with_flash(alloc, command)?.arg(profile(alloc))
 }
 
 /// `boot`: what an uncut boot does.
 fn boot_command<'a>(alloc: Global) -> Result<Command<'a>, AllocError> {
     let command = Command::new(alloc, "boot").about("Prints what a boot that is not cut does");
-    with_source(alloc, with_layout(alloc, command)?)?.arg(out_file(alloc))
+    with_rules(alloc, with_flash(alloc, command)?)?.arg(out_file(alloc))
 }
 
 /// `replay`: what the boot after a schedule does.
@@ -167,7 +167,7 @@ fn replay_command<'a>(alloc: Global) -> Result<Command<'a>, AllocError> {
     let command = Command::new(alloc, "replay").about(
         "Cuts the power as a schedule tells, and prints what the boot after it does",
     );
-    with_source(alloc, with_layout(alloc, command)?)?
+    with_rules(alloc, with_flash(alloc, command)?)?
         .arg(
             Arg::new(alloc, "schedule")
                 .long("schedule")
@@ -183,7 +183,7 @@ fn explore_command<'a>(alloc: Global) -> Result<Command<'a>, AllocError> {
     let command = Command::new(alloc, "explore").about(
         "Prints every schedule of power cuts that can occur, and what the boot after it does",
     );
-    with_source(alloc, with_layout(alloc, command)?)?
+    with_rules(alloc, with_flash(alloc, command)?)?
         .arg(
             Arg::new(alloc, "cuts")
                 .long("cuts")
@@ -212,6 +212,44 @@ fn out_file<'a>(alloc: Global) -> Arg<'a> {
     Arg::new(alloc, "out").long("out").value_name("FILE").help(
         "The file that the flash which is left is written to, the primary's bytes first",
     )
+}
+
+/// A command with a layout and a source.
+fn with_flash<'a>(alloc: Global, command: Command<'a>) -> Result<Command<'a>, AllocError> {
+    with_source(alloc, with_layout(alloc, command)?)
+}
+
+/// What a power cut may part.
+static GRAINS: [&str; 2] = ["call", "unit"];
+
+/// Which swap tables are used.
+static PROFILES: [&str; 2] = ["1", "2"];
+
+/// A command with the rules of boots.
+fn with_rules<'a>(alloc: Global, command: Command<'a>) -> Result<Command<'a>, AllocError> {
+    command
+        .arg(
+            Arg::new(alloc, "grain")
+                .long("grain")
+                .value_name("GRAIN")
+                .value_parser(GRAINS.as_slice())
+                .default_value("call")
+                .help(
+                    "What the power can be cut between: whole write calls, or write units within them",
+                ),
+        )?
+        .arg(profile(alloc))
+}
+
+fn profile<'a>(alloc: Global) -> Arg<'a> {
+    Arg::new(alloc, "profile")
+        .long("profile")
+        .value_name("PROFILE")
+        .value_parser(PROFILES.as_slice())
+        .default_value("1")
+        .help(
+            "When a test is swapped back: 1, only where the secondary's magic is unset; 2, also where it is bad",
+        )
 }
 
 /// A command with the six numbers of a layout.

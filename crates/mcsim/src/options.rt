@@ -6,13 +6,15 @@ ghost use Rattle.clap.specs.Words.{first_value, found_of, IsUnsignedIn};
 ghost use Rattle.clap.specs.Matches.{one_text};
 ghost use Rattle.mc_image.specs.VersionText.{Names};
 ghost use Rattle.mcsim.specs.Arguments.{IsFlag, IsUnit, number_of, told_number, TellsLayout, RefusesLayout, TellsSource, RefusesSource, kind_text};
+ghost use Rattle.mcsim.specs.Arguments.{TellsRules, RefusesRules, TellsFlash, RefusesFlash};
 
 use crate::refusal::Refusal;
 use clap::ArgMatches;
 use mc_explore::Kind;
-use mc_flash::Layout;
+use mc_flash::{Grain, Layout};
 use mc_image::Version;
 use mc_imgtool::CreateOptions;
+use mc_trailer::{Profile, Rules};
 
 /// The text of an argument that a command cannot do without.
 ///
@@ -136,7 +138,7 @@ pub fn create_options(arguments: &ArgMatches<'_>) -> Result<CreateOptions, Refus
 /// # Errors
 ///
 /// `Layout` with the first judgement that the numbers fail; `Argument` where one is missing.
-pub fn layout_options(arguments: &ArgMatches<'_>) -> Result<Layout, Refusal>
+fn layout_options(arguments: &ArgMatches<'_>) -> Result<Layout, Refusal>
     ensures written { IfOk result (λ l. TellsLayout (found_of arguments.now) l) }
     ensures refused { IfErr result (λ r. RefusesLayout (found_of arguments.now) r) }
 {
@@ -179,7 +181,7 @@ fn kind_of(text: &str) -> Option<Kind>
 /// # Errors
 ///
 /// `Source` where they tell anything else; `Argument` where the kind is none.
-pub fn source_options<'a>(arguments: &ArgMatches<'a>) -> Result<Source<'a>, Refusal>
+fn source_options<'a>(arguments: &ArgMatches<'a>) -> Result<Source<'a>, Refusal>
     ensures { MatchResult result (λ s. TellsSource (found_of arguments.now) s)
         (λ r. RefusesSource (found_of arguments.now) r) }
 {
@@ -195,6 +197,52 @@ pub fn source_options<'a>(arguments: &ArgMatches<'a>) -> Result<Source<'a>, Refu
         },
         _ => Err(Refusal::Source),
     }
+}
+
+/// What the arguments tell by `--grain` and `--profile`. Where one of them is left out, whole calls and the first profile.
+///
+/// # Errors
+///
+/// `Argument` where one of the texts names nothing.
+fn rules_options(arguments: &ArgMatches<'_>) -> Result<Rules, Refusal>
+    ensures { MatchResult result (λ rules. TellsRules (found_of arguments.now) rules)
+        (λ r. RefusesRules (found_of arguments.now) r) }
+{
+    let mut rules = Rules::PLAIN;
+    if let Some(text) = arguments.get_str("grain") {
+        rules.grain = Grain::read(text).ok_or(Refusal::Argument)?;
+    }
+    if let Some(text) = arguments.get_str("profile") {
+        rules.profile = Profile::read(text).ok_or(Refusal::Argument)?;
+    }
+    Ok(rules)
+}
+
+/// What each command on a flash is told: where the flash comes from, its layout, and the rules of its boots.
+#[derive(Debug, Drop)]
+pub struct FlashOptions<'a> {
+    pub source: Source<'a>,
+    pub layout: Layout,
+    pub rules: Rules,
+}
+
+/// The source, the layout and the rules that the options tell. They are judged in this order.
+///
+/// # Errors
+///
+/// What `source_options`, `layout_options` and `rules_options` refuse.
+pub fn flash_options<'a>(arguments: &ArgMatches<'a>) -> Result<FlashOptions<'a>, Refusal>
+    ensures { MatchResult result (λ o. TellsFlash (found_of arguments.now) o)
+        (λ r. RefusesFlash (found_of arguments.now) r) }
+{
+    let source = source_options(arguments)?;
+    let layout = layout_options(arguments)?;
+    let rules = rules_options(arguments)?;
+    Ok(FlashOptions {
+        source,
+        layout,
+        rules,
+    })
 }
 
 /// How far an exploration goes.

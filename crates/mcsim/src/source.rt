@@ -1,8 +1,7 @@
 //! The flash that a command starts from, read from its files.
-use crate::options::Source;
+use crate::options::{FlashOptions, Source};
 use crate::refusal::Refusal;
 use mc_explore::Start;
-use mc_flash::Layout;
 use mc_imgtool::read_bounded;
 use std::alloc::Global;
 use std::fs;
@@ -29,7 +28,7 @@ fn read_file<F: Files>(
     Ok(read_bounded(alloc, &mut file, limit)?)
 }
 
-/// The start of a source. The first image is read before the second is opened.
+/// The start of a source, under the rules that are told. The first image is read before the second is opened.
 ///
 /// # Errors
 ///
@@ -37,18 +36,19 @@ fn read_file<F: Files>(
 pub fn read_start<F: Files>(
     files: &F,
     alloc: Global,
-    layout: &Layout,
-    source: &Source<'_>,
+    options: &FlashOptions<'_>,
 ) -> Result<Start, Refusal> {
-    match source {
+    let layout = &options.layout;
+    let start = match &options.source {
         Source::Flash(path) => {
             let bytes = read_file(files, alloc, path, GREATEST_FLASH)?;
-            Ok(Start::from_flash(alloc, layout, bytes.as_slice())?)
+            Start::from_flash(alloc, layout, bytes.as_slice())?
         }
         Source::Images { kind, a, b } => {
             let first = read_file(files, alloc, a, GREATEST_IMAGE)?;
             let second = read_file(files, alloc, b, GREATEST_IMAGE)?;
-            Ok(Start::from_images(alloc, layout, *kind, first.as_slice(), second.as_slice())?)
+            Start::from_images(alloc, layout, *kind, first.as_slice(), second.as_slice())?
         }
-    }
+    };
+    Ok(start.with_rules(options.rules))
 }

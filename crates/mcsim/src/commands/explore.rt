@@ -1,5 +1,5 @@
 //! `explore`: every schedule of power cuts, with what the boot after it does.
-use crate::options::{explore_options, layout_options, source_options};
+use crate::options::{explore_options, flash_options};
 use crate::refusal::Refusal;
 use crate::source::read_start;
 use clap::ArgMatches;
@@ -22,20 +22,22 @@ pub fn run<F: Files, O: Write>(
     arguments: &ArgMatches<'_>,
     out: &mut O,
 ) -> Result<(), Refusal> {
-    let source = source_options(arguments)?;
-    let layout = layout_options(arguments)?;
-    let options = explore_options(arguments)?;
+    let options = match flash_options(arguments) {
+        Ok(options) => options,
+        Err(refusal) => return Err(refusal),
+    };
+    let extent = explore_options(arguments)?;
     let cursor = match arguments.get_str("cursor") {
         Some(text) => Some(Cursor::read(text)?),
         None => None,
     };
-    let start = read_start(files, alloc, &layout, &source)?;
+    let start = read_start(files, alloc, &options)?;
     let mut explorer: Explorer<JournalFlash> = match &cursor {
-        Some(cursor) => Explorer::resume(alloc, &start, options.cuts, cursor)?,
-        None => Explorer::start(alloc, &start, options.cuts)?,
+        Some(cursor) => Explorer::resume(alloc, &start, extent.cuts, cursor)?,
+        None => Explorer::start(alloc, &start, extent.cuts)?,
     };
     let mut page = BufWriter::new(alloc, out).map_err(|_| ExploreError::Memory)?;
-    write_page(&mut explorer, options.limit, &mut page)?;
+    write_page(&mut explorer, extent.limit, &mut page)?;
     page.flush().map_err(|_| ExploreError::Write)?;
     Ok(())
 }

@@ -1,5 +1,5 @@
 //! `boot` and `replay`: what the boot after a schedule of power cuts does.
-use crate::options::{layout_options, source_options};
+use crate::options::flash_options;
 use crate::refusal::Refusal;
 use crate::source::read_start;
 use clap::ArgMatches;
@@ -24,10 +24,12 @@ pub fn run<F: Files, O: Write>(
     schedule: &str,
     out: &mut O,
 ) -> Result<(), Refusal> {
-    let source = source_options(arguments)?;
-    let layout = layout_options(arguments)?;
+    let options = match flash_options(arguments) {
+        Ok(options) => options,
+        Err(refusal) => return Err(refusal),
+    };
     let schedule = Schedule::read(schedule)?;
-    let start = read_start(files, alloc, &layout, &source)?;
+    let start = read_start(files, alloc, &options)?;
     let (outcome, flash) = replay::<JournalFlash>(alloc, &start, &schedule)?;
     if let Some(path) = arguments.get_str("out") {
         write_flash(files, path, &flash)?;

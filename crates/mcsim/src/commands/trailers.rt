@@ -1,10 +1,10 @@
 //! `type`: what the trailers of a flash ask for.
-use crate::options::{layout_options, source_options};
+use crate::options::flash_options;
 use crate::refusal::Refusal;
 use crate::source::read_start;
 use clap::ArgMatches;
-use mc_flash::{Flash, Grain, JournalFlash, Slot};
-use mc_trailer::{Profile, Trailer, resumes, swap_type};
+use mc_flash::{Flash, JournalFlash, Slot};
+use mc_trailer::{Trailer, resumes, swap_type};
 use std::alloc::Global;
 use std::io::Write;
 use std::rt::Files;
@@ -22,13 +22,15 @@ pub fn run<F: Files, O: Write>(
     arguments: &ArgMatches<'_>,
     out: &mut O,
 ) -> Result<(), Refusal> {
-    let source = source_options(arguments)?;
-    let layout = layout_options(arguments)?;
-    let start = read_start(files, alloc, &layout, &source)?;
+    let options = match flash_options(arguments) {
+        Ok(options) => options,
+        Err(refusal) => return Err(refusal),
+    };
+    let start = read_start(files, alloc, &options)?;
     let flash = JournalFlash::load(
         alloc,
         start.layout(),
-        Grain::Call,
+        start.rules().grain,
         start.primary(),
         start.secondary(),
         1,
@@ -40,7 +42,7 @@ pub fn run<F: Files, O: Write>(
     } else {
         "no"
     };
-    let table = swap_type(Profile::One, &primary, &secondary);
+    let table = swap_type(start.rules().profile, &primary, &secondary);
     write!(
         out,
         "primary {primary}\nsecondary {secondary}\nresume {resume}\ntable {table}\n"

@@ -201,6 +201,53 @@ fn replays_several_cuts(rt: HostRuntime) -> Result<(), Fail> {
     Ok(())
 }
 
+#[test]
+fn boots_unit_by_unit(rt: HostRuntime) -> Result<(), Fail> {
+    let alloc = rt.alloc();
+    for (start, words, kind, ops, next) in [
+        ("test", "", "test", 109, "revert"),
+        ("perm", "", "perm", 110, "none"),
+        ("revert", "", "revert", 115, "none"),
+        ("perm", "--schedule 5", "perm", 110, "none"),
+    ] {
+        for profile in [1, 2] {
+            let source = format!(in alloc;
+                "--kind {start} --image-a in --image-b second --grain unit --profile {profile}"
+            )?;
+            let case = boot_of(&FIRST_IMAGE, source.as_str(), words);
+            tells(&rt, alloc, &case, Told::swapped(kind, ops, next))?;
+        }
+    }
+    let small = Case {
+        start: "--sector 64 --unit 1 --max-sectors 4 --chunk 32 --primary 4 --secondary 3",
+        options: "--kind test --image-a in --image-b second --grain unit",
+        ..boot_of(&FIRST_IMAGE, "", "")
+    };
+    tells(&rt, alloc, &small, Told::swapped("test", 420, "revert"))?;
+    Ok(())
+}
+
+/// A revert whose magic in the secondary is cut in half: in the first profile no row of the tables holds, and it is lost.
+#[test]
+fn half_a_magic_is_bad(rt: HostRuntime) -> Result<(), Fail> {
+    let alloc = rt.alloc();
+    let source = "--kind revert --image-a in --image-b second --grain unit --schedule 4";
+    let lost = Told {
+        primary: FIRST_TOLD,
+        secondary: SECOND_TOLD,
+        ..Told::swapped("none", 0, "none")
+    };
+    let swapped = Told::swapped("revert", 115, "none");
+    for (profile, told) in [("", lost), ("--profile 1", lost), ("--profile 2", swapped)] {
+        let case = Case {
+            command: "replay",
+            ..boot_of(&FIRST_IMAGE, source, profile)
+        };
+        tells(&rt, alloc, &case, told)?;
+    }
+    Ok(())
+}
+
 /// The magic of a trailer.
 static MAGIC: [u8; 16] = [
     0x77, 0xc2, 0x95, 0xf3, 0x60, 0xd2, 0xef, 0x7f, 0x35, 0x52, 0x50, 0x0f, 0x2c, 0xb6, 0x79, 0x80,

@@ -7,6 +7,7 @@ use super::vectors::FIRST_IMAGE;
 use sha2::{Digest, Sha256};
 use std::alloc::{AllocError, Global};
 use std::cell::RefCell;
+use std::process::Abort;
 use std::test::Fail;
 
 /// The options of a layout: the worked one, one of slots that are equally long, one of units of one byte, and one whose
@@ -20,9 +21,12 @@ fn layout_words(name: &str) -> &'static str {
     }
 }
 
-/// Pages: the layout, the kind of the start, the most cuts and the most rows; how many lines there are, and the SHA-256 of
-/// the whole text.
-static PAGES: [(&str, &str, u32, u32, usize, &str); 18] = [
+/// A page: the layout, the kind of the start and the rules, the most cuts and the most rows; how many lines there are, and the
+/// SHA-256 of the whole text.
+type Page<'a> = (&'a str, &'a str, u32, u32, usize, &'a str);
+
+/// Pages of whole calls, in the first profile.
+static PAGES: [Page<'static>; 18] = [
     (
         "worked",
         "none",
@@ -169,6 +173,106 @@ static PAGES: [(&str, &str, u32, u32, usize, &str); 18] = [
     ),
 ];
 
+/// Pages of cuts between write units.
+static UNIT_PAGES: [Page<'static>; 12] = [
+    (
+        "worked",
+        "test --grain unit --profile 1",
+        1,
+        1000,
+        111,
+        "741fe452e0061a1afc9de69b49afe5b6b9a04fbba9b8a4ac97cde553a74c5b2e",
+    ),
+    (
+        "worked",
+        "test --grain unit --profile 1",
+        2,
+        100000,
+        7838,
+        "a110c6b68c6d7a1a8febef3eaa3841d3a12c75163c870f95e8589bf040e1db84",
+    ),
+    (
+        "worked",
+        "test --grain unit --profile 2",
+        1,
+        1000,
+        111,
+        "741fe452e0061a1afc9de69b49afe5b6b9a04fbba9b8a4ac97cde553a74c5b2e",
+    ),
+    (
+        "worked",
+        "test --grain unit --profile 2",
+        2,
+        100000,
+        7838,
+        "a110c6b68c6d7a1a8febef3eaa3841d3a12c75163c870f95e8589bf040e1db84",
+    ),
+    (
+        "worked",
+        "perm --grain unit --profile 1",
+        1,
+        1000,
+        112,
+        "ff40396a4b43df9c42591ac68387797f46bc1a8dd119142a44697a0a2a59359a",
+    ),
+    (
+        "worked",
+        "perm --grain unit --profile 1",
+        2,
+        100000,
+        7955,
+        "0f1b8b0488927c50a8fdcc62143b968539eab663d06aab5dc1ee6a8912128967",
+    ),
+    (
+        "worked",
+        "perm --grain unit --profile 2",
+        1,
+        1000,
+        112,
+        "ff40396a4b43df9c42591ac68387797f46bc1a8dd119142a44697a0a2a59359a",
+    ),
+    (
+        "worked",
+        "perm --grain unit --profile 2",
+        2,
+        100000,
+        7955,
+        "0f1b8b0488927c50a8fdcc62143b968539eab663d06aab5dc1ee6a8912128967",
+    ),
+    (
+        "worked",
+        "revert --grain unit --profile 1",
+        1,
+        1000,
+        117,
+        "dd41bcc4988457c2a68dfb49cf4cb7dde40aeb0055aa1e9f2cc18e589fa066c5",
+    ),
+    (
+        "worked",
+        "revert --grain unit --profile 1",
+        2,
+        100000,
+        8420,
+        "95c4baa6b32f4a7c2d90a80d2b943a074fff8a421f7521c7d0d1c83a0da4a0ce",
+    ),
+    (
+        "worked",
+        "revert --grain unit --profile 2",
+        1,
+        1000,
+        117,
+        "8d927f6b93714a3d2d24456dd20981c391e9d9ab53efbb6fa115741afde0d27e",
+    ),
+    (
+        "worked",
+        "revert --grain unit --profile 2",
+        2,
+        100000,
+        8535,
+        "45be426b5ff6d7ec8cc25b702934f4f548237d0dc55da7bd6ec560878bea233b",
+    ),
+];
+
 /// What an exploration with these options prints.
 fn prints_at(alloc: Global, layout: &str, options: &str, more: &str) -> Result<String, Fail> {
     let written = RefCell::new(Vec::new(alloc));
@@ -197,18 +301,27 @@ fn prints(alloc: Global, options: &str, more: &str) -> Result<String, Fail> {
     prints_at(alloc, WORKED, options, more)
 }
 
-#[test]
-fn prints_the_pages_of_images(rt: HostRuntime) -> Result<(), Fail> {
-    let alloc = rt.alloc();
+/// Looks at the number of lines and the digest of each page.
+fn pages_are(rt: &impl Abort, alloc: Global, pages: &[Page<'_>]) -> Result<(), Fail> {
     let images = "--image-a in --image-b second";
-    for (layout, kind, cuts, limit, lines, digest) in PAGES {
+    for (layout, kind, cuts, limit, lines, digest) in pages {
         let options = format!(in alloc; "--kind {kind} --cuts {cuts} --limit {limit}")?;
         let page = prints_at(alloc, layout_words(layout), options.as_str(), images)?;
-        assert_eq!(rt; page.as_str().lines().count(), lines, "{kind} {cuts}");
+        assert_eq!(rt; page.as_str().lines().count(), *lines, "{kind} {cuts}");
         let sum = hex::encode(alloc, Sha256::digest(page.as_str().as_bytes()))?;
-        assert_eq!(rt; sum.as_str(), digest, "{kind} {cuts}");
+        assert_eq!(rt; sum.as_str(), *digest, "{kind} {cuts}");
     }
     Ok(())
+}
+
+#[test]
+fn prints_the_pages_of_images(rt: HostRuntime) -> Result<(), Fail> {
+    pages_are(&rt, rt.alloc(), &PAGES)
+}
+
+#[test]
+fn prints_the_pages_of_cuts_between_units(rt: HostRuntime) -> Result<(), Fail> {
+    pages_are(&rt, rt.alloc(), &UNIT_PAGES)
 }
 
 /// An exploration of the flash in `in`.
@@ -311,6 +424,41 @@ fn goes_on_behind_cursors(rt: HostRuntime) -> Result<(), Fail> {
 }
 
 #[test]
+fn goes_on_behind_cursors_of_other_rules(rt: HostRuntime) -> Result<(), Fail> {
+    let alloc = rt.alloc();
+    for (rules, head) in [
+        ("--grain unit --profile 1", "mc2:unit:1"),
+        ("--grain unit --profile 2", "mc2:unit:2"),
+    ] {
+        for (place, row) in [("-", "0 boot test 109"), ("107", "108 boot test 1")] {
+            let options = format!(in alloc;
+                "{rules} --cuts 1 --limit 1 --cursor {head}:{START}:1:{place}"
+            )?;
+            let cut = row.split_whitespace().next().unwrap_or("");
+            let page = format!(in alloc;
+                "{row} 2.0.0+0/80 1.0.0+0/80 revert\nnext {head}:{START}:1:{cut}\n"
+            )?;
+            let case = Case {
+                out: page.as_str(),
+                ..explore_images(options.as_str())
+            };
+            ends(&rt, alloc, &case)?;
+        }
+    }
+    let page = format!(in alloc;
+        "17 boot test 1 2.0.0+0/80 1.0.0+0/80 revert\nnext mc2:call:2:{START}:1:17\n"
+    )?;
+    let options = format!(in alloc;
+        "--profile 2 --cuts 1 --limit 1 --cursor mc2:call:2:{START}:1:16"
+    )?;
+    let case = Case {
+        out: page.as_str(),
+        ..explore_images(options.as_str())
+    };
+    ends(&rt, alloc, &case)
+}
+
+#[test]
 fn refuses_cursors(rt: HostRuntime) -> Result<(), Fail> {
     let alloc = rt.alloc();
     let other = "0cf2f5a1b9a451dc9bb060b1858a94da9927942d58635a051bee1bff2fd4356b";
@@ -320,7 +468,9 @@ fn refuses_cursors(rt: HostRuntime) -> Result<(), Fail> {
         (2, "mc1", START, "1:0", 1, "E57 OtherBound"),
         // The first reason is answered.
         (2, "mc1", other, "1:18", 1, "E56 OtherStart"),
+        (2, "mc2:unit:1", other, "1:18", 1, "E56 OtherStart"),
         (2, "mc2:unit:1", START, "1:18", 1, "E61 OtherRules"),
+        (2, "mc2:call:2", START, "2:-", 1, "E61 OtherRules"),
         (2, "mc2:call:1", START, "2:-", 2, "E55 Syntax"),
         (2, "mc1", START, "02:-", 2, "E55 Syntax"),
         (2, "mc1", START, "17:-", 2, "E55 Syntax"),
@@ -336,6 +486,14 @@ fn refuses_cursors(rt: HostRuntime) -> Result<(), Fail> {
         };
         ends(&rt, alloc, &case)?;
     }
+    // A cursor of whole calls does not serve where the power is cut between units.
+    let options = format!(in alloc; "--cuts 1 --grain unit --cursor mc1:{START}:1:-")?;
+    let case = Case {
+        status: 1,
+        err: "mcsim: E61 OtherRules\n",
+        ..explore_images(options.as_str())
+    };
+    ends(&rt, alloc, &case)?;
     // The text is judged before a file is opened.
     let case = Case {
         status: 2,

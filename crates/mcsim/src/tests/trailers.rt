@@ -91,6 +91,28 @@ fn prints_the_trailers_of_a_flash(rt: HostRuntime) -> Result<(), Fail> {
     Ok(())
 }
 
+#[test]
+fn prints_the_swap_of_each_profile(rt: HostRuntime) -> Result<(), Fail> {
+    let alloc = rt.alloc();
+    // A test that was finished, and a byte of the secondary's magic.
+    let flash = begun(&[(992, 0x01), (1776, 0x00)]);
+    for (options, table) in [
+        ("--flash in", "none"),
+        ("--flash in --profile 1", "none"),
+        ("--flash in --profile 2", "revert"),
+    ] {
+        let want = format!(in alloc;
+            "primary magic=good image-ok=unset copy-done=set swap-info=0xff swap-size=4294967295\nsecondary magic=bad image-ok=unset copy-done=unset swap-info=0xff swap-size=4294967295\nresume no\ntable {table}\n"
+        )?;
+        let case = Case {
+            out: want.as_str(),
+            ..type_of(&flash, WORKED, options)
+        };
+        ends(&rt, alloc, &case)?;
+    }
+    Ok(())
+}
+
 /// Runs lines of `type` with this layout and source, which are refused with this status and error.
 fn refuse(rt: &impl Abort, alloc: Global, cases: &[(&str, &str, u8, &str)]) -> Result<(), Fail> {
     for (layout, source, status, error) in cases {

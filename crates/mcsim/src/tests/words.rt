@@ -39,6 +39,10 @@ fn refuses_command_lines(rt: HostRuntime) -> Result<(), Fail> {
         "mcsim type --sector 4294967296 --unit 8 --max-sectors 4 --chunk 128 --primary 4 --secondary 3 --flash a",
         "mcsim type --sector 256 --unit 8 --max-sectors 4 --chunk 128 --primary 4 --secondary 3 --kind swap --image-a a --image-b b",
         "mcsim type --sector 256 --unit 8 --max-sectors 4 --chunk 128 --primary 4 --secondary 3 --flash a --flash b",
+        "mcsim type --sector 256 --unit 8 --max-sectors 4 --chunk 128 --primary 4 --secondary 3 --flash a --grain call",
+        "mcsim type --sector 256 --unit 8 --max-sectors 4 --chunk 128 --primary 4 --secondary 3 --flash a --profile 3",
+        "mcsim boot --sector 256 --unit 8 --max-sectors 4 --chunk 128 --primary 4 --secondary 3 --flash a --grain word",
+        "mcsim boot --sector 256 --unit 8 --max-sectors 4 --chunk 128 --primary 4 --secondary 3 --flash a --profile 0",
     ];
     for line in lines {
         let words: Vec<&str> = line.split_whitespace().collect(rt.alloc())?;
