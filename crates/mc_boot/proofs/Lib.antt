@@ -33,3 +33,11 @@ pub mod SwapEnds
 pub mod StartBytes
 pub mod Starts
 pub mod RestartProof
+pub mod BoolTests
+pub mod Meets
+pub mod Blanking
+pub mod Joins
+pub mod CourseJoins
+pub mod OpeningJoins
+pub mod JoinsMeet
+pub mod AfterCut

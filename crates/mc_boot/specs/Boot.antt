@@ -23,6 +23,10 @@ pub record Progress : Type 0 where
   pub count : ℕ
   pub faulted : Bool
 
+-- All operations of its plan.
+abbrev pub all_of : Boot → List Op
+all_of b = whole_list b.course
+
 -- None after a refusal.
 abbrev pub to_come : Boot → List Op
 to_come b = if b.faulted then [] else drop b.done (whole_list b.course)

@@ -12,6 +12,8 @@ pub mod RunFacts
 pub mod Bounds
 pub mod WriteFacts
 pub mod Outcome
+pub mod Joins
+pub mod After
 pub mod Texts
 pub mod Start
 pub mod Restart

@@ -1,16 +1,20 @@
 //! The boot as a machine that makes one operation at a time.
-ghost use Rattle.std.specs.Prelude.{◌≡◌, ◌<◌, ◌≤◌, [], length, slice_get, Some, IfSome};
+ghost use Rattle.std.specs.Prelude.{◌≡◌, ◌<◌, ◌≤◌, [], length, slice_get, Some, ◌↔◌, IsSome, IfSome};
 ghost use Rattle.mc_trailer.specs.Entries.{highest_entry};
 ghost use Rattle.mc_flash.specs.Geometry.{Geometry};
 ghost use Rattle.mc_flash.specs.Content.{Content};
 ghost use Rattle.mc_flash.specs.Apply.{CanTry, Does, apply};
 ghost use Rattle.mc_flash.specs.Ledger.{Notes, most_operations, most_saved};
 ghost use Rattle.mc_trailer.specs.declared.tables.Rules.{Rules};
+ghost use Rattle.mc_boot.specs.After.{IsCut, operations_kept};
+ghost use Rattle.mc_boot.specs.Boot.{progress, IsBootOf, begun};
+ghost use Rattle.mc_boot.specs.Outcome.{shown, outcome_of};
 ghost use Rattle.mc_boot.specs.Image.{images_of};
 ghost use Rattle.mc_boot.specs.Plan.{confirms, nothing, new_swap, new_plan, resumed_swap, resumed_plan, plan};
 
 use crate::course::{Course, Opening};
 use crate::image::Images;
+use crate::joining::joins;
 use crate::outcome::Outcome;
 use crate::transfer::first_left;
 use crate::writes::is_test;
@@ -54,7 +58,7 @@ fn confirms(kind: SwapType, image_ok: Flag) -> bool
 }
 
 impl Boot {
-    ghost use Rattle.mc_boot.specs.Boot.{to_come, progress, IsBootOf, Steps, NotesFirst, begun};
+    ghost use Rattle.mc_boot.specs.Boot.{all_of, to_come, progress, IsBootOf, Steps, NotesFirst, begun};
     ghost use Rattle.mc_boot.specs.Run.{HasCome};
     ghost use Rattle.mc_boot.specs.Bounds.{all_saves};
     ghost use Rattle.mc_boot.specs.Outcome.{shown, report, outcome_of};
@@ -190,11 +194,12 @@ impl Boot {
     }
 
     /// A boot at power-on. It reads and hashes images only where it begins a swap.
-    #[tactic(auto, using(crate::specs::Bounds::plan_few, crate::specs::Bounds::plan_saves))]
+    #[tactic(auto, using(crate::specs::Bounds::plan_few, crate::specs::Bounds::plan_saves, crate::proofs::AfterCut::begun_list))]
     pub fn cold<F: Flash>(flash: &F, rules: Rules) -> Boot
         ensures progress { progress result
             ≡ begun rules (plan rules (F.geometry flash.now) (F.content flash.now)) }
         ensures layout { IsBootOf (F.geometry flash.now) result }
+        ensures whole { all_of result ≡ (plan rules (F.geometry flash.now) (F.content flash.now)).list }
         ensures come { HasCome rules (F.geometry flash.now) (F.content flash.now)
             (progress result) (F.content flash.now) }
         // It has few operations, and what their erases save is little.
@@ -250,6 +255,7 @@ impl Boot {
         ensures come { (r : Rules) (s : Content)
             → HasCome r (F.geometry flash.old) s (progress self.old) (F.content flash.old)
             → HasCome r (F.geometry flash.old) s (progress self.new) (F.content flash.new) }
+        ensures whole { all_of self.new ≡ all_of self.old }
         // What happens to the ledger, and why memory was wanted.
         ensures notes { NotesFirst F.counted (F.geometry flash.old) (to_come self.old)
             result (F.ledger flash.old) (F.ledger flash.new) }
@@ -291,4 +297,33 @@ impl Boot {
     {
         Outcome::read(flash, self.rules, self.kind, self.done, self.faulted)
     }
+}
+
+/// The outcome of the boot after a power cut, from the outcome that the boot that was cut would have had.
+///
+/// `cut` is the boot at the cut, `whole` its outcome without the cut, and `next` the boot at power-on after it. There is an
+/// outcome where the next boot goes on within a transfer of the one that was cut or after the last one, where it begins the
+/// same swap again, and where the cut is before the first operation. Elsewhere there is none: run the boot. No flash is read.
+pub fn outcome_after(cut: &Boot, whole: &Outcome, next: &Boot) -> Option<Outcome>
+    ensures found { IsSome result ↔ IsSome (operations_kept cut.now next.now) }
+    ensures outcome { (r : Rules) (g : Geometry) (s u : Content) → IsCut r g s u cut.now (shown whole.now)
+        → IsBootOf g next.now → progress next.now ≡ begun r (plan r g u)
+        → IfSome result (λ outcome. outcome_of r g u ≡ Some (shown outcome)) }
+{
+    let Some(course) = &cut.course else {
+        return None;
+    };
+    if cut.done == 0 {
+        return Some(*whole);
+    }
+    let Some(following) = &next.course else {
+        return None;
+    };
+    let less = joins(course, cut.done, following)?;
+    let outcome = Outcome {
+        kind: next.kind,
+        ops: whole.ops.saturating_sub(less),
+        ..*whole
+    };
+    Some(outcome)
 }

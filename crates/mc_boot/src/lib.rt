@@ -4,13 +4,14 @@
 mod boot;
 mod course;
 mod image;
+mod joining;
 mod outcome;
 mod restart;
 mod text;
 mod transfer;
 mod writes;
 
-pub use boot::Boot;
+pub use boot::{Boot, outcome_after};
 pub use image::ImageId;
 pub use outcome::{BootResult, Outcome};
 pub use restart::restart_law;

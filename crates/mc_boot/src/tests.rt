@@ -1,6 +1,8 @@
 //! The worked boots: two images of 80 bytes on a layout of sectors of 256 bytes, and flashes that hold no images.
-ghost use Rattle.std.specs.Prelude.{◌≡◌, ◌<◌};
+ghost use Rattle.std.specs.Prelude.{◌≡◌};
 ghost use Rattle.mc_boot.specs.Boot.{IsBootOf};
+
+mod cuts;
 
 use super::*;
 use mc_flash::{Bytes16, Flash, FlashError, Grain, Layout, Op, Slot, SnapFlash};
@@ -27,6 +29,9 @@ const B: [u8; 80] = [
     0x4f, 0xc0, 0x3f, 0xbf, 0xc5, 0xa5, 0xef, 0xb6, 0x62, 0xf2, 0x00, 0xb2, 0x69, 0x39, 0x23, 0xee,
 ];
 
+/// The swap-size of an image of 80 bytes.
+const SIZE: [u8; 4] = [80, 0, 0, 0];
+
 /// A flag or a status entry of one unit.
 const ONE: [u8; 8] = [1, 0xff, 0xff, 0xff, 0xff, 0xff, 0xff, 0xff];
 
@@ -35,28 +40,32 @@ fn flash_of(alloc: Global, primary: &[u8; 1024], secondary: &[u8; 768]) -> Resul
     Ok(SnapFlash::load(alloc, &layout, Grain::Call, primary, secondary, 1)?)
 }
 
-/// A in the primary, B in the secondary, and its magic: the swap for a test is asked for.
-fn test_flash(alloc: Global) -> Result<SnapFlash, Fail> {
+/// A in the primary, B in the secondary, its magic and this image-ok: a swap is asked for.
+fn asking_flash(alloc: Global, image_ok: u8) -> Result<SnapFlash, Fail> {
     let mut primary = [0xff; 1024];
     primary[..80].copy_from_slice(&A);
     let mut secondary = [0xff; 768];
     secondary[..80].copy_from_slice(&B);
+    secondary[744] = image_ok;
     secondary[752..].copy_from_slice(&MAGIC);
     flash_of(alloc, &primary, &secondary)
 }
 
-/// 0xff but for the primary's magic, the type of a test, a size and one more byte.
-fn begun_flash(alloc: Global, size: u8, at: usize) -> Result<SnapFlash, Fail>
-    requires { at < 976 }
-{
+/// The swap for a test is asked for.
+fn test_flash(alloc: Global) -> Result<SnapFlash, Fail> {
+    asking_flash(alloc, 0xff)
+}
+
+/// 0xff but for the primary's magic, this swap-size, and single bytes of the primary by their places.
+fn begun_flash(alloc: Global, size: [u8; 4], bytes: &[(usize, u8)]) -> Result<SnapFlash, Fail> {
     let mut primary = [0xff; 1024];
     primary[1008..].copy_from_slice(&MAGIC);
-    primary[984] = 2;
-    if size != 0xff {
-        primary[976..980].copy_from_slice(&[size, 0, 0, 0]);
+    primary[976..980].copy_from_slice(&size);
+    for (place, byte) in bytes {
+        if *place < 1024 {
+            primary[*place] = *byte;
+        }
     }
-    primary[at] = 1;
-    primary[993] = 0;
     flash_of(alloc, &primary, &[0xff; 768])
 }
 
@@ -262,16 +271,16 @@ fn no_images(rt: HostRuntime) -> Result<(), Fail> {
 fn trailers_that_contradict_themselves(rt: HostRuntime) -> Result<(), Fail> {
     let alloc = rt.alloc();
     let panic = bare(BootResult::Panic, SwapType::Panic, SwapType::Panic);
-    let mut sizeless = begun_flash(alloc, 0xff, 0)?;
+    let mut sizeless = begun_flash(alloc, [0xff; 4], &[(984, 2)])?;
     assert_eq!(rt; told(&mut sizeless, Rules::PLAIN), panic);
-    let mut entry = begun_flash(alloc, 80, 888)?;
+    let mut entry = begun_flash(alloc, SIZE, &[(984, 2), (888, 1), (993, 0)])?;
     assert_eq!(rt; told(&mut entry, Rules::PLAIN), panic);
     Ok(())
 }
 
 #[test]
 fn a_refused_operation(rt: HostRuntime) -> Result<(), Fail> {
-    let mut flash = begun_flash(rt.alloc(), 80, 920)?;
+    let mut flash = begun_flash(rt.alloc(), SIZE, &[(984, 2), (920, 1), (993, 0)])?;
     let mut boot = Boot::cold(&flash, Rules::PLAIN);
     assert!(rt; boot.peek().is_some());
     assert_eq!(rt; boot.step(&mut flash), Err(FlashError::NotErased));

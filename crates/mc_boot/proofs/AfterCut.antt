@@ -1,0 +1,45 @@
+-- The outcome of a boot after a cut, by the courses of the two boots.
+use Rattle.std.specs.Prelude.{◌≡◌, ℕ, Bool, false, if◌then◌else◌, List, [], drop, Option, Some, option_map, IfSome}
+use Rattle.std.proofs.Common.{sym, ap, subst, ◌∙◌}
+use Rattle.mc_flash.specs.Geometry.{Geometry, IsLayout}
+use Rattle.mc_flash.specs.Content.{Content}
+use Rattle.mc_flash.specs.Pieces.{in_pieces}
+use Rattle.mc_flash.specs.declared.op.Op.{Op}
+use Rattle.mc_trailer.specs.declared.tables.Rules.{Rules}
+use Rattle.mc_trailer.specs.declared.tables.SwapType.{SwapType}
+use Rattle.mc_boot.specs.declared.boot.Boot.{Boot}
+use Rattle.mc_boot.specs.declared.course.Course.{Course}
+use Rattle.mc_boot.specs.After.{IsCut}
+use Rattle.mc_boot.specs.Boot.{Progress, begun, progress, IsBootOf}
+use Rattle.mc_boot.specs.CourseList.{course_list, whole_list}
+use Rattle.mc_boot.specs.Joins.{joins_of}
+use Rattle.mc_boot.specs.Outcome.{Report, outcome_of}
+use Rattle.mc_boot.specs.Plan.{Plan, plan}
+use Rattle.mc_boot.specs.RunFacts.{come_at}
+use Rattle.mc_boot.proofs.CourseJoins.{met_joins}
+use Rattle.mc_boot.proofs.Joins.{joined, less}
+use Rattle.mc_boot.proofs.JoinsMeet.{joins_meet}
+
+rest_is : (faulted : Bool) (done : ℕ) (ops rest : List Op) → faulted ≡ false → done ≡ 0 → (if faulted then [] else drop done ops) ≡ rest → ops ≡ rest
+rest_is faulted done ops rest whole none is = ap (λ (n : ℕ). drop n ops) (sym none) ∙ ap (λ (b : Bool). if b then [] else drop done ops) (sym whole) ∙ is
+
+-- At power-on the whole list is to come.
+pub begun_list : (r : Rules) (p : Plan) (b : Boot) → progress b ≡ begun r p → whole_list b.course ≡ p.list
+begun_list r p b is =
+    rest_is b.faulted b.done (whole_list b.course) p.list (ap (λ (x : Progress). x.faulted) is) (ap (λ (x : Progress). x.count) is) (ap (λ (x : Progress). x.to_come) is)
+
+layout_is : (g : Geometry) (o : Option Course) (a : Course) → o ≡ Some a → IfSome o (λ c. c.layout ≡ in_pieces c.grain g) → a.layout ≡ in_pieces a.grain g
+layout_is g o a is all = let P : Option Course → Type 0 = λ x. IfSome x (λ c. c.layout ≡ in_pieces c.grain g) in subst P is all
+
+-- After a cut the next boot ends as the one that was cut would have, where the test of their courses gives a number.
+pub outcome_follows : (r : Rules) (g : Geometry) (s u : Content) (cut next : Boot) (a b : Course) (whole : Report) (j : ℕ) → IsCut r g s u cut whole → cut.course ≡ Some a → next.course ≡ Some b
+    → IsBootOf g next → progress next ≡ begun r (plan r g u) → IsLayout b.layout → joins_of a cut.done b ≡ Some j → outcome_of r g u ≡ Some (less next.kind j whole)
+outcome_follows r g s u cut next a b whole j is at_a at_b of start ok joins =
+    let meets = joins_meet g a b cut.done j ok (layout_is g cut.course a at_a is.layout) (layout_is g next.course b at_b of) joins in
+    let list_s : (plan r g s).list ≡ course_list a = sym is.list ∙ ap whole_list at_a in
+    let list_u : (plan r g u).list ≡ course_list b = sym (begun_list r (plan r g u) next start) ∙ ap whole_list at_b in
+    let join = joined r g s u cut.done j meets.sectors (met_joins r g s u cut.done j (course_list a) (course_list b) meets is.sized (come_at r g s (progress cut) u is.come) is.early list_s list_u) in
+    let kind : (plan r g u).kind ≡ next.kind = ap (λ (x : Progress). x.kind) (sym start) in
+    join.outcome
+    ∙ ap (option_map (less (plan r g u).kind j)) is.outcome
+    ∙ ap (λ (k : SwapType). Some (less k j whole)) kind

@@ -1,0 +1,295 @@
+-- The outcome of a boot after a cut, where it follows from that of the boot that was cut.
+use Rattle.std.specs.Prelude.{◌≡◌, ℕ, zero, suc, ◌+◌, ◌-◌, ◌<◌, ◌≤◌, nat_lt, not, ◌||◌, ◌==◌, Bool, true, false, if◌then◌else◌, List, [], ◌∷◌, ◌++◌, length, map, take, drop, Option, Some, None, option_and_then, option_map, refl}
+use Rattle.std.specs.List.{AllByRecursion}
+use Rattle.std.specs.Int.{div_ceil}
+use Rattle.std.proofs.Common.{arith, sym, ap, ◌∙◌, length-append}
+use Rattle.std.proofs.Math.Seq.{take-add, take-length}
+use Rattle.std.proofs.lemmas.Bool.Decides.{nat_tests}
+use Rattle.std.proofs.lemmas.List.{length-take, length-drop, length-take-le}
+use Rattle.mc_flash.specs.Geometry.{Geometry, greatest_sectors}
+use Rattle.mc_flash.specs.Content.{Content, IsSized, bytes_of}
+use Rattle.mc_flash.specs.Apply.{apply}
+use Rattle.mc_flash.specs.Pieces.{in_pieces}
+use Rattle.mc_flash.specs.declared.op.Op.{Op}
+use Rattle.mc_flash.specs.declared.op.Slot.{Slot}
+use Rattle.mc_flash.specs.declared.op.Slot.TheVariants.{Primary}
+use Rattle.mc_flash.specs.declared.flash.Grain.{Grain}
+use Rattle.mc_trailer.specs.Fields.{trailer_of}
+use Rattle.mc_trailer.specs.Tables.{table_of, is_resumed}
+use Rattle.mc_trailer.specs.Entries.{highest_entry}
+use Rattle.mc_trailer.specs.declared.trailer.Flag.{Flag}
+use Rattle.mc_trailer.specs.declared.trailer.Trailer.{Trailer}
+use Rattle.mc_trailer.specs.declared.tables.Rules.{Rules}
+use Rattle.mc_trailer.specs.declared.tables.SwapType.{SwapType}
+use Rattle.mc_trailer.specs.declared.tables.SwapType.TheVariants as kinds
+use Rattle.mc_image.specs.Valid.{is_valid, id_of}
+use Rattle.mc_boot.specs.declared.image.Images.{Images}
+use Rattle.mc_boot.specs.declared.outcome.BootResult.{BootResult}
+use Rattle.mc_boot.specs.Image.{images_of}
+use Rattle.mc_boot.specs.Course.{new_list}
+use Rattle.mc_boot.specs.Plan.{Plan, nothing, new_swap, new_plan, first_left, resumed_from, resumed_swap, resumed_plan, plan_with, plan}
+use Rattle.mc_boot.specs.Runs.{applied, first_then, happening, ops_of, at, is_faulted, left_by}
+use Rattle.mc_boot.specs.RunFacts.{happening_front, left_defined}
+use Rattle.mc_boot.specs.Outcome.{Report, is_panic, result_of, report, outcome_of}
+use Rattle.mc_boot.proofs.Meets.{Sector, WritesIn, AreThere, erase_of}
+use Rattle.mc_boot.proofs.Blanking.{blank, erase_in, Fit, fit_there, fit_longer, op_blanked, op_longer}
+
+-- A boot of s was cut after c operations and left u. The list of the next boot is the first one's without its first j, it
+-- begins with erases of some sectors, and what the first boot made of it wrote in these alone.
+pub record Joins (r : Rules) (g : Geometry) (s u : Content) (c j : ℕ) (es : List Sector) : Type 0 where
+  pub sized : IsSized g s
+  pub cut : at r g s c ≡ Some u
+  pub early : c < length (ops_of r g s)
+  pub passed : j ≤ c
+  pub rest : (plan r g u).list ≡ drop j (plan r g s).list
+  pub there : AreThere g es
+  pub erases : take (length es) (plan r g u).list ≡ map erase_of es
+  pub inside : AllByRecursion (WritesIn g es) (take (c - j) (plan r g u).list)
+
+-- The report of a boot of that type which makes j operations less.
+abbrev pub less : SwapType → ℕ → Report → Report
+less kind j o = record {
+  result = o.result;
+  kind = kind;
+  ops = o.ops - j;
+  primary = o.primary;
+  secondary = o.secondary;
+  next = o.next;
+}
+
+-- The next boot ends as the one that was cut would have, with j operations less.
+pub record IsJoined (r : Rules) (g : Geometry) (s u : Content) (j : ℕ) : Type 0 where
+  pub count : length (ops_of r g u) + j ≡ length (ops_of r g s)
+  pub faulted : is_faulted r g u ≡ is_faulted r g s
+  pub left : left_by r g u ≡ left_by r g s
+  pub outcome : outcome_of r g u ≡ option_map (less (plan r g u).kind j) (outcome_of r g s)
+
+-- ---- lists of operations, some of which may be refused
+
+first_front : (g : Geometry) (op : Op) (ops : List Op) (c : ℕ) → ((t : Content) → c ≤ length (happening g ops t) → take c (happening g ops t) ≡ take c ops)
+    → (o : Option Content) → suc c ≤ length (first_then op (λ t. happening g ops t) o) → take (suc c) (first_then op (λ t. happening g ops t) o) ≡ op ∷ take c ops
+first_front g op ops c behind None below = absurd (omega (arith, below))
+first_front g op ops c behind (Some t) below = ap (λ (xs : List Op). op ∷ xs) (behind t (omega (arith, below)))
+
+-- What happens of a list is a front of it.
+happens_front : (g : Geometry) (ops : List Op) (c : ℕ) (s : Content) → c ≤ length (happening g ops s) → take c (happening g ops s) ≡ take c ops
+happens_front g [] zero s below = refl
+happens_front g [] (suc c) s below = refl
+happens_front g (op ∷ ops) zero s below = refl
+happens_front g (op ∷ ops) (suc c) s below = first_front g op ops c (λ t b. happens_front g ops c t b) (apply g op s) below
+
+happens_few : (g : Geometry) (ops : List Op) (s : Content) → length (happening g ops s) ≤ length ops
+happens_few g ops s =
+    let all = happens_front g ops (length (happening g ops s)) s (omega arith) in
+    omega (arith, length-take (length (happening g ops s)) ops, ap (λ (xs : List Op). length xs) (sym (take-length (happening g ops s)) ∙ all))
+
+-- A list that can be applied, in two parts.
+split_on : (g : Geometry) (xs ys : List Op) (t : Content) → ((x : Content) → applied g (xs ++ ys) x ≡ Some t → (v : Content) × (applied g xs x ≡ Some v) × (applied g ys v ≡ Some t))
+    → (o : Option Content) → option_and_then (λ x. applied g (xs ++ ys) x) o ≡ Some t → (v : Content) × (option_and_then (λ x. applied g xs x) o ≡ Some v) × (applied g ys v ≡ Some t)
+split_on g xs ys t behind None is = absurd cc
+split_on g xs ys t behind (Some x) is = behind x is
+
+applied_parts : (g : Geometry) (xs ys : List Op) (s t : Content) → applied g (xs ++ ys) s ≡ Some t → (v : Content) × (applied g xs s ≡ Some v) × (applied g ys v ≡ Some t)
+applied_parts g [] ys s t is = (s, refl, is)
+applied_parts g (x ∷ xs) ys s t is = split_on g xs ys t (λ y e. applied_parts g xs ys y t e) (apply g x s) is
+
+join_on : (g : Geometry) (xs ys : List Op) (v : Content) → ((x : Content) → applied g xs x ≡ Some v → applied g (xs ++ ys) x ≡ applied g ys v)
+    → (o : Option Content) → option_and_then (λ x. applied g xs x) o ≡ Some v → option_and_then (λ x. applied g (xs ++ ys) x) o ≡ applied g ys v
+join_on g xs ys v behind None is = absurd cc
+join_on g xs ys v behind (Some x) is = behind x is
+
+applied_behind : (g : Geometry) (xs ys : List Op) (s v : Content) → applied g xs s ≡ Some v → applied g (xs ++ ys) s ≡ applied g ys v
+applied_behind g [] ys s v is = let same : s ≡ v = cc in ap (applied g ys) same
+applied_behind g (x ∷ xs) ys s v is = join_on g xs ys v (λ y e. applied_behind g xs ys y v e) (apply g x s) is
+
+-- Erases are never refused, and give the content blanked.
+pub erases_applied : (g : Geometry) (es : List Sector) (s : Content) → applied g (map erase_of es) s ≡ Some (blank g es s)
+unfolding apply
+erases_applied g [] s = refl
+erases_applied g (e ∷ es) s = erases_applied g es (erase_in g s e)
+
+longer_on : (g : Geometry) (ops : List Op) (s t : Content) → ((x : Content) → applied g ops x ≡ Some t → (o : Slot) → length (bytes_of x o) ≤ length (bytes_of t o))
+    → (a : Option Content) → ((x : Content) → a ≡ Some x → (o : Slot) → length (bytes_of s o) ≤ length (bytes_of x o)) → option_and_then (λ x. applied g ops x) a ≡ Some t → (o : Slot) → length (bytes_of s o) ≤ length (bytes_of t o)
+longer_on g ops s t behind None first is = absurd cc
+longer_on g ops s t behind (Some x) first is = λ o. omega (arith, first x refl o, behind x is o)
+
+applied_longer : (g : Geometry) (ops : List Op) (s t : Content) → applied g ops s ≡ Some t → (o : Slot) → length (bytes_of s o) ≤ length (bytes_of t o)
+applied_longer g [] s t is = let same : s ≡ t = cc in λ o. omega (arith, ap (λ (x : Content). length (bytes_of x o)) same)
+applied_longer g (op ∷ ops) s t is = longer_on g ops s t (λ x e. applied_longer g ops x t e) (apply g op s) (λ x e. op_longer g op s x e) is
+
+blanked_on : (g : Geometry) (es : List Sector) (ops : List Op) (s t : Content) → ((x : Content) → Fit g es x → applied g ops x ≡ Some t → blank g es t ≡ blank g es x)
+    → (a : Option Content) → ((x : Content) → a ≡ Some x → (blank g es x ≡ blank g es s) × Fit g es x) → option_and_then (λ x. applied g ops x) a ≡ Some t → blank g es t ≡ blank g es s
+blanked_on g es ops s t behind None first is = absurd cc
+blanked_on g es ops s t behind (Some x) first is = let now = first x refl in behind x now.1 is ∙ now.0
+
+-- Operations that write in these sectors alone do not change what blanking gives.
+pub applied_blanked : (g : Geometry) (es : List Sector) (ops : List Op) (s t : Content) → AllByRecursion (WritesIn g es) ops → Fit g es s → applied g ops s ≡ Some t → blank g es t ≡ blank g es s
+applied_blanked g es [] s t writes fits is = let same : s ≡ t = cc in ap (blank g es) (sym same)
+applied_blanked g es (op ∷ ops) s t writes fits is =
+    blanked_on g es ops s t (λ x f e. applied_blanked g es ops x t writes.1 f e) (apply g op s) (λ x e. op_blanked g es op s x writes.0 fits e) is
+
+-- From two contents that are alike when blanked, the same happens of a list that begins with the erases, and leaves the same.
+pub record SameRun (g : Geometry) (ops : List Op) (v u : Content) : Type 0 where
+  pub happens : happening g ops v ≡ happening g ops u
+  pub leaves : applied g (happening g ops v) v ≡ applied g (happening g ops u) u
+
+pub same_run : (g : Geometry) (es : List Sector) (ops : List Op) (v u : Content) → take (length es) ops ≡ map erase_of es → blank g es u ≡ blank g es v → SameRun g ops v u
+same_run g es ops v u first same = record {
+  happens = from v ∙ ap (λ (x : Content). take (length es) ops ++ happening g (drop (length es) ops) x) (sym same) ∙ sym (from u);
+  leaves = run v ∙ ap (λ (x : Content). applied g (happening g (drop (length es) ops) x) x) (sym same) ∙ sym (run u);
+}
+  where
+    front : (x : Content) → applied g (take (length es) ops) x ≡ Some (blank g es x)
+    front x = ap (λ (xs : List Op). applied g xs x) first ∙ erases_applied g es x
+
+    from : (x : Content) → happening g ops x ≡ take (length es) ops ++ happening g (drop (length es) ops) (blank g es x)
+    from x = happening_front g ops (length es) x (blank g es x) (front x)
+
+    run : (x : Content) → applied g (happening g ops x) x ≡ applied g (happening g (drop (length es) ops) (blank g es x)) (blank g es x)
+    run x =
+        ap (λ (xs : List Op). applied g xs x) (from x)
+        ∙ applied_behind g (take (length es) ops) (happening g (drop (length es) ops) (blank g es x)) x (blank g es x) (front x)
+
+-- ---- a boot with operations is no panic
+
+abbrev IsCalm : Plan → Type 0
+IsCalm p = 0 < length p.list → is_panic p.kind ≡ false
+
+idle_calm : (kind : SwapType) → IsCalm (nothing kind)
+idle_calm kind some = absurd (omega (arith, some))
+
+either_calm : (b : Bool) (p q : Plan) → IsCalm p → IsCalm q → IsCalm (if b then p else q)
+either_calm true p q one two = one
+either_calm false p q one two = two
+
+new_swap_calm : (c : Grain) (g : Geometry) (images : Images) (kind : SwapType) → is_panic kind ≡ false → IsCalm (new_swap c g images kind)
+new_swap_calm c g images kind calm =
+    let n = div_ceil images.size g.sector in
+    either_calm (not images.valid || nat_lt (greatest_sectors g) n) (nothing kinds.Fail) (record { kind = kind; sectors = n; list = new_list c (in_pieces c g) kind images.size n })
+    (idle_calm kinds.Fail) (λ _. calm)
+
+new_plan_calm : (c : Grain) (g : Geometry) (images : Images) (kind : SwapType) → IsCalm (new_plan c g images kind)
+new_plan_calm c g images kinds.None = idle_calm kinds.None
+new_plan_calm c g images kinds.Test = new_swap_calm c g images kinds.Test refl
+new_plan_calm c g images kinds.Perm = new_swap_calm c g images kinds.Perm refl
+new_plan_calm c g images kinds.Revert = new_swap_calm c g images kinds.Revert refl
+new_plan_calm c g images kinds.Fail = idle_calm kinds.Fail
+new_plan_calm c g images kinds.Panic = idle_calm kinds.Panic
+
+resumed_from_calm : (c : Grain) (g : Geometry) (image_ok : Flag) (highest : Option ℕ) (kind : SwapType) (n : ℕ) (first : Option ℕ) → is_panic kind ≡ false → IsCalm (resumed_from c g image_ok highest kind n first)
+resumed_from_calm c g image_ok highest kind n None calm = idle_calm kinds.Panic
+resumed_from_calm c g image_ok highest kind n (Some first) calm = λ _. calm
+
+resumed_swap_calm : (c : Grain) (g : Geometry) (image_ok : Flag) (highest : Option ℕ) (kind : SwapType) (n : ℕ) → is_panic kind ≡ false → IsCalm (resumed_swap c g image_ok highest kind n)
+resumed_swap_calm c g image_ok highest kind n calm =
+    either_calm (n == 0 || nat_lt (greatest_sectors g) n) (nothing kinds.Panic) (resumed_from c g image_ok highest kind n (first_left g n highest))
+    (idle_calm kinds.Panic) (resumed_from_calm c g image_ok highest kind n (first_left g n highest) calm)
+
+resumed_plan_calm : (c : Grain) (g : Geometry) (t : Trailer) (highest : Option ℕ) → IsCalm (resumed_plan c g t highest)
+resumed_plan_calm c g t highest =
+    let n = div_ceil t.swap_size g.sector in
+    let test : Plan = resumed_swap c g t.image_ok highest kinds.Test n in
+    let perm : Plan = resumed_swap c g t.image_ok highest kinds.Perm n in
+    let revert : Plan = resumed_swap c g t.image_ok highest kinds.Revert n in
+    either_calm (t.swap_info == 2) test (if t.swap_info == 3 then perm else if t.swap_info == 4 then revert else nothing kinds.None)
+    (resumed_swap_calm c g t.image_ok highest kinds.Test n refl)
+    (either_calm (t.swap_info == 3) perm (if t.swap_info == 4 then revert else nothing kinds.None)
+    (resumed_swap_calm c g t.image_ok highest kinds.Perm n refl)
+    (either_calm (t.swap_info == 4) revert (nothing kinds.None)
+    (resumed_swap_calm c g t.image_ok highest kinds.Revert n refl)
+    (idle_calm kinds.None)))
+
+pub plan_calm : (r : Rules) (g : Geometry) (s : Content) → 0 < length (plan r g s).list → is_panic (plan r g s).kind ≡ false
+unfolding plan plan_with
+plan_calm r g s =
+    either_calm (is_resumed g s) (resumed_plan r.grain g (trailer_of g s Primary) (highest_entry g s)) (new_plan r.grain g (images_of s) (table_of r.profile g s))
+    (resumed_plan_calm r.grain g (trailer_of g s Primary) (highest_entry g s))
+    (new_plan_calm r.grain g (images_of s) (table_of r.profile g s))
+
+-- ---- the lemma
+
+-- What the first boot had left when the list of the next one begins.
+meets : (r : Rules) (g : Geometry) (s u : Content) (c j : ℕ) (es : List Sector) → Joins r g s u c j es
+    → (v : Content) × (applied g (take j (plan r g s).list) s ≡ Some v) × SameRun g (plan r g u).list v u
+unfolding at ops_of
+meets r g s u c j es joins =
+    let cut : applied g (take c (happening g (plan r g s).list s)) s ≡ Some u = joins.cut in
+    let early = joins.early in
+    let passed = joins.passed in
+    let front : take c (happening g (plan r g s).list s) ≡ take j (plan r g s).list ++ take (c - j) (plan r g u).list =
+    happens_front g (plan r g s).list c s (omega (arith, early))
+    ∙ ap (λ (n : ℕ). take n (plan r g s).list) (omega (arith, passed))
+    ∙ take-add j (c - j) (plan r g s).list
+    ∙ ap (λ (xs : List Op). take j (plan r g s).list ++ take (c - j) xs) (sym joins.rest) in
+    let parts = applied_parts g (take j (plan r g s).list) (take (c - j) (plan r g u).list) s u (ap (λ (xs : List Op). applied g xs s) (sym front) ∙ cut) in
+    let fits : Fit g es parts.0 = fit_longer g es s parts.0 (applied_longer g (take j (plan r g s).list) s parts.0 parts.1) (fit_there g es s joins.sized joins.there) in
+    (parts.0, parts.1, same_run g es (plan r g u).list parts.0 u joins.erases (applied_blanked g es (take (c - j) (plan r g u).list) parts.0 u joins.inside fits parts.2))
+
+left_is : (r : Rules) (g : Geometry) (s : Content) → left_by r g s ≡ applied g (happening g (plan r g s).list s) s
+unfolding left_by at ops_of
+left_is r g s = ap (λ (xs : List Op). applied g xs s) (take-length (happening g (plan r g s).list s))
+
+same_fault : (n m a b j : ℕ) → n + j ≡ m → a + j ≡ b → nat_lt n a ≡ nat_lt m b
+same_fault n m a b j p q = grind (arith, nat_tests)
+
+calm_result : (k l : SwapType) (faulted boots : Bool) → is_panic k ≡ false → is_panic l ≡ false → result_of k faulted boots ≡ result_of l faulted boots
+calm_result k l faulted boots one two = rw (one, two) refl
+
+less_report : (r : Rules) (g : Geometry) (k l : SwapType) (n m j : ℕ) (faulted : Bool) (z : Content) → is_panic k ≡ false → is_panic l ≡ false → n + j ≡ m → report r g k n faulted z ≡ less k j (report r g l m faulted z)
+unfolding report
+less_report r g k l n m j faulted z one two count =
+    let here : BootResult → ℕ → Report = λ x i. record { result = x; kind = k; ops = i; primary = id_of z.primary; secondary = id_of z.secondary; next = (plan r g z).kind } in
+    ap (λ x. here x n) (calm_result k l faulted (is_valid z.primary) one two)
+    ∙ ap (λ i. here (result_of l faulted (is_valid z.primary)) i) (omega (arith, count))
+
+pub joined : (r : Rules) (g : Geometry) (s u : Content) (c j : ℕ) (es : List Sector) → Joins r g s u c j es → IsJoined r g s u j
+unfolding ops_of is_faulted outcome_of
+joined r g s u c j es joins = record { count = count; faulted = faulted; left = left; outcome = outcome }
+  where
+    met : (v : Content) × (applied g (take j (plan r g s).list) s ≡ Some v) × SameRun g (plan r g u).list v u
+    met = meets r g s u c j es joins
+
+    few : length (happening g (plan r g s).list s) ≤ length (plan r g s).list
+    few = happens_few g (plan r g s).list s
+
+    begins : length (take j (plan r g s).list) ≡ j
+    begins = length-take-le j (plan r g s).list (let a = joins.early in let b = joins.passed in omega (arith, a, b, few))
+
+    all : happening g (plan r g s).list s ≡ take j (plan r g s).list ++ happening g (plan r g u).list u
+    all =
+        happening_front g (plan r g s).list j s met.0 met.1
+        ∙ ap (λ (xs : List Op). take j (plan r g s).list ++ happening g xs met.0) (sym joins.rest)
+        ∙ ap (λ (xs : List Op). take j (plan r g s).list ++ xs) met.2.happens
+
+    count : length (happening g (plan r g u).list u) + j ≡ length (happening g (plan r g s).list s)
+    count = omega (arith, begins, ap (λ (xs : List Op). length xs) all, length-append (take j (plan r g s).list) (happening g (plan r g u).list u))
+
+    lists : length (plan r g u).list + j ≡ length (plan r g s).list
+    lists = let a = joins.early in let b = joins.passed in omega (arith, a, b, few, ap (λ (xs : List Op). length xs) joins.rest, length-drop j (plan r g s).list)
+
+    faulted : nat_lt (length (happening g (plan r g u).list u)) (length (plan r g u).list) ≡ nat_lt (length (happening g (plan r g s).list s)) (length (plan r g s).list)
+    faulted = same_fault (length (happening g (plan r g u).list u)) (length (happening g (plan r g s).list s)) (length (plan r g u).list) (length (plan r g s).list) j count lists
+
+    left : left_by r g u ≡ left_by r g s
+    left =
+        left_is r g u
+        ∙ sym met.2.leaves
+        ∙ ap (λ (xs : List Op). applied g xs met.0) met.2.happens
+        ∙ sym (applied_behind g (take j (plan r g s).list) (happening g (plan r g u).list u) s met.0 met.1)
+        ∙ ap (λ (xs : List Op). applied g xs s) (sym all)
+        ∙ sym (left_is r g s)
+
+    calm_s : is_panic (plan r g s).kind ≡ false
+    calm_s = plan_calm r g s (let a = joins.early in omega (arith, a, few))
+
+    calm_u : is_panic (plan r g u).kind ≡ false
+    calm_u = plan_calm r g u (let a = joins.early in let b = joins.passed in omega (arith, a, b, few, lists))
+
+    outcome : option_map (λ z. report r g (plan r g u).kind (length (happening g (plan r g u).list u)) (nat_lt (length (happening g (plan r g u).list u)) (length (plan r g u).list)) z) (left_by r g u)
+        ≡ option_map (less (plan r g u).kind j) (option_map (λ z. report r g (plan r g s).kind (length (happening g (plan r g s).list s)) (nat_lt (length (happening g (plan r g s).list s)) (length (plan r g s).list)) z) (left_by r g s))
+    outcome =
+        let z = left_defined r g s in
+        ap (option_map (λ z. report r g (plan r g u).kind (length (happening g (plan r g u).list u)) (nat_lt (length (happening g (plan r g u).list u)) (length (plan r g u).list)) z)) (left ∙ z.1)
+        ∙ ap (λ (b : Bool). Some (report r g (plan r g u).kind (length (happening g (plan r g u).list u)) b z.0)) faulted
+        ∙ ap (λ (o : Report). Some o) (less_report r g (plan r g u).kind (plan r g s).kind (length (happening g (plan r g u).list u)) (length (happening g (plan r g s).list s)) j (nat_lt (length (happening g (plan r g s).list s)) (length (plan r g s).list)) z.0 calm_u calm_s count)
+        ∙ ap (λ (x : Option Content). option_map (less (plan r g u).kind j) (option_map (λ z. report r g (plan r g s).kind (length (happening g (plan r g s).list s)) (nat_lt (length (happening g (plan r g s).list s)) (length (plan r g s).list)) z) x)) (sym z.1)

@@ -1,0 +1,12 @@
+use Rattle.std.proofs.Common.{ℕ, Some, sym, ap, ◌∙◌}
+use Rattle.mc_boot.specs.Outcome.{Report, shown}
+use Rattle.mc_boot.proofs.AfterCut.{outcome_follows}
+use Rattle.mc_boot.proofs.boot.outcome_after.Goals as goal
+
+pub returns-clause-outcome : goal.returns-clause-outcome
+returns-clause-outcome c r g s u is of start =
+    let whole : Report = shown c.args.whole.now in
+    let with_ops : ℕ → Report = λ n. record { result = whole.result; kind = c.args.next.now.kind; ops = n; primary = whole.primary; secondary = whole.secondary; next = whole.next } in
+    outcome_follows r g s u c.args.cut.now c.args.next.now c.in-Some.course c.in-Some-course.following whole c.in_ok-less.less is c.in-Some.is c.in-Some-course.is of start
+    c.in_ok-less.ensures.valid (sym c.in_ok-less.ensures.test)
+    ∙ ap (λ (n : ℕ). Some (with_ops n)) (sym c.saturating_sub.ensures)

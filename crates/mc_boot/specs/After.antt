@@ -1,0 +1,34 @@
+-- A boot that was cut, and what it would have done.
+use Rattle.std.specs.Prelude.{◌≡◌, ℕ, ◌<◌, ◌==◌, if◌then◌else◌, length, Option, Some, None, option_and_then}
+use Rattle.mc_flash.specs.Geometry.{Geometry}
+use Rattle.mc_flash.specs.Content.{Content, IsSized}
+use Rattle.mc_trailer.specs.declared.tables.Rules.{Rules}
+use Rattle.mc_boot.specs.declared.boot.Boot.{Boot}
+use Rattle.mc_boot.specs.declared.course.Course.{Course}
+use Rattle.mc_boot.specs.Boot.{all_of, progress, IsBootOf}
+use Rattle.mc_boot.specs.Joins.{joins_of}
+use Rattle.mc_boot.specs.Outcome.{Report, outcome_of}
+use Rattle.mc_boot.specs.Plan.{plan}
+use Rattle.mc_boot.specs.Run.{HasCome}
+use Rattle.mc_boot.specs.Runs.{ops_of}
+
+-- A boot of s has come to where its flash holds u, and not yet to its end; uncut it would end with that outcome. Of s no more
+-- is known than the length of its slots.
+pub record IsCut (r : Rules) (g : Geometry) (s u : Content) (b : Boot) (whole : Report) : Type 0 where
+  pub sized : IsSized g s
+  pub layout : IsBootOf g b
+  pub list : all_of b ≡ (plan r g s).list
+  pub come : HasCome r g s (progress b) u
+  pub early : b.done < length (ops_of r g s)
+  pub outcome : outcome_of r g s ≡ Some whole
+
+-- How many operations of a course that was cut after so many the next one does not make again. Before the first operation
+-- the next boot is the same boot, and makes all again.
+abbrev pub kept_by : Option Course → ℕ → Option Course → Option ℕ
+kept_by None done next = None
+kept_by (Some a) done next = if done == 0 then Some 0 else option_and_then (joins_of a done) next
+
+-- How many operations of a boot that was cut the next boot does not make again, where the outcome follows from the courses
+-- of the two. None elsewhere.
+abbrev pub operations_kept : Boot → Boot → Option ℕ
+operations_kept cut next = kept_by cut.course cut.done next.course

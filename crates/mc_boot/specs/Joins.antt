@@ -1,0 +1,63 @@
+-- Where a boot after a power cut goes on with the boot that was cut: a test on the courses of the two.
+use Rattle.std.specs.Prelude.{ℕ, ◌+◌, ◌-◌, ◌*◌, ◌/◌, ◌==◌, ◌&&◌, ◌||◌, not, nat_le, Bool, true, false, if◌then◌else◌, length, Option, Some, None}
+use Rattle.std.specs.Bool.{beq}
+use Rattle.mc_flash.specs.Geometry.{Geometry, trailer_sectors}
+use Rattle.mc_flash.specs.declared.flash.Grain.{Grain}
+use Rattle.mc_flash.specs.declared.flash.Grain.TheVariants as grains
+use Rattle.mc_trailer.specs.declared.tables.SwapType.{SwapType}
+use Rattle.mc_boot.specs.declared.course.Course.{Course}
+use Rattle.mc_boot.specs.declared.course.Opening.{Opening}
+use Rattle.mc_boot.specs.declared.course.Opening.TheVariants.{New, Resumed}
+use Rattle.mc_boot.specs.CourseList.{course_list}
+use Rattle.mc_boot.specs.Writes.{number_of, is_revert, preparation_writes, opening_writes}
+
+abbrev pub is_same_grain : Grain → Grain → Bool
+is_same_grain grains.Call grains.Call = true
+is_same_grain grains.Unit grains.Unit = true
+is_same_grain grains.Call grains.Unit = false
+is_same_grain grains.Unit grains.Call = false
+
+-- Two courses swap as many sectors, by one grain.
+abbrev pub is_same_swap : Course → Course → Bool
+is_same_swap a b = is_same_grain a.grain b.grain && a.sectors == b.sectors
+
+-- A course begins as a swap of that type and size.
+abbrev pub starts_as : Opening → SwapType → ℕ → Bool
+starts_as (New before whole) kind size = number_of before == number_of kind && whole == size
+starts_as (Resumed first erases image_ok) kind size = false
+
+-- A course that begins so comes to this transfer, or to the erases of the secondary's trailer before it, with this finish.
+-- After the last transfer, of 3 n, a finish with image-ok comes to one without.
+abbrev pub comes_to : ℕ → Opening → ℕ → Bool → Bool → Bool
+comes_to n (New kind size) first erases image_ok = (not erases || first == 0) && not image_ok
+comes_to n (Resumed start erased ok) first true image_ok = start == first && erased && beq ok image_ok
+comes_to n (Resumed start erased ok) first false image_ok =
+    nat_le start first && (beq ok image_ok || first == 3 * n && not image_ok)
+
+-- How many operations of a swap from its start write only in the trailer that it begins with erasing.
+abbrev pub opening_reach : Grain → Geometry → SwapType → ℕ → ℕ
+opening_reach c g kind size =
+    trailer_sectors g
+    + (if is_revert kind then length (preparation_writes c g size) else length (opening_writes c g kind size))
+
+-- How many operations of a course from a transfer on write only in the sectors that it begins with erasing: the secondary's
+-- trailer, where that is erased, and the sector that the transfer copies to. After the last transfer none is erased.
+abbrev pub transfer_reach : Geometry → ℕ → ℕ → Bool → ℕ
+transfer_reach g n first erases =
+    if first == 3 * n then 0 else (if erases then trailer_sectors g else 0) + (g.sector / g.chunk + 1)
+
+-- How many operations of the course a, which was cut after c, the course b does not make again, where b begins so. A swap
+-- from its start makes all again where a is the same swap and was cut in its opening. A swap that was cut goes on where a
+-- comes to its first transfer and was cut no further than the sectors that b begins with erasing. None elsewhere.
+abbrev pub joins_from : Course → ℕ → Course → Opening → Option ℕ
+joins_from a c b (New kind size) =
+    if is_same_swap a b && starts_as a.opening kind size && nat_le c (opening_reach b.grain b.layout kind size)
+    then Some 0 else None
+joins_from a c b (Resumed first erases image_ok) =
+    let less = length (course_list a) - length (course_list b) in
+    if is_same_swap a b && nat_le first (3 * b.sectors) && comes_to b.sectors a.opening first erases image_ok
+    && nat_le less c && nat_le c (less + transfer_reach b.layout b.sectors first erases)
+    then Some less else None
+
+abbrev pub joins_of : Course → ℕ → Course → Option ℕ
+joins_of a c b = joins_from a c b b.opening

@@ -1,0 +1,140 @@
+//! Where the boot after a power cut goes on with the boot that was cut.
+ghost use Rattle.std.specs.Prelude.{◌≡◌, ℕ, ◌≤◌};
+ghost use Rattle.mc_flash.specs.Geometry.{IsLayout, greatest_sectors};
+ghost use Rattle.mc_boot.specs.Joins.{is_same_swap, starts_as, comes_to, opening_reach, transfer_reach, joins_of};
+
+use crate::course::{Course, Opening};
+use crate::transfer::transfer_len;
+use crate::writes::{is_revert, opening_len, preparation_len};
+use mc_flash::{Grain, Layout};
+use mc_trailer::SwapType;
+
+/// Whether two courses swap as many sectors, by one grain.
+fn is_same_swap(a: &Course, b: &Course) -> bool
+    ensures { result ≡ is_same_swap a.now b.now }
+{
+    a.grain == b.grain && a.sectors == b.sectors
+}
+
+/// Whether a course begins as a swap of that type and size.
+fn starts_as(opening: Opening, kind: SwapType, size: u32) -> bool
+    ensures { result ≡ starts_as opening kind size }
+{
+    match opening {
+        Opening::New {
+            kind: before,
+            size: whole,
+        } => before == kind && whole == size,
+        Opening::Resumed { .. } => false,
+    }
+}
+
+/// Whether a course that begins so comes to that transfer, or to the erases before it, with that finish.
+fn comes_to(
+    layout: &Layout,
+    sectors: u32,
+    opening: Opening,
+    first: u32,
+    erases: bool,
+    image_ok: bool,
+) -> bool
+    requires { sectors ≤ greatest_sectors layout.now }
+    ensures { result ≡ comes_to sectors opening first erases image_ok }
+{
+    // Each number of a layout tells that it is one.
+    let _sector = layout.sector();
+    match opening {
+        Opening::New { .. } => (!erases || first == 0) && !image_ok,
+        Opening::Resumed {
+            first: start,
+            erases: erased,
+            image_ok: confirms,
+        } => {
+            if erases {
+                start == first && erased && confirms == image_ok
+            } else {
+                start <= first && (confirms == image_ok || first == 3 * sectors && !image_ok)
+            }
+        }
+    }
+}
+
+/// How many operations of a swap from its start write only in the trailer that it begins with erasing.
+fn opening_reach(layout: &Layout, grain: Grain, kind: SwapType) -> u32
+    ensures { (size : ℕ) → result ≡ opening_reach grain layout.now kind size }
+{
+    let count = layout.trailer_sectors();
+    if is_revert(kind) {
+        count + preparation_len(layout, grain)
+    } else {
+        count + opening_len(layout, grain, kind)
+    }
+}
+
+/// How many operations of a course from a transfer on write only in the sectors that it begins with erasing.
+fn transfer_reach(layout: &Layout, sectors: u32, first: u32, erases: bool) -> u32
+    requires { sectors ≤ greatest_sectors layout.now }
+    ensures reach { result ≡ transfer_reach layout.now sectors first erases }
+    ensures few { result ≤ 400000 }
+{
+    // The last operation of a transfer is its entry.
+    let copied = transfer_len(layout) - 1;
+    if first == 3 * sectors {
+        0
+    } else if erases {
+        layout.trailer_sectors() + copied
+    } else {
+        copied
+    }
+}
+
+/// By how many operations the course of the next boot is shorter than the course that was cut after so many, where the next
+/// boot goes on with it. None elsewhere.
+pub fn joins(cut: &Course, done: u32, next: &Course) -> Option<u32>
+    ensures test { result ≡ joins_of cut.now done next.now }
+    ensures valid { IsLayout next.now.layout }
+{
+    // Each number of a layout tells that it is one.
+    let _sector = next.layout.sector();
+    if !is_same_swap(cut, next) {
+        return None;
+    }
+    match next.opening {
+        Opening::New { kind, size } => {
+            if !starts_as(cut.opening, kind, size) {
+                return None;
+            }
+            let reach = opening_reach(&next.layout, next.grain, kind);
+            if done <= reach { Some(0) } else { None }
+        }
+        Opening::Resumed {
+            first,
+            erases,
+            image_ok,
+        } => {
+            if 3 * next.sectors < first {
+                return None;
+            }
+            if !comes_to(
+                &next.layout,
+                next.sectors,
+                cut.opening,
+                first,
+                erases,
+                image_ok,
+            ) {
+                return None;
+            }
+            let less = cut.len().saturating_sub(next.len());
+            if done < less {
+                return None;
+            }
+            let reach = transfer_reach(&next.layout, next.sectors, first, erases);
+            if done <= less + reach {
+                Some(less)
+            } else {
+                None
+            }
+        }
+    }
+}
