@@ -68,11 +68,14 @@ erase_apart g s t e es fits_s fits_t same = record {
     within : (i : ℕ) → i < g.sector → byte (erase_in g t e) e.slot (e.index * g.sector + i) ≡ byte (erase_in g s e) e.slot (e.index * g.sector + i)
     within i short = to.inside i (omega (arith, wide, short)) ∙ sym (from.inside i (omega (arith, wide, short)))
 
+    inner : (i k : ℕ) → e.index * g.sector + k ≡ i → k < g.sector → byte (erase_in g t e) e.slot i ≡ byte (erase_in g s e) e.slot i
+    inner i k at short = subst (λ (n : ℕ). byte (erase_in g t e) e.slot n ≡ byte (erase_in g s e) e.slot n) at (within k short)
+
     here : (i : ℕ) → IsOutside g es e.slot i → byte (erase_in g t e) e.slot i ≡ byte (erase_in g s e) e.slot i
     here i outside = elim (cases_lt i (e.index * g.sector)) [
       | inl low ↦ to.before i low ∙ beside e.slot i outside (λ _. inl low) ∙ sym (from.before i low)
       | inr high ↦ elim (cases_lt i (e.index * g.sector + g.sector)) [
-        | inl low ↦ (let at : e.index * g.sector + (i - e.index * g.sector) ≡ i = omega (arith, high) in subst (λ (k : ℕ). byte (erase_in g t e) e.slot k ≡ byte (erase_in g s e) e.slot k) at (within (i - e.index * g.sector) (omega (arith, low, high))))
+        | inl low ↦ inner i (i - e.index * g.sector) (omega (arith, high)) (omega (arith, low, high))
         | inr behind ↦ to.behind i (omega (arith, wide, behind)) ∙ beside e.slot i outside (λ _. inr behind) ∙ sym (from.behind i (omega (arith, wide, behind)))
       ]
     ]
@@ -92,8 +95,12 @@ same_content s t p q =
     ap (λ (xs : List ℕ). let x : Content = record { primary = xs; secondary = t.secondary } in x) p
     ∙ ap (λ (ys : List ℕ). let x : Content = record { primary = s.primary; secondary = ys } in x) q
 
+-- The sectors end in the content.
+abbrev pub Fit : Geometry → List Sector → Content → Type 0
+Fit g es s = AllByRecursion (λ e. e.index * g.sector + g.sector ≤ length (bytes_of s e.slot)) es
+
 -- Blanking leaves nothing of what they differ in.
-pub blank_same : (g : Geometry) (es : List Sector) (s t : Content) → AllByRecursion (λ e. e.index * g.sector + g.sector ≤ length (bytes_of s e.slot)) es → SameOutside g es s t → blank g es t ≡ blank g es s
+pub blank_same : (g : Geometry) (es : List Sector) (s t : Content) → Fit g es s → SameOutside g es s t → blank g es t ≡ blank g es s
 blank_same g [] s t fits same =
     same_content s t (same_bytes s t Primary (same.sizes Primary) (λ i. same.bytes Primary i (λ index no_. absurd no_)))
     (same_bytes s t Secondary (same.sizes Secondary) (λ i. same.bytes Secondary i (λ index no_. absurd no_)))
@@ -101,13 +108,9 @@ blank_same g (e ∷ es) s t fits same =
     blank_same g es (erase_in g s e) (erase_in g t e) (kept es fits.1)
     (erase_apart g s t e es fits.0 (omega (arith, fits.0, same.sizes e.slot)) same)
   where
-    kept : (es : List Sector) → AllByRecursion (λ e. e.index * g.sector + g.sector ≤ length (bytes_of s e.slot)) es → AllByRecursion (λ f. f.index * g.sector + g.sector ≤ length (bytes_of (erase_in g s e) f.slot)) es
+    kept : (es : List Sector) → Fit g es s → Fit g es (erase_in g s e)
     kept [] all = tt
     kept (f ∷ fs) all = (omega (arith, all.0, (erases g s e fits.0).sizes f.slot), kept fs all.1)
-
--- The sectors end in the content.
-abbrev pub Fit : Geometry → List Sector → Content → Type 0
-Fit g es s = AllByRecursion (λ e. e.index * g.sector + g.sector ≤ length (bytes_of s e.slot)) es
 
 pub fit_there : (g : Geometry) (es : List Sector) (s : Content) → IsSized g s → AreThere g es → Fit g es s
 fit_there g [] s sized there = tt
@@ -164,12 +167,14 @@ unfolding apply
 op_outside g es (Erase slot sector) s t writes fits is =
     let wide = length-replicate {A = ℕ} g.sector 255 in
     let inside : sector * g.sector + length {A = ℕ} (replicate g.sector 255) ≤ length (bytes_of s slot) = omega (arith, wide, writes.to, listed_fits g es s slot writes.index fits writes.listed) in
-    let made : Changed s (with_bytes s slot (put (bytes_of s slot) (sector * g.sector) (replicate g.sector 255))) slot (sector * g.sector) (replicate g.sector 255) = changed s slot (sector * g.sector) (replicate g.sector 255) inside in
+    let new : List ℕ = replicate g.sector 255 in
+    let made : Changed s (with_bytes s slot (put (bytes_of s slot) (sector * g.sector) new)) slot (sector * g.sector) new = changed s slot (sector * g.sector) new inside in
     let P : Content → Type 0 = λ x. SameOutside g es s x in
     subst P (one_content _ t is) (changed_outside g es s _ slot (sector * g.sector) (replicate g.sector 255) writes.index made writes.listed writes.from (omega (arith, wide, writes.to)))
 op_outside g es (Program slot at bytes) s t writes fits is = program_outside g es s t slot at bytes writes.index writes.listed fits writes.from writes.to is
 op_outside g es (Copy from at to offset len) s t writes fits is =
-    program_outside g es s t to offset (copied s from at len) writes.index writes.listed fits writes.from (omega (arith, short_copy s from at len, writes.to)) (sym (copy_is_program g s from to at offset len) ∙ is)
+    program_outside g es s t to offset (copied s from at len) writes.index writes.listed fits writes.from
+    (omega (arith, short_copy s from at len, writes.to)) (sym (copy_is_program g s from to at offset len) ∙ is)
 
 -- An operation that writes in these sectors alone does not change what blanking them gives.
 pub op_blanked : (g : Geometry) (es : List Sector) (op : Op) (s t : Content) → WritesIn g es op → Fit g es s → apply g op s ≡ Some t → (blank g es t ≡ blank g es s) × Fit g es t

@@ -1,4 +1,4 @@
--- Courses that go on within a transfer of another, or behind its last: their lists are rests of the other's.
+-- Courses that go on within a transfer of another, or after its last: their lists are rests of the other's.
 use Rattle.std.specs.Prelude.{◌≡◌, ℕ, zero, suc, ◌+◌, ◌-◌, ◌*◌, ◌/◌, ◌==◌, ◌<◌, ◌≤◌, ◌&&◌, ◌||◌, not, nat_le, Bool, true, false, if◌then◌else◌, List, [], ◌∷◌, ◌++◌, length, map, flat_map, take, drop, slice_get, Some, refl}
 use Rattle.std.specs.Bool.{beq}
 use Rattle.std.specs.List.{AllByRecursion, range_with_len}
@@ -54,8 +54,9 @@ pub all_mapped : {A : Type 0} (P : A → Type 0) (f : ℕ → A) (a n : ℕ) →
 all_mapped P f a zero each = tt
 all_mapped P f a (suc n) each = (each a (omega arith), all_mapped P f (a + 1) n (λ i h. each i (omega (arith, h))))
 
--- without its first k pieces, where all have one length
-drop_pieces : {A B : Type 0} (f : A → List B) (w : ℕ) → ((x : A) → length (f x) ≡ w) → (xs : List A) (ys : List B) (k : ℕ) → k ≤ length xs → drop (k * w) (flat_map f xs ++ ys) ≡ flat_map f (drop k xs) ++ ys
+-- Without its first k pieces, where all have one length.
+drop_pieces : {A B : Type 0} (f : A → List B) (w : ℕ) → ((x : A) → length (f x) ≡ w) → (xs : List A) (ys : List B) (k : ℕ) → k ≤ length xs
+    → drop (k * w) (flat_map f xs ++ ys) ≡ flat_map f (drop k xs) ++ ys
 drop_pieces f w even xs ys zero few = ap (λ n. drop n (flat_map f xs ++ ys)) (zero-mul w)
 drop_pieces f w even [] ys (suc k) few = absurd (omega (arith, few))
 drop_pieces f w even (x ∷ xs) ys (suc k) few =
@@ -64,7 +65,7 @@ drop_pieces f w even (x ∷ xs) ys (suc k) few =
     ∙ drop-append-add (f x) (flat_map f xs ++ ys) (k * w)
     ∙ drop_pieces f w even xs ys k (omega (arith, few))
 
--- behind a front
+-- What follows a prefix is a rest of the whole.
 behind_front : (front ops rest : List Op) → IsRestOf rest ops → IsRestOf rest (front ++ ops)
 behind_front front ops rest is = (length front + is.0, omega (arith, is.1, length-append front ops), is.2 ∙ sym (drop-append-add front ops is.0))
 
@@ -103,12 +104,14 @@ from_rest g n a b image_ok low high = (
     fits : (b - a) * (g.sector / g.chunk + 2) ≤ length (from_transfer g n a image_ok)
     fits = within ((b - a) * (g.sector / g.chunk + 2)) (length-drop ((b - a) * (g.sector / g.chunk + 2)) (from_transfer g n a image_ok)) (ap (λ (xs : List Op). length xs) is)
       where
-        within : (k : ℕ) → length (drop k (from_transfer g n a image_ok)) ≡ length (from_transfer g n a image_ok) - k → length (drop k (from_transfer g n a image_ok)) ≡ length (from_transfer g n b image_ok) → k ≤ length (from_transfer g n a image_ok)
+        within : (k : ℕ) → length (drop k (from_transfer g n a image_ok)) ≡ length (from_transfer g n a image_ok) - k
+            → length (drop k (from_transfer g n a image_ok)) ≡ length (from_transfer g n b image_ok) → k ≤ length (from_transfer g n a image_ok)
         within k p q = omega (arith, p, q, some)
 
 resumed_rest : (g : Geometry) (n start first : ℕ) (erases image_ok : Bool) → start ≤ first → first ≤ 3 * n → IsRestOf (from_transfer g n first image_ok) (resumed_list g n start erases image_ok)
 resumed_rest g n start first false image_ok low high = from_rest g n start first image_ok low high
-resumed_rest g n start first true image_ok low high = behind_front (trailer_erases g Secondary) (from_transfer g n start image_ok) (from_transfer g n first image_ok) (from_rest g n start first image_ok low high)
+resumed_rest g n start first true image_ok low high =
+    behind_front (trailer_erases g Secondary) (from_transfer g n start image_ok) (from_transfer g n first image_ok) (from_rest g n start first image_ok low high)
 
 swap_rest : (c : Grain) (g : Geometry) (kind : SwapType) (size n : ℕ) (rest : List Op) → IsRestOf rest (resumed_list g n 0 true false) → IsRestOf rest (swap_list c g kind size n)
 swap_rest c g kind size n rest is =
@@ -131,9 +134,11 @@ rest_of_rest xs ys zs one two = (
   one.2 ∙ ap (drop one.0) two.2 ∙ drop-drop one.0 two.0 zs,
 )
 
--- behind the last transfer the finish is left
+-- After the last transfer the finish is left.
 finish_alone : (g : Geometry) (n first : ℕ) (ok : Bool) → first ≡ 3 * n → from_transfer g n first ok ≡ closing g ok
-finish_alone g n first ok is = ap (λ (ts : List Transfer). flat_map (steps g) ts ++ closing g ok) (none (drop first (transfers g n)) (omega (arith, length-drop first (transfers g n), length-transfers g n, is)))
+finish_alone g n first ok is =
+    ap (λ (ts : List Transfer). flat_map (steps g) ts ++ closing g ok)
+    (none (drop first (transfers g n)) (omega (arith, length-drop first (transfers g n), length-transfers g n, is)))
   where
     none : (ts : List Transfer) → length ts ≡ 0 → ts ≡ []
     none [] e = refl
@@ -207,7 +212,8 @@ writes_target g t = (
 )
 
 -- A course at a transfer begins with its steps.
-at_transfer : (g : Geometry) (n first : ℕ) (image_ok : Bool) (t : Transfer) → slice_get (transfers g n) first ≡ Some t → (more : List Op) × (from_transfer g n first image_ok ≡ target_steps g t ++ more)
+at_transfer : (g : Geometry) (n first : ℕ) (image_ok : Bool) (t : Transfer) → slice_get (transfers g n) first ≡ Some t
+    → (more : List Op) × (from_transfer g n first image_ok ≡ target_steps g t ++ more)
 at_transfer g n first image_ok t here = (
   entry_of g t ∷ (flat_map (steps g) (drop (first + 1) (transfers g n)) ++ closing g image_ok),
   ap (λ (ts : List Transfer). flat_map (steps g) ts ++ closing g image_ok) (drop_at_place (transfers g n) first t here)
@@ -217,7 +223,8 @@ at_transfer g n first image_ok t here = (
       ),
 )
 
-transfer_begins : (g : Geometry) (n first : ℕ) (image_ok : Bool) (t : Transfer) → t.to_sector < sectors_of g t.to → slice_get (transfers g n) first ≡ Some t → BeginsIn g (from_transfer g n first image_ok) (target t ∷ []) (g.sector / g.chunk + 1)
+transfer_begins : (g : Geometry) (n first : ℕ) (image_ok : Bool) (t : Transfer) → t.to_sector < sectors_of g t.to → slice_get (transfers g n) first ≡ Some t
+    → BeginsIn g (from_transfer g n first image_ok) (target t ∷ []) (g.sector / g.chunk + 1)
 transfer_begins g n first image_ok t there here =
     let whole = at_transfer g n first image_ok t here in
     record {
@@ -225,7 +232,8 @@ transfer_begins g n first image_ok t there here =
       erases = ap (take 1) whole.1;
       inside =
           let P : List Op → Type 0 = λ ops. AllByRecursion (WritesIn g (target t ∷ [])) (take (g.sector / g.chunk + 1) ops) in
-          subst P (sym whole.1) (all_front (WritesIn g (target t ∷ [])) (target_steps g t) whole.0 (g.sector / g.chunk + 1) (omega (arith, length-map-range_with_len (copy_of g t) 0 (g.sector / g.chunk))) (writes_target g t));
+          let few = length-map-range_with_len (copy_of g t) 0 (g.sector / g.chunk) in
+          subst P (sym whole.1) (all_front (WritesIn g (target t ∷ [])) (target_steps g t) whole.0 (g.sector / g.chunk + 1) (omega (arith, few)) (writes_target g t));
     }
 
 -- The pieces of a layout play no part in where its operations write.
@@ -338,11 +346,13 @@ trailer_erased g slot = each (range_with_len 0 (trailer_sectors g))
     each [] = refl
     each (i ∷ is) = ap (λ (ops : List Op). trailer_erase g slot i ∷ ops) (each is)
 
-trailer_begins : (g : Geometry) (slot : Slot) (fs : List Sector) (rest : List Op) (reach : ℕ) → IsLayout g → BeginsIn g rest fs reach → BeginsIn g (trailer_erases g slot ++ rest) (trailer_of_slot g slot ++ fs) (trailer_sectors g + reach)
+trailer_begins : (g : Geometry) (slot : Slot) (fs : List Sector) (rest : List Op) (reach : ℕ) → IsLayout g → BeginsIn g rest fs reach
+    → BeginsIn g (trailer_erases g slot ++ rest) (trailer_of_slot g slot ++ fs) (trailer_sectors g + reach)
 trailer_begins g slot fs rest reach ok begins =
     let P : List Op → Type 0 = λ ops. BeginsIn g (ops ++ rest) (trailer_of_slot g slot ++ fs) (trailer_sectors g + reach) in
     let Q : ℕ → Type 0 = λ n. BeginsIn g (map erase_of (trailer_of_slot g slot) ++ rest) (trailer_of_slot g slot ++ fs) (n + reach) in
-    subst P (trailer_erased g slot) (subst Q (length-map-range_with_len (trailer_sector g slot) 0 (trailer_sectors g)) (erases_begin g (trailer_of_slot g slot) fs rest reach (trailer_there g slot ok) begins))
+    subst P (trailer_erased g slot) (subst Q (length-map-range_with_len (trailer_sector g slot) 0 (trailer_sectors g))
+    (erases_begin g (trailer_of_slot g slot) fs rest reach (trailer_there g slot ok) begins))
 
 -- A course from a transfer on begins with the erase of its target and copies into it, after the erases of the secondary's
 -- trailer where no entry was written. After the last transfer it begins with no erase.

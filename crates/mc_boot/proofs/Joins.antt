@@ -71,7 +71,7 @@ first_front : (g : Geometry) (op : Op) (ops : List Op) (c : ℕ) → ((t : Conte
 first_front g op ops c behind None below = absurd (omega (arith, below))
 first_front g op ops c behind (Some t) below = ap (λ (xs : List Op). op ∷ xs) (behind t (omega (arith, below)))
 
--- What happens of a list is a front of it.
+-- What happens of a list is a prefix of it.
 happens_front : (g : Geometry) (ops : List Op) (c : ℕ) (s : Content) → c ≤ length (happening g ops s) → take c (happening g ops s) ≡ take c ops
 happens_front g [] zero s below = refl
 happens_front g [] (suc c) s below = refl
@@ -109,7 +109,8 @@ erases_applied g [] s = refl
 erases_applied g (e ∷ es) s = erases_applied g es (erase_in g s e)
 
 longer_on : (g : Geometry) (ops : List Op) (s t : Content) → ((x : Content) → applied g ops x ≡ Some t → (o : Slot) → length (bytes_of x o) ≤ length (bytes_of t o))
-    → (a : Option Content) → ((x : Content) → a ≡ Some x → (o : Slot) → length (bytes_of s o) ≤ length (bytes_of x o)) → option_and_then (λ x. applied g ops x) a ≡ Some t → (o : Slot) → length (bytes_of s o) ≤ length (bytes_of t o)
+    → (a : Option Content) → ((x : Content) → a ≡ Some x → (o : Slot) → length (bytes_of s o) ≤ length (bytes_of x o)) → option_and_then (λ x. applied g ops x) a ≡ Some t
+    → (o : Slot) → length (bytes_of s o) ≤ length (bytes_of t o)
 longer_on g ops s t behind None first is = absurd cc
 longer_on g ops s t behind (Some x) first is = λ o. omega (arith, first x refl o, behind x is o)
 
@@ -176,7 +177,8 @@ new_plan_calm c g images kinds.Revert = new_swap_calm c g images kinds.Revert re
 new_plan_calm c g images kinds.Fail = idle_calm kinds.Fail
 new_plan_calm c g images kinds.Panic = idle_calm kinds.Panic
 
-resumed_from_calm : (c : Grain) (g : Geometry) (image_ok : Flag) (highest : Option ℕ) (kind : SwapType) (n : ℕ) (first : Option ℕ) → is_panic kind ≡ false → IsCalm (resumed_from c g image_ok highest kind n first)
+resumed_from_calm : (c : Grain) (g : Geometry) (image_ok : Flag) (highest : Option ℕ) (kind : SwapType) (n : ℕ) (first : Option ℕ) → is_panic kind ≡ false
+    → IsCalm (resumed_from c g image_ok highest kind n first)
 resumed_from_calm c g image_ok highest kind n None calm = idle_calm kinds.Panic
 resumed_from_calm c g image_ok highest kind n (Some first) calm = λ _. calm
 
@@ -235,13 +237,23 @@ same_fault n m a b j p q = grind (arith, nat_tests)
 calm_result : (k l : SwapType) (faulted boots : Bool) → is_panic k ≡ false → is_panic l ≡ false → result_of k faulted boots ≡ result_of l faulted boots
 calm_result k l faulted boots one two = rw (one, two) refl
 
-less_report : (r : Rules) (g : Geometry) (k l : SwapType) (n m j : ℕ) (faulted : Bool) (z : Content) → is_panic k ≡ false → is_panic l ≡ false → n + j ≡ m → report r g k n faulted z ≡ less k j (report r g l m faulted z)
+less_report : (r : Rules) (g : Geometry) (k l : SwapType) (n m j : ℕ) (faulted : Bool) (z : Content) → is_panic k ≡ false → is_panic l ≡ false → n + j ≡ m
+    → report r g k n faulted z ≡ less k j (report r g l m faulted z)
 unfolding report
 less_report r g k l n m j faulted z one two count =
     let here : BootResult → ℕ → Report = λ x i. record { result = x; kind = k; ops = i; primary = id_of z.primary; secondary = id_of z.secondary; next = (plan r g z).kind } in
     ap (λ x. here x n) (calm_result k l faulted (is_valid z.primary) one two)
     ∙ ap (λ i. here (result_of l faulted (is_valid z.primary)) i) (omega (arith, count))
 
+told_less : (r : Rules) (g : Geometry) (k l : SwapType) (n m j : ℕ) (f h : Bool) (a b : Option Content) (z : Content) → is_panic k ≡ false → is_panic l ≡ false → n + j ≡ m → f ≡ h → a ≡ b → b ≡ Some z
+    → option_map (λ x. report r g k n f x) a ≡ option_map (less k j) (option_map (λ x. report r g l m h x) b)
+told_less r g k l n m j f h a b z calm_k calm_l count faults same left =
+    ap (option_map (λ x. report r g k n f x)) (same ∙ left)
+    ∙ ap (λ (x : Bool). Some (report r g k n x z)) faults
+    ∙ ap (λ (o : Report). Some o) (less_report r g k l n m j h z calm_k calm_l count)
+    ∙ ap (λ (x : Option Content). option_map (less k j) (option_map (λ y. report r g l m h y) x)) (sym left)
+
+-- After a cut that joins, the next boot ends as the one that was cut would have.
 pub joined : (r : Rules) (g : Geometry) (s u : Content) (c j : ℕ) (es : List Sector) → Joins r g s u c j es → IsJoined r g s u j
 unfolding ops_of is_faulted outcome_of
 joined r g s u c j es joins = record { count = count; faulted = faulted; left = left; outcome = outcome }
@@ -285,11 +297,7 @@ joined r g s u c j es joins = record { count = count; faulted = faulted; left = 
     calm_u : is_panic (plan r g u).kind ≡ false
     calm_u = plan_calm r g u (let a = joins.early in let b = joins.passed in omega (arith, a, b, few, lists))
 
-    outcome : option_map (λ z. report r g (plan r g u).kind (length (happening g (plan r g u).list u)) (nat_lt (length (happening g (plan r g u).list u)) (length (plan r g u).list)) z) (left_by r g u)
-        ≡ option_map (less (plan r g u).kind j) (option_map (λ z. report r g (plan r g s).kind (length (happening g (plan r g s).list s)) (nat_lt (length (happening g (plan r g s).list s)) (length (plan r g s).list)) z) (left_by r g s))
+    outcome : outcome_of r g u ≡ option_map (less (plan r g u).kind j) (outcome_of r g s)
     outcome =
         let z = left_defined r g s in
-        ap (option_map (λ z. report r g (plan r g u).kind (length (happening g (plan r g u).list u)) (nat_lt (length (happening g (plan r g u).list u)) (length (plan r g u).list)) z)) (left ∙ z.1)
-        ∙ ap (λ (b : Bool). Some (report r g (plan r g u).kind (length (happening g (plan r g u).list u)) b z.0)) faulted
-        ∙ ap (λ (o : Report). Some o) (less_report r g (plan r g u).kind (plan r g s).kind (length (happening g (plan r g u).list u)) (length (happening g (plan r g s).list s)) j (nat_lt (length (happening g (plan r g s).list s)) (length (plan r g s).list)) z.0 calm_u calm_s count)
-        ∙ ap (λ (x : Option Content). option_map (less (plan r g u).kind j) (option_map (λ z. report r g (plan r g s).kind (length (happening g (plan r g s).list s)) (nat_lt (length (happening g (plan r g s).list s)) (length (plan r g s).list)) z) x)) (sym z.1)
+        told_less r g (plan r g u).kind (plan r g s).kind _ _ j _ _ (left_by r g u) (left_by r g s) z.0 calm_u calm_s count faulted left z.1

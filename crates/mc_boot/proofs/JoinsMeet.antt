@@ -73,5 +73,6 @@ from_opening g a b done j (Resumed first erases image_ok) at_b ok layout_a layou
     subst P found.1 (course_meets g a b first erases image_ok done less layout_a layout_b ok (same_grain a.grain b.grain swaps.0) (are_equal a.sectors b.sectors swaps.1)
     at_b (is_most first (3 * b.sectors) high.1) goes.1 refl (is_most less done low.1) (is_most done (less + reach) far.1))
 
-pub joins_meet : (g : Geometry) (a b : Course) (done j : ℕ) → IsLayout b.layout → a.layout ≡ in_pieces a.grain g → b.layout ≡ in_pieces b.grain g → joins_of a done b ≡ Some j → Meets g (course_list a) (course_list b) done j
+pub joins_meet : (g : Geometry) (a b : Course) (done j : ℕ) → IsLayout b.layout → a.layout ≡ in_pieces a.grain g → b.layout ≡ in_pieces b.grain g → joins_of a done b ≡ Some j
+    → Meets g (course_list a) (course_list b) done j
 joins_meet g a b done j ok layout_a layout_b is = from_opening g a b done j b.opening refl ok layout_a layout_b is

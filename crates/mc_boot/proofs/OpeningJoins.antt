@@ -51,7 +51,8 @@ in_last g slot f ok = go (sectors_of g slot) (let leaves = trailer_leaves_one g 
         let P : ℕ → Type 0 = λ k. (k * g.sector ≤ suc n * g.sector - before_end f) × (suc n * g.sector ≤ k * g.sector + g.sector) in
         subst P (sym one) (omega (arith, rows, wide, most_before_end f), omega (arith, rows))
 
-writes_part : (g : Geometry) (slot : Slot) (f : Field) (from : ℕ) (bytes : List ℕ) → IsLayout g → from + length bytes ≤ room f → WritesIn g (trailer_of_slot g slot) (Program slot (place g slot f + from) bytes)
+writes_part : (g : Geometry) (slot : Slot) (f : Field) (from : ℕ) (bytes : List ℕ) → IsLayout g → from + length bytes ≤ room f
+    → WritesIn g (trailer_of_slot g slot) (Program slot (place g slot f + from) bytes)
 writes_part g slot f from bytes ok short =
     let last = in_last g slot f ok in
     record {
@@ -102,7 +103,8 @@ first_only [] rest = refl
 first_only (e ∷ es) rest = ap (λ (ops : List Op). erase_of e ∷ ops) (first_only es rest)
 
 -- Erases of a trailer, then writes in it.
-trailer_opens : (g : Geometry) (slot : Slot) (writes rest : List Op) → IsLayout g → AllByRecursion (WritesIn g (trailer_of_slot g slot)) writes → BeginsIn g (trailer_erases g slot ++ (writes ++ rest)) (trailer_of_slot g slot) (trailer_sectors g + length writes)
+trailer_opens : (g : Geometry) (slot : Slot) (writes rest : List Op) → IsLayout g → AllByRecursion (WritesIn g (trailer_of_slot g slot)) writes
+    → BeginsIn g (trailer_erases g slot ++ (writes ++ rest)) (trailer_of_slot g slot) (trailer_sectors g + length writes)
 trailer_opens g slot writes rest ok all =
     let es : List Sector = trailer_of_slot g slot in
     let P : List Op → Type 0 = λ ops. BeginsIn g (ops ++ (writes ++ rest)) es (trailer_sectors g + length writes) in
@@ -117,7 +119,9 @@ trailer_opens g slot writes rest ok all =
 new_begins : (c : Grain) (g : Geometry) (kind : SwapType) (size n : ℕ) → IsLayout g → (es : List Sector) × BeginsIn g (new_list c g kind size n) es (opening_reach c g kind size)
 new_begins c g kind size n ok = by (is_revert kind)
   where
-    by : (b : Bool) → (es : List Sector) × BeginsIn g (if b then trailer_erases g Secondary ++ (preparation_writes c g size ++ swap_list c g kind size n) else swap_list c g kind size n) es (trailer_sectors g + (if b then length (preparation_writes c g size) else length (opening_writes c g kind size)))
+    by : (b : Bool) → (es : List Sector) × BeginsIn g
+        (if b then trailer_erases g Secondary ++ (preparation_writes c g size ++ swap_list c g kind size n) else swap_list c g kind size n) es
+        (trailer_sectors g + (if b then length (preparation_writes c g size) else length (opening_writes c g kind size)))
     by true = (trailer_of_slot g Secondary, trailer_opens g Secondary (preparation_writes c g size) (swap_list c g kind size n) ok (writes_preparation c g size ok))
     by false = (trailer_of_slot g Primary, trailer_opens g Primary (opening_writes c g kind size) (resumed_list g n 0 true false) ok (writes_opening c g kind size ok))
 

@@ -21,13 +21,13 @@ is_same_grain grains.Unit grains.Call = false
 abbrev pub is_same_swap : Course → Course → Bool
 is_same_swap a b = is_same_grain a.grain b.grain && a.sectors == b.sectors
 
--- A course begins as a swap of that type and size.
+-- A course begins as a swap of that type whose larger image has that size.
 abbrev pub starts_as : Opening → SwapType → ℕ → Bool
 starts_as (New before whole) kind size = number_of before == number_of kind && whole == size
 starts_as (Resumed first erases image_ok) kind size = false
 
--- A course that begins so comes to this transfer, or to the erases of the secondary's trailer before it, with this finish.
--- After the last transfer, of 3 n, a finish with image-ok comes to one without.
+-- A course of n sectors that begins so comes to this transfer, or to the erases of the secondary's trailer before it, with
+-- this finish. After the last of its 3 n transfers a finish with image-ok comes to one without.
 abbrev pub comes_to : ℕ → Opening → ℕ → Bool → Bool → Bool
 comes_to n (New kind size) first erases image_ok = (not erases || first == 0) && not image_ok
 comes_to n (Resumed start erased ok) first true image_ok = start == first && erased && beq ok image_ok
@@ -46,18 +46,18 @@ abbrev pub transfer_reach : Geometry → ℕ → ℕ → Bool → ℕ
 transfer_reach g n first erases =
     if first == 3 * n then 0 else (if erases then trailer_sectors g else 0) + (g.sector / g.chunk + 1)
 
--- How many operations of the course a, which was cut after c, the course b does not make again, where b begins so. A swap
--- from its start makes all again where a is the same swap and was cut in its opening. A swap that was cut goes on where a
--- comes to its first transfer and was cut no further than the sectors that b begins with erasing. None elsewhere.
+-- The course a was cut after c operations, and the course b of the next boot begins so: how many operations of a are not
+-- made again, where b goes on with a. A swap from its start goes on with the same swap that was cut in its opening: all are
+-- made again. A swap that was cut goes on where a comes to it, and what a made of it wrote only in sectors that b erases first.
 abbrev pub joins_from : Course → ℕ → Course → Opening → Option ℕ
 joins_from a c b (New kind size) =
     if is_same_swap a b && starts_as a.opening kind size && nat_le c (opening_reach b.grain b.layout kind size)
     then Some 0 else None
 joins_from a c b (Resumed first erases image_ok) =
-    let less = length (course_list a) - length (course_list b) in
+    let kept = length (course_list a) - length (course_list b) in
     if is_same_swap a b && nat_le first (3 * b.sectors) && comes_to b.sectors a.opening first erases image_ok
-    && nat_le less c && nat_le c (less + transfer_reach b.layout b.sectors first erases)
-    then Some less else None
+    && nat_le kept c && nat_le c (kept + transfer_reach b.layout b.sectors first erases)
+    then Some kept else None
 
 abbrev pub joins_of : Course → ℕ → Course → Option ℕ
 joins_of a c b = joins_from a c b b.opening

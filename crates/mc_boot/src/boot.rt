@@ -319,10 +319,10 @@ pub fn outcome_after(cut: &Boot, whole: &Outcome, next: &Boot) -> Option<Outcome
     let Some(following) = &next.course else {
         return None;
     };
-    let less = joins(course, cut.done, following)?;
+    let kept = joins(course, cut.done, following)?;
     let outcome = Outcome {
         kind: next.kind,
-        ops: whole.ops.saturating_sub(less),
+        ops: whole.ops.saturating_sub(kept),
         ..*whole
     };
     Some(outcome)

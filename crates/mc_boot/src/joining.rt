@@ -1,7 +1,8 @@
 //! Where the boot after a power cut goes on with the boot that was cut.
 ghost use Rattle.std.specs.Prelude.{◌≡◌, ℕ, ◌≤◌};
-ghost use Rattle.mc_flash.specs.Geometry.{IsLayout, greatest_sectors};
-ghost use Rattle.mc_boot.specs.Joins.{is_same_swap, starts_as, comes_to, opening_reach, transfer_reach, joins_of};
+ghost use Rattle.mc_flash.specs.Geometry.{IsLayout};
+ghost use Rattle.mc_boot.specs.Joins.{is_same_swap, starts_as, comes_to, opening_reach, transfer_reach, joins_from, joins_of};
+ghost use Rattle.mc_boot.specs.declared.course.Opening.TheVariants.{New, Resumed};
 
 use crate::course::{Course, Opening};
 use crate::transfer::transfer_len;
@@ -16,7 +17,7 @@ fn is_same_swap(a: &Course, b: &Course) -> bool
     a.grain == b.grain && a.sectors == b.sectors
 }
 
-/// Whether a course begins as a swap of that type and size.
+/// Whether a course begins as a swap of that type whose larger image has that size.
 fn starts_as(opening: Opening, kind: SwapType, size: u32) -> bool
     ensures { result ≡ starts_as opening kind size }
 {
@@ -29,20 +30,12 @@ fn starts_as(opening: Opening, kind: SwapType, size: u32) -> bool
     }
 }
 
-/// Whether a course that begins so comes to that transfer, or to the erases before it, with that finish.
-fn comes_to(
-    layout: &Layout,
-    sectors: u32,
-    opening: Opening,
-    first: u32,
-    erases: bool,
-    image_ok: bool,
-) -> bool
-    requires { sectors ≤ greatest_sectors layout.now }
-    ensures { result ≡ comes_to sectors opening first erases image_ok }
+/// Whether a course that begins so comes to that transfer of the next course, or to the erases before it, with that finish.
+fn comes_to(opening: Opening, next: &Course, first: u32, erases: bool, image_ok: bool) -> bool
+    ensures { result ≡ comes_to next.now.sectors opening first erases image_ok }
 {
     // Each number of a layout tells that it is one.
-    let _sector = layout.sector();
+    let _sector = next.layout.sector();
     match opening {
         Opening::New { .. } => (!erases || first == 0) && !image_ok,
         Opening::Resumed {
@@ -53,7 +46,8 @@ fn comes_to(
             if erases {
                 start == first && erased && confirms == image_ok
             } else {
-                start <= first && (confirms == image_ok || first == 3 * sectors && !image_ok)
+                let last = first == 3 * next.sectors;
+                start <= first && (confirms == image_ok || last && !image_ok)
             }
         }
     }
@@ -72,69 +66,83 @@ fn opening_reach(layout: &Layout, grain: Grain, kind: SwapType) -> u32
 }
 
 /// How many operations of a course from a transfer on write only in the sectors that it begins with erasing.
-fn transfer_reach(layout: &Layout, sectors: u32, first: u32, erases: bool) -> u32
-    requires { sectors ≤ greatest_sectors layout.now }
-    ensures reach { result ≡ transfer_reach layout.now sectors first erases }
+fn transfer_reach(course: &Course, first: u32, erases: bool) -> u32
+    ensures reach { result ≡ transfer_reach course.now.layout course.now.sectors first erases }
     ensures few { result ≤ 400000 }
 {
     // The last operation of a transfer is its entry.
-    let copied = transfer_len(layout) - 1;
-    if first == 3 * sectors {
+    let copied = transfer_len(&course.layout) - 1;
+    if first == 3 * course.sectors {
         0
     } else if erases {
-        layout.trailer_sectors() + copied
+        course.layout.trailer_sectors() + copied
     } else {
         copied
     }
 }
 
-/// By how many operations the course of the next boot is shorter than the course that was cut after so many, where the next
-/// boot goes on with it. None elsewhere.
-pub fn joins(cut: &Course, done: u32, next: &Course) -> Option<u32>
-    ensures test { result ≡ joins_of cut.now done next.now }
-    ensures valid { IsLayout next.now.layout }
+/// `joins` where the next course is a swap from its start.
+fn begins_anew(cut: &Course, done: u32, next: &Course, kind: SwapType, size: u32) -> Option<u32>
+    ensures { result ≡ joins_from cut.now done next.now (New kind size) }
+{
+    if !is_same_swap(cut, next) {
+        return None;
+    }
+    if !starts_as(cut.opening, kind, size) {
+        return None;
+    }
+    let reach = opening_reach(&next.layout, next.grain, kind);
+    if done <= reach { Some(0) } else { None }
+}
+
+/// `joins` where the next course is a swap that was cut.
+fn goes_on(
+    cut: &Course,
+    done: u32,
+    next: &Course,
+    first: u32,
+    erases: bool,
+    image_ok: bool,
+) -> Option<u32>
+    ensures { result ≡ joins_from cut.now done next.now (Resumed first erases image_ok) }
 {
     // Each number of a layout tells that it is one.
     let _sector = next.layout.sector();
     if !is_same_swap(cut, next) {
         return None;
     }
+    if 3 * next.sectors < first {
+        return None;
+    }
+    if !comes_to(cut.opening, next, first, erases, image_ok) {
+        return None;
+    }
+    let kept = cut.len().saturating_sub(next.len());
+    if done < kept {
+        return None;
+    }
+    let reach = transfer_reach(next, first, erases);
+    if done <= kept + reach {
+        Some(kept)
+    } else {
+        None
+    }
+}
+
+/// How many operations of a course that was cut after so many the next one does not make again, where it goes on with it.
+/// None elsewhere.
+pub fn joins(cut: &Course, done: u32, next: &Course) -> Option<u32>
+    ensures test { result ≡ joins_of cut.now done next.now }
+    ensures valid { IsLayout next.now.layout }
+{
+    // Each number of a layout tells that it is one.
+    let _sector = next.layout.sector();
     match next.opening {
-        Opening::New { kind, size } => {
-            if !starts_as(cut.opening, kind, size) {
-                return None;
-            }
-            let reach = opening_reach(&next.layout, next.grain, kind);
-            if done <= reach { Some(0) } else { None }
-        }
+        Opening::New { kind, size } => begins_anew(cut, done, next, kind, size),
         Opening::Resumed {
             first,
             erases,
             image_ok,
-        } => {
-            if 3 * next.sectors < first {
-                return None;
-            }
-            if !comes_to(
-                &next.layout,
-                next.sectors,
-                cut.opening,
-                first,
-                erases,
-                image_ok,
-            ) {
-                return None;
-            }
-            let less = cut.len().saturating_sub(next.len());
-            if done < less {
-                return None;
-            }
-            let reach = transfer_reach(&next.layout, next.sectors, first, erases);
-            if done <= less + reach {
-                Some(less)
-            } else {
-                None
-            }
-        }
+        } => goes_on(cut, done, next, first, erases, image_ok),
     }
 }

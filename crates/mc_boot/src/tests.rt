@@ -40,20 +40,30 @@ fn flash_of(alloc: Global, primary: &[u8; 1024], secondary: &[u8; 768]) -> Resul
     Ok(SnapFlash::load(alloc, &layout, Grain::Call, primary, secondary, 1)?)
 }
 
-/// A in the primary, B in the secondary, its magic and this image-ok: a swap is asked for.
-fn asking_flash(alloc: Global, image_ok: u8) -> Result<SnapFlash, Fail> {
+/// A in the primary and nothing else.
+fn image_alone() -> [u8; 1024] {
     let mut primary = [0xff; 1024];
     primary[..80].copy_from_slice(&A);
+    primary
+}
+
+/// B in the secondary, its magic and this image-ok: a swap is asked for.
+fn asking(image_ok: u8) -> [u8; 768] {
     let mut secondary = [0xff; 768];
     secondary[..80].copy_from_slice(&B);
     secondary[744] = image_ok;
     secondary[752..].copy_from_slice(&MAGIC);
-    flash_of(alloc, &primary, &secondary)
+    secondary
 }
 
-/// The swap for a test is asked for.
+/// The two images, and the swap for good is asked for.
+fn perm_flash(alloc: Global) -> Result<SnapFlash, Fail> {
+    flash_of(alloc, &image_alone(), &asking(1))
+}
+
+/// The two images, and the swap for a test is asked for.
 fn test_flash(alloc: Global) -> Result<SnapFlash, Fail> {
-    asking_flash(alloc, 0xff)
+    flash_of(alloc, &image_alone(), &asking(0xff))
 }
 
 /// 0xff but for the primary's magic, this swap-size, and single bytes of the primary by their places.

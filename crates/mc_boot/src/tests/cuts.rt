@@ -76,7 +76,7 @@ fn cuts_of_calls(rt: HostRuntime) -> Result<(), Fail> {
         (17, Some(5)),
         (18, Some(1)),
     ];
-    // From its preparation to the erase of the secondary's trailer a revert is followed by a swap for good.
+    // A revert that was cut between its preparation and the erase of the secondary's trailer is followed by a swap for good.
     let revert = [
         (4, Some(23)),
         (10, None),
@@ -97,7 +97,7 @@ fn cuts_of_calls(rt: HostRuntime) -> Result<(), Fail> {
         compare(&rt, &mut flash, rules, &test)?;
         let _ = told(&mut flash, rules);
         compare(&rt, &mut flash, rules, &revert)?;
-        let mut flash = asking_flash(rt.alloc(), 1)?;
+        let mut flash = perm_flash(rt.alloc())?;
         compare(&rt, &mut flash, rules, &perm)?;
         // Then nothing is swapped, and there is no cut.
         let _ = told(&mut flash, rules);
@@ -122,7 +122,7 @@ fn cuts_of_units(rt: HostRuntime) -> Result<(), Fail> {
         (109, Some(35)),
         (110, Some(1)),
     ];
-    // After a half of the secondary's magic the first profile swaps nothing.
+    // After one half of the secondary's magic the first profile swaps nothing.
     for (rules, prepared) in [(UNIT_ONE, 4), (UNIT_TWO, 5)] {
         let mut flash = test_flash(rt.alloc())?;
         compare(&rt, &mut flash, rules, &test)?;
@@ -136,7 +136,7 @@ fn cuts_of_units(rt: HostRuntime) -> Result<(), Fail> {
             (115, Some(1)),
         ];
         compare(&rt, &mut flash, rules, &revert)?;
-        let mut flash = asking_flash(rt.alloc(), 1)?;
+        let mut flash = perm_flash(rt.alloc())?;
         compare(&rt, &mut flash, rules, &perm)?;
     }
     Ok(())
@@ -260,6 +260,30 @@ fn cuts_of_trailers_of_two_sectors(rt: HostRuntime) -> Result<(), Fail> {
     Ok(())
 }
 
+/// The primary begins with an image but for its last entry, of which the swap-size makes an empty one. It is too large then.
+#[test]
+fn cuts_where_the_size_ends_an_image(rt: HostRuntime) -> Result<(), Fail> {
+    let mut primary = image_alone();
+    // The area's length, and an entry up to the swap-size.
+    primary[42] = 0xac;
+    primary[43] = 0x03;
+    primary[80] = 0xa0;
+    primary[81] = 0x00;
+    primary[82] = 0x7c;
+    primary[83] = 0x03;
+    let mut flash = flash_of(rt.alloc(), &primary, &asking(0xff))?;
+    let rows = [
+        (3, Some(18)),
+        (5, None),
+        (9, Some(14)),
+        (13, Some(9)),
+        (17, Some(5)),
+        (18, Some(1)),
+    ];
+    compare(&rt, &mut flash, CALL_ONE, &rows)?;
+    Ok(())
+}
+
 /// Whether an outcome is told of the second flash's boot, as though it came after a cut of the first one's.
 fn goes_on(
     first: &mut SnapFlash,
@@ -288,7 +312,7 @@ fn boots_that_begin_otherwise(rt: HostRuntime) -> Result<(), Fail> {
         !goes_on(&mut test, 5, &same, CALL_ONE)?,
         "past its opening"
     );
-    let perm = asking_flash(alloc, 1)?;
+    let perm = perm_flash(alloc)?;
     assert!(rt; !goes_on(&mut test, 3, &perm, CALL_ONE)?, "another type");
     let erased = flash_of(alloc, &[0xff; 1024], &[0xff; 768])?;
     assert!(rt; !goes_on(&mut test, 3, &erased, CALL_ONE)?, "no operations");
