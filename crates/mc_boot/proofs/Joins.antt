@@ -46,7 +46,7 @@ pub record Joins (r : Rules) (g : Geometry) (s u : Content) (c j : ℕ) (es : Li
   pub erases : take (length es) (plan r g u).list ≡ map erase_of es
   pub inside : AllByRecursion (WritesIn g es) (take (c - j) (plan r g u).list)
 
--- The report of a boot of that type which makes j operations less.
+-- The report of a boot of that type that makes j operations fewer.
 abbrev pub less : SwapType → ℕ → Report → Report
 less kind j o = record {
   result = o.result;
@@ -57,7 +57,7 @@ less kind j o = record {
   next = o.next;
 }
 
--- The next boot ends as the one that was cut would have, with j operations less.
+-- The next boot ends as the one that was cut would have, with j operations fewer.
 pub record IsJoined (r : Rules) (g : Geometry) (s u : Content) (j : ℕ) : Type 0 where
   pub count : length (ops_of r g u) + j ≡ length (ops_of r g s)
   pub faulted : is_faulted r g u ≡ is_faulted r g s

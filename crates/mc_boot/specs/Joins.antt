@@ -38,24 +38,28 @@ comes_to n (Resumed start erased ok) first false image_ok =
 abbrev pub opening_reach : Grain → Geometry → SwapType → ℕ → ℕ
 opening_reach c g kind size =
     trailer_sectors g
-    + (if is_revert kind then length (preparation_writes c g size) else length (opening_writes c g kind size))
+    + (if is_revert kind then length (preparation_writes c g size)
+    else length (opening_writes c g kind size))
 
 -- How many operations of a course from a transfer on write only in the sectors that it begins with erasing: the secondary's
 -- trailer, where that is erased, and the sector that the transfer copies to. After the last transfer none is erased.
 abbrev pub transfer_reach : Geometry → ℕ → ℕ → Bool → ℕ
 transfer_reach g n first erases =
-    if first == 3 * n then 0 else (if erases then trailer_sectors g else 0) + (g.sector / g.chunk + 1)
+    if first == 3 * n then 0
+    else (if erases then trailer_sectors g else 0) + (g.sector / g.chunk + 1)
 
 -- The course a was cut after c operations, and the course b of the next boot begins so: how many operations of a are not
 -- made again, where b goes on with a. A swap from its start goes on with the same swap that was cut in its opening: all are
 -- made again. A swap that was cut goes on where a comes to it, and what a made of it wrote only in sectors that b erases first.
 abbrev pub joins_from : Course → ℕ → Course → Opening → Option ℕ
 joins_from a c b (New kind size) =
-    if is_same_swap a b && starts_as a.opening kind size && nat_le c (opening_reach b.grain b.layout kind size)
+    if is_same_swap a b && starts_as a.opening kind size
+    && nat_le c (opening_reach b.grain b.layout kind size)
     then Some 0 else None
 joins_from a c b (Resumed first erases image_ok) =
     let kept = length (course_list a) - length (course_list b) in
-    if is_same_swap a b && nat_le first (3 * b.sectors) && comes_to b.sectors a.opening first erases image_ok
+    if is_same_swap a b && nat_le first (3 * b.sectors)
+    && comes_to b.sectors a.opening first erases image_ok
     && nat_le kept c && nat_le c (kept + transfer_reach b.layout b.sectors first erases)
     then Some kept else None
 

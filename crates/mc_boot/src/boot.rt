@@ -199,7 +199,8 @@ impl Boot {
         ensures progress { progress result
             ≡ begun rules (plan rules (F.geometry flash.now) (F.content flash.now)) }
         ensures layout { IsBootOf (F.geometry flash.now) result }
-        ensures whole { all_of result ≡ (plan rules (F.geometry flash.now) (F.content flash.now)).list }
+        ensures whole { all_of result
+            ≡ (plan rules (F.geometry flash.now) (F.content flash.now)).list }
         ensures come { HasCome rules (F.geometry flash.now) (F.content flash.now)
             (progress result) (F.content flash.now) }
         // It has few operations, and what their erases save is little.
@@ -303,10 +304,12 @@ impl Boot {
 ///
 /// `cut` is the boot at the cut, `whole` its outcome without the cut, and `next` the boot at power-on after it. There is an
 /// outcome where the next boot goes on within a transfer of the one that was cut or after the last one, where it begins the
-/// same swap again, and where the cut is before the first operation. Elsewhere there is none: run the boot. No flash is read.
+/// same swap again, and where the cut is before the first operation. Elsewhere there is none, and the boot has to be run. The
+/// two boots are compared in constant time, and no flash is read.
 pub fn outcome_after(cut: &Boot, whole: &Outcome, next: &Boot) -> Option<Outcome>
     ensures found { IsSome result ↔ IsSome (operations_kept cut.now next.now) }
-    ensures outcome { (r : Rules) (g : Geometry) (s u : Content) → IsCut r g s u cut.now (shown whole.now)
+    ensures outcome { (r : Rules) (g : Geometry) (s u : Content)
+        → IsCut r g s u cut.now (shown whole.now)
         → IsBootOf g next.now → progress next.now ≡ begun r (plan r g u)
         → IfSome result (λ outcome. outcome_of r g u ≡ Some (shown outcome)) }
 {

@@ -7,7 +7,7 @@ mod cuts;
 use super::*;
 use mc_flash::{Bytes16, Flash, FlashError, Grain, Layout, Op, Slot, SnapFlash};
 use mc_image::Version;
-use mc_trailer::{MAGIC, Profile, Rules, SwapType};
+use mc_trailer::{MAGIC, Rules, SwapType};
 use std::alloc::Global;
 use std::test::Fail;
 
@@ -147,16 +147,6 @@ fn told<F: Flash>(flash: &mut F, rules: Rules) -> Outcome
     boot.outcome(flash)
 }
 
-/// How many operations the boot has that follows a cut. The flash is as it was then.
-fn ops_after<F: Flash>(flash: &mut F, cut: u32) -> Result<u32, FlashError> {
-    let place = flash.mark()?;
-    let mut boot = Boot::cold(flash, Rules::PLAIN);
-    run(flash, &mut boot, cut);
-    let ops = told(flash, Rules::PLAIN).ops;
-    flash.back_to(place);
-    Ok(ops)
-}
-
 /// Whether these are the operations of the boot, one after the other.
 fn makes<F: Flash>(flash: &mut F, boot: &mut Boot, ops: &[Op]) -> bool
     requires { IsBootOf (F.geometry flash.old) boot.old }
@@ -214,15 +204,6 @@ fn a_swap_for_a_test(rt: HostRuntime) -> Result<(), Fail> {
 }
 
 #[test]
-fn after_a_cut(rt: HostRuntime) -> Result<(), Fail> {
-    let mut flash = test_flash(rt.alloc())?;
-    for (cut, ops) in [(4, 18), (5, 14), (8, 14), (9, 9), (13, 5), (17, 1)] {
-        assert_eq!(rt; ops_after(&mut flash, cut)?, ops, "after {cut}");
-    }
-    Ok(())
-}
-
-#[test]
 fn a_revert(rt: HostRuntime) -> Result<(), Fail> {
     let mut flash = test_flash(rt.alloc())?;
     let _ = told(&mut flash, Rules::PLAIN);
@@ -231,18 +212,6 @@ fn a_revert(rt: HostRuntime) -> Result<(), Fail> {
     assert_eq!(rt; outcome.primary, Some(id_of(&A, 1)));
     assert_eq!(rt; outcome.secondary, Some(id_of(&B, 2)));
     assert_eq!(rt; outcome.next, SwapType::None);
-    Ok(())
-}
-
-#[test]
-fn by_units(rt: HostRuntime) -> Result<(), Fail> {
-    let mut flash = test_flash(rt.alloc())?;
-    let rules = Rules {
-        grain: Grain::Unit,
-        profile: Profile::One,
-    };
-    assert_eq!(rt; told(&mut flash, rules).ops, 109);
-    assert_eq!(rt; told(&mut flash, rules).ops, 115);
     Ok(())
 }
 

@@ -2,6 +2,7 @@
 ghost use Rattle.std.specs.Prelude.{◌≡◌};
 
 use super::*;
+use mc_trailer::Profile;
 use std::process::Abort;
 
 const CALL_ONE: Rules = Rules::PLAIN;
