@@ -55,6 +55,17 @@ past_on AtStart l m p q = tt
 past_on (After last) l m p q = precedes_trans last l m p q
 past_on Lost l m p q = p
 
+-- What is to come after the first of them are the others.
+pub rest_tail : (state : State) (row : Told) (rows : List Told) → IsRest state (row ∷ rows) → IsRest (moved_to state row.schedule) rows
+rest_tail state row rows r = record {
+  ascends = r.ascends.1;
+  only = λ m i. let c = r.only m (inr i) in record { listed = c.listed; past = r.ascends.0 m i; outcome = c.outcome };
+  all = λ m c. elim (r.all m (record { listed = c.listed; past = past_on state.position row.schedule m.schedule (r.only row (inl refl)).past c.past; outcome = c.outcome })) [
+    | inl f ↦ absurd (never_itself row.schedule (subst (λ (z : Told). Precedes row.schedule z.schedule) f c.past))
+    | inr i ↦ i
+  ];
+}
+
 -- The next row is the first of them.
 pub rest_next : (state : State) (row : Told) (rows : List Told) → IsNext state row.schedule → HasOutcome state.start row → IsRest state rows → (rest : List Told) × (rows ≡ row ∷ rest) × IsRest (moved_to state row.schedule) rest
 rest_next state row [] n o r = absurd (r.all row (record { listed = n.listed; past = n.past; outcome = o }))

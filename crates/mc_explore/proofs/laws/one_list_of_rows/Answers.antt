@@ -1,4 +1,4 @@
-use Rattle.mc_explore.proofs.Ascending.{one_rest}
+use Rattle.mc_explore.proofs.Ascending.{one_rest, rest_tail}
 use Rattle.mc_explore.proofs.Existence.{some_rest}
 use Rattle.mc_explore.proofs.laws.one_list_of_rows.Goals as goal
 
@@ -7,3 +7,6 @@ returns-clause-some c = some_rest
 
 pub returns-clause-only : goal.returns-clause-only
 returns-clause-only c = one_rest
+
+pub returns-clause-tail : goal.returns-clause-tail
+returns-clause-tail c = rest_tail
