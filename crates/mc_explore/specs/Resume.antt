@@ -1,5 +1,5 @@
 -- Where a cursor serves to go on, and the first reason why it does not.
-use Rattle.std.specs.Prelude.{◌≡◌, ◌≢◌, ℕ, List, [], ◌∷◌, false, Result, Ok, Err, ⊤}
+use Rattle.std.specs.Prelude.{◌≡◌, ◌≢◌, ℕ, List, [], ◌∷◌, false, Result, Ok, Err}
 use Rattle.mc_flash.specs.Geometry.{Geometry}
 use Rattle.mc_flash.specs.Content.{Content}
 use Rattle.mc_flash.specs.Ledger.{Ledger, Spot}
@@ -20,14 +20,14 @@ pub record Names (start : Begun) (bound : ℕ) (c : Cursor) : Type 0 where
   pub bound_is : c.bound ≡ bound
 
 -- Why a cursor is refused: another start; else other rules; else another bound; else its schedule is none of those to go
--- through. Besides, memory can run out.
+-- through. Memory is wanted only for a cursor that names start, rules and bound.
 abbrev pub Refuses : Begun → ℕ → Cursor → ExploreError → Type 0
 Refuses start bound c errors.OtherStart = c.digest ≢ start_digest start
 Refuses start bound c errors.OtherRules = (c.digest ≡ start_digest start) × (c.rules ≢ start.rules)
 Refuses start bound c errors.OtherBound = (c.digest ≡ start_digest start) × (c.rules ≡ start.rules) × (c.bound ≢ bound)
 Refuses start bound c errors.CannotOccur =
     Names start bound c × (IsMember start.rules start.geometry start.content bound c.schedule → ⊥)
-Refuses start bound c errors.Memory = ⊤
+Refuses start bound c errors.Memory = Names start bound c
 Refuses start bound c errors.Failed = ⊥
 Refuses start bound c errors.Write = ⊥
 

@@ -1,5 +1,5 @@
 -- The starts of an exploration: from two images, or from the bytes of both slots.
-use Rattle.std.specs.Prelude.{◌≡◌, ℕ, ◌+◌, ◌&&◌, if◌then◌else◌, List, [], ◌∷◌, ◌++◌, length, take, drop, Option, Some, None, Result, Ok, Err, ⊤, ◌==◌}
+use Rattle.std.specs.Prelude.{◌≡◌, ℕ, ◌+◌, ◌&&◌, if◌then◌else◌, List, [], ◌∷◌, ◌++◌, length, take, drop, Option, Some, None, Result, Ok, Err, IsOk, ◌==◌}
 use Rattle.sha2.specs.Sha256.{sha256}
 use Rattle.mc_image.specs.Valid.{Identity, id_of, image_fault}
 use Rattle.mc_image.specs.declared.error.ImageError.{ImageError}
@@ -63,12 +63,12 @@ abbrev pub named_ids : StartKind → List ℕ → List ℕ → Option (Identity 
 named_ids kind a b = both (id_of (named kind a b)) (id_of (other kind a b))
 
 -- The start of two images: it has the defined flash, and whole calls and the first profile are its rules. Where there is
--- none the first refusal is answered, unless memory ran out.
+-- none the first refusal is answered. Memory is wanted only for images that are not refused.
 abbrev pub Starts : Geometry → Kind → List ℕ → List ℕ → Result Started StartError → Type 0
 Starts g kind a b (Ok s) =
     (refusal_of g a b ≡ None) × (s.geometry ≡ g) × (s.rules ≡ plain) × (start_flash g (kind_of kind) a b ≡ Some s.content)
     × (s.named ≡ named_ids (kind_of kind) a b)
-Starts g kind a b (Err errors.Memory) = ⊤
+Starts g kind a b (Err errors.Memory) = refusal_of g a b ≡ None
 Starts g kind a b (Err e) = refusal_of g a b ≡ Some e
 
 -- The flash of the bytes of both slots, the primary's first.
@@ -78,10 +78,10 @@ of_flash g bytes =
     then Ok (record { primary = take (size_of g Primary) bytes; secondary = drop (size_of g Primary) bytes })
     else Err errors.FlashSize
 
--- The start of bytes, in the same way. It names no images.
+-- The start of bytes, in the same way. It names no images. Memory is wanted only for bytes of the right length.
 abbrev pub Gives : Geometry → Result Started StartError → Result Content StartError → Type 0
 Gives g (Ok s) wanted = (s.geometry ≡ g) × (s.rules ≡ plain) × (wanted ≡ Ok s.content) × (s.named ≡ None)
-Gives g (Err errors.Memory) wanted = ⊤
+Gives g (Err errors.Memory) wanted = IsOk wanted
 Gives g (Err e) wanted = wanted ≡ Err e
 
 -- What tells starts apart in a cursor: the digest of the layout's line with its line feed, and then the bytes of both slots.
