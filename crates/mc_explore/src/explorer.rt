@@ -49,6 +49,7 @@ impl<F: Flash> Model for Explorer<F> {
 
     ghost view = { λ e. record {
       state = state_of e.walk (F.geometry e.flash) (F.marks e.flash) (F.ledger e.flash).failed e.last e.phase;
+      content = F.content e.flash;
       ledger = F.ledger e.flash;
       marked = length (F.marks e.flash);
     } };
@@ -140,10 +141,11 @@ impl<F: Flash + Drop> Explorer<F> {
         ensures limits { self.new.ledger.limits ≡ self.old.ledger.limits }
         // Memory is wanted only where the flash does not count, and was refused some: one that counts has enough.
         ensures cause { IsErrOf result ExploreError.Memory → RanOut F.counted self.new.ledger.failed }
-        // After an error the explorer has failed. It stays so, and says so. No other does.
+        // After an error the explorer has failed. It stays so as it is, and says so. No other does.
         ensures lost { OnErr result (self.new.state.position ≡ Lost) }
         ensures stays_lost { self.old.state.position ≡ Lost → IsErrOf result ExploreError.Failed }
         ensures not_lost { IsErrOf result ExploreError.Failed → self.old.state.position ≡ Lost }
+        ensures still { IsErrOf result ExploreError.Failed → self.new ≡ self.old }
         ensures err { IfErr result (λ e. (e ≡ ExploreError.Memory) ⊎ (e ≡ ExploreError.Failed)) }
     {
         restart_law();
@@ -182,6 +184,7 @@ impl<F: Flash + Drop> Explorer<F> {
 
     /// The flash as it is.
     pub fn flash(&self) -> &F
+        ensures content { F.content result.now ≡ self.now.content }
         ensures ledger { F.ledger result.now ≡ self.now.ledger }
         ensures marked { length (F.marks result.now) ≡ self.now.marked }
     {
@@ -202,6 +205,7 @@ impl<F: Flash + Drop> Explorer<F> {
     /// Makes it one that failed, for a caller that could not write a row.
     pub(crate) fn give_up(&mut self)
         ensures state { self.new.state ≡ lost_at self.old.state }
+        ensures content { self.new.content ≡ self.old.content }
         ensures ledger { self.new.ledger ≡ self.old.ledger }
         ensures marked { self.new.marked ≡ self.old.marked }
     {

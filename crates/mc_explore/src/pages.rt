@@ -26,6 +26,8 @@ fn write_lines<F: Flash + Drop, W: Write>(
     ensures cause { IsErrOf result ExploreError.Memory → RanOut F.counted explorer.new.ledger.failed }
     ensures stays_lost { explorer.old.state.position ≡ Lost → IsErrOf result ExploreError.Failed }
     ensures not_lost { IsErrOf result ExploreError.Failed → explorer.old.state.position ≡ Lost }
+    ensures still { IsErrOf result ExploreError.Failed → explorer.new ≡ explorer.old }
+    ensures unwritten { IsErrOf result ExploreError.Failed → writer.new ≡ writer.old }
     ensures err { IfErr result (λ e. (e ≡ ExploreError.Memory) ⊎ (e ≡ ExploreError.Failed) ⊎ (e ≡ ExploreError.Write)) }
 {
     let mut last = Schedule::new();
@@ -68,6 +70,9 @@ pub fn write_page<F: Flash + Drop, W: Write>(
     ensures lost { OnErr result (explorer.new.state.position ≡ Lost) }
     ensures stays_lost { explorer.old.state.position ≡ Lost → IsErrOf result ExploreError.Failed }
     ensures not_lost { IsErrOf result ExploreError.Failed → explorer.old.state.position ≡ Lost }
+    // An explorer that failed stays as it is, and so does the writer.
+    ensures still { IsErrOf result ExploreError.Failed → explorer.new ≡ explorer.old }
+    ensures unwritten { IsErrOf result ExploreError.Failed → writer.new ≡ writer.old }
     ensures err { IfErr result (λ e. (e ≡ ExploreError.Memory) ⊎ (e ≡ ExploreError.Failed) ⊎ (e ≡ ExploreError.Write)) }
 {
     let done = write_lines(explorer, limit, writer);

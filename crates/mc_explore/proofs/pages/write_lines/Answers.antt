@@ -43,6 +43,7 @@ fill-preserved g c =
       page = page_on c.args.explorer.now.state c.fill.explorer.state c.next_row.new.self.state c.args.limit c.fill.room (c.fill.room - 1) c.fill.last _ (g.W.Write.contents c.fill.writer) _ c.in-Some.row room c.fill.invariant.page found moved c.in_ok-write_line-in-Some.ensures.whole;
       not_lost = λ e. let q : Lost ≡ After c.in-Some.row.schedule = sym e ∙ ap (λ (s : State). s.position) moved in absurd cc;
       stuck = λ e. let q : Ok c.in_ok-row.field-0 ≡ Err errors.Failed = rw c.in_ok-row.was at (c.next_row.ensures.stays_lost (c.fill.invariant.stuck e).0) in absurd cc;
+      unwritten = λ e. let q : Lost ≡ After c.in-Some.row.schedule = sym e ∙ ap (λ (s : State). s.position) moved in absurd cc;
       start = ap (λ (s : State). s.start) moved ∙ c.fill.invariant.start;
       limits = c.next_row.ensures.limits ∙ c.fill.invariant.limits;
       applied = row_paid c.fill.explorer.ledger.applied c.next_row.new.self.ledger.applied c.fill.room (c.fill.room - 1) _ _ room (omega (arith, c.in_ok-row.ensures.applied, found_cost c.fill.explorer.state.start c.args.explorer.now.state.start c.in_ok-row.field-0 c.in-Some.row c.fill.invariant.start c.in-Some.is)) c.fill.invariant.applied;

@@ -10,6 +10,7 @@ invariant-fill g l =
       page : AreInPage l.fn.explorer.state l.explorer.state l.limit l.room l.last (g.W.Write.contents l.fn.writer) (g.W.Write.contents l.writer);
       not_lost : l.explorer.state.position ≡ Lost → l.fn.explorer.state.position ≡ Lost;
       stuck : l.fn.explorer.state.position ≡ Lost → (l.explorer.state.position ≡ Lost) × (0 < l.room);
+      unwritten : l.explorer.state.position ≡ Lost → (l.explorer ≡ l.fn.explorer) × (l.writer ≡ l.fn.writer);
       start : l.explorer.state.start ≡ l.fn.explorer.state.start;
       limits : l.explorer.ledger.limits ≡ l.fn.explorer.ledger.limits;
       applied : l.explorer.ledger.applied + l.room * most_for_row l.fn.explorer.state.start.rules l.fn.explorer.state.start.geometry ≤ l.fn.explorer.ledger.applied + l.limit * most_for_row l.fn.explorer.state.start.rules l.fn.explorer.state.start.geometry;
