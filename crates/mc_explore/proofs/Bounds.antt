@@ -11,7 +11,7 @@ use Rattle.mc_flash.specs.declared.flash.Grain.{Grain}
 use Rattle.mc_trailer.specs.declared.tables.Rules.{Rules}
 use Rattle.mc_boot.specs.Boot.{to_come}
 use Rattle.mc_boot.specs.declared.boot.Boot.{Boot}
-use Rattle.mc_explore.specs.Bounds.{LeaveRoom, HasRoom, IsRoomyFrame, AreRoomy, IsRoomy, IsRoomyAt, most_for_row, row_cost}
+use Rattle.mc_explore.specs.Bounds.{LeaveRoom, HasRoom, HasRoomFor, FindsRoom, IsRoomyFrame, AreRoomy, IsRoomy, IsRoomyAt, most_for_row, row_cost}
 use Rattle.mc_explore.specs.Start.{Begun}
 use Rattle.mc_explore.specs.Stack.{contents}
 use Rattle.mc_explore.specs.declared.frames.Frame.{Frame}
@@ -48,6 +48,55 @@ pub record AreLimits (grain : Grain) (g : Geometry) (boots : ℕ) (limits : Limi
 pub limits_are : (grain : Grain) (g : Geometry) (boots : ℕ) (limits : Limits) → IsWithin (limits_for grain g boots) limits → AreLimits grain g boots limits
 unfolding limits_for
 limits_are grain g boots limits within = record { for_entries = within.entries; for_saved = within.saved; for_marks = within.marks }
+
+-- ---- boots one after another
+
+-- A flash that was just loaded for so many boots has room for them.
+pub loaded_room : (boots many : ℕ) (r : Rules) (g now : Geometry) (ledger : Ledger) (marks : List Spot) → many ≡ boots → now ≡ g → ledger ≡ fresh ledger.limits → IsWithin (limits_for r.grain g many) ledger.limits → marks ≡ [] → HasRoomFor boots r now ledger (length marks)
+loaded_room boots many r g now ledger marks same geometry new within none =
+    let limits = limits_are r.grain g many ledger.limits within in
+    let P : Geometry → Type 0 = λ x. HasRoomFor boots r x ledger (length marks) in
+    let Q : ℕ → Type 0 = λ n. HasRoomFor n r g ledger (length marks) in
+    subst P (sym geometry) (subst Q same (record {
+      entries = omega (arith, ap (λ (l : Ledger). l.counts.entries) new, limits.for_entries);
+      saved = omega (arith, ap (λ (l : Ledger). l.counts.saved) new, limits.for_saved);
+      mark = omega (arith, ap (λ (ms : List Spot). length ms) none, limits.for_marks);
+    }))
+
+-- After some of them there is room for one more.
+pub room_for_next : (boots place : ℕ) (r : Rules) (g now : Geometry) (first ledger : Ledger) (before marks : List Spot) → place < boots → now ≡ g → HasRoomFor boots r g first (length before) → LeaveRoom g [] ledger.counts (first.counts.entries + place * most_operations r.grain g) (first.counts.saved + place * most_saved g) → ledger.limits ≡ first.limits → marks ≡ before → HasRoom r now ledger (length marks)
+room_for_next boots place r g now first ledger before marks inside geometry all room limits same =
+    let few : place + 1 ≤ boots = omega (arith, inside) in
+    let entries : (place + 1) * most_operations r.grain g ≤ boots * most_operations r.grain g = mul-le-mul_right (most_operations r.grain g) few in
+    let saved : (place + 1) * most_saved g ≤ boots * most_saved g = mul-le-mul_right (most_saved g) few in
+    let P : Geometry → Type 0 = λ x. HasRoom r x ledger (length marks) in
+    subst P (sym geometry) (record {
+      entries = omega (arith, room.entries, all.entries, entries, one_more_times place (most_operations r.grain g), ap (λ (l : Limits). l.entries) limits);
+      saved = omega (arith, room.saved, all.saved, saved, one_more_times place (most_saved g), ap (λ (l : Limits). l.saved) limits);
+      mark = omega (arith, all.mark, ap (λ (ms : List Spot). length ms) same, ap (λ (l : Limits). l.marks) limits);
+    })
+
+-- One boot more takes its part of the room.
+pub room_after_next : (place : ℕ) (r : Rules) (g now : Geometry) (first old new : Counts) → now ≡ g → LeaveRoom g [] old (first.entries + place * most_operations r.grain g) (first.saved + place * most_saved g) → LeaveRoom now [] new (old.entries + most_operations r.grain now) (old.saved + most_saved now) → LeaveRoom g [] new (first.entries + (place + 1) * most_operations r.grain g) (first.saved + (place + 1) * most_saved g)
+room_after_next place r g now first old new geometry room more =
+    let P : Geometry → Type 0 = λ x. LeaveRoom x [] new (old.entries + most_operations r.grain x) (old.saved + most_saved x) in
+    let one = subst P geometry more in
+    record {
+      entries = omega (arith, room.entries, one.entries, one_more_times place (most_operations r.grain g));
+      saved = omega (arith, room.saved, one.saved, one_more_times place (most_saved g));
+    }
+
+pub room_for_one : (r : Rules) (g : Geometry) (ledger : Ledger) (marked : ℕ) → HasRoomFor 1 r g ledger marked → HasRoom r g ledger marked
+room_for_one r g ledger marked room = record { entries = omega (arith, room.entries); saved = omega (arith, room.saved); mark = room.mark }
+
+-- Within one boot there is room for what it has still to do.
+pub finds_room : (r : Rules) (g now : Geometry) (ops : List Op) (first ledger : Ledger) (marked : ℕ) → now ≡ g → HasRoom r g first marked → LeaveRoom g ops ledger.counts (first.counts.entries + most_operations r.grain g) (first.counts.saved + most_saved g) → ledger.limits ≡ first.limits → FindsRoom now ops ledger
+finds_room r g now ops first ledger marked geometry all room limits =
+    let P : Geometry → Type 0 = λ x. FindsRoom x ops ledger in
+    subst P (sym geometry) (record {
+      entries = omega (arith, room.entries, all.entries, ap (λ (l : Limits). l.entries) limits);
+      saved = omega (arith, room.saved, all.saved, ap (λ (l : Limits). l.saved) limits);
+    })
 
 -- ---- a stack
 

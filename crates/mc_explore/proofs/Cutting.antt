@@ -57,6 +57,18 @@ stops_before r g s t u p cut all before =
     let test : nat_lt cut (length (ops_of r g s)) ≡ false = grind (arith, nat_tests) in
     ap (λ (b : Bool). if b then at r g s cut else None) test
 
+-- It stopped: no more can happen.
+pub cut_stops : (r : Rules) (g h : Geometry) (s t u : Content) (p q : Progress) (cut : ℕ) (went : Bool) → h ≡ g → HasCome r g s p t → went ≡ false → Goes h p q t went → p.count ≤ cut → Cuts r g s cut false u
+cut_stops r g h s t u p q cut true geometry come so goes before = absurd cc
+cut_stops r g h s t u p q cut false geometry come so goes before =
+    let P : Geometry → Type 0 = λ x. (y : Rules) (z : Content) → HasCome y x z p t → length (ops_of y x z) ≡ p.count in
+    stops_before r g s t u p cut ((subst P geometry goes) r s come) before
+
+-- It went on by one.
+pub went_on : (h : Geometry) (t : Content) (p q : Progress) (went : Bool) → went ≡ true → Goes h p q t went → q.count ≡ p.count + 1
+went_on h t p q true so goes = goes
+went_on h t p q false so goes = absurd cc
+
 -- One cut more.
 pub after_push : (r : Rules) (g : Geometry) (s : Content) (cuts : List ℕ) (cut : ℕ) → after r g s (cuts ++ cut ∷ []) ≡ option_and_then (λ t. cut_at r g t cut) (after r g s cuts)
 after_push r g s [] cut = ends (cut_at r g s cut)
@@ -102,16 +114,3 @@ replayed r g h k s t z cuts i p o geometry stays all occurs come end outcome =
       outcome_is = ap (λ (x : Geometry). outcome_of r x t) (sym (stays ∙ geometry)) ∙ outcome r t (subst P (sym stays) come) end;
       left = come_left r g t p z (subst P geometry come) end;
     }
-
--- The same of the same rules and cuts.
-pub refused_same : (r q : Rules) (g : Geometry) (s : Content) (cuts told : List ℕ) (i : ℕ) → q ≡ r → cuts ≡ told → CannotOccurAt q g s cuts i → CannotOccurAt r g s told i
-refused_same r q g s cuts told i rules same is =
-    let P : Rules → Type 0 = λ x. CannotOccurAt x g s told i in
-    let Q : List ℕ → Type 0 = λ x. CannotOccurAt q g s x i in
-    subst P rules (subst Q same is)
-
-pub replayed_same : (r q : Rules) (g : Geometry) (s z : Content) (cuts told : List ℕ) (o : Report) → q ≡ r → cuts ≡ told → IsReplayed q g s cuts o z → IsReplayed r g s told o z
-replayed_same r q g s z cuts told o rules same is =
-    let P : Rules → Type 0 = λ x. IsReplayed x g s told o z in
-    let Q : List ℕ → Type 0 = λ x. IsReplayed q g s x o z in
-    subst P rules (subst Q same is)

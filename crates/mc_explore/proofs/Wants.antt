@@ -4,13 +4,13 @@ use Rattle.std.proofs.Common.{inl, inr, arith, sym, ap, subst}
 use Rattle.mc_flash.specs.Geometry.{Geometry}
 use Rattle.mc_flash.specs.Content.{Content}
 use Rattle.mc_flash.specs.Apply.{apply}
-use Rattle.mc_flash.specs.Ledger.{Ledger, IsFull, Notes, NotesDone, NotesMark, saves}
+use Rattle.mc_flash.specs.Ledger.{Counts, Ledger, IsFull, Notes, NotesDone, NotesMark, saves}
 use Rattle.mc_flash.specs.declared.op.Op.{Op}
 use Rattle.mc_flash.specs.declared.flash.FlashError.{FlashError}
 use Rattle.mc_flash.specs.declared.flash.FlashError.TheVariants as errors
 use Rattle.mc_boot.specs.Boot.{Progress, NotesFirst, Tries, TriesFirst, Steps}
 use Rattle.mc_boot.specs.Bounds.{all_saves}
-use Rattle.mc_explore.specs.Bounds.{LeaveRoom}
+use Rattle.mc_explore.specs.Bounds.{LeaveRoom, TakesNoMore}
 use Rattle.mc_explore.specs.Want.{RanOut}
 
 -- ---- marks
@@ -158,3 +158,21 @@ pub step_applied : (counted : Bool) (g now : Geometry) (p q : Progress) (s t : C
 step_applied counted g now p q s t result old new entries saved most same steps n other room less =
     let Q : Geometry → Type 0 = λ x. LeaveRoom x p.to_come old.counts entries saved in
     omega (arith, less, (step_leaves counted now p q s t result old new entries saved steps n other (subst Q (sym same) room)).applied)
+
+-- ---- more steps
+
+-- A boot that stays where it is takes no more.
+pub stays_takes : (g : Geometry) (ops : List Op) (counts : Counts) → TakesNoMore g ops ops counts counts
+stays_takes g ops counts = record { entries = omega arith; saved = omega arith }
+
+-- Nor does one that made a step.
+pub step_takes : (counted : Bool) (g : Geometry) (p q : Progress) (s t : Content) (result : Result (Unit {0}) FlashError) (old new : Ledger) → Steps g p q s t result → NotesFirst counted g p.to_come result old new → (result ≡ Err errors.Memory → ⊥) → TakesNoMore g p.to_come q.to_come old.counts new.counts
+step_takes counted g p q s t result old new steps n other =
+    (step_leaves counted g p q s t result old new (old.counts.entries + length p.to_come) (old.counts.saved + all_saves g p.to_come) steps n other (stays_takes g p.to_come old.counts)).room
+
+-- So what leaves room before it leaves room after it.
+pub takes_on : (g now : Geometry) (ops rest : List Op) (old new : Counts) (entries saved : ℕ) → now ≡ g → TakesNoMore now ops rest old new → LeaveRoom g ops old entries saved → LeaveRoom g rest new entries saved
+takes_on g now ops rest old new entries saved same takes room =
+    let P : Geometry → Type 0 = λ x. TakesNoMore x ops rest old new in
+    let t = subst P same takes in
+    record { entries = omega (arith, t.entries, room.entries); saved = omega (arith, t.saved, room.saved) }

@@ -21,6 +21,20 @@ pub record HasRoom (r : Rules) (g : Geometry) (ledger : Ledger) (marked : ℕ) :
   pub saved : ledger.counts.saved + most_saved g ≤ ledger.limits.saved
   pub mark : marked < ledger.limits.marks
 
+-- There is room for so many boots, one after another, and for a mark beside so many.
+pub record HasRoomFor (boots : ℕ) (r : Rules) (g : Geometry) (ledger : Ledger) (marked : ℕ) : Type 0 where
+  pub entries : ledger.counts.entries + boots * most_operations r.grain g ≤ ledger.limits.entries
+  pub saved : ledger.counts.saved + boots * most_saved g ≤ ledger.limits.saved
+  pub mark : marked < ledger.limits.marks
+
+-- What a boot still has to do finds room.
+abbrev pub FindsRoom : Geometry → List Op → Ledger → Type 0
+FindsRoom g ops ledger = LeaveRoom g ops ledger.counts ledger.limits.entries ledger.limits.saved
+
+-- What was done and what is to come are together no more than before.
+abbrev pub TakesNoMore : Geometry → List Op → List Op → Counts → Counts → Type 0
+TakesNoMore g before now old new = LeaveRoom g now new (old.entries + length before) (old.saved + all_saves g before)
+
 -- The counts at a frame's mark, with what its boot has still to do, are at most those of as many boots as the number of its
 -- place.
 pub record IsRoomyFrame (r : Rules) (g : Geometry) (place : ℕ) (spot : Spot) (f : Frame) : Type 0 where

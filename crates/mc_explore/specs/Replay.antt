@@ -8,7 +8,7 @@ use Rattle.mc_boot.specs.Run.{HasCome}
 use Rattle.mc_boot.specs.Runs.{ops_of, cut_at, after, left_by}
 use Rattle.mc_boot.specs.Outcome.{Report, outcome_of}
 use Rattle.mc_boot.specs.Restart.{BeginsImage, EndsIn, forgets_reverts}
-use Rattle.mc_boot.specs.Start.{StartKind, revert, start_flash, named, other}
+use Rattle.mc_boot.specs.Start.{StartKind, no_swap, revert, start_flash, named, other}
 use Rattle.mc_boot.specs.declared.outcome.BootResult.TheVariants as results
 use Rattle.mc_image.specs.Valid.{id_of}
 use Rattle.mc_explore.specs.declared.replaying.ReplayError.{ReplayError}
@@ -48,16 +48,18 @@ abbrev pub Refuses : Rules → Geometry → Content → List ℕ → ReplayError
 Refuses r g s cuts (errors.CannotOccur place) = CannotOccurAt r g s cuts place
 Refuses r g s cuts errors.Memory = ⊤
 
--- What is told of that boot: the named image in the primary, the other in the secondary.
+-- What is told of that boot: the named image in the primary, the other in the secondary, and no operation at all where no
+-- swap is asked for.
 pub record IsSwapOutcome (kind : StartKind) (a b : List ℕ) (outcome : Report) : Type 0 where
   pub result : outcome.result ≡ results.Boot
   pub primary : outcome.primary ≡ id_of (named kind a b)
   pub secondary : outcome.secondary ≡ id_of (other kind a b)
+  pub idle : kind ≡ no_swap → outcome.ops ≡ 0
 
 -- From the start of two valid images that fit, under rules that do not forget reverts, a replay that is not refused ends
--- what the start asks for: its result is to boot, and the images stand in their slots.
-abbrev pub Restarts : Rules → Geometry → Content → Report → Content → Type 0
-Restarts r g s outcome z =
+-- what the start asks for: the boot after the cuts leaves z, its result is to boot, and the images stand in their slots.
+abbrev pub Restarts : Rules → Geometry → Content → List ℕ → Report → Content → Type 0
+Restarts r g s cuts outcome z =
     (kind : StartKind) (a b : List ℕ) → BeginsImage g a → BeginsImage g b → (kind ≡ revert → forgets_reverts r.grain r.profile ≡ false)
     → start_flash g kind a b ≡ Some s
-    → (u : Content) × EndsIn r g kind a b s u z × IsSwapOutcome kind a b outcome
+    → (u : Content) × (after r g s cuts ≡ Some u) × EndsIn r g kind a b s u z × IsSwapOutcome kind a b outcome

@@ -2,7 +2,7 @@
 use super::{FIRST, SECOND, worked};
 use crate::{Explorer, Kind, ReplayError, Schedule, ScheduleError, Start, replay};
 use mc_boot::{BootResult, Outcome};
-use mc_flash::{Flash, Slot, SnapFlash};
+use mc_flash::{Flash, JournalFlash, Slot, SnapFlash};
 use std::test::Fail;
 
 #[test]
@@ -83,6 +83,23 @@ fn a_replay_leaves_its_flash(rt: HostRuntime) -> Result<(), Fail> {
     for (text, place) in [("18", 0), ("0.18", 1), ("9.9", 1), ("5.9.9.1", 2)] {
         let refused = replay::<SnapFlash>(rt.alloc(), &start, &Schedule::read(text)?).err();
         assert_eq!(rt; refused, Some(ReplayError::CannotOccur(place)), "{text}");
+    }
+    Ok(())
+}
+
+#[test]
+fn many_cuts_find_room_in_a_journal(rt: HostRuntime) -> Result<(), Fail> {
+    let layout = worked()?;
+    let start = Start::from_images(rt.alloc(), &layout, Kind::Test, &FIRST, &SECOND)?;
+    for text in ["4.4.4.4.4", "3.3.3.3.3.3.3.3.3.3.3.3.3.3.3.3"] {
+        let (outcome, flash): (Outcome, JournalFlash) = replay(
+            rt.alloc(),
+            &start,
+            &Schedule::read(text)?,
+        )?;
+        assert_eq!(rt; outcome.result, BootResult::Boot, "{text}");
+        assert!(rt; flash.read(Slot::Primary).starts_with(SECOND.as_slice()));
+        assert!(rt; flash.read(Slot::Secondary).starts_with(FIRST.as_slice()));
     }
     Ok(())
 }

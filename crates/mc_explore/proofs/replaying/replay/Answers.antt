@@ -1,35 +1,21 @@
-use Rattle.std.proofs.Common.{arith, ◌∙◌}
-use Rattle.mc_boot.specs.Boot.{progress}
+use Rattle.std.proofs.Common.{rules, ◌+◌, length, refl}
 use Rattle.mc_boot.specs.Outcome.{shown}
+use Rattle.mc_explore.specs.Replay.{IsReplayed}
+use Rattle.mc_explore.proofs.Bounds.{loaded_room}
 use Rattle.mc_explore.proofs.Restarts.{replay_restarts}
-use Rattle.mc_explore.proofs.Cutting.{cut_next, cut_refused, replayed, refused_same, replayed_same}
 use Rattle.mc_explore.proofs.replaying.replay.Goals as goal
 
-pub returns-then-not-branch-clause-replayed : goal.returns-then-not-branch-clause-replayed
-returns-then-not-branch-clause-replayed g c =
-    let i = c.loop-place.invariant in
-    refused_same c.args.start.now.rules c.rules-rules.result c.args.start.now.geometry c.args.start.now.content c.cuts-cuts.result.now c.args.schedule.now c.loop-place.place c.rules-rules.ensures c.cuts-cuts.ensures.value
-    (cut_refused c.rules-rules.result c.args.start.now.geometry (g.F.Flash.geometry c.loop-place.flash) c.args.start.now.content (g.F.Flash.content c.loop-place.flash) (g.F.Flash.content c.cut_boot.new.flash)
-    c.cuts-cuts.result.now c.loop-place.place c.in_ok-cut_boot.field-0 i.geometry (omega (arith, c.loop-place-test.true)) i.occurs c.if-not-branch.true c.in_ok-cut_boot.ensures.cuts)
-
-pub loop-place-preserved : goal.loop-place-preserved
-loop-place-preserved g c =
-    let i = c.loop-place.invariant in
-    record {
-      occurs = cut_next c.rules-rules.result c.args.start.now.geometry (g.F.Flash.geometry c.loop-place.flash) c.args.start.now.content (g.F.Flash.content c.loop-place.flash) (g.F.Flash.content c.cut_boot.new.flash)
-          c.cuts-cuts.result.now c.loop-place.place c.in_ok-cut_boot.field-0 i.geometry (omega (arith, c.loop-place-test.true)) i.occurs c.if-not-branch.false c.in_ok-cut_boot.ensures.cuts;
-      geometry = c.cut_boot.ensures.geometry ∙ i.geometry;
-    }
-
-pub returns-clause-replayed : goal.returns-clause-replayed
-returns-clause-replayed g c =
-    let i = c.loop-place.invariant in
-    let e = c.in_ok-boot.ensures in
-    replayed_same c.args.start.now.rules c.rules-rules.result c.args.start.now.geometry c.args.start.now.content (g.F.Flash.content c.boot_whole.new.flash) c.cuts-cuts.result.now c.args.schedule.now (shown c.outcome-outcome.result) c.rules-rules.ensures c.cuts-cuts.ensures.value
-    (replayed c.rules-rules.result c.args.start.now.geometry (g.F.Flash.geometry c.loop-place.flash) (g.F.Flash.geometry c.boot_whole.new.flash) c.args.start.now.content (g.F.Flash.content c.loop-place.flash) (g.F.Flash.content c.boot_whole.new.flash)
-    c.cuts-cuts.result.now c.loop-place.place (progress c.in_ok-boot.boot) (shown c.outcome-outcome.result) i.geometry e.geometry (omega (arith, c.loop-place-test.false)) i.occurs e.come e.end c.outcome-outcome.ensures.end)
+pub replay_on-requires : goal.replay_on-requires
+replay_on-requires g c =
+    let e = c.in_ok-flash.ensures in
+    let flash = c.in_ok-flash.flash in
+    let boots = length c.cuts-cuts.result.now + 1 in
+    loaded_room boots boots c.rules-rules.result c.layout.result.now (g.F.Flash.geometry flash) (g.F.Flash.ledger flash) (g.F.Flash.marks flash) refl e.geometry e.ledger e.room e.marks
 
 pub returns-clause-restarts : goal.returns-clause-restarts
 returns-clause-restarts g c =
-    replay_restarts c.args.start.now.rules c.args.start.now.geometry c.args.start.now.content (g.F.Flash.content c.boot_whole.new.flash) c.args.schedule.now (shown c.outcome-outcome.result)
-    c.layout.ensures.valid (c.restart_law.ensures.restart c.args.start.now.rules) (returns-clause-replayed g c)
+    let start = c.args.start.now in
+    let outcome = shown c.in_ok-outcome.outcome in
+    let left = g.F.Flash.content c.replay_on.new.flash in
+    let replayed : IsReplayed start.rules start.geometry start.content c.args.schedule.now outcome left = search rules in
+    replay_restarts start.rules start.geometry start.content left c.args.schedule.now outcome c.layout.ensures.valid (c.restart_law.ensures.restart start.rules) replayed
