@@ -1,5 +1,5 @@
 -- The list of the rows to come: there is at most one, and a row or none is taken off at its front.
-use Rattle.std.proofs.Common.{◌≡◌, ℕ, List, [], ◌∷◌, Option, Some, inl, inr, refl, sym, ap, subst, ◌∙◌}
+use Rattle.std.proofs.Common.{◌≡◌, ℕ, List, [], ◌∷◌, ◌++◌, Option, Some, inl, inr, refl, sym, ap, subst, arith, ◌∙◌}
 use Rattle.mc_boot.specs.Outcome.{Report}
 use Rattle.mc_explore.specs.Schedules.{Precedes}
 use Rattle.mc_explore.specs.Start.{Begun}
@@ -90,3 +90,27 @@ rest_next state row (x ∷ xs) n o r =
 pub rest_over : (state : State) (rows : List Told) → IsOver state → IsRest state rows → rows ≡ []
 rest_over state [] o r = refl
 rest_over state (x ∷ xs) o r = let p = r.only x (inl refl) in absurd (o x.schedule p.listed p.past)
+
+-- ---- by place
+
+ascends_behind : (front rest : List Told) → Ascends (front ++ rest) → Ascends rest
+ascends_behind [] rest up = up
+ascends_behind (x ∷ xs) rest up = ascends_behind xs rest up.1
+
+in_behind : (between rest : List Told) (later : Told) → IsIn later (between ++ later ∷ rest)
+in_behind [] rest later = inl refl
+in_behind (x ∷ xs) rest later = inr (in_behind xs rest later)
+
+-- Each comes before those that stand behind it.
+pub in_order : (state : State) (front between rest : List Told) (first later : Told) → IsRest state (front ++ first ∷ (between ++ later ∷ rest)) → Precedes first.schedule later.schedule
+in_order state front between rest first later r =
+    (ascends_behind front (first ∷ (between ++ later ∷ rest)) r.ascends).0 later (in_behind between rest later)
+
+one_is_later : Precedes (1 ∷ []) (0 ∷ 17 ∷ []) → ⊥
+one_is_later (inl less) = omega (arith, less)
+one_is_later (inr same) = omega (arith, same.0)
+
+pub longer_first : (state : State) (front between rest : List Told) (first later : Told) → first.schedule ≡ 1 ∷ [] → later.schedule ≡ 0 ∷ 17 ∷ [] → IsRest state (front ++ first ∷ (between ++ later ∷ rest)) → ⊥
+longer_first state front between rest first later one two r =
+    let P : List ℕ → Type 0 = λ l. Precedes l later.schedule in
+    one_is_later (subst (λ (l : List ℕ). Precedes (1 ∷ []) l) two (subst P one (in_order state front between rest first later r)))

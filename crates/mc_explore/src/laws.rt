@@ -1,17 +1,26 @@
 //! What holds of the rows to come.
-ghost use Rattle.std.specs.Prelude.{◌≡◌, ◌<◌, ℕ, Bool, false, List, [], ◌∷◌, length, take, All};
+ghost use Rattle.std.specs.Prelude.{◌≡◌, ◌<◌, ℕ, Bool, false, List, [], ◌∷◌, ◌++◌, length, take, All};
 ghost use Rattle.mc_explore.specs.Chain.{Chain, JoinUp, last_schedule};
 ghost use Rattle.mc_explore.specs.Page.{state_past};
 ghost use Rattle.mc_explore.specs.Resume.{behind};
+ghost use Rattle.mc_explore.specs.Schedules.{Precedes};
 ghost use Rattle.mc_explore.specs.State.{State, Told, moved_to};
 ghost use Rattle.mc_explore.specs.Rest.{IsRest};
 
-/// Past each position there is one ascending list of rows, and no other. After its first row what is left is to come.
+/// Past each position there is one ascending list of rows, and no other. After its first row the others are to come. Its
+/// order is that of the cuts, and not of how many they are.
 pub fn one_list_of_rows()
     ensures some { (state : State) → (rows : List Told) × IsRest state rows }
     ensures only { (state : State) (xs ys : List Told) → IsRest state xs → IsRest state ys → xs ≡ ys }
     ensures tail { (state : State) (row : Told) (rows : List Told)
         → IsRest state (row ∷ rows) → IsRest (moved_to state row.schedule) rows }
+    ensures order { (state : State) (front between rest : List Told) (first later : Told)
+        → IsRest state (front ++ first ∷ (between ++ later ∷ rest))
+        → Precedes first.schedule later.schedule }
+    // So a list in which `1` stands before `0.17` is not the rows.
+    ensures longer_first { (state : State) (front between rest : List Told) (first later : Told)
+        → first.schedule ≡ 1 ∷ [] → later.schedule ≡ 0 ∷ 17 ∷ []
+        → IsRest state (front ++ first ∷ (between ++ later ∷ rest)) → ⊥ }
 {}
 
 /// Pages join up: the rows of pages that are continued from their cursors are a front of the rows to come where the first one

@@ -1,4 +1,4 @@
-use Rattle.mc_explore.proofs.Ascending.{one_rest, rest_tail}
+use Rattle.mc_explore.proofs.Ascending.{one_rest, rest_tail, in_order, longer_first}
 use Rattle.mc_explore.proofs.Existence.{some_rest}
 use Rattle.mc_explore.proofs.laws.one_list_of_rows.Goals as goal
 
@@ -10,3 +10,9 @@ returns-clause-only c = one_rest
 
 pub returns-clause-tail : goal.returns-clause-tail
 returns-clause-tail c = rest_tail
+
+pub returns-clause-order : goal.returns-clause-order
+returns-clause-order c = in_order
+
+pub returns-clause-longer_first : goal.returns-clause-longer_first
+returns-clause-longer_first c = longer_first
