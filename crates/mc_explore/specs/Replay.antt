@@ -1,5 +1,5 @@
 -- One schedule, cut by cut.
-use Rattle.std.specs.Prelude.{◌≡◌, ℕ, ◌+◌, ◌<◌, Bool, true, false, List, length, take, Some, None, ⊤}
+use Rattle.std.specs.Prelude.{◌≡◌, ℕ, ◌+◌, ◌<◌, Bool, true, false, List, [], length, take, Some, None, ⊤}
 use Rattle.mc_flash.specs.Geometry.{Geometry}
 use Rattle.mc_flash.specs.Content.{Content}
 use Rattle.mc_trailer.specs.declared.tables.Rules.{Rules}
@@ -48,13 +48,13 @@ abbrev pub Refuses : Rules → Geometry → Content → List ℕ → ReplayError
 Refuses r g s cuts (errors.CannotOccur place) = CannotOccurAt r g s cuts place
 Refuses r g s cuts errors.Memory = ⊤
 
--- What is told of that boot: the named image in the primary, the other in the secondary, and no operation at all where no
--- swap is asked for.
-pub record IsSwapOutcome (kind : StartKind) (a b : List ℕ) (outcome : Report) : Type 0 where
+-- What is told of the boot after the cuts: the named image in the primary, the other in the secondary. Where no swap is asked
+-- for there is no operation at all: it makes none, and none came before it, so that nothing was cut.
+pub record IsSwapOutcome (kind : StartKind) (a b : List ℕ) (cuts : List ℕ) (outcome : Report) : Type 0 where
   pub result : outcome.result ≡ results.Boot
   pub primary : outcome.primary ≡ id_of (named kind a b)
   pub secondary : outcome.secondary ≡ id_of (other kind a b)
-  pub idle : kind ≡ no_swap → outcome.ops ≡ 0
+  pub idle : kind ≡ no_swap → (outcome.ops ≡ 0) × (cuts ≡ [])
 
 -- From the start of two valid images that fit, under rules that do not forget reverts, a replay that is not refused ends
 -- what the start asks for: the boot after the cuts leaves z, its result is to boot, and the images stand in their slots.
@@ -62,4 +62,4 @@ abbrev pub Restarts : Rules → Geometry → Content → List ℕ → Report →
 Restarts r g s cuts outcome z =
     (kind : StartKind) (a b : List ℕ) → BeginsImage g a → BeginsImage g b → (kind ≡ revert → forgets_reverts r.grain r.profile ≡ false)
     → start_flash g kind a b ≡ Some s
-    → (u : Content) × (after r g s cuts ≡ Some u) × EndsIn r g kind a b s u z × IsSwapOutcome kind a b outcome
+    → (u : Content) × (after r g s cuts ≡ Some u) × EndsIn r g kind a b s u z × IsSwapOutcome kind a b cuts outcome

@@ -17,4 +17,4 @@ RowRestarts start row =
     → (kind ≡ revert → forgets_reverts start.rules.grain start.rules.profile ≡ false)
     → start_flash start.geometry kind a b ≡ Some start.content
     → (u : Content) × (z : Content) × (after start.rules start.geometry start.content row.schedule ≡ Some u)
-    × EndsIn start.rules start.geometry kind a b start.content u z × IsSwapOutcome kind a b row.outcome
+    × EndsIn start.rules start.geometry kind a b start.content u z × IsSwapOutcome kind a b row.schedule row.outcome
