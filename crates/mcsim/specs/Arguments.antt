@@ -1,9 +1,13 @@
 -- What the words of an argument say.
-use Rattle.std.specs.Prelude.{◌≡◌, ◌⊎◌, ℕ, Bool, true, false, List, Option, Some, None, option_map, unwrap_or, codes, ⊤}
-use Rattle.std.specs.Str.Parse.{digits_value, without_leading_plus}
+use Rattle.std.specs.Prelude.{◌≡◌, ◌≤◌, ℕ, Bool, true, false, List, Option, Some, None, unwrap_or, codes, Result, Err, IsOk}
 use Rattle.clap.specs.Words.{first_value, one_text}
 use Rattle.clap.specs.declared.parser.matches.Found.{Found}
-use Rattle.mc_flash.specs.Geometry.{Geometry, refusal_of}
+use Rattle.mc_image.specs.VersionText.{Names}
+use Rattle.mc_imgtool.specs.declared.creation.CreateOptions.{CreateOptions}
+use Rattle.mcsim.specs.Numbers.{TellsNumber, MayTellNumber, IsUnit}
+use Rattle.mcsim.specs.declared.numbers.NumberOption.TheVariants as numbers
+use Rattle.mc_flash.specs.Geometry.{Geometry}
+use Rattle.mc_flash.specs.declared.layout.LayoutError.{LayoutError}
 use Rattle.mc_explore.specs.declared.kind.Kind.{Kind}
 use Rattle.mc_explore.specs.declared.kind.Kind.TheVariants as kinds
 use Rattle.mc_flash.specs.declared.flash.Grain.{Grain}
@@ -17,14 +21,6 @@ use Rattle.mcsim.specs.declared.options.Source.TheVariants as sources
 use Rattle.mcsim.specs.declared.refusal.Refusal.{Refusal}
 use Rattle.mcsim.specs.declared.refusal.Refusal.TheVariants as refusals
 
--- the number that a text of decimal digits says; a plus sign may come before them
-abbrev pub number_of : List ℕ → ℕ
-number_of text = digits_value 10 (without_leading_plus text)
-
--- the number of an argument, where it has a value
-abbrev pub told_number : Found → List ℕ → Option ℕ
-told_number found name = option_map number_of (one_text found name)
-
 -- the value of a flag: clap gives it the text `true` where it stands on the command line, and otherwise `false`
 abbrev pub IsFlag : Found → List ℕ → Bool → Type 0
 IsFlag found name value =
@@ -32,24 +28,38 @@ IsFlag found name value =
     × (one_text found name ≡ Some (codes "false") → value ≡ false)
     × (one_text found name ≡ None → value ≡ false)
 
--- the write units that a flash may have
-abbrev pub IsUnit : ℕ → Type 0
-IsUnit n = (n ≡ 1) ⊎ (n ≡ 2) ⊎ (n ≡ 4) ⊎ (n ≡ 8)
+-- the arguments tell what `create` is to make, each number in its range
+pub record TellsCreate (found : Found) (o : CreateOptions) : Type 0 where
+  pub version_text : List ℕ
+  pub version_told : first_value found (codes "version") ≡ Some version_text
+  pub version : Names version_text o.version
+  pub header_size : TellsNumber found numbers.HeaderSize o.header_size
+  pub pad_header : IsFlag found (codes "pad-header") o.pad_header
+  pub slot_size : MayTellNumber found numbers.SlotSize o.slot_size
+  pub align : TellsNumber found numbers.Align o.align
+  pub unit : IsUnit o.align
+  pub max_sectors : TellsNumber found numbers.SlotSectors o.max_sectors
+  pub pad : IsFlag found (codes "pad") o.pad
+  pub confirm : IsFlag found (codes "confirm") o.confirm
+  pub security_counter : MayTellNumber found numbers.SecurityCounter o.security_counter
+
+-- what the image tool asks of options
+abbrev pub IsReady : CreateOptions → Type 0
+IsReady o = 32 ≤ o.header_size
 
 -- the arguments tell the six numbers of a layout
 pub record TellsLayout (found : Found) (g : Geometry) : Type 0 where
-  pub sector : told_number found (codes "sector") ≡ Some g.sector
-  pub unit : told_number found (codes "unit") ≡ Some g.unit
-  pub max_sectors : told_number found (codes "max-sectors") ≡ Some g.max_sectors
-  pub chunk : told_number found (codes "chunk") ≡ Some g.chunk
-  pub primary : told_number found (codes "primary") ≡ Some g.primary
-  pub secondary : told_number found (codes "secondary") ≡ Some g.secondary
+  pub sector : TellsNumber found numbers.Sector g.sector
+  pub unit : TellsNumber found numbers.Unit g.unit
+  pub max_sectors : TellsNumber found numbers.MaxSectors g.max_sectors
+  pub chunk : TellsNumber found numbers.Chunk g.chunk
+  pub primary : TellsNumber found numbers.Primary g.primary
+  pub secondary : TellsNumber found numbers.Secondary g.secondary
 
--- when a layout is refused: a judgement holds of the numbers that are told, or one of them is missing
-abbrev pub RefusesLayout : Found → Refusal → Type 0
-RefusesLayout found (refusals.Layout e) = (g : Geometry) × TellsLayout found g × (refusal_of g ≡ Some e)
-RefusesLayout found refusals.Argument = ⊤
-RefusesLayout found _ = ⊥
+-- a layout is taken, or refused with the first judgement that its numbers fail
+abbrev pub Judges : {A : Type 0} → Option LayoutError → Result A Refusal → Type 0
+Judges None r = IsOk r
+Judges (Some e) r = r ≡ Err (refusals.Layout e)
 
 -- the text of a kind of start
 abbrev pub kind_text : Kind → List ℕ
@@ -68,16 +78,22 @@ TellsSource found (sources.Images kind a b) =
     × (first_value found (codes "image-a") ≡ Some a.now) × (first_value found (codes "image-b") ≡ Some b.now)
 
 -- four options that may be left out go together as a source
-abbrev pub is_source : Option (List ℕ) → Option (List ℕ) → Option (List ℕ) → Option (List ℕ) → Bool
-is_source (Some flash) None None None = true
-is_source None (Some kind) (Some a) (Some b) = true
-is_source _ _ _ _ = false
+abbrev pub are_source : Option (List ℕ) → Option (List ℕ) → Option (List ℕ) → Option (List ℕ) → Bool
+are_source (Some flash) None None None = true
+are_source None (Some kind) (Some a) (Some b) = true
+are_source _ _ _ _ = false
 
--- when a source is refused: the options do not go together, or a kind is told that is none
+abbrev pub is_source : Found → Bool
+is_source found =
+    are_source (first_value found (codes "flash")) (first_value found (codes "kind"))
+    (first_value found (codes "image-a")) (first_value found (codes "image-b"))
+
+-- when a source is refused: the options do not go together, or images are told of a kind that is none
 abbrev pub RefusesSource : Found → Refusal → Type 0
-RefusesSource found refusals.Source =
-    is_source (first_value found (codes "flash")) (first_value found (codes "kind")) (first_value found (codes "image-a")) (first_value found (codes "image-b")) ≡ false
-RefusesSource found refusals.Argument = (kind : Kind) → first_value found (codes "kind") ≡ Some (kind_text kind) → ⊥
+RefusesSource found refusals.Source = is_source found ≡ false
+RefusesSource found refusals.Argument =
+    (is_source found ≡ true) × (first_value found (codes "flash") ≡ None)
+    × ((kind : Kind) → first_value found (codes "kind") ≡ Some (kind_text kind) → ⊥)
 RefusesSource found _ = ⊥
 
 -- the arguments tell the rules of boots; where nothing is told, they are whole calls and the first profile
@@ -85,20 +101,8 @@ pub record TellsRules (found : Found) (rules : Rules) : Type 0 where
   pub grain : unwrap_or (first_value found (codes "grain")) (codes "call") ≡ grain_text rules.grain
   pub profile : unwrap_or (first_value found (codes "profile")) (codes "1") ≡ profile_text rules.profile
 
--- when rules are refused: a text is told that names none
-abbrev pub RefusesRules : Found → Refusal → Type 0
-RefusesRules found refusals.Argument = (rules : Rules) → TellsRules found rules → ⊥
-RefusesRules found _ = ⊥
-
 -- the arguments tell a source, a layout and rules
 pub record TellsFlash (found : Found) (o : FlashOptions) : Type 0 where
   pub source : TellsSource found o.source
   pub layout : TellsLayout found o.layout
   pub rules : TellsRules found o.rules
-
--- when they are refused: the source, or the layout where there is a source; a word out of clap's reach is refused wherever it stands
-abbrev pub RefusesFlash : Found → Refusal → Type 0
-RefusesFlash found refusals.Source = RefusesSource found refusals.Source
-RefusesFlash found (refusals.Layout e) = (s : Source) × TellsSource found s × RefusesLayout found (refusals.Layout e)
-RefusesFlash found refusals.Argument = ⊤
-RefusesFlash found _ = ⊥

@@ -47,6 +47,9 @@ status_of_exploration explore_errors.Write = 3
 abbrev pub status_of : Refusal → ℕ
 status_of refusals.NotText = 2
 status_of refusals.Argument = 2
+status_of (refusals.Number _) = 2
+status_of refusals.SameFile = 2
+status_of refusals.Unexplained = 2
 status_of (refusals.Version _) = 2
 status_of refusals.Source = 2
 status_of (refusals.Layout _) = 2

@@ -1,17 +1,31 @@
-//! The command line, as clap reads it.
-use clap::{Arg, ArgAction, ArgMatches, Command, Error, value_parser};
+//! The command line, as clap reads it, and its help. Numbers are texts here: `numbers` reads them.
+use crate::numbers::NumberOption;
+use clap::{Arg, ArgAction, ArgMatches, Command, Error};
 use std::alloc::{AllocError, Global};
+
+/// The program's version, and the kit whose logic proved it (`rt version`).
+static VERSION: &str = "0.1.0 (proved by rattle-kit-13b logic dac8208d650f15bf)";
+
+static ABOUT: &str =
+    "Checks MCUboot upgrades against power loss, and makes and inspects hash-only MCUboot images";
+
+static AFTER_HELP: &str = "\
+Exit status: 0 done (whatever the outcome is), 1 content refused, 2 command line refused,
+3 file, write or memory error. A refusal is one line, as `mcsim: E33 Counts`;
+`mcsim explain 33` tells what it means.
+Numbers are decimal, or hexadecimal as 0x200.
+Signatures, encryption and hashes other than SHA-256 are not looked at.";
 
 /// Reads the words of a command line, the program's name first.
 ///
 /// # Errors
 ///
-/// clap's refusal of the words, the help that they ask for, or the want of memory.
+/// clap's refusal of the words, the help or the version that they ask for, or that an allocation failed.
 pub fn parse<'a>(alloc: Global, words: &'a [String]) -> Result<ArgMatches<'a>, Error> {
     let command = Command::new(alloc, "mcsim")
-        .about(
-            "Makes, verifies and prints MCUboot images, and boots the flashes that they are swapped in",
-        )
+        .about(ABOUT)
+        .version(VERSION)
+        .after_help(AFTER_HELP)
         .subcommand_required(true)
         .arg_required_else_help(true)
         .disable_help_subcommand(true)
@@ -21,196 +35,232 @@ pub fn parse<'a>(alloc: Global, words: &'a [String]) -> Result<ArgMatches<'a>, E
         .subcommand(type_command(alloc)?)?
         .subcommand(boot_command(alloc)?)?
         .subcommand(replay_command(alloc)?)?
-        .subcommand(explore_command(alloc)?)?;
+        .subcommand(explore_command(alloc)?)?
+        .subcommand(explain_command(alloc)?)?;
     command.try_get_matches_from(words)
 }
 
+static AFTER_CREATE: &str = "\
+INFILE and OUTFILE must be two files: OUTFILE is emptied before INFILE is read, and stays empty
+after a refusal. The trailer takes 3 * max-sectors * align + 48 bytes.
+Example:
+  mcsim create --version 1.2.3+4 --header-size 0x200 --pad-header --slot-size 483328 --align 4 \\
+    app.bin app.img";
+
 /// `create`: an image from a payload.
 fn create_command<'a>(alloc: Global) -> Result<Command<'a>, AllocError> {
-    Command::new(alloc, "create")
-        .about("Makes an image from a payload")
+    let command = Command::new(alloc, "create")
+        .visible_alias("sign")?
+        .about("Make an image from a payload (imgtool sign, without a key)")
+        .after_help(AFTER_CREATE)
         .disable_version_flag(true)
+        .arg(Arg::new(alloc, "INFILE").required(true).help("The payload"))?
+        .arg(
+            Arg::new(alloc, "OUTFILE")
+                .required(true)
+                .help("The image; made, or emptied first"),
+        )?
         .arg(version(alloc))?
         .arg(header_size(alloc))?
-        .arg(pad_header(alloc))?
-        .arg(slot_size(alloc))?
-        .arg(align(alloc))?
-        .arg(max_sectors(alloc))?
-        .arg(pad(alloc))?
-        .arg(confirm(alloc))?
-        .arg(security_counter(alloc))?
-        .arg(
-            Arg::new(alloc, "INFILE")
-                .required(true)
-                .help("The file of the payload"),
-        )?
-        .arg(
-            Arg::new(alloc, "OUTFILE").required(true).help(
-                "The file that the image is written to; it is made, or emptied first",
-            ),
+        .arg(flag(
+            alloc,
+            "pad-header",
+            "INFILE is the bare payload; otherwise it begins with header-size zeros",
+        ))?
+        .arg(security_counter(alloc))?;
+    with_slot(alloc, command)
+}
+
+/// A command with the options of the slot that an image is made for.
+fn with_slot<'a>(alloc: Global, command: Command<'a>) -> Result<Command<'a>, AllocError> {
+    command
+        .next_help_heading("Slot")
+        .arg(number(
+            alloc,
+            NumberOption::SlotSize,
+            "Slot length in bytes, 1 to 16777216; image and trailer must fit",
         )
+        .short('S'))?
+        .arg(number(
+            alloc,
+            NumberOption::Align,
+            "Write unit of the flash: 1, 2, 4 or 8",
+        )
+        .default_value("8"))?
+        .arg(
+            number(
+                alloc,
+                NumberOption::SlotSectors,
+                "Sectors the trailer has room for, 1 to 1024",
+            )
+            .short('M')
+            .default_value("128"),
+        )?
+        .arg(flag(
+            alloc,
+            "pad",
+            "Pad with 0xff, and end with the magic that requests a swap",
+        ))?
+        .arg(flag(
+            alloc,
+            "confirm",
+            "As --pad, and mark the image confirmed (image-ok)",
+        ))
 }
 
 fn version<'a>(alloc: Global) -> Arg<'a> {
     Arg::new(alloc, "version")
         .long("version")
+        .short('v')
         .value_name("V")
         .required(true)
-        .help("The version of the image: major[.minor[.revision[+build]]]")
+        .help("Version, major[.minor[.revision[+build]]]")
 }
 
 fn header_size<'a>(alloc: Global) -> Arg<'a> {
-    Arg::new(alloc, "header-size")
-        .long("header-size")
-        .value_name("N")
-        .value_parser(value_parser!(u16).range(32..=65535))
-        .required(true)
-        .help("The length of the header in bytes, from 32 to 65535")
-}
-
-fn pad_header<'a>(alloc: Global) -> Arg<'a> {
-    Arg::new(alloc, "pad-header")
-        .long("pad-header")
-        .action(ArgAction::SetTrue)
-        .help(
-            "Put the header before INFILE; otherwise INFILE begins with zeros in the header's place",
-        )
-}
-
-fn slot_size<'a>(alloc: Global) -> Arg<'a> {
-    Arg::new(alloc, "slot-size")
-        .long("slot-size")
-        .value_name("N")
-        .value_parser(value_parser!(u32).range(1..=16777216))
-        .help(
-            "The length of the slot in bytes, from 1 to 16777216; an image that leaves no room for a trailer is refused",
-        )
-}
-
-/// The write units of a flash.
-static UNITS: [&str; 4] = ["1", "2", "4", "8"];
-
-fn align<'a>(alloc: Global) -> Arg<'a> {
-    Arg::new(alloc, "align")
-        .long("align")
-        .value_name("N")
-        .value_parser(UNITS.as_slice())
-        .default_value("8")
-        .help("The flash's write unit in bytes")
-}
-
-fn max_sectors<'a>(alloc: Global) -> Arg<'a> {
-    Arg::new(alloc, "max-sectors")
-        .long("max-sectors")
-        .value_name("N")
-        .value_parser(value_parser!(u32).range(1..=1024))
-        .default_value("128")
-        .help("The greatest number of sectors of a slot, from 1 to 1024")
-}
-
-fn pad<'a>(alloc: Global) -> Arg<'a> {
-    Arg::new(alloc, "pad")
-        .long("pad")
-        .action(ArgAction::SetTrue)
-        .help("Fill the slot up behind the image, and end it with the magic that asks for a swap")
-}
-
-fn confirm<'a>(alloc: Global) -> Arg<'a> {
-    Arg::new(alloc, "confirm")
-        .long("confirm")
-        .action(ArgAction::SetTrue)
-        .help("Like --pad, and mark the image as confirmed")
+    number(
+        alloc,
+        NumberOption::HeaderSize,
+        "Header length in bytes, 32 to 65535 (CONFIG_ROM_START_OFFSET)",
+    )
+    .short('H')
+    .required(true)
 }
 
 fn security_counter<'a>(alloc: Global) -> Arg<'a> {
-    Arg::new(alloc, "security-counter")
-        .long("security-counter")
-        .value_name("N")
-        .value_parser(value_parser!(u32))
-        .help("The security counter, from 0 to 4294967295; it is put into a protected area")
+    number(
+        alloc,
+        NumberOption::SecurityCounter,
+        "Add a protected security-counter entry, 0 to 4294967295",
+    )
+    .short('s')
+}
+
+fn flag<'a>(alloc: Global, name: &'static str, help: &'static str) -> Arg<'a> {
+    Arg::new(alloc, name)
+        .long(name)
+        .action(ArgAction::SetTrue)
+        .help(help)
+}
+
+fn number<'a>(alloc: Global, option: NumberOption, help: &'static str) -> Arg<'a> {
+    let name = option.name();
+    Arg::new(alloc, name).long(name).value_name("N").help(help)
 }
 
 /// `verify`: is a file a valid image?
 fn verify_command<'a>(alloc: Global) -> Result<Command<'a>, AllocError> {
     Command::new(alloc, "verify")
-        .about("Checks an image, and prints its version, size and digest")
+        .about("Check an image's structure and SHA-256; print version, size and digest")
+        .after_help(
+            "Bytes after the image are ignored. Signature entries are listed by dumpinfo, never checked.",
+        )
         .arg(image_file(alloc))
 }
 
 /// `dumpinfo`: what is in an image?
 fn dumpinfo_command<'a>(alloc: Global) -> Result<Command<'a>, AllocError> {
     Command::new(alloc, "dumpinfo")
-        .about("Prints the fields and entries of an image, and whether its digest is good")
+        .about("Print an image's header fields and TLV entries, and whether its digest is good")
         .arg(image_file(alloc))
 }
 
 fn image_file<'a>(alloc: Global) -> Arg<'a> {
-    Arg::new(alloc, "INFILE").help("The file of the image; standard input if left out")
+    Arg::new(alloc, "INFILE").help("The image; standard input if left out")
 }
 
 /// `type`: what the trailers of a flash ask for.
 fn type_command<'a>(alloc: Global) -> Result<Command<'a>, AllocError> {
-    let command = Command::new(alloc, "type").about(
-        "Prints the trailers of both slots, and the swap that they ask for",
-    );
-    with_flash(alloc, command)?.arg(profile(alloc))
+    let command = Command::new(alloc, "type")
+        .override_usage("mcsim type <LAYOUT> <SOURCE> [OPTIONS]")
+        .about("Print both slots' trailers and the swap that they ask for");
+    with_flash(alloc, command)?
+        .next_help_heading("Boot loader")
+        .arg(profile(alloc))
 }
 
-/// `boot`: what an uncut boot does.
+/// `boot`: what a boot does.
 fn boot_command<'a>(alloc: Global) -> Result<Command<'a>, AllocError> {
-    let command = Command::new(alloc, "boot").about("Prints what a boot that is not cut does");
-    with_rules(alloc, with_flash(alloc, command)?)?.arg(out_file(alloc))
+    let command = Command::new(alloc, "boot")
+        .override_usage("mcsim boot <LAYOUT> <SOURCE> [OPTIONS]")
+        .about("Run one boot without a power cut and print its outcome");
+    with_rules(alloc, with_flash(alloc, command)?)?
+        .next_help_heading("Output")
+        .arg(out_file(alloc))
 }
 
 /// `replay`: what the boot after a schedule does.
 fn replay_command<'a>(alloc: Global) -> Result<Command<'a>, AllocError> {
-    let command = Command::new(alloc, "replay").about(
-        "Cuts the power as a schedule tells, and prints what the boot after it does",
-    );
+    let command = Command::new(alloc, "replay")
+        .override_usage("mcsim replay <LAYOUT> <SOURCE> --schedule <S> [OPTIONS]")
+        .about("Run boots cut as a schedule says, then one whole boot; print its outcome");
     with_rules(alloc, with_flash(alloc, command)?)?
+        .next_help_heading("Replay")
         .arg(
             Arg::new(alloc, "schedule")
                 .long("schedule")
                 .value_name("S")
                 .required(true)
-                .help("- for no cut, or for each cut, after how many operations it falls: 9.4"),
+                .help("Cuts joined by points, as 9.4; - for none"),
         )?
         .arg(out_file(alloc))
 }
 
+static AFTER_EXPLORE: &str = "\
+A row is: SCHEDULE RESULT TYPE OPS PRIMARY SECONDARY NEXT
+  9.4 boot test 5 2.0.0+0/80 1.0.0+0/80 revert
+Power fails after 9 operations of the first boot and after 4 of the second; the third boot runs
+whole. It boots, finishing a test swap in 5 operations. Each slot is VERSION/SIZE; the boot after
+it would revert. RESULT: boot, none (no valid image), panic (the trailer contradicts itself),
+fault (a write met bytes that are not erased).
+How many rows? --cuts 1 has OPS+1; --cuts 2 has 1 more than the sum of OPS over the rows of
+--cuts 1.";
+
 /// `explore`: what the boots after all schedules do.
 fn explore_command<'a>(alloc: Global) -> Result<Command<'a>, AllocError> {
-    let command = Command::new(alloc, "explore").about(
-        "Prints every schedule of power cuts that can occur, and what the boot after it does",
-    );
+    let command = Command::new(alloc, "explore")
+        .override_usage("mcsim explore <LAYOUT> <SOURCE> --cuts <K> [OPTIONS]")
+        .about("List every schedule of at most K power cuts with its outcome")
+        .after_help(AFTER_EXPLORE);
     with_rules(alloc, with_flash(alloc, command)?)?
+        .next_help_heading("Exploration")
         .arg(
-            Arg::new(alloc, "cuts")
-                .long("cuts")
-                .value_name("K")
-                .value_parser(value_parser!(u8).range(0..=16))
-                .required(true)
-                .help("The most cuts of a schedule, from 0 to 16"),
+            number(
+                alloc,
+                NumberOption::Cuts,
+                "Most power cuts in a schedule, 0 to 16",
+            )
+            .value_name("K")
+            .required(true),
         )?
-        .arg(
-            Arg::new(alloc, "limit")
-                .long("limit")
-                .value_name("N")
-                .value_parser(value_parser!(u32).range(1..=4294967295))
-                .default_value("1000")
-                .help("The most rows, from 1 to 4294967295"),
-        )?
+        .arg(number(
+            alloc,
+            NumberOption::Limit,
+            "Rows on this page, 1 to 4294967295",
+        )
+        .default_value("1000"))?
         .arg(
             Arg::new(alloc, "cursor")
                 .long("cursor")
                 .value_name("C")
-                .help("Where to go on: what an earlier page printed behind next"),
+                .help("Go on after an earlier page: the text after its `next`"),
+        )
+}
+
+/// `explain`: what a refusal means.
+fn explain_command<'a>(alloc: Global) -> Result<Command<'a>, AllocError> {
+    Command::new(alloc, "explain")
+        .about("Tell what a refusal means and what to do about it")
+        .arg(
+            Arg::new(alloc, "NUMBER")
+                .required(true)
+                .help("The refusal's number, as 33 or E33"),
         )
 }
 
 fn out_file<'a>(alloc: Global) -> Arg<'a> {
     Arg::new(alloc, "out").long("out").value_name("FILE").help(
-        "The file that the flash which is left is written to, the primary's bytes first",
+        "Write the flash after the last boot (primary, then secondary)",
     )
 }
 
@@ -219,7 +269,82 @@ fn with_flash<'a>(alloc: Global, command: Command<'a>) -> Result<Command<'a>, Al
     with_source(alloc, with_layout(alloc, command)?)
 }
 
-/// What a power cut may part.
+/// A command with the six numbers of a layout.
+fn with_layout<'a>(alloc: Global, command: Command<'a>) -> Result<Command<'a>, AllocError> {
+    command
+        .next_help_heading("Layout (all six)")
+        .arg(layout_number(
+            alloc,
+            NumberOption::Sector,
+            "Erase sector in bytes: a power of two, 64 to 65536 (erase-block-size)",
+        ))?
+        .arg(layout_number(
+            alloc,
+            NumberOption::Unit,
+            "Write unit in bytes: 1, 2, 4 or 8 (write-block-size)",
+        ))?
+        .arg(layout_number(
+            alloc,
+            NumberOption::MaxSectors,
+            "Image sectors the trailer has room for (CONFIG_BOOT_MAX_IMG_SECTORS)",
+        ))?
+        .arg(layout_number(
+            alloc,
+            NumberOption::Chunk,
+            "Bytes per write while a sector is copied (copy buffer)",
+        ))?
+        .arg(layout_number(
+            alloc,
+            NumberOption::Primary,
+            "Sectors of the primary slot: as many as the secondary, or one more",
+        ))?
+        .arg(layout_number(
+            alloc,
+            NumberOption::Secondary,
+            "Sectors of the secondary slot",
+        ))
+}
+
+fn layout_number<'a>(alloc: Global, option: NumberOption, help: &'static str) -> Arg<'a> {
+    number(alloc, option, help).required(true)
+}
+
+/// The swaps that a start may ask for.
+static KINDS: [&str; 4] = ["none", "test", "perm", "revert"];
+
+/// A command with the options of a source: a flash, or two images and what they ask for.
+fn with_source<'a>(alloc: Global, command: Command<'a>) -> Result<Command<'a>, AllocError> {
+    command
+        .next_help_heading("Source (--flash, or the other three)")
+        .arg(source_file(
+            alloc,
+            "flash",
+            "A dump of both slots, primary first, with their trailers",
+        ))?
+        .arg(
+            Arg::new(alloc, "kind")
+                .long("kind")
+                .value_name("KIND")
+                .value_parser(KINDS.as_slice())
+                .hide_possible_values(true)
+                .help("Pending swap: none, test, perm (for good) or revert (back to B)"),
+        )?
+        .arg(source_file(
+            alloc,
+            "image-a",
+            "The image in the primary slot (bytes after it are ignored)",
+        ))?
+        .arg(source_file(alloc, "image-b", "The image in the secondary slot"))
+}
+
+fn source_file<'a>(alloc: Global, name: &'static str, help: &'static str) -> Arg<'a> {
+    Arg::new(alloc, name)
+        .long(name)
+        .value_name("FILE")
+        .help(help)
+}
+
+/// What a power cut can fall between.
 static GRAINS: [&str; 2] = ["call", "unit"];
 
 /// Which swap tables are used.
@@ -228,15 +353,15 @@ static PROFILES: [&str; 2] = ["1", "2"];
 /// A command with the rules of boots.
 fn with_rules<'a>(alloc: Global, command: Command<'a>) -> Result<Command<'a>, AllocError> {
     command
+        .next_help_heading("Boot loader")
         .arg(
             Arg::new(alloc, "grain")
                 .long("grain")
                 .value_name("GRAIN")
                 .value_parser(GRAINS.as_slice())
+                .hide_possible_values(true)
                 .default_value("call")
-                .help(
-                    "What the power can be cut between: whole write calls, or write units within them",
-                ),
+                .help("Cuts between write calls (call) or write units (unit)"),
         )?
         .arg(profile(alloc))
 }
@@ -246,61 +371,7 @@ fn profile<'a>(alloc: Global) -> Arg<'a> {
         .long("profile")
         .value_name("PROFILE")
         .value_parser(PROFILES.as_slice())
+        .hide_possible_values(true)
         .default_value("1")
-        .help(
-            "When a test is swapped back: 1, only where the secondary's magic is unset; 2, also where it is bad",
-        )
-}
-
-/// A command with the six numbers of a layout.
-fn with_layout<'a>(alloc: Global, command: Command<'a>) -> Result<Command<'a>, AllocError> {
-    command
-        .arg(layout_number(alloc, "sector", "The bytes of a sector"))?
-        .arg(layout_number(alloc, "unit", "The bytes of a write unit"))?
-        .arg(layout_number(alloc, "max-sectors", "The most sectors of an image"))?
-        .arg(layout_number(
-            alloc,
-            "chunk",
-            "The bytes that one write of a copied sector has",
-        ))?
-        .arg(layout_number(alloc, "primary", "The sectors of the primary slot"))?
-        .arg(layout_number(alloc, "secondary", "The sectors of the secondary slot"))
-}
-
-fn layout_number<'a>(alloc: Global, name: &'static str, help: &'static str) -> Arg<'a> {
-    Arg::new(alloc, name)
-        .long(name)
-        .value_name("N")
-        .value_parser(value_parser!(u32))
-        .required(true)
-        .help(help)
-}
-
-/// The swaps that a start may ask for.
-static KINDS: [&str; 4] = ["none", "test", "perm", "revert"];
-
-/// A command with the options of a source: a flash, or two images and what they ask for.
-fn with_source<'a>(alloc: Global, command: Command<'a>) -> Result<Command<'a>, AllocError> {
-    command
-        .arg(source_file(
-            alloc,
-            "flash",
-            "The file of the bytes of both slots, the primary's first",
-        ))?
-        .arg(
-            Arg::new(alloc, "kind")
-                .long("kind")
-                .value_name("KIND")
-                .value_parser(KINDS.as_slice())
-                .help("The swap that the flash asks for"),
-        )?
-        .arg(source_file(alloc, "image-a", "The file of the image in the primary"))?
-        .arg(source_file(alloc, "image-b", "The file of the image in the secondary"))
-}
-
-fn source_file<'a>(alloc: Global, name: &'static str, help: &'static str) -> Arg<'a> {
-    Arg::new(alloc, name)
-        .long(name)
-        .value_name("FILE")
-        .help(help)
+        .help("Revert at a secondary magic that is unset (1), or bad too (2)")
 }

@@ -1,6 +1,7 @@
 //! The commands, each with its files.
 pub mod create;
 pub mod dumpinfo;
+pub mod explain;
 pub mod explore;
 mod infile;
 pub mod replay;

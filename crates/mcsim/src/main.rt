@@ -5,8 +5,12 @@ ghost use Rattle.std.specs.Prelude.{◌≤◌};
 
 mod command;
 mod commands;
+mod creation;
+mod explanations;
+mod numbers;
 mod options;
 mod refusal;
+mod same_file;
 mod source;
 
 use clap::error::ErrorKind;
@@ -79,6 +83,7 @@ fn run_command<F: Files, R: Read, O: Write>(
             let schedule = options::required(arguments, "schedule")?;
             commands::replay::run(files, alloc, arguments, schedule, out)
         }
+        Some(("explain", arguments)) => commands::explain::run(arguments, out),
         Some(("explore", arguments)) => commands::explore::run(files, alloc, arguments, out),
         _ => Err(Refusal::Argument),
     }

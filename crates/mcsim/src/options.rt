@@ -1,13 +1,13 @@
 //! What the words of a command line say.
-ghost use Rattle.std.specs.Prelude.{◌≡◌, ◌≤◌, ◌-◌, ◌^◌, ℕ, List, codes};
-ghost use Rattle.std.specs.Prelude.{Some, None, IsOk, IfOk, IfErr, IfSome, MatchResult, MatchOption};
-ghost use Rattle.std.specs.Str.Parse.{IsNumeral, without_leading_plus};
-ghost use Rattle.clap.specs.Words.{first_value, found_of, IsUnsignedIn};
-ghost use Rattle.clap.specs.Matches.{one_text};
-ghost use Rattle.mc_image.specs.VersionText.{Names};
-ghost use Rattle.mcsim.specs.Arguments.{IsFlag, IsUnit, number_of, told_number, TellsLayout, RefusesLayout, TellsSource, RefusesSource, kind_text};
-ghost use Rattle.mcsim.specs.Arguments.{TellsRules, RefusesRules, TellsFlash, RefusesFlash};
+ghost use Rattle.std.specs.Prelude.{◌≡◌, ◌≤◌, ℕ, codes, false, Some, None, Err, IfOk, IsOk, MatchResult, MatchOption};
+ghost use Rattle.clap.specs.Matches.{found_of};
+ghost use Rattle.clap.specs.Words.{first_value};
+ghost use Rattle.mcsim.specs.Numbers.{TellsNumber, IsUnit};
+ghost use Rattle.mc_flash.specs.Geometry.{Geometry, refusal_of};
+ghost use Rattle.mcsim.specs.Arguments.{TellsCreate, TellsLayout, Judges, TellsSource, RefusesSource, is_source, kind_text};
+ghost use Rattle.mcsim.specs.Arguments.{TellsRules, TellsFlash};
 
+use crate::numbers::NumberOption;
 use crate::refusal::Refusal;
 use clap::ArgMatches;
 use mc_explore::Kind;
@@ -29,58 +29,19 @@ pub fn required<'a>(arguments: &ArgMatches<'a>, name: &str) -> Result<&'a str, R
     arguments.get_str(name).ok_or(Refusal::Argument)
 }
 
-/// The number of an argument that may be left out, from `least` to `most`.
-///
-/// # Errors
-///
-/// `Argument` where its value is no number, or is out of the range.
-fn optional_number(
-    arguments: &ArgMatches<'_>,
-    name: &str,
-    least: u32,
-    most: u32,
-) -> Result<Option<u32>, Refusal>
-    ensures written { IfOk result (λ o. told_number (found_of arguments.now) name.now ≡ o) }
-    ensures range { IfOk result (λ o. IfSome o (λ n. (least ≤ n) × (n ≤ most))) }
-    ensures taken { IfSome (one_text (found_of arguments.now) name.now) (IsUnsignedIn least most) → IsOk result }
-    ensures err { IfErr result (λ r. r ≡ Refusal.Argument) }
-{
-    match arguments.try_get_one::<u32>(name) {
-        Ok(None) => Ok(None),
-        Ok(Some(number)) if least <= number && number <= most => Ok(Some(number)),
-        _ => Err(Refusal::Argument),
-    }
-}
-
-/// The number of an argument that a command cannot do without, from `least` to `most`.
-///
-/// # Errors
-///
-/// `Argument` where it is missing, or its value is no number, or is out of the range.
-fn number(arguments: &ArgMatches<'_>, name: &str, least: u32, most: u32) -> Result<u32, Refusal>
-    ensures written { IfOk result (λ n. told_number (found_of arguments.now) name.now ≡ Some n) }
-    ensures range { IfOk result (λ n. (least ≤ n) × (n ≤ most)) }
-    ensures taken { (text : List ℕ) → one_text (found_of arguments.now) name.now ≡ Some text
-        → IsUnsignedIn least most text → IsOk result }
-    ensures err { IfErr result (λ r. r ≡ Refusal.Argument) }
-{
-    optional_number(arguments, name, least, most)?.ok_or(Refusal::Argument)
-}
-
 /// The write unit of the flash.
 ///
 /// # Errors
 ///
-/// `Argument` where it is missing, or is not 1, 2, 4 or 8.
+/// `Number` where it is told, but not as 1, 2, 4 or 8; `Argument` where it is missing.
 fn align(arguments: &ArgMatches<'_>) -> Result<u8, Refusal>
-    ensures written { IfOk result (λ n. told_number (found_of arguments.now) (codes "align") ≡ Some n) }
-    ensures unit { IfOk result IsUnit }
-    ensures taken { (text : List ℕ) → one_text (found_of arguments.now) (codes "align") ≡ Some text
-        → IsNumeral 10 (without_leading_plus text) → IsUnit (number_of text) → IsOk result }
+    ensures told { IfOk result (λ n. TellsNumber (found_of arguments.now) NumberOption.Align n × IsUnit n) }
+    ensures taken { (n : ℕ) → TellsNumber (found_of arguments.now) NumberOption.Align n → IsUnit n
+        → IsOk result }
 {
-    match number(arguments, "align", 1, 8)? {
+    match NumberOption::Align.read_required(arguments)? {
         unit @ (1 | 2 | 4 | 8) => Ok(unit as u8),
-        _ => Err(Refusal::Argument),
+        _ => Err(Refusal::Number(NumberOption::Align)),
     }
 }
 
@@ -88,48 +49,23 @@ fn align(arguments: &ArgMatches<'_>) -> Result<u8, Refusal>
 ///
 /// # Errors
 ///
-/// `Version` where its text names none; `Argument` where a required value, or one with a default, is missing, or a
-/// number is out of its range: the header's length from 32 to 65535, the slot's size from 1 to 2^24, the write unit 1,
-/// 2, 4 or 8, the number of sectors from 1 to 1024, the security counter below 2^32.
+/// `Version` where its text names none; `Number` where a text says no number that its option takes; `Argument` where a
+/// required value, or one with a default, is missing.
 pub fn create_options(arguments: &ArgMatches<'_>) -> Result<CreateOptions, Refusal>
-    // Each value is in its range.
-    ensures least { IfOk result (λ o. 32 ≤ o.header_size) }
-    ensures slot { IfOk result (λ o. IfSome o.slot_size (λ n. (1 ≤ n) × (n ≤ 2 ^ 24))) }
-    ensures unit { IfOk result (λ o. IsUnit o.align) }
-    ensures sectors { IfOk result (λ o. (1 ≤ o.max_sectors) × (o.max_sectors ≤ 1024)) }
-    // Each value is the one that is written.
-    ensures version { (text : List ℕ) → first_value (found_of arguments.now) (codes "version") ≡ Some text
-        → IfOk result (λ o. Names text o.version) }
-    ensures header_size { IfOk result (λ o. told_number (found_of arguments.now) (codes "header-size") ≡ Some o.header_size) }
-    ensures pad_header { IfOk result (λ o. IsFlag (found_of arguments.now) (codes "pad-header") o.pad_header) }
-    ensures slot_size { IfOk result (λ o. told_number (found_of arguments.now) (codes "slot-size") ≡ o.slot_size) }
-    ensures align { IfOk result (λ o. told_number (found_of arguments.now) (codes "align") ≡ Some o.align) }
-    ensures max_sectors { IfOk result (λ o. told_number (found_of arguments.now) (codes "max-sectors") ≡ Some o.max_sectors) }
-    ensures pad { IfOk result (λ o. IsFlag (found_of arguments.now) (codes "pad") o.pad) }
-    ensures confirm { IfOk result (λ o. IsFlag (found_of arguments.now) (codes "confirm") o.confirm) }
-    ensures counter { IfOk result (λ o. told_number (found_of arguments.now) (codes "security-counter") ≡ o.security_counter) }
-    // Good values are taken.
-    ensures taken { (text header unit sectors : List ℕ) (v : Version)
-        → first_value (found_of arguments.now) (codes "version") ≡ Some text → Names text v
-        → one_text (found_of arguments.now) (codes "header-size") ≡ Some header → IsUnsignedIn 32 65535 header
-        → IfSome (one_text (found_of arguments.now) (codes "slot-size")) (IsUnsignedIn 1 (2 ^ 24))
-        → one_text (found_of arguments.now) (codes "align") ≡ Some unit
-        → IsNumeral 10 (without_leading_plus unit) → IsUnit (number_of unit)
-        → one_text (found_of arguments.now) (codes "max-sectors") ≡ Some sectors → IsUnsignedIn 1 1024 sectors
-        → IfSome (one_text (found_of arguments.now) (codes "security-counter")) (IsUnsignedIn 0 (2 ^ 32 - 1))
-        → IsOk result }
+    ensures told { IfOk result (TellsCreate (found_of arguments.now)) }
+    ensures taken { (o : CreateOptions) → TellsCreate (found_of arguments.now) o → IsOk result }
 {
     let version = Version::read(required(arguments, "version")?)?;
     Ok(CreateOptions {
         version,
-        header_size: number(arguments, "header-size", 32, 65535)? as u16,
+        header_size: NumberOption::HeaderSize.read_required(arguments)? as u16,
         pad_header: arguments.get_flag("pad-header"),
-        slot_size: optional_number(arguments, "slot-size", 1, 16777216)?,
+        slot_size: NumberOption::SlotSize.read(arguments)?,
         align: align(arguments)?,
-        max_sectors: number(arguments, "max-sectors", 1, 1024)?,
+        max_sectors: NumberOption::SlotSectors.read_required(arguments)?,
         pad: arguments.get_flag("pad"),
         confirm: arguments.get_flag("confirm"),
-        security_counter: optional_number(arguments, "security-counter", 0, u32::MAX)?,
+        security_counter: NumberOption::SecurityCounter.read(arguments)?,
     })
 }
 
@@ -137,17 +73,18 @@ pub fn create_options(arguments: &ArgMatches<'_>) -> Result<CreateOptions, Refus
 ///
 /// # Errors
 ///
-/// `Layout` with the first judgement that the numbers fail; `Argument` where one is missing.
+/// `Layout` with the first judgement that the numbers fail; `Number` where a text says no number below 2^32; `Argument`
+/// where one is missing.
 fn layout_options(arguments: &ArgMatches<'_>) -> Result<Layout, Refusal>
-    ensures written { IfOk result (λ l. TellsLayout (found_of arguments.now) l) }
-    ensures refused { IfErr result (λ r. RefusesLayout (found_of arguments.now) r) }
+    ensures told { IfOk result (λ l. TellsLayout (found_of arguments.now) l) }
+    ensures judged { (g : Geometry) → TellsLayout (found_of arguments.now) g → Judges (refusal_of g) result }
 {
-    let sector = number(arguments, "sector", 0, u32::MAX)?;
-    let unit = number(arguments, "unit", 0, u32::MAX)?;
-    let max_sectors = number(arguments, "max-sectors", 0, u32::MAX)?;
-    let chunk = number(arguments, "chunk", 0, u32::MAX)?;
-    let primary = number(arguments, "primary", 0, u32::MAX)?;
-    let secondary = number(arguments, "secondary", 0, u32::MAX)?;
+    let sector = NumberOption::Sector.read_required(arguments)?;
+    let unit = NumberOption::Unit.read_required(arguments)?;
+    let max_sectors = NumberOption::MaxSectors.read_required(arguments)?;
+    let chunk = NumberOption::Chunk.read_required(arguments)?;
+    let primary = NumberOption::Primary.read_required(arguments)?;
+    let secondary = NumberOption::Secondary.read_required(arguments)?;
     match Layout::new(sector, unit, max_sectors, chunk, primary, secondary) {
         Ok(layout) => Ok(layout),
         Err(error) => Err(Refusal::Layout(error)),
@@ -205,8 +142,8 @@ fn source_options<'a>(arguments: &ArgMatches<'a>) -> Result<Source<'a>, Refusal>
 ///
 /// `Argument` where one of the texts names nothing.
 fn rules_options(arguments: &ArgMatches<'_>) -> Result<Rules, Refusal>
-    ensures { MatchResult result (λ rules. TellsRules (found_of arguments.now) rules)
-        (λ r. RefusesRules (found_of arguments.now) r) }
+    ensures told { IfOk result (TellsRules (found_of arguments.now)) }
+    ensures taken { (rules : Rules) → TellsRules (found_of arguments.now) rules → IsOk result }
 {
     let mut rules = Rules::PLAIN;
     if let Some(text) = arguments.get_str("grain") {
@@ -232,8 +169,11 @@ pub struct FlashOptions<'a> {
 ///
 /// What `source_options`, `layout_options` and `rules_options` refuse.
 pub fn flash_options<'a>(arguments: &ArgMatches<'a>) -> Result<FlashOptions<'a>, Refusal>
-    ensures { MatchResult result (λ o. TellsFlash (found_of arguments.now) o)
-        (λ r. RefusesFlash (found_of arguments.now) r) }
+    ensures told { IfOk result (TellsFlash (found_of arguments.now)) }
+    ensures source { is_source (found_of arguments.now) ≡ false → result ≡ Err Refusal.Source }
+    ensures judged { (s : Source) (g : Geometry) (rules : Rules)
+        → TellsSource (found_of arguments.now) s → TellsLayout (found_of arguments.now) g
+        → TellsRules (found_of arguments.now) rules → Judges (refusal_of g) result }
 {
     let source = source_options(arguments)?;
     let layout = layout_options(arguments)?;
@@ -260,12 +200,12 @@ pub struct ExploreOptions {
 ///
 /// `Argument` where one is missing, or out of its range.
 pub fn explore_options(arguments: &ArgMatches<'_>) -> Result<ExploreOptions, Refusal>
-    ensures cuts { IfOk result (λ o. (told_number (found_of arguments.now) (codes "cuts") ≡ Some o.cuts) × (o.cuts ≤ 16)) }
-    ensures limit { IfOk result (λ o. (told_number (found_of arguments.now) (codes "limit") ≡ Some o.limit) × (1 ≤ o.limit)) }
-    ensures err { IfErr result (λ r. r ≡ Refusal.Argument) }
+    ensures told { IfOk result (λ o. TellsNumber (found_of arguments.now) NumberOption.Cuts o.cuts
+        × TellsNumber (found_of arguments.now) NumberOption.Limit o.limit) }
+    ensures range { IfOk result (λ o. (o.cuts ≤ 16) × (1 ≤ o.limit)) }
 {
     Ok(ExploreOptions {
-        cuts: number(arguments, "cuts", 0, 16)? as u8,
-        limit: number(arguments, "limit", 1, u32::MAX)?,
+        cuts: NumberOption::Cuts.read_required(arguments)? as u8,
+        limit: NumberOption::Limit.read_required(arguments)?,
     })
 }

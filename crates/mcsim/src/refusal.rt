@@ -2,6 +2,7 @@
 ghost use Rattle.std.specs.Prelude.{◌≡◌, ◌≤◌};
 ghost use Rattle.mcsim.specs.Statuses.{status_of};
 
+use crate::numbers::NumberOption;
 use mc_explore::{CursorError, ExploreError, ReplayError, ScheduleError, StartError};
 use mc_flash::{FlashError, LayoutError};
 use mc_image::{ImageError, VersionError};
@@ -15,9 +16,12 @@ pub enum Refusal {
     /// A word of the command line is not UTF-8 text.
     #[error("an argument is not UTF-8 text")]
     NotText,
-    /// A required argument is missing, or a number is out of its range, where clap did not refuse it.
+    /// A required argument is missing, or a word is not one that its option takes, where clap did not refuse it.
     #[error("an argument is missing or out of its range")]
     Argument,
+    /// The text of an option says no number that it takes.
+    #[error("{0}")]
+    Number(NumberOption),
     /// The text of a version is refused.
     #[error(transparent)]
     Version(#[from] VersionError),
@@ -48,6 +52,12 @@ pub enum Refusal {
     /// The image tool refuses.
     #[error(transparent)]
     Tool(#[from] ToolError),
+    /// No refusal has the number that is to be explained.
+    #[error("no refusal has this number")]
+    Unexplained,
+    /// The file that is to be written is one that is read.
+    #[error("E75 SameFile")]
+    SameFile,
     /// A file cannot be opened or made.
     #[error("E71 Open")]
     Open,
@@ -69,8 +79,11 @@ impl Refusal {
         match self {
             Refusal::NotText
             | Refusal::Argument
+            | Refusal::Number(_)
             | Refusal::Version(_)
             | Refusal::Source
+            | Refusal::Unexplained
+            | Refusal::SameFile
             | Refusal::Layout(_)
             | Refusal::Schedule(_)
             | Refusal::Cursor(_) => 2,

@@ -1,4 +1,6 @@
 //! The flash that a command starts from, read from its files.
+ghost use Rattle.std.specs.Prelude.{◌≡◌, IfOk};
+
 use crate::options::{FlashOptions, Source};
 use crate::refusal::Refusal;
 use mc_explore::Start;
@@ -37,7 +39,10 @@ pub fn read_start<F: Files>(
     files: &F,
     alloc: Global,
     options: &FlashOptions<'_>,
-) -> Result<Start, Refusal> {
+) -> Result<Start, Refusal>
+    // The layout and the rules are the ones that are told, whatever the files hold.
+    ensures { IfOk result (λ s. (s.geometry ≡ options.now.layout) × (s.rules ≡ options.now.rules)) }
+{
     let layout = &options.layout;
     let start = match &options.source {
         Source::Flash(path) => {

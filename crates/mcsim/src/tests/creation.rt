@@ -3,6 +3,7 @@ use super::support::{Case, create_words, ends, outcome_of, scratch_path};
 use super::vectors::{COUNTER_IMAGE, EMPTY_IMAGE, FIRST_IMAGE, GOOD, IMAGE, PADDED, PAYLOAD};
 use std::alloc::Global;
 use std::fs;
+use std::os::unix::fs::symlink;
 use std::process::Abort;
 use std::test::Fail;
 
@@ -19,6 +20,35 @@ fn makes_and_verifies_an_image(rt: HostRuntime) -> Result<(), Fail> {
     assert_eq!(rt; outcome_of(&rt, &words, &[])?.parts(), (0, GOOD, ""));
     fs::remove_file(&rt, payload.as_str())?;
     fs::remove_file(&rt, image.as_str())?;
+    Ok(())
+}
+
+/// A file that is to be its own image stays as it is, by whatever path it is named.
+#[test]
+fn keeps_a_payload_that_is_the_output_too(rt: HostRuntime) -> Result<(), Fail> {
+    let payload = scratch_path(&rt, "same")?;
+    let link = scratch_path(&rt, "link")?;
+    let folder = std::env::temp_dir(&rt)?;
+    let dotted = folder.as_path().join(rt.alloc(), ".")?;
+    let name = payload
+        .as_str()
+        .rsplit_once('/')
+        .map_or("", |parts| parts.1);
+    let other = dotted.as_path().join(rt.alloc(), name)?;
+    let other = other.display().to_string(rt.alloc())?;
+    fs::write(&rt, payload.as_str(), PAYLOAD.as_slice())?;
+    symlink(&rt, payload.as_str(), link.as_str())?;
+    for outfile in [payload.as_str(), link.as_str(), other.as_str()] {
+        for (first, second) in [(payload.as_str(), outfile), (outfile, payload.as_str())] {
+            let words = create_words("1.2.3+4", first, second);
+            let ended = outcome_of(&rt, &words, &[])?;
+            assert_eq!(rt; ended.parts(), (2, "", "mcsim: E75 SameFile\n"));
+            let bytes = fs::read(&rt, payload.as_str())?;
+            assert_eq!(rt; bytes.as_slice(), PAYLOAD.as_slice());
+        }
+    }
+    fs::remove_file(&rt, link.as_str())?;
+    fs::remove_file(&rt, payload.as_str())?;
     Ok(())
 }
 
@@ -48,14 +78,36 @@ fn make(rt: &impl Abort, alloc: Global, cases: &[(&str, &str, &[u8], &[u8])]) ->
 fn makes_images(rt: HostRuntime) -> Result<(), Fail> {
     let unpadded = "--version 1.2.3+4 --header-size 32";
     let version = "--version 1 --pad-header --header-size 32";
-    let cases: [(&str, &str, &[u8], &[u8]); 5] = [
+    // imgtool's short options, and its way to write numbers.
+    let short = "-v 1.2.3+4 --pad-header -H 0x20";
+    let cases: [(&str, &str, &[u8], &[u8]); 8] = [
         (PADDING, "", &PAYLOAD, &IMAGE),
+        (short, "", &PAYLOAD, &IMAGE),
+        (short, "-s 0X7 -S 0xeC -M 4", &PAYLOAD, &COUNTER_IMAGE),
+        (
+            PADDING,
+            "--slot-size +224 --align 0x8 --max-sectors 4",
+            &PAYLOAD,
+            &IMAGE,
+        ),
         (unpadded, "", &PADDED, &IMAGE),
         (PADDING, "", &[], &EMPTY_IMAGE),
         (version, "", &[0, 1, 2, 3, 4, 5, 6, 7], &FIRST_IMAGE),
         (PADDING, "--security-counter 7", &PAYLOAD, &COUNTER_IMAGE),
     ];
-    make(&rt, rt.alloc(), &cases)
+    make(&rt, rt.alloc(), &cases)?;
+    let case = Case {
+        command: "sign",
+        start: PADDING,
+        options: "",
+        words: "in out",
+        input: &PAYLOAD,
+        status: 0,
+        out: "",
+        err: "",
+        written: &IMAGE,
+    };
+    ends(&rt, rt.alloc(), &case)
 }
 
 #[test]

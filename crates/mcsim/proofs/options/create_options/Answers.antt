@@ -1,19 +1,22 @@
-use Rattle.std.proofs.Common.{◌≡◌, List, ℕ, Option, Some}
-use Rattle.std.specs.Prelude.{Ok, Err}
-use Rattle.mc_image.specs.declared.error.VersionError.{VersionError}
-use Rattle.mc_image.specs.declared.version.Version.{Version}
-use Rattle.mc_image.specs.VersionText.{Names}
+use Rattle.mcsim.proofs.Told.{no_version, not_ok}
+use Rattle.clap.specs.Matches.{found_of}
 use Rattle.mcsim.proofs.options.create_options.Goals as goal
 
-one_text_given : (o : Option (List ℕ)) (a b : List ℕ) → o ≡ Some a → o ≡ Some b → a ≡ b
-one_text_given o a b e f = cc
-
-ok_is_no_err : {P : Type 0} (e : VersionError) (v : Version) → Err e ≡ Ok v → P
-ok_is_no_err e v q = absurd (cc)
-
--- a text that names a version is not refused
 pub returns-in_err-version-clause-taken : goal.returns-in_err-version-clause-taken
-returns-in_err-version-clause-taken c = λ text header unit sectors v given names written numeral slot align decimal is_unit most within counter.
-    let same : c.in_ok-required.field-0.now ≡ text = one_text_given _ _ _ c.in_ok-required.ensures given in
-    let named : Names c.in_ok-required.field-0.now v = rw same names in
-    ok_is_no_err c.in_err-version.field-0.0 v (c.in_err-version.ensures.only v named)
+returns-in_err-version-clause-taken c = λ o told.
+    no_version (found_of c.args.arguments.now) _ _ _ _ c.in_ok-required.ensures told.version_told told.version c.in_err-version.ensures.only
+
+pub returns-in_err-read_required-clause-taken : goal.returns-in_err-read_required-clause-taken
+returns-in_err-read_required-clause-taken c = λ o told. absurd (not_ok (c.in_err-read_required.ensures.taken o.header_size told.header_size))
+
+pub returns-in_err-read-clause-taken : goal.returns-in_err-read-clause-taken
+returns-in_err-read-clause-taken c = λ o told. absurd (c.in_err-read.ensures.1 o.slot_size told.slot_size)
+
+pub returns-in_err-align-clause-taken : goal.returns-in_err-align-clause-taken
+returns-in_err-align-clause-taken c = λ o told. absurd (not_ok (c.in_err-align.ensures.taken o.align told.align told.unit))
+
+pub returns-in_err-read_required-2-clause-taken : goal.returns-in_err-read_required-2-clause-taken
+returns-in_err-read_required-2-clause-taken c = λ o told. absurd (not_ok (c.in_err-read_required-2.ensures.taken o.max_sectors told.max_sectors))
+
+pub returns-in_err-read-2-clause-taken : goal.returns-in_err-read-2-clause-taken
+returns-in_err-read-2-clause-taken c = λ o told. absurd (c.in_err-read-2.ensures.1 o.security_counter told.security_counter)

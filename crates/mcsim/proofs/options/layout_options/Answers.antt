@@ -1,22 +1,20 @@
+use Rattle.mcsim.proofs.Told.{not_ok}
 use Rattle.mcsim.proofs.options.layout_options.Goals as goal
 
-pub returns-in-Err-clause-refused : goal.returns-in-Err-clause-refused
-returns-in-Err-clause-refused c = (
-  record {
-    sector = c.in_ok-sector.sector;
-    unit = c.in_ok-unit.unit;
-    max_sectors = c.in_ok-max_sectors.max_sectors;
-    chunk = c.in_ok-chunk.chunk;
-    primary = c.in_ok-primary.primary;
-    secondary = c.in_ok-secondary.secondary;
-  },
-  record {
-    sector = c.in_ok-sector.ensures.written;
-    unit = c.in_ok-unit.ensures.written;
-    max_sectors = c.in_ok-max_sectors.ensures.written;
-    chunk = c.in_ok-chunk.ensures.written;
-    primary = c.in_ok-primary.ensures.written;
-    secondary = c.in_ok-secondary.ensures.written;
-  },
-  c.in-Err.ensures,
-)
+pub returns-in_err-sector-clause-judged : goal.returns-in_err-sector-clause-judged
+returns-in_err-sector-clause-judged c = λ g told. absurd (not_ok (c.in_err-sector.ensures.taken g.sector told.sector))
+
+pub returns-in_err-unit-clause-judged : goal.returns-in_err-unit-clause-judged
+returns-in_err-unit-clause-judged c = λ g told. absurd (not_ok (c.in_err-unit.ensures.taken g.unit told.unit))
+
+pub returns-in_err-max_sectors-clause-judged : goal.returns-in_err-max_sectors-clause-judged
+returns-in_err-max_sectors-clause-judged c = λ g told. absurd (not_ok (c.in_err-max_sectors.ensures.taken g.max_sectors told.max_sectors))
+
+pub returns-in_err-chunk-clause-judged : goal.returns-in_err-chunk-clause-judged
+returns-in_err-chunk-clause-judged c = λ g told. absurd (not_ok (c.in_err-chunk.ensures.taken g.chunk told.chunk))
+
+pub returns-in_err-primary-clause-judged : goal.returns-in_err-primary-clause-judged
+returns-in_err-primary-clause-judged c = λ g told. absurd (not_ok (c.in_err-primary.ensures.taken g.primary told.primary))
+
+pub returns-in_err-secondary-clause-judged : goal.returns-in_err-secondary-clause-judged
+returns-in_err-secondary-clause-judged c = λ g told. absurd (not_ok (c.in_err-secondary.ensures.taken g.secondary told.secondary))

@@ -1,0 +1,31 @@
+//! `explain`: what a refusal means.
+use crate::explanations::explanation_of;
+use crate::options::required;
+use crate::refusal::Refusal;
+use clap::ArgMatches;
+use std::io::Write;
+
+/// Prints what the refusal of a number means, which may be written as it is printed: `33` or `E33`.
+///
+/// # Errors
+///
+/// `Unexplained` where no refusal has that number; `Write` where the output cannot be written.
+pub fn run<O: Write>(arguments: &ArgMatches<'_>, out: &mut O) -> Result<(), Refusal> {
+    let text = required(arguments, "NUMBER")?;
+    let digits = text.strip_prefix('E').unwrap_or(text);
+    let Ok(number) = digits.parse::<u8>() else {
+        return Err(Refusal::Unexplained);
+    };
+    let Some(explanation) = explanation_of(number) else {
+        return Err(Refusal::Unexplained);
+    };
+    let name = explanation.name;
+    let when = explanation.when;
+    let remedy = explanation.remedy;
+    match explanation.status {
+        Some(status) => writeln!(out, "E{number} {name}, exit status {status}"),
+        None => writeln!(out, "E{number} {name}, no exit status"),
+    }
+    .map_err(|_| Refusal::Write)?;
+    write!(out, "{when}\n{remedy}\n").map_err(|_| Refusal::Write)
+}
