@@ -373,5 +373,5 @@ fn profile<'a>(alloc: Global) -> Arg<'a> {
         .value_parser(PROFILES.as_slice())
         .hide_possible_values(true)
         .default_value("1")
-        .help("Revert at a secondary magic that is unset (1), or bad too (2)")
+        .help("Revert at a secondary magic unset (1), or bad too (2)")
 }
