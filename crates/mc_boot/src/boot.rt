@@ -242,7 +242,7 @@ impl Boot {
         self.next_op()
     }
 
-    /// Makes the next operation. At the end it does nothing and answers Ok.
+    /// Makes the next operation. At the end it does nothing and returns Ok.
     ///
     /// # Errors
     ///

@@ -133,7 +133,7 @@ fn resumed_op(
     from_transfer_op(layout, sectors, first, image_ok, index - count)
 }
 
-/// One operation of a swap from its start, behind a revert's preparation.
+/// One operation of a swap from its start, after a revert's preparation.
 fn swap_op(
     layout: &Layout,
     grain: Grain,

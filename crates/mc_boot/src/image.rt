@@ -43,7 +43,7 @@ pub fn slot_bytes<F: Flash>(flash: &F, slot: Slot) -> &[u8]
     &flash.read(slot)[..size]
 }
 
-/// The length of the image at the front of a slot's bytes.
+/// The length of the image at the start of a slot's bytes.
 fn view_size(bytes: &[u8], view: &ImageView<'_>) -> u32
     requires few { length bytes.now ≤ 2 ^ 24 }
     requires begins { Begins bytes.now view.now }

@@ -9,7 +9,7 @@ use thiserror::Error;
 #[error("E55 Syntax")]
 pub struct CursorError;
 
-/// Where to go on with an exploration: behind a schedule, of a start (told by its digest) under some rules, with so many
+/// Where to go on with an exploration: after a schedule, of a start (told by its digest) under some rules, with so many
 /// cuts at most. It takes no memory.
 #[derive(Clone, Copy, Debug)]
 pub struct Cursor {

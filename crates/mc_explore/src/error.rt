@@ -9,7 +9,7 @@ use thiserror::Error;
 /// Why an explorer gives up.
 #[derive(Clone, Copy, Debug, PartialEq, Eq, Error)]
 pub enum ExploreError {
-    /// A growth was refused, or the room that the flash took at its start is full. The explorer has failed then.
+    /// An allocation failed, or the room that the flash took at its start is full. The explorer has failed then.
     #[error("E52 Memory")]
     Memory,
     /// The explorer failed before.

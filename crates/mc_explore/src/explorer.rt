@@ -63,7 +63,7 @@ impl<F: Flash + Drop> Explorer<F> {
     ///
     /// # Errors
     ///
-    /// `Memory` where a growth was refused.
+    /// `Memory` where an allocation failed.
     pub fn start(alloc: Global, start: &Start, bound: u8) -> Result<Explorer<F>, ExploreError>
         requires { bound ≤ 16 }
         ensures ok { IfOk result (λ explorer. explorer.state ≡ at_start (begun start.now) bound) }
@@ -85,7 +85,7 @@ impl<F: Flash + Drop> Explorer<F> {
         })
     }
 
-    /// An explorer that goes on behind the schedule of a cursor, straight down along its cuts. It takes memory as one at
+    /// An explorer that goes on after the schedule of a cursor, straight down along its cuts. It takes memory as one at
     /// the start does.
     ///
     /// # Errors
@@ -190,7 +190,7 @@ impl<F: Flash + Drop> Explorer<F> {
     {
         &self.flash
     }
-    /// Where to go on behind a schedule.
+    /// Where to go on after a schedule.
     pub(crate) fn cursor(&self, schedule: &Schedule) -> Cursor
         ensures { self.now.state.position ≢ Lost → result ≡ cursor_of self.now.state.start self.now.state.bound schedule.now }
     {

@@ -78,7 +78,7 @@ impl Walk {
         Ok(true)
     }
 
-    /// Goes down along these cuts, as far as each can occur. It answers whether all of them can.
+    /// Goes down along these cuts, as far as each can occur. It returns whether all of them can.
     ///
     /// # Errors
     ///

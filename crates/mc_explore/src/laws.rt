@@ -23,7 +23,7 @@ pub fn one_list_of_rows()
         → IsRest state (front ++ first ∷ (between ++ later ∷ rest)) → ⊥ }
 {}
 
-/// Pages join up: the rows of pages that are continued from their cursors are a front of the rows to come where the first one
+/// Pages join up: the rows of pages that are continued from their cursors are a prefix of the rows to come where the first one
 /// began, and all of them where the last one says `end`.
 pub fn pages_join_up()
     ensures joined { (limits : List ℕ) (state : State) (whole rows : List Told) (ended : Bool)

@@ -16,7 +16,7 @@ use std::alloc::Global;
 ///
 /// # Errors
 ///
-/// `Memory` where a growth was refused.
+/// `Memory` where an allocation failed.
 pub fn load<F: Flash>(alloc: Global, start: &Start, bound: u8) -> Result<(F, Walk), FlashError>
     requires { bound ≤ 16 }
     ensures loaded { IfOk result (λ loaded. IsLoaded (begun start.now) bound loaded.1 (F.geometry loaded.0) (F.content loaded.0) (F.marks loaded.0) (F.ledger loaded.0)) }

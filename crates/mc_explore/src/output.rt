@@ -11,7 +11,7 @@ use std::io::Write;
 /// The most bytes of a line. The longest row has some 300.
 const MOST_BYTES: usize = 512;
 
-/// Writes the whole text, or a front of it.
+/// Writes the whole text, or a prefix of it.
 ///
 /// # Errors
 ///
@@ -31,7 +31,7 @@ pub fn write_text<W: Write>(writer: &mut W, text: &[u8]) -> Result<(), ExploreEr
     Ok(())
 }
 
-/// Writes a text and a line feed, or a front of them.
+/// Writes a text and a line feed, or a prefix of them.
 ///
 /// # Errors
 ///

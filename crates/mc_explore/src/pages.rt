@@ -53,7 +53,7 @@ fn write_lines<F: Flash + Drop, W: Write>(
 ///
 /// # Errors
 ///
-/// `Write`, `Memory`, `Failed`: a beginning of that page is out, and from then on the explorer answers `Failed`.
+/// `Write`, `Memory`, `Failed`: a prefix of that page is out, and from then on the explorer returns `Failed`.
 pub fn write_page<F: Flash + Drop, W: Write>(
     explorer: &mut Explorer<F>,
     limit: u32,

@@ -25,7 +25,7 @@ pub enum ReplayError {
     /// The cut at that place, counted from 0, is the first that can't occur.
     #[error("E53 CannotOccur at {0}")]
     CannotOccur(usize),
-    /// A growth was refused.
+    /// An allocation failed.
     #[error("E52 Memory")]
     Memory,
 }

@@ -152,7 +152,7 @@ fn revert_slots(
 ///
 /// # Errors
 ///
-/// `Memory` where a growth was refused.
+/// `Memory` where an allocation failed.
 #[tactic(auto, unfolding(mc_boot::specs::Start::start_flash))]
 pub(crate) fn start_slots(
     alloc: Global,

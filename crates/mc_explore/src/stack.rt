@@ -10,7 +10,7 @@ use crate::frames::Frame;
 use mc_boot::Boot;
 use mc_flash::{Flash, FlashError};
 
-/// Marks the content, and answers the mark's place.
+/// Marks the content, and returns the mark's place.
 ///
 /// # Errors
 ///

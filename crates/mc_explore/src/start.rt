@@ -23,7 +23,7 @@ use std::alloc::{AllocError, Global};
 use std::marker::Model;
 use thiserror::Error;
 
-/// Why there is no start. Of several reasons the first in this order is answered.
+/// Why there is no start. Of several reasons the first in this order is reported.
 #[derive(Clone, Copy, Debug, PartialEq, Eq, Error)]
 pub enum StartError {
     /// The first image is none, or not valid.
@@ -38,7 +38,7 @@ pub enum StartError {
     /// The bytes are not as many as both slots have.
     #[error("E51 FlashSize")]
     FlashSize,
-    /// A growth was refused.
+    /// An allocation failed.
     #[error("E52 Memory")]
     Memory,
 }
@@ -171,7 +171,7 @@ fn named_of(kind: Kind, first: ImageId, second: ImageId) -> (ImageId, ImageId)
 
 impl Start {
     /// The start of two images: the first in the primary, the second in the secondary, and what that kind of start asks
-    /// for. Bytes behind an image are left out. For `Revert` it is what the whole swap of the exchanged images for a test
+    /// for. Bytes after an image are left out. For `Revert` it is what the whole swap of the exchanged images for a test
     /// leaves. Its boots go by whole calls and the first profile.
     ///
     /// # Errors

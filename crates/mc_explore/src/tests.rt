@@ -57,7 +57,7 @@ fn images_are_placed(rt: HostRuntime) -> Result<(), Fail> {
     assert_eq!(rt; none.layout().size(mc_flash::Slot::Primary), 1024);
     assert_eq!(rt; none.primary(), primary.as_slice());
     assert_eq!(rt; none.secondary(), secondary.as_slice());
-    // Bytes behind an image are left out.
+    // Bytes after an image are left out.
     let longer = Start::from_images(rt.alloc(), &layout, Kind::Test, &primary, &secondary)?;
     secondary[752..].copy_from_slice(&MAGIC);
     assert_eq!(rt; longer.primary(), primary.as_slice());

@@ -21,7 +21,7 @@ pub enum FlashError {
     /// A byte that is to be written is not 0xff.
     #[error("E40 NotErased")]
     NotErased,
-    /// A growth was refused, or the room that was taken at the start is full.
+    /// An allocation failed, or the room that was taken at the start is full.
     #[error("E41 Memory")]
     Memory,
 }
@@ -136,7 +136,7 @@ pub trait Flash: Sized + Drop {
         ensures geometry { geometry self.new ≡ geometry self.old }
         ensures marks { marks self.new ≡ marks self.old };
 
-    /// Marks the content, and answers the mark's place.
+    /// Marks the content, and returns the mark's place.
     fn mark(&mut self) -> Result<usize, FlashError>
         ensures marks { Adds result (spot_at (content self.old) (ledger self.old)) (marks self.old) (marks self.new) }
         ensures notes { NotesMark counted (length (marks self.old)) result (ledger self.old) (ledger self.new) }

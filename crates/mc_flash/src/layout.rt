@@ -9,7 +9,7 @@ use crate::op::Slot;
 use std::marker::Model;
 use thiserror::Error;
 
-/// Why six numbers are no layout. Of several reasons the first in this order is answered.
+/// Why six numbers do not form a layout. Of several reasons the first in this order is reported.
 #[derive(Clone, Copy, Debug, PartialEq, Eq, Error)]
 pub enum LayoutError {
     /// A write unit other than 1, 2, 4 or 8 bytes.

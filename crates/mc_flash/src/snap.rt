@@ -24,7 +24,7 @@ pub struct SnapFlash {
     alloc: Global,
     slots: Slots,
     marks: Vec<Snapshot>,
-    // Whether a growth was refused at some time.
+    // Whether an allocation failed at some time.
     failed: bool,
     ghost marks_primary_sized: { All (λ m. length m.primary.items ≡ size_of slots.layout Primary) marks.items },
     ghost marks_secondary_sized: { All (λ m. length m.secondary.items ≡ size_of slots.layout Secondary) marks.items },

@@ -60,7 +60,7 @@ fn numbers_that_are_no_layout_are_refused(rt: HostRuntime) {
         ([256, 8, 4, 96, 4, 3], LayoutError::Chunk),
         ([256, 8, 4, 128, 5, 3], LayoutError::Counts),
         ([256, 8, 4, 128, 2, 2], LayoutError::NoRoom),
-        // The first of several reasons is answered.
+        // The first of several reasons is reported.
         ([100, 3, 0, 0, 9, 0], LayoutError::Unit),
         ([100, 8, 0, 0, 9, 0], LayoutError::Sector),
         ([256, 8, 0, 0, 9, 0], LayoutError::Chunk),
@@ -73,7 +73,7 @@ fn numbers_that_are_no_layout_are_refused(rt: HostRuntime) {
 #[test]
 fn limits_of_a_layout(rt: HostRuntime) {
     for (numbers, wanted) in [
-        // The least and the greatest sector and unit.
+        // The least and the largest sector and unit.
         ([64, 1, 4, 32, 4, 3], None),
         ([32, 1, 4, 32, 4, 3], Some(LayoutError::Sector)),
         ([65536, 8, 1024, 65536, 3, 3], None),

@@ -5,7 +5,7 @@ ghost use Rattle.mc_image.specs.Image.{Image, Begins, image_in, image_text};
 ghost use Rattle.mc_image.specs.Faults.{first_fault};
 ghost use Rattle.mc_image.specs.Valid.{IsValid, Identity, identity, is_valid, id_of, image_fault};
 
-/// One reading: bytes have no fault exactly where an image is spelled at their front, and that image and that front
+/// One reading: bytes have no fault exactly where an image is encoded at their start, and that image and that prefix
 /// are then the only ones.
 pub fn one_reading()
     ensures begins { (b : List ℕ) → IsBytes b → first_fault b ≡ None → Begins b (image_in b) }

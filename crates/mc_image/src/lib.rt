@@ -1,4 +1,4 @@
-//! MCUboot's hash-only images: read, judged and written.
+//! MCUboot's hash-only images: read, checked and written.
 #![tactic(auto)]
 
 mod entries;

@@ -16,7 +16,7 @@ struct Numbers {
     build: u64,
 }
 
-/// Digits go on: the number with them, and the text behind them.
+/// Digits go on: the number with them, and the text after them.
 #[tactic(auto, unfolding(crate::specs::VersionReading::number_from))]
 fn number_from(start: u64, text: &[u8]) -> (u64, &[u8])
     requires { start ≤ 2 ^ 32 }
@@ -52,7 +52,7 @@ fn numeral_at(text: &[u8]) -> Option<(u64, &[u8])>
     }
 }
 
-/// The number behind a separator, or 0 at the end of the text.
+/// The number after a separator, or 0 at the end of the text.
 #[tactic(auto, unfolding(crate::specs::VersionReading::part_at))]
 fn part_at(separator: u8, text: &[u8]) -> Option<(u64, &[u8])>
     ensures { MatchOption result (part_at separator text.now ≡ None)

@@ -15,7 +15,7 @@ pub struct Version {
     pub minor: u8,
     /// The third number.
     pub revision: u16,
-    /// The number behind the `+`.
+    /// The number after the `+`.
     pub build: u32,
 }
 

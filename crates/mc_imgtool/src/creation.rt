@@ -47,9 +47,9 @@ pub struct CreateOptions {
     pub slot_size: Option<u32>,
     /// The flash's write unit in bytes: 1, 2, 4 or 8.
     pub align: u8,
-    /// The greatest number of sectors of a slot.
+    /// The largest number of sectors of a slot.
     pub max_sectors: u32,
-    /// Whether the slot is filled up behind the image and ends with the trailer's magic.
+    /// Whether the slot is filled up after the image and ends with the trailer's magic.
     pub pad: bool,
     /// Whether the slot is also marked as confirmed. It implies `pad`.
     pub confirm: bool,
@@ -169,7 +169,7 @@ fn image_of(alloc: Global, options: &CreateOptions, payload: &[u8]) -> Result<Ve
     )
 }
 
-/// Fills a slot up behind its image.
+/// Fills a slot up after its image.
 fn fill_slot(image: &mut Vec<u8>, slot: usize, confirm: bool) -> Result<(), AllocError>
     requires { vec_len image.old + 24 ≤ slot }
     ensures { OnOk result (image.new.items ≡ filled_slot slot confirm image.old.items) }
@@ -220,7 +220,7 @@ fn bytes_for(alloc: Global, options: &CreateOptions, input: &[u8]) -> Result<Vec
 }
 
 /// Reads a payload and writes its image: flags, load address and padding 0, the header filled up with zeros, a
-/// protected area where there is a security counter, the digest as the only plain entry, and the slot filled up behind
+/// protected area where there is a security counter, the digest as the only plain entry, and the slot filled up after
 /// it where `pad` or `confirm` asks for it (imgtool, `create`).
 ///
 /// # Errors
@@ -228,7 +228,7 @@ fn bytes_for(alloc: Global, options: &CreateOptions, input: &[u8]) -> Result<Vec
 /// `NeedsSlotSize` where the slot is to be filled and its size is not told: nothing is read; `Read` where a read fails;
 /// `InputTooLong` above 2^24 bytes; `NotZeros` where the input does not begin with zeros in the header's place, and
 /// `pad_header` is not set; `SlotTooSmall` where the slot has no room for the image and a trailer; `Memory`. Nothing is
-/// written then. `Write` where a write fails or takes no bytes: a front of the bytes is out. Never `Image`.
+/// written then. `Write` where a write fails or takes no bytes: a prefix of the bytes is out. Never `Image`.
 pub fn create<R: Read, W: Write>(
     alloc: Global,
     options: &CreateOptions,

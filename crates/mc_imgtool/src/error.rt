@@ -1,4 +1,4 @@
-//! Why a command of the image tool ended without its answer.
+//! Why a command of the image tool ended without a result.
 use mc_image::ImageError;
 use thiserror::Error;
 
@@ -26,7 +26,7 @@ pub enum ToolError {
     /// A write failed, or took no bytes.
     #[error("E25 Write")]
     Write,
-    /// A growth was refused.
+    /// An allocation failed.
     #[error("E26 Memory")]
     Memory,
 }

@@ -7,7 +7,7 @@ use crate::ToolError;
 use std::alloc::Global;
 use std::io::Read;
 
-/// The greatest input of an engine, in bytes.
+/// The largest input of an engine, in bytes.
 pub(crate) const GREATEST_INPUT: u32 = 1 << 24;
 
 /// The whole input, if it has at most `limit` bytes. It takes at most one byte more than the limit.

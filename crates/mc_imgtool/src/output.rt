@@ -6,7 +6,7 @@ ghost use Rattle.mc_imgtool.specs.Engines.{AppendsFront};
 use crate::ToolError;
 use std::io::Write;
 
-/// Writes the whole text, or a front of it.
+/// Writes the whole text, or a prefix of it.
 ///
 /// # Errors
 ///

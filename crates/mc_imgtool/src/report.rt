@@ -42,7 +42,7 @@ fn version_lines(alloc: Global, image: &ImageView<'_>) -> Result<String, AllocEr
     format!(in alloc; "flags 0x00000000\nversion {version}\npadding 0x{padding}\n")
 }
 
-/// A value's digits behind a space, and nothing for an empty value.
+/// A value's digits after a space, and nothing for an empty value.
 fn value_text(alloc: Global, value: &[u8]) -> Result<String, AllocError>
     ensures { IfOk result (λ text. string_bytes text ≡ value_text value.now) }
 {
@@ -144,7 +144,7 @@ fn report_for(alloc: Global, input: &[u8]) -> Result<String, ToolError>
 /// # Errors
 ///
 /// `Read` where a read fails; `InputTooLong` above 2^24 bytes; `Image` with the first fault, but not for a wrong
-/// digest; `Memory`. Nothing is written then. `Write` where a write fails or takes no bytes: a front of the report is
+/// digest; `Memory`. Nothing is written then. `Write` where a write fails or takes no bytes: a prefix of the report is
 /// out.
 pub fn dumpinfo<R: Read, W: Write>(
     alloc: Global,

@@ -45,7 +45,7 @@ fn line_for(alloc: Global, input: &[u8]) -> Result<String, ToolError>
 /// # Errors
 ///
 /// `Read` where a read fails; `InputTooLong` above 2^24 bytes; `Image` with the first fault, a wrong digest last;
-/// `Memory`. Nothing is written then. `Write` where a write fails or takes no bytes: a front of the line is out.
+/// `Memory`. Nothing is written then. `Write` where a write fails or takes no bytes: a prefix of the line is out.
 pub fn verify<R: Read, W: Write>(
     alloc: Global,
     input: &mut R,

@@ -22,7 +22,7 @@ use std::io::{Read, Write};
 use std::process::ExitCode;
 use std::rt::Files;
 
-/// Runs one command line, whose first word is the program's name, and answers the exit status: 0 where it is done, 1
+/// Runs one command line, whose first word is the program's name, and returns the exit status: 0 where it is done, 1
 /// where a content is refused, 2 where the command line is refused, 3 where a file, a write or memory fails.
 ///
 /// A refusal is one line on `err`, or clap's own text. A failed write to `err` changes no status.
@@ -46,7 +46,7 @@ pub fn run<F: Files, R: Read, O: Write, E: Write>(
     }
 }
 
-/// Prints clap's help, or its refusal of a command line, and answers the status.
+/// Prints clap's help, or its refusal of a command line, and returns the status.
 fn answer_of_clap<O: Write, E: Write>(error: &Error, out: &mut O, err: &mut E) -> u8
     ensures { result ≤ 3 }
 {

@@ -134,7 +134,7 @@ fn hexadecimal(digits: &str) -> Option<u32>
 }
 
 /// The number that a text says, where it is below 2^32: decimal digits, which a plus sign may precede, or hexadecimal
-/// digits of either case behind `0x` or `0X`.
+/// digits of either case after `0x` or `0X`.
 fn number_in(text: &str) -> Option<u32>
     ensures { MatchOption result
         (IsNumeral (radix_of text.now) (digits_of text.now) → 2 ^ 32 ≤ digits_value (radix_of text.now) (digits_of text.now))

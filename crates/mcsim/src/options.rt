@@ -45,7 +45,7 @@ fn align(arguments: &ArgMatches<'_>) -> Result<u8, Refusal>
     }
 }
 
-/// What `create` is told. The version is judged first.
+/// What `create` is told. The version is checked first.
 ///
 /// # Errors
 ///
@@ -73,7 +73,7 @@ pub fn create_options(arguments: &ArgMatches<'_>) -> Result<CreateOptions, Refus
 ///
 /// # Errors
 ///
-/// `Layout` with the first judgement that the numbers fail; `Number` where a text says no number below 2^32; `Argument`
+/// `Layout` with the first check that the numbers fail; `Number` where a text says no number below 2^32; `Argument`
 /// where one is missing.
 fn layout_options(arguments: &ArgMatches<'_>) -> Result<Layout, Refusal>
     ensures told { IfOk result (λ l. TellsLayout (found_of arguments.now) l) }
@@ -163,7 +163,7 @@ pub struct FlashOptions<'a> {
     pub rules: Rules,
 }
 
-/// The source, the layout and the rules that the options tell. They are judged in this order.
+/// The source, the layout and the rules that the options tell. They are checked in this order.
 ///
 /// # Errors
 ///

@@ -1,4 +1,4 @@
-//! Why a command ended without its answer, and the status for it.
+//! Why a command ended without a result, and the status for it.
 ghost use Rattle.std.specs.Prelude.{◌≡◌, ◌≤◌};
 ghost use Rattle.mcsim.specs.Statuses.{status_of};
 
@@ -10,7 +10,7 @@ use mc_imgtool::ToolError;
 use std::io::Write;
 use thiserror::Error;
 
-/// Why a command ended without its answer. Its text is the number and the name of the refusal, where it has them.
+/// Why a command ended without a result. Its text is the number and the name of the refusal, where it has them.
 #[derive(Clone, Copy, Debug, PartialEq, Eq, Error)]
 pub enum Refusal {
     /// A word of the command line is not UTF-8 text.
@@ -61,7 +61,7 @@ pub enum Refusal {
     /// A file cannot be opened or made.
     #[error("E71 Open")]
     Open,
-    /// The help, or the answer of a command, cannot be written.
+    /// The help, or the output of a command, cannot be written.
     #[error("E25 Write")]
     Write,
     /// There is no memory to read the command line.
@@ -122,7 +122,7 @@ impl Refusal {
         }
     }
 
-    /// Prints the line of the refusal, and answers the status, also where the line cannot be written.
+    /// Prints the line of the refusal, and returns the status, also where the line cannot be written.
     pub fn report<E: Write>(&self, err: &mut E) -> u8
         ensures exact { result ≡ status_of self.now }
         ensures range { (1 ≤ result) × (result ≤ 3) }

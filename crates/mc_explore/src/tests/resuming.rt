@@ -1,4 +1,4 @@
-//! Explorations that go on behind a schedule.
+//! Explorations that go on after a schedule.
 ghost use Rattle.std.specs.Prelude.{◌≤◌};
 
 use super::{FIRST, SECOND, worked};
@@ -23,7 +23,7 @@ fn cursor(alloc: Global, start: &Start, bound: u8, cuts: &str) -> Result<Cursor,
     Ok(explorer.cursor(&schedule))
 }
 
-/// The page of one row behind a schedule.
+/// The page of one row after a schedule.
 fn page_behind(alloc: Global, cuts: &str) -> Result<String, Fail> {
     let start = start(alloc, Kind::Test)?;
     let cursor = cursor(alloc, &start, 2, cuts)?;

@@ -10,12 +10,12 @@ use std::io::{BufWriter, Write};
 use std::rt::Files;
 
 /// Prints a page of rows: one for each schedule of at most so many cuts that can occur, in their order, from the first or
-/// behind a cursor's. The words are judged before a file is touched.
+/// after a cursor's. The words are checked before a file is touched.
 ///
 /// # Errors
 ///
 /// `Source`, `Layout`, the numbers and `Cursor` of the words; what `read_start` refuses; `Explore` where the cursor does not
-/// serve here, for want of memory, or where the output cannot be written.
+/// serve here, where an allocation failed, or where the output cannot be written.
 pub fn run<F: Files, O: Write>(
     files: &F,
     alloc: Global,

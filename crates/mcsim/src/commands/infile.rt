@@ -4,7 +4,7 @@ use clap::ArgMatches;
 use std::fs;
 use std::rt::Files;
 
-/// Opens INFILE, and answers nothing where it is left out.
+/// Opens INFILE, and returns nothing where it is left out.
 ///
 /// # Errors
 ///

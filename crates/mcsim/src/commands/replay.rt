@@ -11,7 +11,7 @@ use std::io::Write;
 use std::rt::Files;
 
 /// Replays a schedule from a source, and prints the outcome. Where `--out` names a file, the flash that is left is written
-/// to it first. The words are judged before a file is touched.
+/// to it first. The words are checked before a file is touched.
 ///
 /// # Errors
 ///

@@ -10,11 +10,11 @@ use std::io::Write;
 use std::rt::Files;
 
 /// Prints both trailers of a source's flash, whether a boot would go on with a swap, and the type that the swap tables
-/// give, also where a boot would go on. The words are judged before a file is touched.
+/// give, also where a boot would go on. The words are checked before a file is touched.
 ///
 /// # Errors
 ///
-/// `Source` and `Layout` of the options; what `read_start` refuses; `Flash` for want of memory; `Write` where the
+/// `Source` and `Layout` of the options; what `read_start` refuses; `Flash` where an allocation failed; `Write` where the
 /// output cannot be written.
 pub fn run<F: Files, O: Write>(
     files: &F,

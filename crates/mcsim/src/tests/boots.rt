@@ -305,7 +305,7 @@ fn refuses_replays(rt: HostRuntime) -> Result<(), Fail> {
         (images, "--schedule 0.18", 1, "E53 CannotOccur at 1"),
         (images, "--schedule 9.9", 1, "E53 CannotOccur at 1"),
         (images, seventeen, 2, "E60 ScheduleSyntax"),
-        // The schedule is judged before a file is opened, and behind the source.
+        // The schedule is checked before a file is opened, and after the source.
         ("--flash missing", "--schedule 01", 2, "E60 ScheduleSyntax"),
         ("--kind test", "--schedule 01", 2, "E70 SourceOptions"),
         (images, "--schedule - --out missing", 3, "E71 Open"),

@@ -176,7 +176,7 @@ fn judges_in_order(rt: HostRuntime) -> Result<(), Fail> {
     let syntax = "mcsim: E15 Syntax\n";
     let open = "mcsim: E71 Open\n";
     let cases = [
-        // The version is judged before the files are opened, and INFILE is opened before OUTFILE.
+        // The version is checked before the files are opened, and INFILE is opened before OUTFILE.
         (
             "--version 01 --header-size 32",
             "",

@@ -9,7 +9,7 @@ use std::test::Fail;
 
 static FAULTS: [Fault; 3] = [Fault::Error, Fault::Interruption, Fault::NoBytes];
 
-/// Runs `create` over two files that fail once, and answers the status, what is written to `out`, and the text on
+/// Runs `create` over two files that fail once, and returns the status, what is written to `out`, and the text on
 /// standard error.
 fn create_over(
     alloc: Global,
@@ -62,7 +62,7 @@ fn create_meets_failing_writes(rt: HostRuntime) -> Result<(), Fail> {
     Ok(())
 }
 
-/// Runs a command line with these two streams, and no input, and answers the status.
+/// Runs a command line with these two streams, and no input, and returns the status.
 fn status_of(
     rt: &HostRuntime,
     words: &[&str],

@@ -12,9 +12,9 @@ use std::rt::Files;
 /// What a call does that fails.
 #[derive(Clone, Copy, Debug)]
 pub enum Fault {
-    /// It answers an error.
+    /// It returns an error.
     Error,
-    /// It answers the error of a call that was interrupted.
+    /// It returns the error of a call that was interrupted.
     Interruption,
     /// It moves no bytes.
     NoBytes,
@@ -45,7 +45,7 @@ pub struct FaultyFile<'a> {
 }
 
 impl FaultyFile<'_> {
-    /// Counts a call, and answers whether it is the one that fails.
+    /// Counts a call, and returns whether it is the one that fails.
     fn fails(&mut self) -> bool {
         match self.calls.checked_sub(1) {
             Some(left) => {

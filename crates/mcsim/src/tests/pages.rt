@@ -466,7 +466,7 @@ fn refuses_cursors(rt: HostRuntime) -> Result<(), Fail> {
         (2, "mc1", START, "2:18", 1, "E58 CannotOccur"),
         (1, "mc1", START, "1:0.0", 1, "E58 CannotOccur"),
         (2, "mc1", START, "1:0", 1, "E57 OtherBound"),
-        // The first reason is answered.
+        // The first reason is reported.
         (2, "mc1", other, "1:18", 1, "E56 OtherStart"),
         (2, "mc2:unit:1", other, "1:18", 1, "E56 OtherStart"),
         (2, "mc2:unit:1", START, "1:18", 1, "E61 OtherRules"),
@@ -494,7 +494,7 @@ fn refuses_cursors(rt: HostRuntime) -> Result<(), Fail> {
         ..explore_images(options.as_str())
     };
     ends(&rt, alloc, &case)?;
-    // The text is judged before a file is opened.
+    // The text is checked before a file is opened.
     let case = Case {
         status: 2,
         err: "mcsim: E55 Syntax\n",

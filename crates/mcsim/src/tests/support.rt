@@ -85,7 +85,7 @@ pub fn create_words<'a>(version: &'a str, infile: &'a str, outfile: &'a str) -> 
 #[derive(Clone, Copy)]
 pub struct Case<'a> {
     pub command: &'a str,
-    /// The words behind the command: first options, further ones, and the rest.
+    /// The words after the command: first options, further ones, and the rest.
     pub start: &'a str,
     pub options: &'a str,
     pub words: &'a str,

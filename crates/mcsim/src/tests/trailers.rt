@@ -137,7 +137,7 @@ fn refuses_layouts(rt: HostRuntime) -> Result<(), Fail> {
     let counts = "--sector 256 --unit 8 --max-sectors 4 --chunk 128 --primary 5 --secondary 3";
     let room = "--sector 256 --unit 8 --max-sectors 4 --chunk 128 --primary 2 --secondary 2";
     let cases = [
-        // The source is judged before the layout, and both before a file is opened.
+        // The source is checked before the layout, and both before a file is opened.
         (unit, "", 2, "E70 SourceOptions"),
         (unit, "--flash missing", 2, "E30 Unit"),
         (sector, IMAGES, 2, "E31 Sector"),
