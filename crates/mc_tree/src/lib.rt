@@ -1,0 +1,7 @@
+//! Trees whose nodes have numbered children, their paths in order, and the one list of rows that stands for them. What the
+//! crates above cite of it stands in specs/; it has no code but the law of the order.
+#![tactic(auto)]
+
+mod law;
+
+pub use law::paths_are_ordered;
