@@ -16,7 +16,7 @@ use Rattle.mc_explore.specs.State.{outcome_after}
 use Rattle.mc_explore.specs.Stack.{contents, marked_at, no_content, dones, Stands}
 use Rattle.mc_explore.specs.declared.frames.Frame.{Frame}
 use Rattle.mc_explore.proofs.Contents.{contents_take, marked_is}
-use Rattle.mc_explore.proofs.Existence.{lands_told}
+use Rattle.mc_explore.proofs.Listing.{lands_told}
 use Rattle.mc_explore.proofs.Stacked.{allowed_by_frames}
 
 pub peek_none : (o : Option Op) (ops : List Op) → o ≡ slice_get ops 0 → is_some o ≡ false → ops ≡ []

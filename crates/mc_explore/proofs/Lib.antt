@@ -4,14 +4,11 @@ mod Stepping
 mod Room
 mod Reading
 mod Cutting
-mod Landings
+mod Occurring
 mod Contents
 mod Wants
 mod Bounds
-mod Order
-mod Precedence
-mod Ascending
-mod Existence
+mod Listing
 mod Stacked
 mod Steps
 mod Ends
@@ -23,4 +20,4 @@ mod PageText
 mod Lines
 mod Down
 mod Cursors
-mod Joined
+mod Continued

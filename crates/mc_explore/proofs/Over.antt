@@ -3,9 +3,11 @@ use Rattle.std.proofs.Common.{◌≡◌, ℕ, ◌≤◌, Bool, List, Option, Non
 use Rattle.mc_flash.specs.Geometry.{Geometry}
 use Rattle.mc_flash.specs.Content.{Content}
 use Rattle.mc_flash.specs.Ledger.{Ledger, Spot}
-use Rattle.mc_explore.specs.Schedules.{NoneAfter}
+use Rattle.mc_explore.specs.Schedules.{IsMember}
 use Rattle.mc_explore.specs.Stack.{dones, start_of}
-use Rattle.mc_explore.specs.State.{State, After, Finds, IsOver}
+use Rattle.mc_tree.specs.Paths.{After}
+use Rattle.mc_tree.specs.Paths as paths
+use Rattle.mc_explore.specs.State.{State, Finds, IsOver}
 use Rattle.mc_explore.specs.View.{begun_of, Fits, KnowsDigest, IsSound}
 use Rattle.mc_explore.specs.declared.frames.Frame.{Frame}
 use Rattle.mc_explore.specs.declared.row.Row.{Row}
@@ -23,7 +25,8 @@ sound_at_end w g now content new marks after ledger later capacity room digest f
     let fits : Fits w g content marks ledger frames last here Going = let P : Phase → Type 0 = λ p. Fits w g content marks ledger frames last here p in subst P going sound.fits in
     let knows : KnowsDigest w g marks digest Going = let P : Phase → Type 0 = λ p. KnowsDigest w g marks digest p in subst P going sound.digest_is in
     let ends = over (record { start = begun_of w g marks; bound = w.bound; position = After (dones frames); failed = failed }) found none finds in
-    let at_last : NoneAfter w.rules g (start_of w marks) w.bound last = subst (λ (l : List ℕ). NoneAfter w.rules g (start_of w marks) w.bound l) fits.0.last_is ends in
+    let IsLast : List ℕ → Type 0 = λ l. paths.IsOver (IsMember w.rules g (start_of w marks) w.bound) (After l) in
+    let at_last : IsLast last = subst IsLast fits.0.last_is ends in
     record {
       reserved = omega (arith, sound.reserved, more);
       room = sound.room;

@@ -9,8 +9,7 @@ use Rattle.mc_explore.specs.State.{State, Told, told, state_after, Finds, IsOver
 use Rattle.mc_explore.specs.Page.{page_of, page_from, state_past, row_line, next_line, end_line, cursor_of, AppendsFront, PageIsOut, PageBegan}
 use Rattle.mc_explore.specs.declared.cursor.Cursor.{Cursor}
 use Rattle.mc_explore.specs.declared.row.Row.{Row}
-use Rattle.mc_explore.proofs.Ascending.{rest_next, rest_over}
-use Rattle.mc_explore.proofs.Existence.{some_rest}
+use Rattle.mc_explore.proofs.Listing.{some_rest, rest_next, rest_over}
 use Rattle.mc_explore.proofs.Streams.{Appends_in_turn}
 
 -- A part of the page is out.

@@ -3,7 +3,7 @@ pub mod Slots
 pub mod Start
 pub mod Replay
 pub mod Schedules
-pub mod Landing
+pub mod Boots
 pub mod State
 pub mod Rest
 pub mod RowText

@@ -1,25 +1,19 @@
 -- The rows to come: a sorted set, without a word of how they are found.
-use Rattle.std.specs.Prelude.{◌≡◌, ◌⊎◌, List, [], ◌∷◌}
-use Rattle.mc_explore.specs.Schedules.{Precedes}
-use Rattle.mc_explore.specs.State.{State, Told, IsListed, IsPast, HasOutcome}
+use Rattle.std.specs.Prelude.{ℕ, List}
+use Rattle.mc_tree.specs.Rows as lists
+use Rattle.mc_explore.specs.Schedules.{IsMember}
+use Rattle.mc_explore.specs.Start.{Begun}
+use Rattle.mc_explore.specs.State.{State, Told, HasOutcome}
 
-abbrev pub IsIn : {A : Type 0} → A → List A → Type 0
-IsIn x [] = ⊥
-IsIn x (y ∷ ys) = (x ≡ y) ⊎ IsIn x ys
+-- The schedule that a row is found by.
+abbrev pub schedule_of : Told → List ℕ
+schedule_of row = row.schedule
 
--- Each comes before all that stand behind it.
-abbrev pub Ascends : List Told → Type 0
-Ascends [] = Unit {0}
-Ascends (x ∷ xs) = ((m : Told) → IsIn m xs → Precedes x.schedule m.schedule) × Ascends xs
-
--- A row past the position.
-pub record IsToCome (state : State) (row : Told) : Type 0 where
-  pub listed : IsListed state row.schedule
-  pub past : IsPast state.position row.schedule
-  pub outcome : HasOutcome state.start row
+-- A row of the whole list: one of the schedules to go through, with its outcome.
+pub record IsRow (start : Begun) (bound : ℕ) (row : Told) : Type 0 where
+  pub listed : IsMember start.rules start.geometry start.content bound row.schedule
+  pub outcome : HasOutcome start row
 
 -- The rows past the position, each of them and no others, in their order.
-pub record IsRest (state : State) (rows : List Told) : Type 0 where
-  pub ascends : Ascends rows
-  pub only : (row : Told) → IsIn row rows → IsToCome state row
-  pub all : (row : Told) → IsToCome state row → IsIn row rows
+abbrev pub IsRest : State → List Told → Type 0
+IsRest state rows = lists.IsRest schedule_of (IsRow state.start state.bound) state.position rows

@@ -7,7 +7,8 @@ use Rattle.mc_explore.specs.Bounds.{IsRoomyAt}
 use Rattle.mc_explore.specs.Schedules.{IsMember}
 use Rattle.mc_explore.specs.Stack.{contents}
 use Rattle.mc_explore.specs.Start.{Begun, start_digest}
-use Rattle.mc_explore.specs.State.{Explored, State, After}
+use Rattle.mc_tree.specs.Paths.{After}
+use Rattle.mc_explore.specs.State.{Explored, State}
 use Rattle.mc_explore.specs.declared.cursor.Cursor.{Cursor}
 use Rattle.mc_explore.specs.declared.error.ExploreError.{ExploreError}
 use Rattle.mc_explore.specs.declared.error.ExploreError.TheVariants as errors

@@ -7,8 +7,11 @@ use Rattle.mc_trailer.specs.declared.tables.Rules.{Rules}
 use Rattle.mc_boot.specs.Runs.{ops_of}
 use Rattle.mc_boot.specs.Boot.{IsBootOf, progress}
 use Rattle.mc_boot.specs.Run.{HasCome}
-use Rattle.mc_explore.specs.Schedules.{CanOccur, IsMember, IsNextAfter, NoneAfter}
-use Rattle.mc_explore.specs.Landing.{at_cut, landed, HasNoChild, IsNextBeyond, NoneBeyond}
+use Rattle.mc_tree.specs.Tree.{landed, IsMember}
+use Rattle.mc_tree.specs.Paths.{After, IsNext, IsOver}
+use Rattle.mc_tree.specs.facts.Order.{HasNoChild, IsNextBeyond, NoneBeyond}
+use Rattle.mc_explore.specs.Boots.{at_cut, boots, cuts}
+use Rattle.mc_explore.specs.Schedules.{CanOccur}
 use Rattle.mc_explore.specs.declared.frames.Frame.{Frame}
 use Rattle.mc_explore.specs.declared.walk.Walk.{Walk}
 
@@ -21,11 +24,6 @@ contents = map (λ m. m.content)
 
 abbrev pub marked_at : List Content → ℕ → Content
 marked_at marks place = get_or marks place no_content
-
--- The contents at the cuts of a schedule.
-abbrev pub cuts : Rules → Geometry → Content → List ℕ → List Content
-cuts r g start [] = []
-cuts r g start (cut ∷ rest) = at_cut r g start cut ∷ cuts r g (at_cut r g start cut) rest
 
 -- The schedule that a stack stands for.
 abbrev pub dones : List Frame → List ℕ
@@ -54,7 +52,7 @@ pub record IsStacked (r : Rules) (g : Geometry) (start : Content) (home : ℕ) (
 
 -- And the content is that of the schedule.
 pub record Stands (r : Rules) (g : Geometry) (start : Content) (home : ℕ) (content : Content) (marks : List Content) (fs : List Frame) : Type 0 where
-  pub content_is : content ≡ landed r g start (dones fs)
+  pub content_is : content ≡ landed (boots r g) start (dones fs)
   pub stacked : IsStacked r g start home marks fs
 
 -- The start of a walk, from the marks.
@@ -67,23 +65,23 @@ StandsAt w g start content marks fs = Stands w.rules g start w.home content (con
 
 -- From l one goes down to new, or there is nothing below.
 abbrev pub Descends : Walk → Geometry → Content → List ℕ → Bool → List ℕ → Type 0
-Descends w g start l true new = (new ≡ l ++ 0 ∷ []) × IsMember w.rules g start w.bound new
-Descends w g start l false new = (new ≡ l) × HasNoChild w.rules g start w.bound l
+Descends w g start l true new = (new ≡ l ++ 0 ∷ []) × IsMember (boots w.rules g) start w.bound new
+Descends w g start l false new = (new ≡ l) × HasNoChild (boots w.rules g) start w.bound l
 
 -- From l one goes up and on to new, or there is nothing on.
 abbrev pub Climbs : Walk → Geometry → Content → List ℕ → Bool → List ℕ → Type 0
-Climbs w g start l true new = IsNextBeyond w.rules g start l new
-Climbs w g start l false new = NoneBeyond w.rules g start l
+Climbs w g start l true new = IsNextBeyond (boots w.rules g) start l new
+Climbs w g start l false new = NoneBeyond (boots w.rules g) start l
 
 -- From l one goes to new, or there is nothing after it.
 abbrev pub Advances : Walk → Geometry → Content → List ℕ → Bool → List ℕ → Type 0
-Advances w g start l true new = IsNextAfter w.rules g start w.bound l new
-Advances w g start l false new = NoneAfter w.rules g start w.bound l
+Advances w g start l true new = IsNext (IsMember (boots w.rules g) start w.bound) (After l) new
+Advances w g start l false new = IsOver (IsMember (boots w.rules g) start w.bound) (After l)
 
 -- From l one goes down by that cut to new, or the cut can't occur there.
 abbrev pub GoesDown : Walk → Geometry → Content → List ℕ → ℕ → Bool → List ℕ → Type 0
-GoesDown w g start l cut true new = (new ≡ l ++ cut ∷ []) × (cut < length (ops_of w.rules g (landed w.rules g start l)))
-GoesDown w g start l cut false new = (new ≡ l) × (length (ops_of w.rules g (landed w.rules g start l)) ≤ cut)
+GoesDown w g start l cut true new = (new ≡ l ++ cut ∷ []) × (cut < length (ops_of w.rules g (landed (boots w.rules g) start l)))
+GoesDown w g start l cut false new = (new ≡ l) × (length (ops_of w.rules g (landed (boots w.rules g) start l)) ≤ cut)
 
 -- One came down to that schedule, or it can't occur.
 abbrev pub Follows : Walk → Geometry → Content → List ℕ → Bool → List ℕ → Type 0

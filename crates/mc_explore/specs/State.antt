@@ -4,18 +4,14 @@ use Rattle.mc_flash.specs.Content.{Content}
 use Rattle.mc_flash.specs.Ledger.{Ledger}
 use Rattle.mc_boot.specs.Runs.{after}
 use Rattle.mc_boot.specs.Outcome.{Report, shown, outcome_of}
-use Rattle.mc_explore.specs.Schedules.{IsMember, Precedes}
+use Rattle.mc_tree.specs.Paths as paths
+use Rattle.mc_tree.specs.Paths.{Position, AtStart, After, Lost}
+use Rattle.mc_explore.specs.Schedules.{IsMember}
 use Rattle.mc_explore.specs.Start.{Begun}
 use Rattle.mc_explore.specs.declared.row.Row.{Row}
 
--- Where an explorer has come to: it gave no row yet, or last that of a schedule; or it failed.
-pub data Position : Type 0 where
-  AtStart : Position
-  After : (l : List ℕ) → Position
-  Lost : Position
-
--- The start and the most cuts of a schedule; where the explorer has come to; and whether its flash was refused memory at
--- some time.
+-- The start and the most cuts of a schedule; where the explorer has come to: it gave no row yet, or last that of a schedule, or
+-- it failed; and whether its flash was refused memory at some time.
 pub record State : Type 0 where
   pub start : Begun
   pub bound : ℕ
@@ -26,20 +22,13 @@ pub record State : Type 0 where
 abbrev pub IsListed : State → List ℕ → Type 0
 IsListed state l = IsMember state.start.rules state.start.geometry state.start.content state.bound l
 
-abbrev pub IsPast : Position → List ℕ → Type 0
-IsPast AtStart l = Unit {0}
-IsPast (After last) l = Precedes last l
-IsPast Lost l = ⊥
-
 -- The first schedule past the position.
-pub record IsNext (state : State) (l : List ℕ) : Type 0 where
-  pub listed : IsListed state l
-  pub past : IsPast state.position l
-  pub none_between : (m : List ℕ) → IsListed state m → IsPast state.position m → Precedes m l → ⊥
+abbrev pub IsNext : State → List ℕ → Type 0
+IsNext state l = paths.IsNext (IsListed state) state.position l
 
 -- No schedule is past the position.
 abbrev pub IsOver : State → Type 0
-IsOver state = (m : List ℕ) → IsListed state m → IsPast state.position m → ⊥
+IsOver state = paths.IsOver (IsListed state) state.position
 
 -- A row as callers see it.
 pub record Told : Type 0 where

@@ -5,10 +5,11 @@ use Rattle.mc_flash.specs.Content.{Content}
 use Rattle.mc_flash.specs.Ledger.{Ledger, Spot}
 use Rattle.mc_boot.specs.Runs.{ops_of}
 use Rattle.mc_explore.specs.Bounds.{IsRoomyAt}
-use Rattle.mc_explore.specs.Schedules.{NoneAfter}
+use Rattle.mc_explore.specs.Schedules.{IsMember}
 use Rattle.mc_explore.specs.Start.{Begun, start_digest}
 use Rattle.mc_explore.specs.Stack.{StandsAt, start_of, dones}
-use Rattle.mc_explore.specs.State.{Position, AtStart, After, Lost, State}
+use Rattle.mc_tree.specs.Paths.{Position, AtStart, After, Lost, IsOver}
+use Rattle.mc_explore.specs.State.{State}
 use Rattle.mc_explore.specs.declared.frames.Frame.{Frame}
 use Rattle.mc_explore.specs.declared.phase.Phase.{Phase}
 use Rattle.mc_explore.specs.declared.phase.Phase.TheVariants.{Fresh, Going, Done, Broken}
@@ -50,7 +51,7 @@ KnowsDigest w g marks digest Broken = Unit {0}
 abbrev pub Fits : Walk → Geometry → Content → List Spot → Ledger → List Frame → List ℕ → ℕ → Phase → Type 0
 Fits w g content marks ledger frames last here Fresh = IsGoing w g content marks ledger frames []
 Fits w g content marks ledger frames last here Going = IsGoing w g content marks ledger frames last × (here ≡ length (ops_of w.rules g content))
-Fits w g content marks ledger frames last here Done = NoneAfter w.rules g (start_of w marks) w.bound last
+Fits w g content marks ledger frames last here Done = IsOver (IsMember w.rules g (start_of w marks) w.bound) (After last)
 Fits w g content marks ledger frames last here Broken = Unit {0}
 
 -- What holds of an explorer's fields.

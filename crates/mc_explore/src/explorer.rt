@@ -6,7 +6,8 @@ ghost use Rattle.mc_explore.specs.Page.{cursor_of};
 ghost use Rattle.mc_explore.specs.Resume.{Resumes};
 ghost use Rattle.mc_explore.specs.Restarts.{RowRestarts};
 ghost use Rattle.mc_explore.specs.Start.{begun};
-ghost use Rattle.mc_explore.specs.State.{State, Lost, Finds, told, state_after, lost_at, at_start};
+ghost use Rattle.mc_tree.specs.Paths.{Lost};
+ghost use Rattle.mc_explore.specs.State.{State, Finds, told, state_after, lost_at, at_start};
 ghost use Rattle.mc_explore.specs.Want.{RanOut};
 
 use crate::cursor::Cursor;

@@ -1,9 +1,10 @@
 //! What holds of the rows to come.
 ghost use Rattle.std.specs.Prelude.{◌≡◌, ◌<◌, ℕ, Bool, false, List, [], ◌∷◌, ◌++◌, length, take, All};
-ghost use Rattle.mc_explore.specs.Chain.{Chain, JoinUp, last_schedule};
+ghost use Rattle.mc_tree.specs.Chain.{JoinUp};
+ghost use Rattle.mc_explore.specs.Chain.{Chain, last_schedule};
 ghost use Rattle.mc_explore.specs.Page.{state_past};
 ghost use Rattle.mc_explore.specs.Resume.{behind};
-ghost use Rattle.mc_explore.specs.Schedules.{Precedes};
+ghost use Rattle.mc_tree.specs.Paths.{Precedes};
 ghost use Rattle.mc_explore.specs.State.{State, Told, moved_to};
 ghost use Rattle.mc_explore.specs.Rest.{IsRest};
 

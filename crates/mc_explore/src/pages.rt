@@ -1,6 +1,6 @@
 //! Pages: several rows at a time, as text.
 ghost use Rattle.std.specs.Prelude.{◌≡◌, ◌+◌, ◌*◌, ◌≤◌, ◌⊎◌, IfErr, OnOk, OnErr, IsErrOf};
-ghost use Rattle.mc_explore.specs.State.{Lost};
+ghost use Rattle.mc_tree.specs.Paths.{Lost};
 ghost use Rattle.mc_explore.specs.Bounds.{most_for_row};
 ghost use Rattle.mc_explore.specs.Page.{PageIsOut, PageBegan};
 ghost use Rattle.mc_explore.specs.Want.{RanOut};

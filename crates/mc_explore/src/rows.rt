@@ -5,7 +5,8 @@ ghost use Rattle.mc_flash.specs.Ledger.{most_operations};
 ghost use Rattle.mc_boot.specs.Runs.{ops_of};
 ghost use Rattle.mc_explore.specs.Bounds.{IsRoomyAt, row_cost};
 ghost use Rattle.mc_explore.specs.Stack.{StandsAt, start_of, contents, dones};
-ghost use Rattle.mc_explore.specs.State.{told, HasOutcome, Finds, After};
+ghost use Rattle.mc_tree.specs.Paths.{After};
+ghost use Rattle.mc_explore.specs.State.{told, HasOutcome, Finds};
 ghost use Rattle.mc_explore.specs.Want.{RanOut};
 
 use crate::frames::Frame;

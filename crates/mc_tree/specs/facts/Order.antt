@@ -1,5 +1,5 @@
 -- The next path in a tree: down to a first child, or up and on to a next one.
-use Rattle.std.proofs.Common.{◌≡◌, ℕ, ◌+◌, ◌<◌, ◌≤◌, ◌⊎◌, List, [], ◌∷◌, ◌++◌, length, inl, inr, refl, sym, subst, arith, length-append}
+use Rattle.std.proofs.Common.{◌≡◌, ℕ, ◌+◌, ◌<◌, ◌≤◌, ◌⊎◌, List, [], ◌∷◌, ◌++◌, length, take, zero, suc, inl, inr, refl, sym, subst, arith, length-append}
 use Rattle.mc_tree.specs.Tree.{Tree, landed, Allowed, IsMember}
 use Rattle.mc_tree.specs.Paths.{Precedes, Beyond, After, IsNext, IsOver}
 
@@ -68,6 +68,11 @@ module _ {N : Type 0} (t : Tree N) where
   pub landed-push : (s : N) (l : List ℕ) (number : ℕ) → landed t s (l ++ number ∷ []) ≡ t.child (landed t s l) number
   landed-push s [] number = refl
   landed-push s (x ∷ xs) number = landed-push (t.child s x) xs number
+
+  pub allowed_front : (s : N) (l : List ℕ) (n : ℕ) → Allowed t s l → Allowed t s (take n l)
+  allowed_front s l zero a = tt
+  allowed_front s [] (suc n) a = tt
+  allowed_front s (x ∷ xs) (suc n) a = (a.0, allowed_front (t.child s x) xs n a.1)
 
   allowed_at : (s : N) (x y : ℕ) (ys : List ℕ) → x ≡ y → Allowed t (t.child s y) ys → Allowed t (t.child s x) ys
   allowed_at s x y ys e a = subst (λ z. Allowed t (t.child s z) ys) (sym e) a

@@ -1,4 +1,4 @@
-use Rattle.mc_explore.proofs.Joined.{pages_join, page_resumes}
+use Rattle.mc_explore.proofs.Continued.{pages_join, page_resumes}
 use Rattle.mc_explore.proofs.laws.pages_join_up.Goals as goal
 
 pub returns-clause-joined : goal.returns-clause-joined

@@ -1,7 +1,8 @@
 use Rattle.std.proofs.Common.{◌≡◌, ◌-◌, suc, [], ◌∷◌, ◌++◌, codes, Ok, Err, inl, inr, sym, ap, ◌∙◌, arith}
 use Rattle.std.proofs.lemmas.Result.{err_from_is_err_and}
 use Rattle.mc_explore.specs.CursorText.{cursor_text}
-use Rattle.mc_explore.specs.State.{State, Lost, After}
+use Rattle.mc_tree.specs.Paths.{Lost, After}
+use Rattle.mc_explore.specs.State.{State}
 use Rattle.mc_explore.specs.Page.{next_line}
 use Rattle.mc_explore.specs.declared.error.ExploreError.TheVariants as errors
 use Rattle.mc_explore.proofs.Bounds.{row_paid, found_cost}

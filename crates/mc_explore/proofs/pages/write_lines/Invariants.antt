@@ -1,6 +1,6 @@
 use Rattle.std.proofs.Common.{◌≡◌, ◌+◌, ◌*◌, ◌<◌, ◌≤◌, ◌⊎◌}
 use Rattle.mc_explore.specs.Bounds.{most_for_row}
-use Rattle.mc_explore.specs.State.{Lost}
+use Rattle.mc_tree.specs.Paths.{Lost}
 use Rattle.mc_explore.proofs.PageText.{AreInPage}
 use Rattle.mc_explore.proofs.pages.write_lines.Given as goal
 

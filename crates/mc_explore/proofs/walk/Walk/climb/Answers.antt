@@ -4,11 +4,12 @@ use Rattle.mc_flash.specs.Ledger.{Ledger, Limits, Spot}
 use Rattle.mc_flash.specs.declared.flash.FlashError.TheVariants as errors
 use Rattle.mc_boot.specs.Boot.{progress, to_come}
 use Rattle.mc_explore.specs.Bounds.{IsRoomy}
-use Rattle.mc_explore.specs.Landing.{landed}
+use Rattle.mc_tree.specs.Tree.{landed}
 use Rattle.mc_explore.specs.Stack.{IsStacked, contents, dones, start_of}
 use Rattle.mc_explore.proofs.Bounds.{popped_roomy, marked_roomy}
 use Rattle.mc_explore.proofs.Contents.{contents_take, length_contents, marked_is}
-use Rattle.mc_explore.proofs.Order.{Rises}
+use Rattle.mc_tree.specs.facts.Order.{Rises}
+use Rattle.mc_explore.specs.Boots.{boots}
 use Rattle.mc_explore.proofs.Stacked.{popped}
 use Rattle.mc_explore.proofs.Steps.{went_on, goes_done, goes_wants, rises_above, found_stands, found_next, start_stays}
 use Rattle.mc_explore.proofs.Wants.{step_wants, step_limits, step_room, step_once}
@@ -51,7 +52,7 @@ returns-in_err-step-clause-cause g c =
     let f = c.in-Some.frame in
     let p = popped w.rules layout start w.home marks fs f (subst (IsStacked w.rules layout start w.home marks) c.in-Some.ensures.items c.loop-frame.invariant.stacked) in
     let there = marked_is (g.F.Flash.marks c.loop-frame.flash) f.place _ c.back_to.ensures.content in
-    let on = went_on w.rules layout (g.F.Flash.geometry c.back_to.new.self) start w.home marks fs f c.step.new.self (g.F.Flash.content c.back_to.new.self) (g.F.Flash.content c.step.new.flash) c.step.result p there (c.back_to.ensures.geometry ∙ c.loop-frame.invariant.geometry) c.step.ensures.step (c.step.ensures.come w.rules (landed w.rules layout start (dones fs))) in
+    let on = went_on w.rules layout (g.F.Flash.geometry c.back_to.new.self) start w.home marks fs f c.step.new.self (g.F.Flash.content c.back_to.new.self) (g.F.Flash.content c.step.new.flash) c.step.result p there (c.back_to.ensures.geometry ∙ c.loop-frame.invariant.geometry) c.step.ensures.step (c.step.ensures.come w.rules (landed (boots w.rules layout) start (dones fs))) in
     let q = err_from_is_err_and c.from_residual.result c.from_residual.ensures.1 in
     let pr = popped_roomy w layout (g.F.Flash.ledger c.args.flash.now).limits (g.F.Flash.marks c.loop-frame.flash) fs f _ (subst (IsRoomy w layout (g.F.Flash.ledger c.args.flash.now).limits (g.F.Flash.marks c.loop-frame.flash)) c.in-Some.ensures.items c.loop-frame.invariant.roomy) c.back_to.ensures.content in
     let limits = ap (λ (l : Ledger). l.limits) c.back_to.ensures.ledger ∙ c.loop-frame.invariant.limits in
@@ -67,7 +68,7 @@ returns-then-next-frame-clause-stands g c _ =
     let f = c.in-Some.frame in
     let p = popped w.rules layout start w.home marks fs f (subst (IsStacked w.rules layout start w.home marks) c.in-Some.ensures.items c.loop-frame.invariant.stacked) in
     let there = marked_is (g.F.Flash.marks c.loop-frame.flash) f.place _ c.back_to.ensures.content in
-    let on = went_on w.rules layout (g.F.Flash.geometry c.back_to.new.self) start w.home marks fs f c.step.new.self (g.F.Flash.content c.back_to.new.self) (g.F.Flash.content c.step.new.flash) c.step.result p there (c.back_to.ensures.geometry ∙ c.loop-frame.invariant.geometry) c.step.ensures.step (c.step.ensures.come w.rules (landed w.rules layout start (dones fs))) in
+    let on = went_on w.rules layout (g.F.Flash.geometry c.back_to.new.self) start w.home marks fs f c.step.new.self (g.F.Flash.content c.back_to.new.self) (g.F.Flash.content c.step.new.flash) c.step.result p there (c.back_to.ensures.geometry ∙ c.loop-frame.invariant.geometry) c.step.ensures.step (c.step.ensures.come w.rules (landed (boots w.rules layout) start (dones fs))) in
     let counts = goes_done (progress f.boot) (progress c.step.new.self) c.step.result _ on.goes c.in_ok-step.was in
     let lt : f.done + 1 < f.ops = omega arith in
     let e = c.in_ok-push_frame.ensures in
@@ -87,7 +88,7 @@ returns-then-next-frame-clause-step g c =
     let f = c.in-Some.frame in
     let p = popped w.rules layout start w.home marks fs f (subst (IsStacked w.rules layout start w.home marks) c.in-Some.ensures.items c.loop-frame.invariant.stacked) in
     let lt : f.done + 1 < f.ops = omega arith in
-    rw c.in_ok-push_frame.ensures.pushed (found_next w.rules layout start w.home marks (dones c.args.frames.now.items) fs f c.step.new.self _ (subst (λ xs. Rises w.rules layout start (dones c.args.frames.now.items) (dones xs)) c.in-Some.ensures.items c.loop-frame.invariant.rises) p lt)
+    rw c.in_ok-push_frame.ensures.pushed (found_next w.rules layout start w.home marks (dones c.args.frames.now.items) fs f c.step.new.self _ (subst (λ xs. Rises (boots w.rules layout) start (dones c.args.frames.now.items) (dones xs)) c.in-Some.ensures.items c.loop-frame.invariant.rises) p lt)
 
 pub loop-frame-preserved : goal.loop-frame-preserved
 loop-frame-preserved g c =
@@ -109,7 +110,7 @@ loop-frame-preserved g c =
       applied = ap (λ (l : Ledger). l.applied) c.back_to.ensures.ledger ∙ c.loop-frame.invariant.applied;
       limits = ap (λ (l : Ledger). l.limits) c.back_to.ensures.ledger ∙ c.loop-frame.invariant.limits;
       roomy = rw c.back_to.ensures.marks pr.stack;
-      rises = rises_above w.rules layout start w.home marks (dones c.args.frames.now.items) fs f (subst (λ xs. Rises w.rules layout start (dones c.args.frames.now.items) (dones xs)) c.in-Some.ensures.items c.loop-frame.invariant.rises) p last;
+      rises = rises_above w.rules layout start w.home marks (dones c.args.frames.now.items) fs f (subst (λ xs. Rises (boots w.rules layout) start (dones c.args.frames.now.items) (dones xs)) c.in-Some.ensures.items c.loop-frame.invariant.rises) p last;
     }
 
 pub push_frame-requires-clause-room : goal.push_frame-requires-clause-room

@@ -1,5 +1,5 @@
 -- The flash that power cuts leave, as an option and as a total function: where the cuts can occur the two are one.
-use Rattle.std.specs.Prelude.{◌≡◌, ℕ, ◌+◌, ◌<◌, ◌≤◌, nat_lt, Bool, true, false, is_some, if◌then◌else◌, List, [], ◌∷◌, length, drop, take, Option, Some, None, option_and_then, Result, Ok, Err, refl}
+use Rattle.std.specs.Prelude.{◌≡◌, ℕ, ◌+◌, ◌<◌, nat_lt, Bool, true, false, is_some, if◌then◌else◌, List, [], ◌∷◌, length, drop, take, Option, Some, None, option_and_then, Result, Ok, Err, refl}
 use Rattle.std.proofs.Common.{arith, sym, ap, subst, ◌∙◌, length-append}
 use Rattle.std.proofs.lemmas.Bool.Decides.{nat_tests}
 use Rattle.mc_flash.specs.Geometry.{Geometry}
@@ -15,7 +15,9 @@ use Rattle.mc_boot.specs.Boot.{Progress, begun, Tries, TriesFirst, Steps}
 use Rattle.mc_boot.specs.Run.{HasCome}
 use Rattle.mc_boot.specs.RunFacts.{at_defined, come_at, come_count, come_front}
 use Rattle.mc_explore.specs.Schedules.{CanOccur, IsMember}
-use Rattle.mc_explore.specs.Landing.{content_or, at_cut, landed, Allowed}
+use Rattle.mc_tree.specs.Tree.{landed, Allowed}
+use Rattle.mc_tree.specs.Tree as tree
+use Rattle.mc_explore.specs.Boots.{content_or, at_cut, boots}
 
 some_of : (s : Content) (o : Option Content) (t : Content) → o ≡ Some t → o ≡ Some (content_or s o)
 some_of s o t e = e ∙ ap (λ (z : Option Content). Some (content_or s z)) (sym e)
@@ -34,17 +36,17 @@ cut_is r g s c lt =
     ap (λ b. if b then at r g s c else None) test ∙ at_is r g s c
 
 -- Where each boot makes more operations than its cut says, the flash is the defined one.
-pub allowed_after : (r : Rules) (g : Geometry) (s : Content) (l : List ℕ) → Allowed r g s l → after r g s l ≡ Some (landed r g s l)
+pub allowed_after : (r : Rules) (g : Geometry) (s : Content) (l : List ℕ) → Allowed (boots r g) s l → after r g s l ≡ Some (landed (boots r g) s l)
 allowed_after r g s [] a = refl
 allowed_after r g s (c ∷ cs) a =
     ap (λ (o : Option Content). option_and_then (λ t. after r g t cs) o) (cut_is r g s c a.0) ∙ allowed_after r g (at_cut r g s c) cs a.1
 
-pub allowed_occurs : (r : Rules) (g : Geometry) (s : Content) (l : List ℕ) → Allowed r g s l → CanOccur r g s l
+pub allowed_occurs : (r : Rules) (g : Geometry) (s : Content) (l : List ℕ) → Allowed (boots r g) s l → CanOccur r g s l
 allowed_occurs r g s l a = ap (λ (o : Option Content). is_some o) (allowed_after r g s l a)
 
 first_allowed : (r : Rules) (g : Geometry) (s : Content) (c : ℕ) (cs : List ℕ) (b : Bool) → nat_lt c (length (ops_of r g s)) ≡ b
-    → ((t : Content) → CanOccur r g t cs → Allowed r g t cs)
-    → is_some (option_and_then (λ t. after r g t cs) (if b then at r g s c else None)) ≡ true → (c < length (ops_of r g s)) × Allowed r g (at_cut r g s c) cs
+    → ((t : Content) → CanOccur r g t cs → Allowed (boots r g) t cs)
+    → is_some (option_and_then (λ t. after r g t cs) (if b then at r g s c else None)) ≡ true → (c < length (ops_of r g s)) × Allowed (boots r g) (at_cut r g s c) cs
 first_allowed r g s c cs false e behind some = absurd cc
 first_allowed r g s c cs true e behind some = (
   grind (arith, nat_tests),
@@ -52,13 +54,17 @@ first_allowed r g s c cs true e behind some = (
 )
 
 -- And only there can they occur.
-pub occurs_allowed : (r : Rules) (g : Geometry) (s : Content) (l : List ℕ) → CanOccur r g s l → Allowed r g s l
+pub occurs_allowed : (r : Rules) (g : Geometry) (s : Content) (l : List ℕ) → CanOccur r g s l → Allowed (boots r g) s l
 occurs_allowed r g s [] some = tt
 occurs_allowed r g s (c ∷ cs) some =
     first_allowed r g s c cs (nat_lt c (length (ops_of r g s))) refl (λ t h. occurs_allowed r g t cs h) some
 
-pub member_of : (r : Rules) (g : Geometry) (s : Content) (bound : ℕ) (l : List ℕ) → length l ≤ bound → Allowed r g s l → IsMember r g s bound l
-member_of r g s bound l few a = (few, allowed_occurs r g s l a)
+-- The schedules that can occur are the paths of the tree of boots.
+pub member_of : (r : Rules) (g : Geometry) (s : Content) (bound : ℕ) (l : List ℕ) → tree.IsMember (boots r g) s bound l → IsMember r g s bound l
+member_of r g s bound l m = (m.0, allowed_occurs r g s l m.1)
+
+pub path_of : (r : Rules) (g : Geometry) (s : Content) (bound : ℕ) (l : List ℕ) → IsMember r g s bound l → tree.IsMember (boots r g) s bound l
+path_of r g s bound l m = (m.0, occurs_allowed r g s l m.1)
 
 -- The flash of a boot on its way is the one after as many operations.
 pub come_lands : (r : Rules) (g : Geometry) (s : Content) (p : Progress) (t : Content) → HasCome r g s p t → t ≡ at_cut r g s p.count

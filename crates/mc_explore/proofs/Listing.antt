@@ -1,0 +1,119 @@
+-- The one list of the rows to come, as that of a tree.
+use Rattle.std.proofs.Common.{◌≡◌, ℕ, List, [], ◌∷◌, ◌++◌, Bool, true, false, Option, Some, None, option_and_then, inl, inr, refl, sym, ap, subst, ◌∙◌, arith}
+use Rattle.mc_flash.specs.Geometry.{Geometry}
+use Rattle.mc_flash.specs.Content.{Content}
+use Rattle.mc_boot.specs.RunFacts.{outcome_defined}
+use Rattle.mc_boot.specs.Outcome.{Report, outcome_of}
+use Rattle.mc_tree.specs.Tree as tree
+use Rattle.mc_tree.specs.Tree.{landed, Allowed}
+use Rattle.mc_tree.specs.Paths.{Precedes, After, IsNext, IsOver}
+use Rattle.mc_tree.specs.facts.Past.{same_next, same_over}
+use Rattle.mc_tree.specs.facts.OneList as lists_facts
+use Rattle.mc_tree.specs.facts.Existence as existence
+use Rattle.mc_tree.specs.facts.Existence.{AreRows}
+use Rattle.mc_explore.specs.Boots.{boots}
+use Rattle.mc_explore.specs.Rest.{schedule_of, IsRow, IsRest}
+use Rattle.mc_explore.specs.Schedules.{IsMember}
+use Rattle.mc_explore.specs.Start.{Begun}
+use Rattle.mc_explore.specs.State as states
+use Rattle.mc_explore.specs.State.{State, Told, told, HasOutcome, Finds, outcome_after, moved_to}
+use Rattle.mc_explore.specs.Stack.{Advances, dones}
+use Rattle.mc_explore.specs.declared.frames.Frame.{Frame}
+use Rattle.mc_explore.specs.declared.row.Row.{Row}
+use Rattle.mc_explore.specs.declared.walk.Walk.{Walk}
+use Rattle.mc_explore.proofs.Occurring.{allowed_after, member_of, path_of}
+
+one_outcome : (a b : List ℕ) (x y : Report) (o : List ℕ → Option Report) → a ≡ b → o a ≡ Some x → o b ≡ Some y → x ≡ y
+one_outcome a b x y o e p q = let f : o a ≡ o b = ap o e in cc
+
+told_of : List ℕ → Report → Told
+told_of l report = record { schedule = l; outcome = report }
+
+told_is : (a b : List ℕ) (x y : Report) → a ≡ b → x ≡ y → told_of a x ≡ told_of b y
+told_is a b x y e f = cc
+
+module _ (start : Begun) where
+  -- A schedule has one outcome.
+  same_row : (x y : Told) → HasOutcome start x → HasOutcome start y → x.schedule ≡ y.schedule → x ≡ y
+  unfolding told_of
+  same_row x y p q e =
+      told_is x.schedule y.schedule x.outcome y.outcome e (one_outcome x.schedule y.schedule x.outcome y.outcome (outcome_after start) e p q)
+
+  -- The row of a schedule.
+  row_at : List ℕ → Told
+  row_at l = record { schedule = l; outcome = (outcome_defined start.rules start.geometry (landed (boots start.rules start.geometry) start.content l)).0 }
+
+  pub lands_told : (l : List ℕ) → Allowed (boots start.rules start.geometry) start.content l
+      → outcome_after start l ≡ outcome_of start.rules start.geometry (landed (boots start.rules start.geometry) start.content l)
+  unfolding outcome_after
+  lands_told l a =
+      ap (λ (o : Option Content). option_and_then (λ u. outcome_of start.rules start.geometry u) o) (allowed_after start.rules start.geometry start.content l a)
+
+  has_outcome : (l : List ℕ) → Allowed (boots start.rules start.geometry) start.content l → HasOutcome start (row_at l)
+  unfolding row_at
+  has_outcome l a = lands_told l a ∙ (outcome_defined start.rules start.geometry (landed (boots start.rules start.geometry) start.content l)).1
+
+  are_rows : (bound : ℕ) → AreRows (boots start.rules start.geometry) start.content bound schedule_of (IsRow start bound) row_at
+  unfolding row_at
+  are_rows bound = record {
+    path_is = λ l. refl;
+    is_row = λ l m. record { listed = member_of start.rules start.geometry start.content bound l m; outcome = has_outcome l m.1 };
+    member = λ row is. path_of start.rules start.geometry start.content bound row.schedule is.listed;
+    only = λ row is.
+        let a = (path_of start.rules start.geometry start.content bound row.schedule is.listed).1 in
+        same_row row (row_at row.schedule) is.outcome (has_outcome row.schedule a) refl;
+  }
+
+module _ (state : State) where
+  pub some_rest : (rows : List Told) × IsRest state rows
+  some_rest =
+      existence.some_rest (boots state.start.rules state.start.geometry) state.start.content state.bound schedule_of (IsRow state.start state.bound) (row_at state.start)
+      (are_rows state.start state.bound) state.position
+
+  pub one_rest : (xs ys : List Told) → IsRest state xs → IsRest state ys → xs ≡ ys
+  one_rest = lists_facts.one_rest schedule_of (IsRow state.start state.bound) state.position
+
+  pub rest_tail : (row : Told) (rows : List Told) → IsRest state (row ∷ rows) → IsRest (moved_to state row.schedule) rows
+  rest_tail = lists_facts.rest_tail schedule_of (IsRow state.start state.bound) state.position
+
+  pub in_order : (front between rest : List Told) (first later : Told) → IsRest state (front ++ first ∷ (between ++ later ∷ rest)) → Precedes first.schedule later.schedule
+  in_order = lists_facts.in_order schedule_of (IsRow state.start state.bound) state.position
+
+  -- The next row is the first of them.
+  pub rest_next : (row : Told) (rows : List Told) → states.IsNext state row.schedule → HasOutcome state.start row → IsRest state rows
+      → (rest : List Told) × (rows ≡ row ∷ rest) × IsRest (moved_to state row.schedule) rest
+  rest_next row rows n o r =
+      lists_facts.rest_next schedule_of (IsRow state.start state.bound) state.position (states.IsListed state) (λ x is. is.listed) row rows n
+      (record { listed = n.listed; outcome = o }) r
+
+  -- Where no schedule is past the position there are none.
+  pub rest_over : (rows : List Told) → states.IsOver state → IsRest state rows → rows ≡ []
+  rest_over = lists_facts.rest_over schedule_of (IsRow state.start state.bound) state.position (states.IsListed state) (λ x is. is.listed)
+
+  one_is_later : Precedes (1 ∷ []) (0 ∷ 17 ∷ []) → ⊥
+  one_is_later (inl less) = omega (arith, less)
+  one_is_later (inr same) = omega (arith, same.0)
+
+  pub longer_first : (front between rest : List Told) (first later : Told) → first.schedule ≡ 1 ∷ [] → later.schedule ≡ 0 ∷ 17 ∷ []
+      → IsRest state (front ++ first ∷ (between ++ later ∷ rest)) → ⊥
+  longer_first front between rest first later one two r =
+      let before = in_order front between rest first later r in
+      one_is_later (subst (Precedes (1 ∷ [])) two (subst (λ l. Precedes l later.schedule) one before))
+
+-- What an advance of the walk comes to is the next row of the schedules.
+module _ (w : Walk) (g : Geometry) (start : Content) (failed : Bool) (l : List ℕ) (fs : List Frame) (went : Bool) (step : Advances w g start l went (dones fs)) where
+  abbrev pub walked : State
+  walked = record { start = record { geometry = g; rules = w.rules; content = start }; bound = w.bound; position = After l; failed = failed }
+
+  pub found_row : (row : Row) → went ≡ true → row.schedule ≡ dones fs → HasOutcome walked.start (told row) → Finds walked (Some row)
+  found_row row went_on is outcome =
+      let there : IsNext (tree.IsMember (boots w.rules g) start w.bound) (After l) (dones fs) = subst (λ b. Advances w g start l b (dones fs)) went_on step in
+      let next = same_next (tree.IsMember (boots w.rules g) start w.bound) (IsMember w.rules g start w.bound)
+      (member_of w.rules g start w.bound) (path_of w.rules g start w.bound) (After l) (dones fs) there in
+      (subst (IsNext (IsMember w.rules g start w.bound) (After l)) (sym is) next, outcome)
+
+  pub found_none : went ≡ false → Finds walked None
+  found_none stayed =
+      let over : IsOver (tree.IsMember (boots w.rules g) start w.bound) (After l) = subst (λ b. Advances w g start l b (dones fs)) stayed step in
+      same_over (tree.IsMember (boots w.rules g) start w.bound) (IsMember w.rules g start w.bound)
+      (member_of w.rules g start w.bound) (path_of w.rules g start w.bound) (After l) over
