@@ -4,3 +4,4 @@ mod Worked
 mod Undo
 mod Kept
 mod Popped
+mod Lanes

@@ -13,7 +13,7 @@ mod slots;
 mod snap;
 mod text;
 
-pub use erased::blank;
+pub use erased::{blank, blank_lanes};
 pub use flash::{Flash, FlashError, Grain};
 pub use journal::JournalFlash;
 pub use layout::{Layout, LayoutError};

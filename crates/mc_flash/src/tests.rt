@@ -1,10 +1,11 @@
 //! The worked layout, the limits of a layout, and both flashes through the trait.
-ghost use Rattle.std.specs.Prelude.{◌≡◌, [], IfOk};
+ghost use Rattle.std.specs.Prelude.{◌≡◌, ◌≤◌, [], IfOk};
 ghost use Rattle.mc_flash.specs.Worked.{worked};
 
 use super::*;
 use std::alloc::Global;
 use std::process::Abort;
+use std::simd::prelude::*;
 use std::test::Fail;
 
 /// The worked layout: 4 and 3 sectors of 256 bytes.
@@ -126,15 +127,33 @@ fn refusals_have_their_numbers(rt: HostRuntime) -> Result<(), Fail> {
     Ok(())
 }
 
-#[test]
-fn bytes_are_blank(rt: HostRuntime) {
-    assert!(rt; blank(&[]));
-    assert!(rt; blank(&[0xff; 65]));
-    for place in 0..65usize {
+/// A byte that is not 0xff is found in each place of so many.
+fn each_byte_is_looked_at(rt: &impl Abort, len: usize)
+    requires { len ≤ 65 }
+{
+    for place in 0..len {
         let mut bytes = [0xff; 65];
         bytes[place] = 0xfe;
-        assert!(rt; !blank(&bytes), "{place}");
+        assert!(rt; !blank(&bytes[..len]), "{place} of {len}");
     }
+}
+
+/// Lengths on both sides of one and two whole groups of 32 bytes, and a whole sector.
+#[test]
+fn bytes_are_blank(rt: HostRuntime) -> Result<(), Fail> {
+    let sector = vec![in rt.alloc(); 0xff; 65_536]?;
+    assert!(rt; blank(&sector));
+    for len in 0..=65usize {
+        assert!(rt; blank(&[0xff; 65][..len]), "{len}");
+        each_byte_is_looked_at(&rt, len);
+    }
+    Ok(())
+}
+
+#[test]
+fn lanes_are_blank(rt: HostRuntime) {
+    assert!(rt; blank_lanes(u8x32::splat(0xff)));
+    assert!(rt; !blank_lanes(u8x32::splat(0xfe)));
 }
 
 #[test]
