@@ -1,11 +1,8 @@
 -- How the text of a cursor is taken apart.
-use Rattle.std.specs.Prelude.{◌≡◌, ◌≢◌, ℕ, suc, ◌*◌, ◌/◌, ◌%◌, ◌<◌, ◌≤◌, ◌^◌, List, [], ◌∷◌, ◌++◌, length, drop, get_or, slice_index, Option, Some, None, codes, decimal, IfNone, Result, Ok, Err, MatchResult, true, false, is_err, refl, ⊤}
-use Rattle.std.specs.Borrow.{Bor}
-use Rattle.std.specs.Str.Parse.{AllDigits, ParsesUnsigned}
+use Rattle.std.specs.Prelude.{◌≡◌, ◌≢◌, ℕ, suc, ◌*◌, ◌/◌, ◌%◌, ◌<◌, ◌≤◌, List, [], ◌∷◌, ◌++◌, length, drop, get_or, slice_index, Option, Some, None, codes, decimal, IfNone, Result, Ok, Err, MatchResult, true, false, is_err, refl}
+use Rattle.std.specs.Str.Parse.{ParsesUnsigned}
 use Rattle.std.proofs.Common.{arith, sym, ap, ◌∙◌}
-use Rattle.std.proofs.lemmas.Fmt.{parse-decimal, decimal_is_IsNumeral}
-use Rattle.std.proofs.lemmas.Str.Parse.{digit_from_value}
-use Rattle.std.proofs.lemmas.Str.Pattern.{IsSplitOnceResult, split_parts}
+use Rattle.std.proofs.lemmas.Fmt.{parse-decimal}
 use Rattle.hex.specs.Hex.{IsBytes, decode_sized, encode_lower, encode_with, hex_digit_value, lower_digits}
 use Rattle.hex.specs.declared.error.FromHexError.{FromHexError}
 use Rattle.hex.proofs.HexLemmas.{IsDigits-lower_digits, length-encode_with, decode_of-encode_lower, decode_sized-twice}
@@ -18,6 +15,7 @@ use Rattle.mc_boot.specs.Plan.{plain}
 use Rattle.mc_explore.specs.CursorText.{rules_text, head_text, cursor_text, IsCursor}
 use Rattle.mc_explore.specs.Texts.{schedule_text}
 use Rattle.mc_explore.specs.declared.cursor.Cursor.{Cursor}
+use Rattle.mc_explore.proofs.Parting.{Lacks, AreParts, one_part, no_part, lacks_decimal}
 
 -- ---- numbers and digits
 
@@ -45,21 +43,8 @@ no_error (Err e) is wrong = absurd cc
 
 -- ---- colons
 
--- No colon is in these bytes.
-abbrev pub Lacks : List ℕ → Type 0
-Lacks [] = ⊤
-Lacks (c ∷ cs) = (c ≢ 58) × Lacks cs
-
-pub lacks_each : (xs : List ℕ) → ((i : ℕ) → i < length xs → get_or xs i 0 ≢ 58) → Lacks xs
-lacks_each [] each = tt
-lacks_each (x ∷ xs) each = (each 0 (omega arith), lacks_each xs (λ i lt. each (suc i) (omega (arith, lt))))
-
-lacks_digits : (ds : List ℕ) → AllDigits 10 ds → Lacks ds
-lacks_digits [] digits = tt
-lacks_digits (d ∷ ds) digits = (λ e. omega (arith, e, digit_from_value d digits.0), lacks_digits ds digits.1)
-
-pub lacks_decimal : (n : ℕ) → n < 2 ^ 32 → Lacks (decimal n)
-lacks_decimal n small = lacks_digits (decimal n) (decimal_is_IsNumeral n (omega (arith, small))).0.1
+colon_no_digit : (c : ℕ) → c ≡ 58 → 48 ≤ c → c ≤ 57 → ⊥
+colon_no_digit c is low high = omega (arith, is, high)
 
 no_digit : (d x : ℕ) → d < 16 → slice_index lower_digits d ≡ x → x ≢ 58
 no_digit d x lt is colon =
@@ -67,7 +52,7 @@ no_digit d x lt is colon =
     let none : hex_digit_value 58 ≡ None = refl in
     absurd cc
 
-pub lacks_hex : (d : List ℕ) → IsBytes d → Lacks (encode_lower d)
+pub lacks_hex : (d : List ℕ) → IsBytes d → Lacks 58 (encode_lower d)
 unfolding encode_with
 lacks_hex [] bytes = tt
 lacks_hex (b ∷ rest) bytes =
@@ -75,35 +60,6 @@ lacks_hex (b ∷ rest) bytes =
       no_digit (b / 16) _ (omega (arith, byte)) refl,
       (no_digit (b % 16) _ (omega (arith, byte)) refl, lacks_hex rest (λ i. bytes (suc i))),
     )
-
--- The first colon parts a text in one way.
-pub one_part : (xs us ys vs : List ℕ) → Lacks xs → Lacks us → xs ++ 58 ∷ ys ≡ us ++ 58 ∷ vs → (xs ≡ us) × (ys ≡ vs)
-one_part [] [] ys vs a b e = (refl, cc)
-one_part [] (u ∷ us) ys vs a b e = absurd (b.0 cc)
-one_part (x ∷ xs) [] ys vs a b e = absurd (a.0 cc)
-one_part (x ∷ xs) (u ∷ us) ys vs a b e =
-    let heads : x ≡ u = cc in
-    let rest = one_part xs us ys vs a.1 b.1 cc in
-    (ap (λ y. y ∷ xs) heads ∙ ap (λ (z : List ℕ). u ∷ z) rest.0, rest.1)
-
-pub no_part : (xs us vs : List ℕ) → Lacks xs → xs ≡ us ++ 58 ∷ vs → ⊥
-no_part [] [] vs a e = absurd cc
-no_part [] (u ∷ us) vs a e = absurd cc
-no_part (x ∷ xs) [] vs a e = a.0 cc
-no_part (x ∷ xs) (u ∷ us) vs a e = no_part xs us vs a.1 cc
-
--- The parts of a text at its first colon.
-pub record AreParts (rest first after : List ℕ) : Type 0 where
-  pub parts : rest ≡ first ++ (58 ∷ after)
-  pub lacks : Lacks first
-
-pub parted : (rest : List ℕ) (r : Option (Bor (List ℕ) × Bor (List ℕ))) (first after : Bor (List ℕ)) → IsSplitOnceResult 58 rest r → r ≡ Some (first, after) → AreParts rest first.now after.now
-parted rest r first after split is =
-    let both = rw is at (split_parts 58 rest r split (omega arith)) in
-    record { parts = both.0; lacks = lacks_each first.now both.1 }
-
-pub one_piece : (rest : List ℕ) (r : Option (Bor (List ℕ) × Bor (List ℕ))) → IsSplitOnceResult 58 rest r → r ≡ None → Lacks rest
-one_piece rest r split is = lacks_each rest (rw is at (split_parts 58 rest r split (omega arith)))
 
 -- ---- the parts of a cursor
 
@@ -171,26 +127,26 @@ pub record HasDigits (digits rest : List ℕ) (c : Cursor) : Type 0 where
   pub digits_are : digits ≡ encode_lower c.digest
   pub rest_is : rest ≡ decimal c.bound ++ (58 ∷ schedule_text c.schedule)
 
-pub digits_read : (rest digits after : List ℕ) (c : Cursor) → IsCursor c → rest ≡ tail_text c → AreParts rest digits after → HasDigits digits after c
+pub digits_read : (rest digits after : List ℕ) (c : Cursor) → IsCursor c → rest ≡ tail_text c → AreParts 58 rest digits after → HasDigits digits after c
 digits_read rest digits after c ok is p =
-    let one = one_part digits (encode_lower c.digest) after (decimal c.bound ++ (58 ∷ schedule_text c.schedule)) p.lacks (lacks_hex c.digest ok.bytes) (sym p.parts ∙ is) in
+    let one = one_part 58 digits (encode_lower c.digest) after (decimal c.bound ++ (58 ∷ schedule_text c.schedule)) p.lacks (lacks_hex c.digest ok.bytes) (sym p.parts ∙ is) in
     record { digits_are = one.0; rest_is = one.1 }
 
-pub no_digits : (rest : List ℕ) (c : Cursor) → rest ≡ tail_text c → Lacks rest → ⊥
-no_digits rest c is lacks = no_part rest (encode_lower c.digest) (decimal c.bound ++ (58 ∷ schedule_text c.schedule)) lacks is
+pub no_digits : (rest : List ℕ) (c : Cursor) → rest ≡ tail_text c → Lacks 58 rest → ⊥
+no_digits rest c is lacks = no_part 58 rest (encode_lower c.digest) (decimal c.bound ++ (58 ∷ schedule_text c.schedule)) lacks is
 
 -- Its most cuts, and its schedule.
 pub record HasNumber (number cuts : List ℕ) (c : Cursor) : Type 0 where
   pub number_is : number ≡ decimal c.bound
   pub cuts_are : cuts ≡ schedule_text c.schedule
 
-pub number_read : (rest number after : List ℕ) (c : Cursor) → IsCursor c → rest ≡ decimal c.bound ++ (58 ∷ schedule_text c.schedule) → AreParts rest number after → HasNumber number after c
+pub number_read : (rest number after : List ℕ) (c : Cursor) → IsCursor c → rest ≡ decimal c.bound ++ (58 ∷ schedule_text c.schedule) → AreParts 58 rest number after → HasNumber number after c
 number_read rest number after c ok is p =
-    let one = one_part number (decimal c.bound) after (schedule_text c.schedule) p.lacks (lacks_decimal c.bound (omega (arith, ok.few))) (sym p.parts ∙ is) in
+    let one = one_part 58 number (decimal c.bound) after (schedule_text c.schedule) p.lacks (lacks_decimal 58 colon_no_digit c.bound (omega (arith, ok.few))) (sym p.parts ∙ is) in
     record { number_is = one.0; cuts_are = one.1 }
 
-pub no_number : (rest : List ℕ) (c : Cursor) → rest ≡ decimal c.bound ++ (58 ∷ schedule_text c.schedule) → Lacks rest → ⊥
-no_number rest c is lacks = no_part rest (decimal c.bound) (schedule_text c.schedule) lacks is
+pub no_number : (rest : List ℕ) (c : Cursor) → rest ≡ decimal c.bound ++ (58 ∷ schedule_text c.schedule) → Lacks 58 rest → ⊥
+no_number rest c is lacks = no_part 58 rest (decimal c.bound) (schedule_text c.schedule) lacks is
 
 -- What was read is told by the text.
 pub told_back : (text rest digits more number cuts : List ℕ) (c : Cursor) → text ≡ head_text c.rules.grain c.rules.profile ++ rest → rest ≡ digits ++ (58 ∷ more) → more ≡ number ++ (58 ∷ cuts) → digits ≡ encode_lower c.digest → number ≡ decimal c.bound → cuts ≡ schedule_text c.schedule → text ≡ cursor_text c

@@ -2,6 +2,7 @@ mod Images
 mod Left
 mod Stepping
 mod Room
+mod Parting
 mod Reading
 mod Cutting
 mod Occurring

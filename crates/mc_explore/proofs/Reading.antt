@@ -1,20 +1,19 @@
 -- How the text of a schedule is taken apart at its points.
-use Rattle.std.specs.Prelude.{◌≡◌, ◌≢◌, ℕ, suc, ◌<◌, ◌^◌, List, [], ◌∷◌, ◌++◌, length, get_or, Option, Some, None, flat_map, codes, decimal, All, Result, Ok, refl, ⊤}
-use Rattle.std.specs.Borrow.{Bor}
+use Rattle.std.specs.Prelude.{◌≡◌, ℕ, ◌<◌, ◌≤◌, ◌^◌, List, [], ◌∷◌, ◌++◌, length, flat_map, codes, decimal, All, Result, Ok, refl}
 use Rattle.std.specs.Str.Parse.{AllDigits, ParsesUnsigned}
 use Rattle.std.proofs.Common.{arith, sym, ap, subst, ◌∙◌, append_assoc, append-nil, length-append}
 use Rattle.std.proofs.lemmas.Fmt.{parse-decimal, decimal_injective, decimal_is_IsNumeral}
 use Rattle.std.proofs.Math.Seq.{drop-append_seam}
 use Rattle.std.proofs.lemmas.List.Elements.{All-head, All-drop}
 use Rattle.std.proofs.lemmas.Str.Parse.{digit_from_value}
-use Rattle.std.proofs.lemmas.Str.Pattern.{IsSplitOnceResult, split_parts}
 use Rattle.mc_explore.specs.Texts.{schedule_text, IsSchedule, IsAdded}
+use Rattle.mc_explore.proofs.Parting.{Lacks, one_part, no_part, lacks_decimal}
 
 -- A text that writes a number is read as that number.
 pub read_back : {E : Type 0} (n : ℕ) (text : List ℕ) (r : Result ℕ E) → n < 2 ^ 32 → text ≡ decimal n → ParsesUnsigned 32 10 text r → r ≡ Ok n
 read_back n text r small is parses = parse-decimal 32 n text r small (omega (arith, small)) is parses
 
--- The cuts so far, each with a point behind it.
+-- The cuts so far, lacks with a point behind it.
 abbrev pub behind : List ℕ → List ℕ
 behind [] = []
 behind (c ∷ cs) = decimal c ++ (46 ∷ behind cs)
@@ -39,37 +38,8 @@ pub whole_text : (l : List ℕ) (c : ℕ) → behind l ++ decimal c ≡ schedule
 whole_text [] c = sym (append-nil (decimal c))
 whole_text (x ∷ l) c = sym (points_push l x c)
 
--- No point is in these bytes.
-abbrev Lacks : List ℕ → Type 0
-Lacks [] = ⊤
-Lacks (c ∷ cs) = (c ≢ 46) × Lacks cs
-
-lacks_each : (xs : List ℕ) → ((i : ℕ) → i < length xs → get_or xs i 0 ≢ 46) → Lacks xs
-lacks_each [] each = tt
-lacks_each (x ∷ xs) each = (each 0 (omega arith), lacks_each xs (λ i lt. each (suc i) (omega (arith, lt))))
-
-lacks_digits : (ds : List ℕ) → AllDigits 10 ds → Lacks ds
-lacks_digits [] digits = tt
-lacks_digits (d ∷ ds) digits = (λ e. omega (arith, e, digit_from_value d digits.0), lacks_digits ds digits.1)
-
-lacks_decimal : (n : ℕ) → n < 2 ^ 32 → Lacks (decimal n)
-lacks_decimal n small = lacks_digits (decimal n) (decimal_is_IsNumeral n (omega (arith, small))).0.1
-
--- The first point parts a text in one way.
-one_part : (xs us ys vs : List ℕ) → Lacks xs → Lacks us → xs ++ 46 ∷ ys ≡ us ++ 46 ∷ vs → (xs ≡ us) × (ys ≡ vs)
-one_part [] [] ys vs a b e = (refl, cc)
-one_part [] (u ∷ us) ys vs a b e = absurd (b.0 cc)
-one_part (x ∷ xs) [] ys vs a b e = absurd (a.0 cc)
-one_part (x ∷ xs) (u ∷ us) ys vs a b e =
-    let heads : x ≡ u = cc in
-    let rest = one_part xs us ys vs a.1 b.1 cc in
-    (ap (λ y. y ∷ xs) heads ∙ ap (λ (z : List ℕ). u ∷ z) rest.0, rest.1)
-
-no_part : (xs us vs : List ℕ) → Lacks xs → xs ≡ us ++ 46 ∷ vs → ⊥
-no_part [] [] vs a e = absurd cc
-no_part [] (u ∷ us) vs a e = absurd cc
-no_part (x ∷ xs) [] vs a e = a.0 cc
-no_part (x ∷ xs) (u ∷ us) vs a e = no_part xs us vs a.1 cc
+point_no_digit : (c : ℕ) → c ≡ 46 → 48 ≤ c → c ≤ 57 → ⊥
+point_no_digit c is low high = omega (arith, is, low)
 
 -- Of the cuts m those of l were read, and the text of the others is left.
 pub record IsLeft (l m rest : List ℕ) : Type 0 where
@@ -93,15 +63,15 @@ pub record IsNextCut (l m first after : List ℕ) : Type 0 where
   pub few : length l < 16
   pub left : IsLeft (l ++ cut ∷ []) m after
 
-pub next_cut : (l m rest first after : List ℕ) → IsSchedule m → IsLeft l m rest → rest ≡ first ++ (46 ∷ after) → ((i : ℕ) → i < length first → get_or first i 0 ≢ 46) → IsNextCut l m first after
-next_cut l m rest first after ok left parts each = by left.others left.some left.joined (sym left.text ∙ parts)
+pub next_cut : (l m rest first after : List ℕ) → IsSchedule m → IsLeft l m rest → rest ≡ first ++ (46 ∷ after) → Lacks 46 first → IsNextCut l m first after
+next_cut l m rest first after ok left parts lacks = by left.others left.some left.joined (sym left.text ∙ parts)
   where
     by : (others : List ℕ) → 0 < length others → m ≡ l ++ others → schedule_text others ≡ first ++ (46 ∷ after) → IsNextCut l m first after
     by [] some joined e = absurd (omega (arith, some))
-    by (c ∷ []) some joined e = absurd (no_part (decimal c) first after (lacks_decimal c (small_cut l [] m c ok joined)) (sym (append-nil (decimal c)) ∙ e))
+    by (c ∷ []) some joined e = absurd (no_part 46 (decimal c) first after (lacks_decimal 46 point_no_digit c (small_cut l [] m c ok joined)) (sym (append-nil (decimal c)) ∙ e))
     by (c ∷ d ∷ cs) some joined e =
         let small = small_cut l (d ∷ cs) m c ok joined in
-        let parted = one_part (decimal c) first (schedule_text (d ∷ cs)) after (lacks_decimal c small) (lacks_each first each) e in
+        let parted = one_part 46 (decimal c) first (schedule_text (d ∷ cs)) after (lacks_decimal 46 point_no_digit c small) lacks e in
         record {
           cut = c;
           small = small;
@@ -118,8 +88,8 @@ pub record IsLastCut (l m rest : List ℕ) : Type 0 where
   pub few : length l < 16
   pub joined : m ≡ l ++ cut ∷ []
 
-pub last_cut : (l m rest : List ℕ) → IsSchedule m → IsLeft l m rest → ((i : ℕ) → i < length rest → get_or rest i 0 ≢ 46) → IsLastCut l m rest
-last_cut l m rest ok left each = by left.others left.some left.joined left.text
+pub last_cut : (l m rest : List ℕ) → IsSchedule m → IsLeft l m rest → Lacks 46 rest → IsLastCut l m rest
+last_cut l m rest ok left lacks = by left.others left.some left.joined left.text
   where
     by : (others : List ℕ) → 0 < length others → m ≡ l ++ others → rest ≡ schedule_text others → IsLastCut l m rest
     by [] some joined e = absurd (omega (arith, some))
@@ -130,7 +100,7 @@ last_cut l m rest ok left each = by left.others left.some left.joined left.text
       few = omega (arith, ok.few, ap (λ (xs : List ℕ). length xs) joined, length-append l (c ∷ []));
       joined = joined;
     }
-    by (c ∷ d ∷ cs) some joined e = absurd (no_part rest (decimal c) (schedule_text (d ∷ cs)) (lacks_each rest each) e)
+    by (c ∷ d ∷ cs) some joined e = absurd (no_part 46 rest (decimal c) (schedule_text (d ∷ cs)) lacks e)
 
 -- A cut that was read is the cut that is told.
 pub same_cut : (text : List ℕ) (m n : ℕ) → m < 2 ^ 32 → n < 2 ^ 32 → text ≡ decimal m → text ≡ decimal n → m ≡ n
@@ -149,23 +119,23 @@ dash (c ∷ cs) text ok is told =
     absurd (no_dash (decimal c) (points cs) numeral.1 numeral.0 (sym is ∙ told))
 
 -- No schedule is told where the next cut, or the last, was refused.
-pub not_next : (l m rest first after : List ℕ) → IsSchedule m → IsLeft l m rest → rest ≡ first ++ (46 ∷ after) → ((i : ℕ) → i < length first → get_or first i 0 ≢ 46)
+pub not_next : (l m rest first after : List ℕ) → IsSchedule m → IsLeft l m rest → rest ≡ first ++ (46 ∷ after) → Lacks 46 first
     → ((n : ℕ) → n < 2 ^ 32 → first ≡ decimal n → length l < 16 → ⊥) → ⊥
-not_next l m rest first after ok left parts each refused =
-    let next = next_cut l m rest first after ok left parts each in
+not_next l m rest first after ok left parts lacks refused =
+    let next = next_cut l m rest first after ok left parts lacks in
     refused next.cut next.small next.first_is next.few
 
-pub not_last : (l m rest : List ℕ) → IsSchedule m → IsLeft l m rest → ((i : ℕ) → i < length rest → get_or rest i 0 ≢ 46)
+pub not_last : (l m rest : List ℕ) → IsSchedule m → IsLeft l m rest → Lacks 46 rest
     → ((n : ℕ) → n < 2 ^ 32 → rest ≡ decimal n → length l < 16 → ⊥) → ⊥
-not_last l m rest ok left each refused =
-    let last = last_cut l m rest ok left each in
+not_last l m rest ok left lacks refused =
+    let last = last_cut l m rest ok left lacks in
     refused last.cut last.small last.rest_is last.few
 
 -- After the next cut the others are left, and the text goes on behind it.
-pub left_next : (l m new rest first after : List ℕ) → IsSchedule m → IsLeft l m rest → rest ≡ first ++ (46 ∷ after) → ((i : ℕ) → i < length first → get_or first i 0 ≢ 46)
+pub left_next : (l m new rest first after : List ℕ) → IsSchedule m → IsLeft l m rest → rest ≡ first ++ (46 ∷ after) → Lacks 46 first
     → IsAdded l first new → IsLeft new m after
-left_next l m new rest first after ok left parts each added =
-    let next = next_cut l m rest first after ok left parts each in
+left_next l m new rest first after ok left parts lacks added =
+    let next = next_cut l m rest first after ok left parts lacks in
     let same : added.cut ≡ next.cut = same_cut first added.cut next.cut added.small next.small added.text_is next.first_is in
     let P : List ℕ → Type 0 = λ x. IsLeft x m after in
     subst P (sym (added.new_is ∙ ap (λ n. l ++ n ∷ []) same)) next.left
@@ -179,21 +149,8 @@ pub text_last : (l new text rest : List ℕ) → text ≡ behind l ++ rest → I
 text_last l new text rest is added =
     is ∙ ap (λ (z : List ℕ). behind l ++ z) added.text_is ∙ whole_text l added.cut ∙ ap schedule_text (sym added.new_is)
 
-pub all_read : (l m new rest : List ℕ) → IsSchedule m → IsLeft l m rest → ((i : ℕ) → i < length rest → get_or rest i 0 ≢ 46) → IsAdded l rest new → new ≡ m
-all_read l m new rest ok left each added =
-    let last = last_cut l m rest ok left each in
+pub all_read : (l m new rest : List ℕ) → IsSchedule m → IsLeft l m rest → Lacks 46 rest → IsAdded l rest new → new ≡ m
+all_read l m new rest ok left lacks added =
+    let last = last_cut l m rest ok left lacks in
     let same : added.cut ≡ last.cut = same_cut rest added.cut last.cut added.small last.small added.text_is last.rest_is in
     added.new_is ∙ ap (λ n. l ++ n ∷ []) same ∙ sym last.joined
-
--- The parts of a text at its first point.
-pub record AreParts (rest first after : List ℕ) : Type 0 where
-  pub parts : rest ≡ first ++ (46 ∷ after)
-  pub each : (i : ℕ) → i < length first → get_or first i 0 ≢ 46
-
-pub parted : (rest : List ℕ) (r : Option (Bor (List ℕ) × Bor (List ℕ))) (first after : Bor (List ℕ)) → IsSplitOnceResult 46 rest r → r ≡ Some (first, after) → AreParts rest first.now after.now
-parted rest r first after split is =
-    let both = rw is at (split_parts 46 rest r split (omega arith)) in
-    record { parts = both.0; each = both.1 }
-
-pub one_piece : (rest : List ℕ) (r : Option (Bor (List ℕ) × Bor (List ℕ))) → IsSplitOnceResult 46 rest r → r ≡ None → (i : ℕ) → i < length rest → get_or rest i 0 ≢ 46
-one_piece rest r split is = rw is at (split_parts 46 rest r split (omega arith))

@@ -1,0 +1,59 @@
+-- How a text is parted at a separator.
+use Rattle.std.specs.Prelude.{◌≡◌, ◌≢◌, ℕ, suc, ◌<◌, ◌≤◌, ◌^◌, List, [], ◌∷◌, ◌++◌, length, get_or, Option, Some, None, decimal, refl, ⊤}
+use Rattle.std.specs.Borrow.{Bor}
+use Rattle.std.specs.Str.Parse.{AllDigits}
+use Rattle.std.proofs.Common.{arith, ap, ◌∙◌}
+use Rattle.std.proofs.lemmas.Fmt.{decimal_is_IsNumeral}
+use Rattle.std.proofs.lemmas.Str.Parse.{digit_from_value}
+use Rattle.std.proofs.lemmas.Str.Pattern.{IsSplitOnceResult, split_parts}
+
+module _ (mark : ℕ) where
+  -- No separator is in these bytes.
+  abbrev pub Lacks : List ℕ → Type 0
+  Lacks [] = ⊤
+  Lacks (c ∷ cs) = (c ≢ mark) × Lacks cs
+
+  pub lacks_each : (xs : List ℕ) → ((i : ℕ) → i < length xs → get_or xs i 0 ≢ mark) → Lacks xs
+  lacks_each [] each = tt
+  lacks_each (x ∷ xs) each = (each 0 (omega arith), lacks_each xs (λ i lt. each (suc i) (omega (arith, lt))))
+
+  -- The first separator parts a text in one way.
+  pub one_part : (xs us ys vs : List ℕ) → Lacks xs → Lacks us → xs ++ mark ∷ ys ≡ us ++ mark ∷ vs → (xs ≡ us) × (ys ≡ vs)
+  one_part [] [] ys vs a b e = (refl, cc)
+  one_part [] (u ∷ us) ys vs a b e = absurd (b.0 cc)
+  one_part (x ∷ xs) [] ys vs a b e = absurd (a.0 cc)
+  one_part (x ∷ xs) (u ∷ us) ys vs a b e =
+      let heads : x ≡ u = cc in
+      let rest = one_part xs us ys vs a.1 b.1 cc in
+      (ap (λ y. y ∷ xs) heads ∙ ap (λ (z : List ℕ). u ∷ z) rest.0, rest.1)
+
+  pub no_part : (xs us vs : List ℕ) → Lacks xs → xs ≡ us ++ mark ∷ vs → ⊥
+  no_part [] [] vs a e = absurd cc
+  no_part [] (u ∷ us) vs a e = absurd cc
+  no_part (x ∷ xs) [] vs a e = a.0 cc
+  no_part (x ∷ xs) (u ∷ us) vs a e = no_part xs us vs a.1 cc
+
+  -- The parts of a text at its first separator.
+  pub record AreParts (rest first after : List ℕ) : Type 0 where
+    pub parts : rest ≡ first ++ (mark ∷ after)
+    pub lacks : Lacks first
+
+  module _ (byte : mark < 128) (rest : List ℕ) (r : Option (Bor (List ℕ) × Bor (List ℕ))) (split : IsSplitOnceResult mark rest r) where
+    pub parted : (first after : Bor (List ℕ)) → r ≡ Some (first, after) → AreParts rest first.now after.now
+    parted first after is =
+        let both = rw is at (split_parts mark rest r split byte) in
+        record { parts = both.0; lacks = lacks_each first.now both.1 }
+
+    pub one_piece : r ≡ None → Lacks rest
+    one_piece is = lacks_each rest (rw is at (split_parts mark rest r split byte))
+
+  -- A number holds no separator that is no digit.
+  module _ (no_digit : (c : ℕ) → c ≡ mark → 48 ≤ c → c ≤ 57 → ⊥) where
+    lacks_digits : (ds : List ℕ) → AllDigits 10 ds → Lacks ds
+    lacks_digits [] digits = tt
+    lacks_digits (d ∷ ds) digits =
+        let digit = digit_from_value d digits.0 in
+        (λ e. no_digit d e (omega (arith, digit)) (omega (arith, digit)), lacks_digits ds digits.1)
+
+    pub lacks_decimal : (n : ℕ) → n < 2 ^ 32 → Lacks (decimal n)
+    lacks_decimal n small = lacks_digits (decimal n) (decimal_is_IsNumeral n (omega (arith, small))).0.1
