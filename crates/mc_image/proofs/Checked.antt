@@ -13,7 +13,7 @@ pub fault_read : (b : List ℕ) (e : ImageError) → first_fault b ≡ Some e �
 unfolding image_fault
 fault_read b e h = rw h refl
 
-good_false : (v : Image) → (IsGood v → ⊥) → is_good v ≡ false
+pub good_false : (v : Image) → (IsGood v → ⊥) → is_good v ≡ false
 unfolding is_good
 good_false v h =
     elim (is_good v) as (λ t. is_good v ≡ t → t ≡ false) [
@@ -21,7 +21,7 @@ good_false v h =
       | false ↦ λ e. refl
     ] refl
 
-from_parts : (b : List ℕ) (t : Bool) → first_fault b ≡ None → is_good (image_in b) ≡ t → image_fault b ≡ fault_if (not t) WrongDigest
+pub from_parts : (b : List ℕ) (t : Bool) → first_fault b ≡ None → is_good (image_in b) ≡ t → image_fault b ≡ fault_if (not t) WrongDigest
 unfolding image_fault
 from_parts b t none good = rw (none, good) refl
 

@@ -4,7 +4,7 @@ use Rattle.std.proofs.lemmas.List.{append-nil}
 use Rattle.mc_image.specs.Bytes.{u32_at}
 use Rattle.mc_image.specs.Image.{Image, IsImage, IsView, header_text, version_in}
 use Rattle.mc_image.proofs.ImageLaws.{version_again}
-use Rattle.mc_image.proofs.Header.{header_len, header_reads}
+use Rattle.mc_image.proofs.HeaderLaws.{header_len, header_reads}
 use Rattle.mc_image.specs.declared.version.Version.{Version}
 
 pub view_long : (v : Image) (h p q a d : List ℕ) → IsView v h p q a d → 32 ≤ length h

@@ -1,8 +1,13 @@
 //! Laws of the definitions, each the contract of a function that does nothing.
-ghost use Rattle.std.specs.Prelude.{◌≡◌, ℕ, List, None, Some, true, length, take, ◌↔◌};
+ghost use Rattle.std.specs.Prelude.{◌≡◌, ℕ, List, None, Some, true, length, take, ◌↔◌, Result};
+ghost use Rattle.std.specs.List.{concat};
 ghost use Rattle.mc_image.specs.Bytes.{IsBytes};
 ghost use Rattle.mc_image.specs.Image.{Image, Begins, image_in, image_text};
 ghost use Rattle.mc_image.specs.Faults.{first_fault};
+ghost use Rattle.mc_image.specs.Judging.{Judges, Finishes};
+ghost use Rattle.mc_image.specs.declared.error.ImageError.{ImageError};
+ghost use Rattle.mc_image.specs.declared.judge.Judge.{Judge};
+ghost use Rattle.mc_image.specs.declared.judge.Judged.{Judged};
 ghost use Rattle.mc_image.specs.Valid.{IsValid, Identity, identity, is_valid, id_of, image_fault};
 
 /// One reading: bytes have no fault exactly where an image is encoded at their start, and that image and that prefix
@@ -27,4 +32,11 @@ pub fn same_front()
         → take (length (image_text v)) c ≡ take (length (image_text v)) b → Begins c v }
     ensures id { (b c : List ℕ) (i : Identity) → IsBytes b → id_of b ≡ Some i
         → take i.size c ≡ take i.size b → id_of c ≡ Some i }
+{}
+
+/// Any cut: judges that were fed one list of bytes, however it was cut into pieces, answer the same.
+pub fn any_cut()
+    ensures { (pieces others : List (List ℕ)) → concat pieces ≡ concat others → (first second : Judge)
+        → Judges first (concat pieces) → Judges second (concat others)
+        → (r s : Result Judged ImageError) → Finishes first r → Finishes second s → r ≡ s }
 {}

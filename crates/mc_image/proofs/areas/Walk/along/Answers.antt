@@ -1,0 +1,22 @@
+use Rattle.std.proofs.Common.{rules, ◌≡◌, ◌+◌, ◌++◌, arith, length, length-append, ap, sym, ◌∙◌}
+use Rattle.mc_image.specs.Walking.{Walks}
+use Rattle.mc_image.proofs.WalkSteps.{gone_on, gone_less, gone_all}
+use Rattle.mc_image.proofs.areas.Walk.along.Goals as goal
+
+pub step-requires-clause-fits : goal.step-requires-clause-fits
+step-requires-clause-fits c =
+    let r = c.requires in
+    let s = c.loop-rest.invariant r.0 r.1 in
+    let e = sym (length-append s.0 c.loop-rest.rest.now) ∙ ap length s.1 ∙ length-append r.0 c.args.piece.now in
+    let fits = r.2 in
+    (s.0, s.2, omega (arith, e, fits))
+
+pub loop-rest-preserved : goal.loop-rest-preserved
+loop-rest-preserved c = λ bytes h.
+    let s = c.loop-rest.invariant bytes h in
+    gone_on _ _ c.step.ensures (bytes ++ c.args.piece.now) s.0 s.1 s.2
+
+pub returns : goal.returns
+returns c = λ bytes h.
+    let s = c.loop-rest.invariant bytes h in
+    gone_all (Walks c.loop-rest.walk) (bytes ++ c.args.piece.now) c.loop-rest.rest.now s.0 (search rules) s.1 s.2

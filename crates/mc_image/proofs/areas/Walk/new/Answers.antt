@@ -1,0 +1,5 @@
+use Rattle.mc_image.proofs.WalkSteps.{walk_new}
+use Rattle.mc_image.proofs.areas.Walk.new.Goals as goal
+
+pub returns : goal.returns
+returns c = walk_new c.new.result c.new.ensures

@@ -1,0 +1,29 @@
+use Rattle.std.proofs.Common.{◌≡◌, ◌≤◌, ◌+◌, arith, sym, ap, ◌∙◌, length, None, Some, subst, List, ℕ}
+use Rattle.mc_image.specs.Faults.{header_fault}
+use Rattle.mc_image.specs.Judging.{HasHeader}
+use Rattle.mc_image.proofs.FrontLaws.{header_ends, header_error}
+use Rattle.mc_image.proofs.judge.Judge.after_fields.Goals as goal
+
+pub returns-in-Err : goal.returns-in-Err
+returns-in-Err c = λ bytes are holds is len. record {
+  bytes = are;
+  stage = λ more both. header_error bytes more _ (omega (arith, len)) (ap header_fault (sym (c.as_slice.ensures.bytes ∙ is)) ∙ c.in-Err.ensures);
+}
+
+pub returns-then-left-gt0 : goal.returns-then-left-gt0
+returns-then-left-gt0 c = λ bytes are holds is len.
+    let r = c.in-Ok.ensures in
+    let P : List ℕ → Type 0 = λ x. HasHeader c.in-Ok.header x in
+    let has : HasHeader c.in-Ok.header bytes = subst P (c.as_slice.ensures.bytes ∙ is) (record { none = r.0; long = r.1; size = r.2; fields = r.3 }) in
+    let e = (header_ends c.in-Ok.header bytes has.fields).0 in
+    let s = r.2 in
+    record { bytes = are; stage = (holds, has, omega (arith, e, s, len), omega arith) }
+
+pub returns-else-left-gt0 : goal.returns-else-left-gt0
+returns-else-left-gt0 c = λ bytes are holds is len.
+    let r = c.in-Ok.ensures in
+    let P : List ℕ → Type 0 = λ x. HasHeader c.in-Ok.header x in
+    let has : HasHeader c.in-Ok.header bytes = subst P (c.as_slice.ensures.bytes ∙ is) (record { none = r.0; long = r.1; size = r.2; fields = r.3 }) in
+    let e = (header_ends c.in-Ok.header bytes has.fields).0 in
+    let s = r.2 in
+    c.after_payload.ensures bytes are holds has (omega (arith, e, s, len))

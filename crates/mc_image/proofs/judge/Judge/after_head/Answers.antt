@@ -1,0 +1,32 @@
+use Rattle.std.proofs.Common.{◌≡◌, ◌++◌, arith, refl, sym, ap, ◌∙◌, length, subst, append_assoc, List, ℕ}
+use Rattle.std.proofs.lemmas.List.{drop_all}
+use Rattle.mc_image.specs.Bytes.{u16_at}
+use Rattle.mc_image.specs.Headers.{head_fault}
+use Rattle.mc_image.specs.Judging.{verdict, IsPlain}
+use Rattle.mc_image.specs.Walking.{Walks}
+use Rattle.mc_image.proofs.FrontLaws.{plain_error}
+use Rattle.mc_image.proofs.PlainLaws.{head_first}
+use Rattle.mc_image.proofs.VerdictLaws.{head_fault_more}
+use Rattle.mc_image.proofs.judge.Judge.after_head.Goals as goal
+
+pub returns-in-Err : goal.returns-in-Err
+returns-in-Err c = λ body rest are is held len. record {
+  bytes = are;
+  stage = λ more both.
+      let wrong = ap head_fault (sym (c.as_slice.ensures.bytes ∙ held)) ∙ c.in-Err.ensures in
+      ap verdict (append_assoc body rest more) ∙ plain_error c.args.sealed body is (rest ++ more) _ (head_first (rest ++ more) _ (head_fault_more rest more (omega (arith, len)) ∙ wrong));
+}
+
+pub returns-in-Ok : goal.returns-in-Ok
+returns-in-Ok c = λ body rest are is held len.
+    let r = c.in-Ok.ensures in
+    let same = c.as_slice.ensures.bytes ∙ held in
+    let four = r.2 in
+    let P : List ℕ → Type 0 = λ x. Walks c.new.result x in
+    c.go_on.ensures body rest are is (record {
+      none = ap head_fault (sym same) ∙ r.0;
+      head = omega (arith, len);
+      total = r.3 ∙ ap (u16_at 2) same;
+      left = omega (arith, len, four);
+      walk = subst P (sym (drop_all 4 rest (omega (arith, len)))) c.new.ensures;
+    })

@@ -1,0 +1,54 @@
+use Rattle.std.proofs.Common.{◌≡◌, ◌<◌, ◌+◌, arith, sym, ap, ◌∙◌, ◌++◌, [], length, length-append, subst, List, ℕ}
+use Rattle.std.proofs.lemmas.List.{append-nil}
+use Rattle.mc_image.specs.Bytes.{IsBytes}
+use Rattle.mc_image.specs.Image.{protected_end}
+use Rattle.mc_image.specs.Judging.{verdict}
+use Rattle.mc_image.specs.declared.judge.Stage.TheVariants as stages
+use Rattle.mc_image.proofs.FrontLaws.{fields_short, body_short, header_ends, has_header_more, plain_error}
+use Rattle.mc_image.proofs.JudgeSteps.{at_stage}
+use Rattle.mc_image.proofs.VerdictLaws.{no_magic, no_room}
+use Rattle.mc_image.proofs.judge.Judge.finish.Goals as goal
+
+pub returns-in-Fields : goal.returns-in-Fields
+returns-in-Fields c = λ bytes h. sym (fields_short bytes (at_stage _ c.in-Fields.is h).1)
+
+pub returns-in-Payload : goal.returns-in-Payload
+returns-in-Payload c = λ bytes h.
+    let s = at_stage _ c.in-Payload.is h in
+    let e = header_ends _ bytes s.1.fields in
+    let e0 = e.0 in
+    let e1 = e.1 in
+    let left = s.2 in
+    let more = s.3 in
+    sym (body_short bytes s.1.none (omega (arith, e0, e1, left, more)))
+
+pub returns-in-Protected : goal.returns-in-Protected
+returns-in-Protected c = λ bytes h.
+    let s = at_stage _ c.in-Protected.is h in
+    let p = s.2 in
+    let has = has_header_more _ p.front p.rest p.header in
+    let e = header_ends _ (p.front ++ p.rest) has.fields in
+    let f = header_ends _ p.front p.header.fields in
+    let e1 = e.1 in
+    let f0 = f.0 in
+    let len = p.len in
+    let left = p.left in
+    let more = s.1 in
+    sym (ap verdict p.split ∙ body_short (p.front ++ p.rest) has.none (omega (arith, e1, f0, len, left, more, length-append p.front p.rest)))
+
+pub returns-in-PlainHead : goal.returns-in-PlainHead
+returns-in-PlainHead c = λ bytes h.
+    let b = at_stage _ c.in-PlainHead.is h in
+    sym (ap verdict b.split ∙ plain_error _ b.body b.sealed b.rest _ (no_magic b.rest b.stands.0))
+
+pub returns-in-Plain : goal.returns-in-Plain
+returns-in-Plain c = λ bytes h.
+    let s = at_stage _ c.in-Plain.is h in
+    let b = s.1 in
+    sym (ap verdict b.split ∙ plain_error _ b.body b.sealed b.rest _ (no_room _ _ _ b.rest b.stands s.0))
+
+pub returns-in-Over : goal.returns-in-Over
+returns-in-Over c = λ bytes h.
+    let same = append-nil bytes in
+    let P : List ℕ → Type 0 = λ x. IsBytes x in
+    sym (ap verdict (sym same) ∙ at_stage _ c.in-Over.is h [] (subst P (sym same) h.bytes))

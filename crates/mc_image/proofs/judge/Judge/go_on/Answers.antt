@@ -1,0 +1,22 @@
+use Rattle.std.proofs.Common.{◌≡◌, ◌++◌, arith, refl, sym, ap, ◌∙◌, length, subst, append_assoc, List, ℕ}
+use Rattle.mc_image.specs.Bytes.{IsBytes}
+use Rattle.mc_image.specs.Judging.{verdict, IsPlain}
+use Rattle.mc_image.proofs.judge.Judge.go_on.Goals as goal
+
+pub returns-then-left-gt0 : goal.returns-then-left-gt0
+returns-then-left-gt0 c = λ body area are is plain. record {
+  bytes = are;
+  stage = (omega arith, record { body = body; rest = area; split = refl; sealed = is; stands = plain });
+}
+
+pub returns-else-left-gt0 : goal.returns-else-left-gt0
+returns-else-left-gt0 c = λ body area are is plain.
+    let z : c.args.left ≡ 0 = omega arith in
+    let P : ℕ → Type 0 = λ n. IsPlain c.args.total n c.args.walk area in
+    let Q : List ℕ → Type 0 = λ x. IsBytes x in
+    record {
+      bytes = are;
+      stage = λ more both.
+          let same = append_assoc body area more in
+          ap verdict same ∙ c.answer_of.ensures body area is (subst P z plain) more (subst Q same both);
+    }
