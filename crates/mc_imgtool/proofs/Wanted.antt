@@ -36,12 +36,6 @@ pub verified_short : (xs : List ℕ) → length xs ≤ 2 ^ 24 → verified xs �
 unfolding verified
 verified_short xs h = let t : nat_lt (2 ^ 24) (length xs) ≡ false = le-ltb _ _ h in rw t refl
 
-pub verified_good : (xs text : List ℕ) (v : Image) → length xs ≤ 2 ^ 24 → image_fault xs ≡ None → v ≡ image_in xs → text ≡ good_line v → verified xs ≡ Ok text
-verified_good xs text v h none is line = verified_short xs h ∙ ap (line_or_fault (image_in xs)) none ∙ ap (λ (w : Image). Ok (good_line w)) (sym is) ∙ ap (λ (l : List ℕ). Ok l) (sym line)
-
-pub verified_bad : (xs : List ℕ) (e : ImageError) → length xs ≤ 2 ^ 24 → image_fault xs ≡ Some e → verified xs ≡ Err (image_error e)
-verified_bad xs e h some = verified_short xs h ∙ ap (line_or_fault (image_in xs)) some
-
 -- ---- dumpinfo
 
 report_no_write : (xs : List ℕ) (o : Option ImageError) → report_or_fault xs o ≡ Err Write → ⊥

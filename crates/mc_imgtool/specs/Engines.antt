@@ -1,7 +1,9 @@
 -- What an engine answers: the text that it is to write for its input, or a refusal. Of a reader and a writer the bytes
 -- that are left and that are held are known, or nothing is.
-use Rattle.std.specs.Prelude.{◌≡◌, ℕ, ◌<◌, List, length, take, Option, Result, Ok, Err, IfSome, ⊤, ◌⊎◌}
+use Rattle.std.specs.Prelude.{◌≡◌, ℕ, ◌<◌, ◌≤◌, List, length, take, Option, Result, Ok, Err, IfSome, ⊤, ◌⊎◌}
 use Rattle.std.specs.Io.KnownBytes.{Appends, Keeps}
+use Rattle.mc_image.specs.Judging.{verdict}
+use Rattle.mc_image.specs.declared.judge.Judged.{Judged}
 use Rattle.mc_imgtool.specs.declared.error.ToolError.{ToolError}
 use Rattle.mc_imgtool.specs.declared.error.ToolError.TheVariants.{Image, NotZeros, SlotTooSmall, NeedsSlotSize, InputTooLong, Read, Write, Memory}
 
@@ -15,6 +17,18 @@ RefusesReading known limit NotZeros = ⊥
 RefusesReading known limit SlotTooSmall = ⊥
 RefusesReading known limit NeedsSlotSize = ⊥
 RefusesReading known limit Write = ⊥
+
+-- when a judge of an input of at most `limit` bytes gives each answer: the known input, the limit
+abbrev pub Judges : Option (List ℕ) → ℕ → Result Judged ToolError → Type 0
+Judges known limit (Ok j) = IfSome known (λ xs. (length xs ≤ limit) × (verdict xs ≡ Ok j))
+Judges known limit (Err (Image e)) = IfSome known (λ xs. (length xs ≤ limit) × (verdict xs ≡ Err e))
+Judges known limit (Err InputTooLong) = IfSome known (λ xs. limit < length xs)
+Judges known limit (Err Read) = ⊤
+Judges known limit (Err Memory) = ⊥
+Judges known limit (Err NotZeros) = ⊥
+Judges known limit (Err SlotTooSmall) = ⊥
+Judges known limit (Err NeedsSlotSize) = ⊥
+Judges known limit (Err Write) = ⊥
 
 -- some front of the text is out
 abbrev pub AppendsFront : Option (List ℕ) → Option (List ℕ) → List ℕ → Type 0

@@ -11,12 +11,17 @@ use Rattle.mc_image.specs.declared.entries.Area.TheVariants.{Protected, Plain}
 use Rattle.mc_image.specs.Valid.{is_good, image_fault}
 use Rattle.mc_image.specs.VersionText.{version_line}
 use Rattle.mc_image.specs.declared.error.ImageError.{ImageError}
+use Rattle.mc_image.specs.declared.judge.Judged.{Judged}
 use Rattle.mc_imgtool.specs.declared.error.ToolError.{ToolError}
 use Rattle.mc_imgtool.specs.declared.error.ToolError.TheVariants.{Image as image_error, InputTooLong}
 
 -- the line for a valid image: version, size, digest in hexadecimal
 unfoldable pub good_line : Image → List ℕ
 good_line v = codes "good " ++ (version_line v.version ++ (codes " " ++ (decimal (length (image_text v)) ++ (codes " " ++ (encode_lower (digest_of v) ++ 10 ∷ [])))))
+
+-- the same of what is told of it
+unfoldable pub good_text : Judged → List ℕ
+good_text j = codes "good " ++ (version_line j.version ++ (codes " " ++ (decimal j.size ++ (codes " " ++ (encode_lower j.digest ++ 10 ∷ [])))))
 
 -- the line, or the first fault
 abbrev pub line_or_fault : Image → Option ImageError → Result (List ℕ) ToolError

@@ -108,14 +108,14 @@ fn verifies_with_or_without_bytes_behind(rt: HostRuntime) -> Result<(), Fail> {
     let mut bytes = image(alloc)?;
     for _ in 0..2u8 {
         let mut out = Vec::new(alloc);
-        verify(alloc, &mut bytes.as_slice(), &mut out)?;
+        verify(&mut bytes.as_slice(), &mut out)?;
         assert_eq!(rt; out.as_slice(), GOOD_LINE.as_bytes());
         bytes.push(0)?;
     }
     bytes.truncate(79);
     let mut out = Vec::new(alloc);
     assert_eq!(rt;
-        verify(alloc, &mut bytes.as_slice(), &mut out),
+        verify(&mut bytes.as_slice(), &mut out),
         Err(ToolError::Image(ImageError::BadTlvLength))
     );
     assert_eq!(rt; out.len(), 0);
@@ -189,7 +189,7 @@ fn a_slot_is_filled_and_confirmed(rt: HostRuntime) -> Result<(), Fail> {
         wanted.extend_from_slice(magic.as_slice())?;
         assert_eq!(rt; out.as_slice(), wanted.as_slice());
         let mut line = Vec::new(alloc);
-        verify(alloc, &mut out.as_slice(), &mut line)?;
+        verify(&mut out.as_slice(), &mut line)?;
         assert_eq!(rt; line.as_slice(), GOOD_LINE.as_bytes());
     }
     Ok(())
@@ -342,7 +342,7 @@ fn a_failed_read_writes_nothing(rt: HostRuntime) -> Result<(), Fail> {
             left: image.as_slice(),
             calls,
         };
-        let verified = verify(alloc, &mut input, &mut out);
+        let verified = verify(&mut input, &mut out);
         assert_eq!(rt; verified, Err(ToolError::Read), "{calls}");
         let mut input = FailingReader {
             left: image.as_slice(),
@@ -357,8 +357,51 @@ fn a_failed_read_writes_nothing(rt: HostRuntime) -> Result<(), Fail> {
         left: image.as_slice(),
         calls: 81,
     };
-    verify(alloc, &mut input, &mut out)?;
+    verify(&mut input, &mut out)?;
     assert_eq!(rt; out.as_slice(), GOOD_LINE.as_bytes());
+    Ok(())
+}
+
+/// A reader that makes so many zero bytes.
+#[derive(Drop)]
+struct Zeros {
+    left: usize,
+}
+
+impl Read for Zeros {
+    fn read(&mut self, buffer: &mut [u8]) -> io::Result<usize> {
+        let count = self.left.min(buffer.len());
+        buffer[..count].fill(0);
+        self.left -= count;
+        Ok(count)
+    }
+}
+
+#[test]
+fn verify_reads_on_after_a_fault(rt: HostRuntime) -> Result<(), Fail> {
+    let alloc = rt.alloc();
+    let mut out = Vec::new(alloc);
+    for (left, wanted) in [
+        (1 << 24, ToolError::Image(ImageError::BadMagic)),
+        ((1 << 24) + 1, ToolError::InputTooLong),
+    ] {
+        let mut input = Zeros { left };
+        assert_eq!(rt; verify(&mut input, &mut out), Err(wanted), "{left}");
+        assert_eq!(rt; input.left, 0);
+    }
+    let mut bytes = hex::decode(alloc, COUNTED_IMAGE)?;
+    if let Some(total) = bytes.get_mut(42) {
+        *total = 13;
+    }
+    for (length, wanted) in [
+        (92, ImageError::BadProtected),
+        (51, ImageError::TruncatedBody),
+    ] {
+        bytes.truncate(length);
+        let verified = verify(&mut bytes.as_slice(), &mut out);
+        assert_eq!(rt; verified, Err(ToolError::Image(wanted)), "{length}");
+    }
+    assert_eq!(rt; out.len(), 0);
     Ok(())
 }
 
@@ -374,7 +417,7 @@ fn a_failed_write_leaves_a_front(rt: HostRuntime) -> Result<(), Fail> {
                 calls,
                 takes_nothing,
             };
-            let verified = verify(alloc, &mut image.as_slice(), &mut out);
+            let verified = verify(&mut image.as_slice(), &mut out);
             let wanted = if calls < line.len() {
                 Err(ToolError::Write)
             } else {

@@ -1,65 +1,104 @@
 //! `verify`: is an input a valid image?
-ghost use Rattle.std.specs.Prelude.{◌≡◌, ℕ, List, ◌+◌, ◌≤◌, ◌^◌, length, IfOk, IfErr, OnOk, string_bytes};
-ghost use Rattle.std.specs.Io.KnownBytes.{Consumes, IsAtEnd};
-ghost use Rattle.mc_imgtool.specs.Engines.{Answers, Gives, RefusesAnImage};
-ghost use Rattle.mc_imgtool.specs.Lines.{good_line, verified};
+ghost use Rattle.std.specs.Prelude.{◌≡◌, ℕ, List, ◌+◌, ◌≤◌, ◌^◌, length, Some, IfErr, OnOk, ◌≢◌};
+ghost use Rattle.std.specs.Io.KnownBytes.{Appends, Consumes, IsAtEnd};
+ghost use Rattle.mc_imgtool.specs.Engines.{Answers, AppendsFront, Judges, RefusesAnImage};
+ghost use Rattle.mc_imgtool.specs.Lines.{good_text, verified};
 
 use crate::ToolError;
-use crate::input::{GREATEST_INPUT, read_bounded};
+use crate::input::GREATEST_INPUT;
 use crate::output::write_text;
-use mc_image::ImageView;
-use std::alloc::{AllocError, Global};
+use arrayvec::ArrayString;
+use mc_image::{Judge, Judged};
+use std::fmt::Write as _;
 use std::io::{Read, Write};
+use std::{fmt, str};
+
+/// The most bytes of a line. The longest has 116.
+const MOST_BYTES: usize = 128;
 
 /// The line for a valid image.
-#[tactic(auto, unfolding(crate::specs::Lines::good_line))]
-fn good_line(alloc: Global, image: &ImageView<'_>) -> Result<String, AllocError>
-    ensures { IfOk result (λ text. string_bytes text ≡ good_line image.now) }
-{
-    let version = image.version();
-    let size = image.size();
-    let digits = hex::encode(alloc, image.digest())?;
-    format!(in alloc; "good {version} {size} {digits}\n")
-}
+#[derive(Drop)]
+struct GoodLine(Judged);
 
-/// The line for an input that was read whole.
-#[tactic(auto, using(crate::proofs::Wanted::verified_good, crate::proofs::Wanted::verified_bad))]
-fn line_for(alloc: Global, input: &[u8]) -> Result<String, ToolError>
-    requires { length input.now ≤ 2 ^ 24 }
-    ensures line { Gives string_bytes result (verified input.now) }
-    ensures never { IfErr result RefusesAnImage }
-{
-    let image = match ImageView::read_valid(input) {
-        Ok(image) => image,
-        Err(error) => return Err(ToolError::Image(error)),
-    };
-    match good_line(alloc, &image) {
-        Ok(line) => Ok(line),
-        Err(AllocError) => Err(ToolError::Memory),
+impl fmt::Display for GoodLine {
+    ghost output = { λ line. Some (good_text line.0) };
+
+    #[tactic(auto, unfolding(crate::specs::Lines::good_text))]
+    fn fmt<W: fmt::Write>(&self, f: &mut fmt::Formatter<W>) -> fmt::Result {
+        let mut digits = [0; 64];
+        hex::encode_to_slice(&self.0.digest, &mut digits).map_err(|_| fmt::Error)?;
+        let digest = str::from_utf8(&digits).map_err(|_| fmt::Error)?;
+        let version = self.0.version;
+        let size = self.0.size;
+        write!(f, "good {version} {size} {digest}\n")
     }
 }
 
-/// Reads an image, which other bytes may follow, and writes one line: `good`, its version, its size in bytes and its
-/// digest (imgtool, `verify`).
+/// Writes the line for a valid image.
 ///
 /// # Errors
 ///
-/// `Read` where a read fails; `InputTooLong` above 2^24 bytes; `Image` with the first fault, a wrong digest last;
-/// `Memory`. Nothing is written then. `Write` where a write fails or takes no bytes: a prefix of the line is out.
-pub fn verify<R: Read, W: Write>(
-    alloc: Global,
-    input: &mut R,
-    output: &mut W,
-) -> Result<(), ToolError>
-    ensures answer { Answers verified (R.remaining input.old) (W.contents output.old)
-        (W.contents output.new) result }
-    // Whatever is known of the reader.
-    ensures never { IfErr result RefusesAnImage }
+/// `Write` where a write fails or takes no bytes, or the line is too long.
+fn write_good<W: Write>(output: &mut W, judged: Judged) -> Result<(), ToolError>
+    ensures whole { OnOk result (Appends (W.contents output.old) (W.contents output.new) (good_text judged)) }
+    ensures front { IfErr result (λ e. (e ≡ ToolError.Write)
+        × AppendsFront (W.contents output.old) (W.contents output.new) (good_text judged)) }
+{
+    let text = GoodLine(judged);
+    let mut line = ArrayString::<MOST_BYTES>::new();
+    if write!(line, "{text}").is_err() {
+        return Err(ToolError::Write);
+    }
+    write_text(output, line.as_str().as_bytes())
+}
+
+/// Judges the whole input, if it is not too long. It takes at most one byte more than the longest.
+///
+/// # Errors
+///
+/// `InputTooLong` for a longer input, `Read` where a read fails, both before what is wrong with the image.
+fn judge_input<R: Read>(input: &mut R) -> Result<Judged, ToolError>
+    ensures judged { Judges (R.remaining input.old) (2 ^ 24) result }
     ensures end { OnOk result (IsAtEnd (R.remaining input.new)) }
     ensures taken { (bs : List ℕ) × Consumes (R.remaining input.old) (R.remaining input.new) bs
         × (length bs ≤ 2 ^ 24 + 1) }
 {
-    let bytes = read_bounded(alloc, input, GREATEST_INPUT)?;
-    let line = line_for(alloc, bytes.as_slice())?;
-    write_text(output, line.as_bytes())
+    let most = GREATEST_INPUT as usize + 1;
+    let mut judge = Judge::new();
+    let mut taken = 0;
+    let mut buffer = [0u8; 4096];
+    while taken < most {
+        let room = (most - taken).min(buffer.len());
+        let Ok(count) = input.read(&mut buffer[..room]) else {
+            return Err(ToolError::Read);
+        };
+        if count == 0 {
+            return judge.finish().map_err(ToolError::Image);
+        }
+        judge.feed(&buffer[..count]);
+        taken += count;
+    }
+    Err(ToolError::InputTooLong)
+}
+
+/// Reads an image, which other bytes may follow, and writes one line: `good`, its version, its size in bytes and its
+/// digest (imgtool, `verify`). It takes no memory, and reads all of the input.
+///
+/// # Errors
+///
+/// `Read` where a read fails; `InputTooLong` above 2^24 bytes; `Image` with the first fault, a wrong digest last.
+/// Nothing is written then. `Write` where a write fails or takes no bytes: a prefix of the line is out.
+pub fn verify<R: Read, W: Write>(input: &mut R, output: &mut W) -> Result<(), ToolError>
+    ensures answer { Answers verified (R.remaining input.old) (W.contents output.old)
+        (W.contents output.new) result }
+    // Whatever is known of the reader.
+    ensures never { IfErr result RefusesAnImage }
+    // No allocation can fail.
+    ensures memory { IfErr result (λ e. e ≢ ToolError.Memory) }
+    ensures end { OnOk result (IsAtEnd (R.remaining input.new)) }
+    ensures taken { (bs : List ℕ) × Consumes (R.remaining input.old) (R.remaining input.new) bs
+        × (length bs ≤ 2 ^ 24 + 1) }
+{
+    let judged = judge_input(input)?;
+    write_good(output, judged)
 }

@@ -73,7 +73,7 @@ fn run_command<F: Files, R: Read, O: Write>(
 ) -> Result<(), Refusal> {
     match matches.subcommand() {
         Some(("create", arguments)) => commands::create::run(files, alloc, arguments),
-        Some(("verify", arguments)) => commands::verify::run(files, alloc, arguments, input, out),
+        Some(("verify", arguments)) => commands::verify::run(files, arguments, input, out),
         Some(("dumpinfo", arguments)) => {
             commands::dumpinfo::run(files, alloc, arguments, input, out)
         }

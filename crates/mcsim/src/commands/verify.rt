@@ -2,7 +2,6 @@
 use super::infile::open_infile;
 use crate::refusal::Refusal;
 use clap::ArgMatches;
-use std::alloc::Global;
 use std::io::{Read, Write};
 use std::rt::Files;
 
@@ -13,14 +12,13 @@ use std::rt::Files;
 /// `Open` where INFILE cannot be opened, and what the image tool refuses.
 pub fn run<F: Files, R: Read, O: Write>(
     files: &F,
-    alloc: Global,
     arguments: &ArgMatches<'_>,
     input: &mut R,
     out: &mut O,
 ) -> Result<(), Refusal> {
     match open_infile(files, arguments)? {
-        Some(mut file) => mc_imgtool::verify(alloc, &mut file, out)?,
-        None => mc_imgtool::verify(alloc, input, out)?,
+        Some(mut file) => mc_imgtool::verify(&mut file, out)?,
+        None => mc_imgtool::verify(input, out)?,
     }
     Ok(())
 }

@@ -1,0 +1,75 @@
+-- What a judge's answer says of what is wanted of `verify`.
+use Rattle.std.proofs.Common.{◌≡◌, ℕ, ◌<◌, ◌≤◌, ◌^◌, List, length, Option, None, Some, Result, Ok, Err, refl, sym, ap, ◌∙◌, subst, [], ◌++◌, false}
+use Rattle.std.specs.Prelude.{IfSome, IfErr, OnOk, is_err}
+use Rattle.std.specs.Fmt.{WritesText}
+use Rattle.std.proofs.lemmas.Fmt.{contents_after_writes}
+use Rattle.std.specs.Io.KnownBytes.{Appends}
+use Rattle.std.proofs.KnownBytes.{Keeps-refl}
+use Rattle.mc_image.specs.Image.{Image, image_in}
+use Rattle.mc_image.specs.Valid.{image_fault}
+use Rattle.mc_image.specs.Judging.{judged_of, judged_or_fault, verdict}
+use Rattle.mc_image.specs.declared.error.ImageError.{ImageError}
+use Rattle.mc_image.specs.declared.judge.Judged.{Judged}
+use Rattle.mc_imgtool.specs.Engines.{AppendsFront, Answers, Refuses, Judges}
+use Rattle.mc_imgtool.specs.Lines.{good_line, good_text, line_or_fault, verified}
+use Rattle.mc_imgtool.specs.declared.error.ToolError.{ToolError}
+use Rattle.mc_imgtool.specs.declared.error.ToolError.TheVariants.{Image as image_error, NotZeros, SlotTooSmall, NeedsSlotSize, InputTooLong, Read, Write, Memory}
+use Rattle.mc_imgtool.proofs.Wanted.{verified_short, verified_wanted}
+
+good_is : (v : Image) → good_line v ≡ good_text (judged_of v)
+unfolding good_line good_text
+good_is v = refl
+
+by_line : (v : Image) (o : Option ImageError) (j : Judged) → judged_or_fault v o ≡ Ok j → line_or_fault v o ≡ Ok (good_text j)
+by_line v None j e = ap (λ l. Ok l) (good_is v) ∙ ap (λ k. Ok (good_text k)) (let q : judged_of v ≡ j = cc in q)
+by_line v (Some x) j e = absurd (cc)
+
+by_fault : (v : Image) (o : Option ImageError) (e : ImageError) → judged_or_fault v o ≡ Err e → line_or_fault v o ≡ Err (image_error e)
+by_fault v None e h = absurd (cc)
+by_fault v (Some x) e h = ap (λ y. Err (image_error y)) (let q : x ≡ e = cc in q)
+
+pub verified_ok : (xs : List ℕ) (j : Judged) → length xs ≤ 2 ^ 24 → verdict xs ≡ Ok j → verified xs ≡ Ok (good_text j)
+unfolding verdict
+verified_ok xs j le h = verified_short xs le ∙ by_line (image_in xs) (image_fault xs) j h
+
+pub verified_err : (xs : List ℕ) (e : ImageError) → length xs ≤ 2 ^ 24 → verdict xs ≡ Err e → verified xs ≡ Err (image_error e)
+unfolding verdict
+verified_err xs e le h = verified_short xs le ∙ by_fault (image_in xs) (image_fault xs) e h
+
+known_bad : (known : Option (List ℕ)) (e : ImageError) → IfSome known (λ xs. (length xs ≤ 2 ^ 24) × (verdict xs ≡ Err e)) → IfSome known (λ xs. verified xs ≡ Err (image_error e))
+known_bad None e h = tt
+known_bad (Some xs) e h = verified_err xs e h.0 h.1
+
+known_long : (known : Option (List ℕ)) → IfSome known (λ xs. 2 ^ 24 < length xs) → IfSome known (λ xs. verified xs ≡ Err InputTooLong)
+known_long None h = tt
+known_long (Some xs) h = verified_wanted.long xs h
+
+-- a refusal of the judge
+pub refused_judging : (known w : Option (List ℕ)) (e : ToolError) → Judges known (2 ^ 24) (Err e) → Refuses verified known w w e
+refused_judging known w InputTooLong h = (known_long known h, Keeps-refl w)
+refused_judging known w Read h = Keeps-refl w
+refused_judging known w Memory h = absurd h
+refused_judging known w (image_error e) h = (known_bad known e h, Keeps-refl w)
+refused_judging known w NotZeros h = absurd h
+refused_judging known w SlotTooSmall h = absurd h
+refused_judging known w NeedsSlotSize h = absurd h
+refused_judging known w Write h = absurd h
+
+known_good : (known : Option (List ℕ)) (j : Judged) (P : List ℕ → Type 0) → IfSome known (λ xs. (length xs ≤ 2 ^ 24) × (verdict xs ≡ Ok j)) → P (good_text j) → IfSome known (λ xs. (text : List ℕ) × (verified xs ≡ Ok text) × P text)
+known_good None j P h p = tt
+known_good (Some xs) j P h p = (good_text j, verified_ok xs j h.0 h.1, p)
+
+at_write : (known old new : Option (List ℕ)) (e : ToolError) → e ≡ Write → IfSome known (λ xs. (text : List ℕ) × (verified xs ≡ Ok text) × AppendsFront old new text) → Refuses verified known old new e
+at_write known old new e h front = let P : ToolError → Type 0 = λ x. Refuses verified known old new x in subst P (sym h) front
+
+-- what is written for a valid image
+pub answered_good : {A : Type 0} (known old new : Option (List ℕ)) (j : Judged) (r : Result A ToolError) → Judges known (2 ^ 24) (Ok j)
+    → OnOk r (Appends old new (good_text j)) → IfErr r (λ e. (e ≡ Write) × AppendsFront old new (good_text j)) → Answers verified known old new r
+answered_good known old new j (Ok x) h whole front = known_good known j (Appends old new) h whole
+answered_good known old new j (Err e) h whole front = at_write known old new e front.0 (known_good known j (AppendsFront old new) h front.1)
+
+-- a text in a room that it fits
+pub in_room : {W E : Type 0} (took : W → List ℕ → W → Type 0) (contents : W → List ℕ) (appends : (w : W) (bs : List ℕ) (v : W) → took w bs v → contents v ≡ contents w ++ bs) (bs : List ℕ) (w v : W) (r : Result (Unit {0}) E)
+    → contents w ≡ [] → OnOk r (WritesText took w (Some bs) v) → false ≡ is_err r → contents v ≡ bs
+in_room took contents appends bs w v (Err e) none wrote fine = absurd cc
+in_room took contents appends bs w v (Ok x) none wrote fine = contents_after_writes took contents appends w bs v wrote ∙ ap (λ (z : List ℕ). z ++ bs) none
