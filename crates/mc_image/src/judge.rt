@@ -153,8 +153,8 @@ impl Judge {
         ensures { Goes (Judges self.old) (Judges self.new) piece.now result.now }
     {
         let taken = left.min(piece.len() as u64);
-        let (inside, rest) = piece.split_at(taken as usize);
-        self.hasher.update(inside);
+        let (covered, rest) = piece.split_at(taken as usize);
+        self.hasher.update(covered);
         if left > taken {
             self.stage = Stage::Payload(header, left - taken);
         } else {
