@@ -16,7 +16,6 @@ use mc_trailer::Rules;
 /// # Errors
 ///
 /// `Memory` where the flash can't grow.
-#[tactic(auto, using(crate::proofs::Wants::step_room, crate::proofs::Wants::step_limits))]
 pub(crate) fn boot_whole<F: Flash>(flash: &mut F, rules: Rules) -> Result<Boot, FlashError>
     requires { HasRoom rules (F.geometry flash.old) (F.ledger flash.old) (length (F.marks flash.old)) }
     ensures come { IfOk result (λ boot. HasCome rules (F.geometry flash.old) (F.content flash.old) (progress boot) (F.content flash.new)) }

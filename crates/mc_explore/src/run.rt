@@ -17,7 +17,6 @@ use mc_trailer::Rules;
 /// # Errors
 ///
 /// `Memory` where the flash can't mark or change.
-#[tactic(auto, using(crate::proofs::Wants::step_room, crate::proofs::Wants::step_applied, crate::proofs::Wants::step_limits))]
 pub fn run<F: Flash>(flash: &mut F, rules: Rules) -> Result<Outcome, FlashError>
     requires { HasRoom rules (F.geometry flash.old) (F.ledger flash.old) (length (F.marks flash.old)) }
     ensures outcome { IfOk result (λ outcome. outcome_of rules (F.geometry flash.old) (F.content flash.old) ≡ Some (shown outcome)) }

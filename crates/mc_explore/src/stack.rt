@@ -15,7 +15,6 @@ use mc_flash::{Flash, FlashError};
 /// # Errors
 ///
 /// `Memory` where the flash can't mark.
-#[tactic(auto, using(crate::proofs::Wants::mark_wants, crate::proofs::Wants::mark_calm, crate::proofs::Wants::mark_stays, crate::proofs::Wants::mark_limits, crate::proofs::Contents::contents_push, crate::proofs::Contents::length_contents))]
 pub fn mark<F: Flash>(flash: &mut F) -> Result<usize, FlashError>
     requires { length (F.marks flash.old) < (F.ledger flash.old).limits.marks }
     ensures place { IfOk result (λ place. place ≡ length (contents (F.marks flash.old))) }

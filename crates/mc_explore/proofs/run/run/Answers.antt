@@ -1,14 +1,16 @@
-use Rattle.std.proofs.Common.{◌≡◌, length, Err, sym, ap, ◌∙◌, arith}
+use Rattle.std.proofs.Common.{◌≡◌, length, Err, sym, ap, subst, ◌∙◌, arith}
 use Rattle.mc_flash.specs.Ledger.{Limits}
 use Rattle.mc_flash.specs.declared.flash.FlashError.TheVariants as errors
-use Rattle.mc_boot.specs.Boot.{to_come}
+use Rattle.mc_flash.specs.Geometry.{Geometry}
+use Rattle.mc_boot.specs.Boot.{IsBootOf, progress, to_come}
+use Rattle.mc_boot.specs.Run.{HasCome}
 use Rattle.mc_boot.specs.Outcome.{shown}
 use Rattle.mc_explore.specs.Stack.{contents}
 use Rattle.mc_explore.proofs.Bounds.{last_counts}
 use Rattle.mc_explore.proofs.Contents.{length_contents}
 use Rattle.mc_explore.proofs.Ends.{peek_none, outcome_ops, back_there, back_marks}
 use Rattle.mc_explore.proofs.Stepping.{some_first}
-use Rattle.mc_explore.proofs.Wants.{step_wants}
+use Rattle.mc_explore.proofs.Wants.{step_wants, step_calm, step_limits, step_room, step_applied}
 use Rattle.mc_explore.proofs.run.run.Goals as goal
 
 pub returns-clause-outcome : goal.returns-clause-outcome
@@ -39,3 +41,43 @@ returns-in-Err-Memory-clause-cause g c =
     let some = some_first (to_come c.loop-boot.boot) c.peek.result c.peek.ensures.first (sym c.loop-boot-test.ensures) in
     let memory : c.step.result ≡ Err errors.Memory = cc in
     step_wants g.F.Flash.counted (g.F.Flash.geometry c.args.flash.now) (g.F.Flash.geometry c.loop-boot.flash) (to_come c.loop-boot.boot) c.step.result _ _ _ _ i.geometry c.step.ensures.notes memory (λ none. omega (arith, some, ap length none)) i.room (omega (arith, ap (λ (l : Limits). l.entries) i.limits)) (omega (arith, ap (λ (l : Limits). l.saved) i.limits))
+
+pub loop-boot-preserved : goal.loop-boot-preserved
+loop-boot-preserved g c =
+    let F = g.F.Flash.geometry in
+    let i = c.loop-boot.invariant in
+    let e = c.step.ensures in
+    let fine : c.step.result ≡ Err errors.Memory → ⊥ = λ memory. absurd cc in
+    let Come : Geometry → Type 0 = λ x. HasCome c.args.rules x (g.F.Flash.content c.args.flash.now) (progress c.step.new.self) (g.F.Flash.content c.step.new.flash) in
+    let Came : Geometry → Type 0 = λ x. HasCome c.args.rules x (g.F.Flash.content c.args.flash.now) (progress c.loop-boot.boot) (g.F.Flash.content c.loop-boot.flash) in
+    record {
+      calm = step_calm g.F.Flash.counted (F c.loop-boot.flash) (to_come c.loop-boot.boot) c.step.result _ _ e.notes fine ∙ i.calm;
+      geometry = e.geometry ∙ i.geometry;
+      boot_of = subst (λ (x : Geometry). IsBootOf x c.step.new.self) (e.geometry ∙ i.geometry) e.layout;
+      come = subst Come i.geometry (e.come c.args.rules (g.F.Flash.content c.args.flash.now) (subst Came (sym i.geometry) i.come));
+      marks = ap contents e.marks ∙ i.marks;
+      spots = e.marks ∙ i.spots;
+      limits = step_limits g.F.Flash.counted (F c.loop-boot.flash) (to_come c.loop-boot.boot) c.step.result _ _ e.notes ∙ i.limits;
+      room = step_room g.F.Flash.counted (F c.args.flash.now) (F c.loop-boot.flash) (progress c.loop-boot.boot) (progress c.step.new.self) _ _ c.step.result (g.F.Flash.ledger c.loop-boot.flash) (g.F.Flash.ledger c.step.new.flash) _ _ i.geometry e.step e.notes fine i.room;
+      applied = step_applied g.F.Flash.counted (F c.args.flash.now) (F c.loop-boot.flash) (progress c.loop-boot.boot) (progress c.step.new.self) _ _ c.step.result (g.F.Flash.ledger c.loop-boot.flash) (g.F.Flash.ledger c.step.new.flash) _ _ _ i.geometry e.step e.notes fine i.room i.applied;
+    }
+
+pub loop-boot-preserved-in-NotErased-1 : goal.loop-boot-preserved-in-NotErased-1
+loop-boot-preserved-in-NotErased-1 g c =
+    let F = g.F.Flash.geometry in
+    let i = c.loop-boot.invariant in
+    let e = c.step.ensures in
+    let fine : c.step.result ≡ Err errors.Memory → ⊥ = λ memory. absurd cc in
+    let Come : Geometry → Type 0 = λ x. HasCome c.args.rules x (g.F.Flash.content c.args.flash.now) (progress c.step.new.self) (g.F.Flash.content c.step.new.flash) in
+    let Came : Geometry → Type 0 = λ x. HasCome c.args.rules x (g.F.Flash.content c.args.flash.now) (progress c.loop-boot.boot) (g.F.Flash.content c.loop-boot.flash) in
+    record {
+      calm = step_calm g.F.Flash.counted (F c.loop-boot.flash) (to_come c.loop-boot.boot) c.step.result _ _ e.notes fine ∙ i.calm;
+      geometry = e.geometry ∙ i.geometry;
+      boot_of = subst (λ (x : Geometry). IsBootOf x c.step.new.self) (e.geometry ∙ i.geometry) e.layout;
+      come = subst Come i.geometry (e.come c.args.rules (g.F.Flash.content c.args.flash.now) (subst Came (sym i.geometry) i.come));
+      marks = ap contents e.marks ∙ i.marks;
+      spots = e.marks ∙ i.spots;
+      limits = step_limits g.F.Flash.counted (F c.loop-boot.flash) (to_come c.loop-boot.boot) c.step.result _ _ e.notes ∙ i.limits;
+      room = step_room g.F.Flash.counted (F c.args.flash.now) (F c.loop-boot.flash) (progress c.loop-boot.boot) (progress c.step.new.self) _ _ c.step.result (g.F.Flash.ledger c.loop-boot.flash) (g.F.Flash.ledger c.step.new.flash) _ _ i.geometry e.step e.notes fine i.room;
+      applied = step_applied g.F.Flash.counted (F c.args.flash.now) (F c.loop-boot.flash) (progress c.loop-boot.boot) (progress c.step.new.self) _ _ c.step.result (g.F.Flash.ledger c.loop-boot.flash) (g.F.Flash.ledger c.step.new.flash) _ _ _ i.geometry e.step e.notes fine i.room i.applied;
+    }
