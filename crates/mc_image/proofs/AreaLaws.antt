@@ -16,7 +16,8 @@ use Rattle.mc_image.proofs.HeaderLaws.{u16_at-take}
 use Rattle.mc_image.proofs.WalkSteps.{take_again}
 
 -- a piece more of an area
-module _ (a : ProtectedArea) (head : Gather 4) (walk : Walk) (piece entries : List ℕ) (is_head : held head ≡ take 4 (held a.head ++ piece)) (is_entries : entries ≡ drop (4 - length (held a.head)) piece) where
+module _ (a : ProtectedArea) (head : Gather 4) (walk : Walk) (piece entries : List ℕ) (is_head : held head ≡ take 4 (held a.head ++ piece))
+    (is_entries : entries ≡ drop (4 - length (held a.head)) piece) where
   pub entries_fit : (bytes : List ℕ) → Follows a bytes → length bytes + length piece ≤ 65535 → length (drop 4 bytes) + length entries ≤ 65535
   entries_fit bytes f le =
       let l = ap length is_entries ∙ length-drop (4 - length (held a.head)) piece in
@@ -26,7 +27,8 @@ module _ (a : ProtectedArea) (head : Gather 4) (walk : Walk) (piece entries : Li
   follows_more goes bytes f =
       let l = ap length f.head ∙ length-take 4 bytes in
       let same : drop 4 bytes ++ entries ≡ drop 4 (bytes ++ piece) =
-      ap (λ (x : List ℕ). drop 4 bytes ++ x) is_entries ∙ ap (λ (k : ℕ). drop 4 bytes ++ drop k piece) (let q : 4 - length (held a.head) ≡ 4 - length bytes = omega (arith, l) in q) ∙ sym (drop_split 4 bytes piece) in
+      ap (λ (x : List ℕ). drop 4 bytes ++ x) is_entries ∙ ap (λ (k : ℕ). drop 4 bytes ++ drop k piece)
+      (let q : 4 - length (held a.head) ≡ 4 - length bytes = omega (arith, l) in q) ∙ sym (drop_split 4 bytes piece) in
       record {
         head = is_head ∙ ap (λ (x : List ℕ). take 4 (x ++ piece)) f.head ∙ take_again 4 bytes piece;
         walk = let P : List ℕ → Type 0 = λ x. Walks walk x in subst P same (goes (drop 4 bytes) f.walk);
@@ -68,8 +70,10 @@ module _ (a : ProtectedArea) (total : ℕ) (bytes : List ℕ) (f : Follows a byt
       either false true o e = refl
       either false false o e = absurd (cc)
 
-  pub bad_entries : (between : Bool) → (not (u16_at 0 (held a.head) == 0x6908) || not (u16_at 2 (held a.head) == total)) ≡ false → between ≡ is_some (entries_of (drop 4 bytes)) → not between ≡ is_bad_area 0x6908 bytes
-  bad_entries between e is = ap not is ∙ none_some (entries_of (drop 4 bytes)) ∙ neither (not (u16_at 0 (held a.head) == 0x6908)) (not (u16_at 2 (held a.head) == total)) (is_none (entries_of (drop 4 bytes))) e ∙ sym (whole _ _ refl refl)
+  pub bad_entries : (between : Bool) → (not (u16_at 0 (held a.head) == 0x6908) || not (u16_at 2 (held a.head) == total))
+      ≡ false → between ≡ is_some (entries_of (drop 4 bytes)) → not between ≡ is_bad_area 0x6908 bytes
+  bad_entries between e is = ap not is ∙ none_some (entries_of (drop 4 bytes))
+      ∙ neither (not (u16_at 0 (held a.head) == 0x6908)) (not (u16_at 2 (held a.head) == total)) (is_none (entries_of (drop 4 bytes))) e ∙ sym (whole _ _ refl refl)
     where
       neither : (m n o : Bool) → (m || n) ≡ false → o ≡ (m || (n || o))
       neither true n o e = absurd (cc)

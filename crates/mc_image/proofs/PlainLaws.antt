@@ -62,7 +62,8 @@ plain_none x y h le is filled =
     plain_whole x h le ∙ ap (λ (t : Bool). fault_if t BadTlvLength) (some_none (entries_of (drop 4 (area_in x))) (ap (λ (z : List ℕ). is_some (entries_of z)) (sym is) ∙ filled))
 
 -- the digest of 32 bytes, as it stands among the entries
-pub digest_stands : (v : DigestValue) (y : List ℕ) → IsOne v y → length (held v.bytes) ≡ 32 → (take 32 (drop v.start y) ≡ held v.bytes) × (digests (entries_in y) ≡ held v.bytes ∷ []) × (v.start + 32 ≤ length y)
+pub digest_stands : (v : DigestValue) (y : List ℕ) → IsOne v y → length (held v.bytes) ≡ 32 → (take 32 (drop v.start y) ≡ held v.bytes)
+    × (digests (entries_in y) ≡ held v.bytes ∷ []) × (v.start + 32 ≤ length y)
 digest_stands v y one len =
     let l = ap length one.bytes ∙ length-take 33 one.value in
     let size : length one.value ≡ 32 = omega (arith, l, len) in

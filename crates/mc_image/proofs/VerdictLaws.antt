@@ -131,7 +131,8 @@ module _ (s : Sealed) (body : List ℕ) (is : IsSealed s body) (t : ℕ) (walk :
     unfolding verdict
     digest_wrong ne =
         let b : List ℕ = body ++ (area ++ more) in
-        ap (judged_or_fault (image_in b)) (from_parts b false (none_is d filled one len) (good_false (image_in b) (λ (g : IsGood (image_in b)). ne (is.digest ∙ sym (ap sha256 covered) ∙ sym g ∙ digest_is d one))))
+        ap (judged_or_fault (image_in b)) (from_parts b false (none_is d filled one len)
+        (good_false (image_in b) (λ (g : IsGood (image_in b)). ne (is.digest ∙ sym (ap sha256 covered) ∙ sym g ∙ digest_is d one))))
 
     pub digest_right : (n : ℕ) → s.digest ≡ d → n ≡ length body + length area → verdict (body ++ (area ++ more)) ≡ Ok (record { version = s.header.version; size = n; digest = d })
     unfolding verdict

@@ -66,7 +66,8 @@ head_goes w head more place walked piece rest some e lt known is_more is_rest is
           let t = length-append r.begun taken in
           let is : held more ≡ r.begun ++ taken =
           is_more ∙ take_split 4 (held head) piece ∙ ap (λ (x : List ℕ). x ++ taken) (take_all 4 (held head) (omega (arith, short)) ∙ at.1) in
-          reached w place walked bytes taken r (omega (arith, is_walked, l, m, k)) (after (length r.whole) (r.begun ++ taken) (omega (arith, t, l, b, short)) is (omega (arith, is_walked, l, m, k, s, t)));
+          reached w place walked bytes taken r (omega (arith, is_walked, l, m, k))
+          (after (length r.whole) (r.begun ++ taken) (omega (arith, t, l, b, short)) is (omega (arith, is_walked, l, m, k, s, t)));
     }
 
 -- in a value
@@ -96,7 +97,8 @@ value_goes w left t piece some e lt known is =
       holds = λ bytes h.
           let r = h.reaches in
           let at = at_place (places.Value left) r e in
-          let more : IsInValue (r.begun ++ take t piece) (left - t) = let P : ℕ → Type 0 = λ n. IsInValue (r.begun ++ take t piece) (left - n) in subst P l (in_value_more r.begun (take t piece) left at.0 (omega (arith, l, is))) in
+          let more : IsInValue (r.begun ++ take t piece) (left - t) = let P : ℕ
+          → Type 0 = λ n. IsInValue (r.begun ++ take t piece) (left - n) in subst P l (in_value_more r.begun (take t piece) left at.0 (omega (arith, l, is))) in
           reached w (places.Value (left - t)) (w.walked + t) bytes (take t piece) r (omega (arith, l)) (more, λ k. at.1 (sym (kind_more r.begun (take t piece) left at.0) ∙ k));
     }
 
@@ -116,7 +118,8 @@ kept_more v bytes before begun taken k le is =
 
 pub digest_goes : (w : Walk) (left t : ℕ) (v : DigestValue) (bytes : Gather 33) (piece some : List ℕ) → w.place ≡ places.Digest left v → 0 < length piece → Walks w some → t ≡ min left (length piece)
     → held bytes ≡ take 33 (held v.bytes ++ take t piece)
-    → Goes (Walks w) (Reaches (record { walked = w.walked + t; place = places.Digest (left - t) (record { start = v.start; bytes = bytes }); found = w.found })) piece (take (length piece - t) (drop t piece))
+    → Goes (Walks w) (Reaches (record { walked = w.walked + t; place = places.Digest (left - t) (record { start = v.start; bytes = bytes }); found = w.found }))
+    piece (take (length piece - t) (drop t piece))
 digest_goes w left t v bytes piece some e lt known is is_bytes =
     let open_now : 0 < left = open_place (places.Digest left v) known e in
     let l : length (take t piece) ≡ t = omega (arith, length-take t piece, is) in
@@ -127,7 +130,8 @@ digest_goes w left t v bytes piece some e lt known is is_bytes =
       holds = λ seen h.
           let r = h.reaches in
           let at = at_place (places.Digest left v) r e in
-          let more : IsInValue (r.begun ++ take t piece) (left - t) = let P : ℕ → Type 0 = λ n. IsInValue (r.begun ++ take t piece) (left - n) in subst P l (in_value_more r.begun (take t piece) left at.0 (omega (arith, l, is))) in
+          let more : IsInValue (r.begun ++ take t piece) (left - t) = let P : ℕ
+          → Type 0 = λ n. IsInValue (r.begun ++ take t piece) (left - n) in subst P l (in_value_more r.begun (take t piece) left at.0 (omega (arith, l, is))) in
           reached w (places.Digest (left - t) (record { start = v.start; bytes = bytes })) (w.walked + t) seen (take t piece) r (omega (arith, l))
           (more, kind_more r.begun (take t piece) left at.0 ∙ at.1, kept_more v bytes (length r.whole) r.begun (take t piece) at.2 at.0.head is_bytes);
     }
@@ -165,12 +169,14 @@ found_first v whole begun none filled is =
       bytes = is.kept.bytes;
       front = whole ++ take 4 begun;
       back = [];
-      stands = ap (λ (x : List ℕ). whole ++ x) (sym (take-append-drop 4 begun)) ∙ sym (append_assoc whole (take 4 begun) (drop 4 begun)) ∙ ap (λ (x : List ℕ). (whole ++ take 4 begun) ++ x) (sym (append-nil (drop 4 begun)));
+      stands = ap (λ (x : List ℕ). whole ++ x) (sym (take-append-drop 4 begun)) ∙ sym (append_assoc whole (take 4 begun) (drop 4 begun))
+          ∙ ap (λ (x : List ℕ). (whole ++ take 4 begun) ++ x) (sym (append-nil (drop 4 begun)));
       start = let s = is.kept.start in omega (arith, s, l, length-append whole (take 4 begun));
     }
 
 -- a further one
-pub found_further : (v : DigestValue) (whole begun : List ℕ) → 0 < length (digests (entries_in whole)) → is_some (entries_of whole) ≡ true → IsEntered v (length whole) begun → 2 ≤ length (digests (entries_in (whole ++ begun)))
+pub found_further : (v : DigestValue) (whole begun : List ℕ) → 0 < length (digests (entries_in whole)) → is_some (entries_of whole)
+    ≡ true → IsEntered v (length whole) begun → 2 ≤ length (digests (entries_in (whole ++ begun)))
 found_further v whole begun lt filled is =
     let e = ap length (passed_digest whole begun filled is.value.head (complete begun is.value) is.kind) ∙ length-append (digests (entries_in whole)) (drop 4 begun ∷ []) in
     omega (arith, e, lt)
@@ -214,7 +220,8 @@ pub between_head : (w : Walk) (head : Gather 4) (bytes : List ℕ) → w.place �
 between_head w head bytes e h =
     let r = h.reaches in
     let at = at_place (places.Head head) r e in
-    between_cases (length (held head)) r.whole r.begun (sym (ap length at.1)) (let l = ap length at.1 in let s = at.0 in omega (arith, l, s)) r.filled ∙ ap (λ (x : List ℕ). is_some (entries_of x)) (sym r.split)
+    between_cases (length (held head)) r.whole r.begun (sym (ap length at.1)) (let l = ap length at.1 in let s = at.0 in omega (arith, l, s)) r.filled
+    ∙ ap (λ (x : List ℕ). is_some (entries_of x)) (sym r.split)
 
 not_between : (w : Walk) (left : ℕ) (bytes : List ℕ) (r : Reaches w bytes) → IsInValue r.begun left → 0 < left → false ≡ is_some (entries_of bytes)
 not_between w left bytes r at lt =

@@ -55,7 +55,8 @@ refused_judging known w SlotTooSmall h = absurd h
 refused_judging known w NeedsSlotSize h = absurd h
 refused_judging known w Write h = absurd h
 
-known_good : (known : Option (List ℕ)) (j : Judged) (P : List ℕ → Type 0) → IfSome known (λ xs. (length xs ≤ 2 ^ 24) × (verdict xs ≡ Ok j)) → P (good_text j) → IfSome known (λ xs. (text : List ℕ) × (verified xs ≡ Ok text) × P text)
+known_good : (known : Option (List ℕ)) (j : Judged) (P : List ℕ → Type 0) → IfSome known (λ xs. (length xs ≤ 2 ^ 24) × (verdict xs ≡ Ok j))
+    → P (good_text j) → IfSome known (λ xs. (text : List ℕ) × (verified xs ≡ Ok text) × P text)
 known_good None j P h p = tt
 known_good (Some xs) j P h p = (good_text j, verified_ok xs j h.0 h.1, p)
 
@@ -69,7 +70,8 @@ answered_good known old new j (Ok x) h whole front = known_good known j (Appends
 answered_good known old new j (Err e) h whole front = at_write known old new e front.0 (known_good known j (AppendsFront old new) h front.1)
 
 -- a text in a room that it fits
-pub in_room : {W E : Type 0} (took : W → List ℕ → W → Type 0) (contents : W → List ℕ) (appends : (w : W) (bs : List ℕ) (v : W) → took w bs v → contents v ≡ contents w ++ bs) (bs : List ℕ) (w v : W) (r : Result (Unit {0}) E)
+pub in_room : {W E : Type 0} (took : W → List ℕ → W → Type 0) (contents : W → List ℕ)
+    (appends : (w : W) (bs : List ℕ) (v : W) → took w bs v → contents v ≡ contents w ++ bs) (bs : List ℕ) (w v : W) (r : Result (Unit {0}) E)
     → contents w ≡ [] → OnOk r (WritesText took w (Some bs) v) → false ≡ is_err r → contents v ≡ bs
 in_room took contents appends bs w v (Err e) none wrote fine = absurd cc
 in_room took contents appends bs w v (Ok x) none wrote fine = contents_after_writes took contents appends w bs v wrote ∙ ap (λ (z : List ℕ). z ++ bs) none

@@ -18,7 +18,8 @@ returns-then-are_same c = λ body area is plain more h.
     let n = c.body_len.ensures.sum in
     let l = sealed_len c.args.sealed.now body is in
     let t = plain.left in
-    rw c.to_array-digest.ensures (digest_right c.args.sealed.now body is c.args.total c.args.walk.now area plain more h _ d.0 v.1 c.in_ok-digest.ensures.len (c.body_len.result + c.args.total) (sym same ∙ c.to_array-digest.ensures) (omega (arith, n, l, t)))
+    rw c.to_array-digest.ensures (digest_right c.args.sealed.now body is c.args.total c.args.walk.now area plain more h
+    _ d.0 v.1 c.in_ok-digest.ensures.len (c.body_len.result + c.args.total) (sym same ∙ c.to_array-digest.ensures) (omega (arith, n, l, t)))
 
 pub returns-else-are_same : goal.returns-else-are_same
 returns-else-are_same c = λ body area is plain more h.

@@ -21,7 +21,8 @@ returns-in_err-digest c =
     let p = err_from_is_err_and c.from_residual-in_err-digest.result c.from_residual-in_err-digest.ensures.1 in
     let t = c.in_ok-total.ensures.3 in
     let le : u16_at 2 c.args.bytes.now ≤ length c.args.bytes.now = omega (arith, t) in
-    rw (p.1, p.2) (plain_entries c.args.bytes.now _ c.in_ok-total.ensures.0 le (take_rest (take c.in_ok-total.field-0 c.args.bytes.now) 4 ∙ ap (λ n. drop 4 (take n c.args.bytes.now)) t) ∙ c.in_err-digest.ensures)
+    rw (p.1, p.2) (plain_entries c.args.bytes.now _ c.in_ok-total.ensures.0 le
+    (take_rest (take c.in_ok-total.field-0 c.args.bytes.now) 4 ∙ ap (λ n. drop 4 (take n c.args.bytes.now)) t) ∙ c.in_err-digest.ensures)
 
 pub returns : goal.returns
 unfolding area_in

@@ -9,4 +9,5 @@ pub returns-then-is_other_head : goal.returns-then-is_other_head
 returns-then-is_other_head c = λ bytes f is. bad_head c.args.self.now c.args.total bytes f (sym c.if-not-is_full.ensures) is (sym (rw c.as_slice.ensures.bytes at c.if-is_other_head.ensures))
 
 pub returns : goal.returns
-returns c = λ bytes f is. bad_entries c.args.self.now c.args.total bytes f (sym c.if-not-is_full.ensures) is c.is_between.result (sym (rw c.as_slice.ensures.bytes at c.if-is_other_head.ensures)) (c.is_between.ensures _ f.walk)
+returns c = λ bytes f is. bad_entries c.args.self.now c.args.total bytes f (sym c.if-not-is_full.ensures) is c.is_between.result
+    (sym (rw c.as_slice.ensures.bytes at c.if-is_other_head.ensures)) (c.is_between.ensures _ f.walk)

@@ -57,5 +57,6 @@ returns-else-is_bad c =
     let Q : List ℕ → Type 0 = λ x. length x ≡ protected_end x in
     let end = append-nil r.rest in
     let none = ap (λ x. protected_fault (r.front ++ x)) (sym end) ∙ protected_tested c.args.header r.front r.rest r.header r.len size ne [] false (c.if-is_bad.ensures r.rest r.area (sym size)) in
-    c.seal.ensures (bytes ++ c.split_at.result.0.now) all (c.update.ensures bytes s.0) (has_header_more c.args.header bytes c.split_at.result.0.now (subst P (sym s.2.split) (has_header_more c.args.header s.2.front s.2.rest s.2.header)))
+    c.seal.ensures (bytes ++ c.split_at.result.0.now) all (c.update.ensures bytes s.0)
+    (has_header_more c.args.header bytes c.split_at.result.0.now (subst P (sym s.2.split) (has_header_more c.args.header s.2.front s.2.rest s.2.header)))
     (subst Q (sym r.split) (body_ends c.args.header r.front r.rest r.header r.len size ne)) (ap protected_fault r.split ∙ none))
