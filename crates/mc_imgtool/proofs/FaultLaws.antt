@@ -1,12 +1,8 @@
 -- The check of a digest and its test agree.
-use Rattle.std.proofs.Common.{◌≡◌, ℕ, Bool, true, false, List, None, Some, refl, sym, ap, ◌∙◌}
-use Rattle.std.specs.Prelude.{not}
+use Rattle.std.proofs.Common.{◌≡◌, true, false, refl}
 use Rattle.std.proofs.lemmas.Slice.Eq.{bytes_eq-Decides}
-use Rattle.mc_image.specs.Image.{Image, IsGood, image_in}
-use Rattle.mc_image.specs.Faults.{fault_if, first_fault}
-use Rattle.mc_image.specs.Valid.{is_good, image_fault}
-use Rattle.mc_image.specs.declared.error.ImageError.{ImageError}
-use Rattle.mc_image.specs.declared.error.ImageError.TheVariants.{WrongDigest}
+use Rattle.mc_image.specs.Image.{Image, IsGood}
+use Rattle.mc_image.specs.Valid.{is_good}
 
 pub good_false : (v : Image) → (IsGood v → ⊥) → is_good v ≡ false
 unfolding is_good

@@ -7,7 +7,7 @@ use Rattle.mc_image.specs.Valid.{image_fault}
 use Rattle.mc_image.specs.Writing.{with_digest}
 use Rattle.mc_image.specs.declared.error.ImageError.{ImageError}
 use Rattle.mc_image.specs.Faults.{first_fault}
-use Rattle.mc_imgtool.specs.Lines.{good_line, line_or_fault, verified, report, report_or_fault, dumped}
+use Rattle.mc_imgtool.specs.Lines.{line_or_fault, verified, report, report_or_fault, dumped}
 use Rattle.mc_imgtool.specs.Created.{created, needs_slot_size, lacks_zeros, payload_in, bare_image, is_too_small, slotted}
 use Rattle.mc_imgtool.specs.declared.creation.CreateOptions.{CreateOptions}
 use Rattle.mc_imgtool.specs.declared.error.ToolError.{ToolError}
