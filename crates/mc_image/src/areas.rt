@@ -110,7 +110,8 @@ impl Walk {
     fn in_head<'p>(self, head: Gather<4>, piece: &'p [u8]) -> (Walk, &'p [u8])
         requires place { self.place ≡ Place.Head head }
         requires some { 0 < length piece.now }
-        requires fits { (bytes : List ℕ) × Walks self bytes × (length bytes + length piece.now ≤ 65535) }
+        requires fits { (bytes : List ℕ) × Walks self bytes
+            × (length bytes + length piece.now ≤ 65535) }
         ensures { Goes (Walks self) (Reaches result.0) piece.now result.1.now }
     {
         let (head, rest) = head.with(piece);
@@ -130,7 +131,8 @@ impl Walk {
     fn in_value<'p>(self, left: usize, piece: &'p [u8]) -> (Walk, &'p [u8])
         requires place { self.place ≡ Place.Value left }
         requires some { 0 < length piece.now }
-        requires fits { (bytes : List ℕ) × Walks self bytes × (length bytes + length piece.now ≤ 65535) }
+        requires fits { (bytes : List ℕ) × Walks self bytes
+            × (length bytes + length piece.now ≤ 65535) }
         ensures { Goes (Walks self) (Reaches result.0) piece.now result.1.now }
     {
         let taken = left.min(piece.len());
@@ -148,7 +150,8 @@ impl Walk {
     fn in_digest<'p>(self, left: usize, value: DigestValue, piece: &'p [u8]) -> (Walk, &'p [u8])
         requires place { self.place ≡ Place.Digest left value }
         requires some { 0 < length piece.now }
-        requires fits { (bytes : List ℕ) × Walks self bytes × (length bytes + length piece.now ≤ 65535) }
+        requires fits { (bytes : List ℕ) × Walks self bytes
+            × (length bytes + length piece.now ≤ 65535) }
         ensures { Goes (Walks self) (Reaches result.0) piece.now result.1.now }
     {
         let taken = left.min(piece.len());
@@ -182,7 +185,8 @@ impl Walk {
     /// Goes on in the entry that is begun.
     fn entered<'p>(self, piece: &'p [u8]) -> (Walk, &'p [u8])
         requires some { 0 < length piece.now }
-        requires fits { (bytes : List ℕ) × Walks self bytes × (length bytes + length piece.now ≤ 65535) }
+        requires fits { (bytes : List ℕ) × Walks self bytes
+            × (length bytes + length piece.now ≤ 65535) }
         ensures { Goes (Walks self) (Reaches result.0) piece.now result.1.now }
     {
         match self.place {
@@ -216,7 +220,8 @@ impl Walk {
     /// Goes along the first bytes of a piece, one at least, and leaves the rest.
     fn step<'p>(self, piece: &'p [u8]) -> (Walk, &'p [u8])
         requires some { 0 < length piece.now }
-        requires fits { (bytes : List ℕ) × Walks self bytes × (length bytes + length piece.now ≤ 65535) }
+        requires fits { (bytes : List ℕ) × Walks self bytes
+            × (length bytes + length piece.now ≤ 65535) }
         ensures { Goes (Walks self) (Walks result.0) piece.now result.1.now }
     {
         let (walk, rest) = self.entered(piece);
@@ -326,7 +331,8 @@ impl ProtectedArea {
 
     /// Goes along a piece.
     pub(crate) fn along(self, piece: &[u8]) -> ProtectedArea
-        requires { (bytes : List ℕ) × Follows self bytes × (length bytes + length piece.now ≤ 65535) }
+        requires { (bytes : List ℕ) × Follows self bytes
+            × (length bytes + length piece.now ≤ 65535) }
         ensures { (bytes : List ℕ) → Follows self bytes → Follows result (bytes ++ piece.now) }
     {
         let (head, entries) = self.head.with(piece);

@@ -54,6 +54,7 @@ impl<const N: usize> Gather<N> {
     {
         self.count == N
     }
+
     /// Whether no byte is there.
     #[tactic(auto, unfolding(crate::specs::Gathered::held))]
     pub(crate) fn is_empty(&self) -> bool

@@ -90,8 +90,9 @@ impl Judge {
 
     /// Behind header, payload and protected area.
     fn seal(&mut self, header: Header)
-        ensures { (bytes : List ℕ) → IsBytes bytes → Holds256 self.old.hasher bytes → HasHeader header bytes
-            → length bytes ≡ protected_end bytes → protected_fault bytes ≡ None → Judges self.new bytes }
+        ensures { (bytes : List ℕ) → IsBytes bytes → Holds256 self.old.hasher bytes
+            → HasHeader header bytes → length bytes ≡ protected_end bytes
+            → protected_fault bytes ≡ None → Judges self.new bytes }
     {
         let digest = self.hasher.finalize_reset();
         self.stage = Stage::PlainHead(Sealed { header, digest }, Gather::new());
@@ -99,8 +100,8 @@ impl Judge {
 
     /// Behind header and payload.
     fn after_payload(&mut self, header: Header)
-        ensures { (bytes : List ℕ) → IsBytes bytes → Holds256 self.old.hasher bytes → HasHeader header bytes
-            → length bytes ≡ payload_end bytes → Judges self.new bytes }
+        ensures { (bytes : List ℕ) → IsBytes bytes → Holds256 self.old.hasher bytes
+            → HasHeader header bytes → length bytes ≡ payload_end bytes → Judges self.new bytes }
     {
         if header.protected == 0 {
             self.seal(header);
@@ -112,8 +113,8 @@ impl Judge {
 
     /// Behind the header's fields.
     fn after_fields(&mut self, fields: Gather<32>)
-        ensures { (bytes : List ℕ) → IsBytes bytes → Holds256 self.old.hasher bytes → held fields ≡ bytes
-            → length bytes ≡ 32 → Judges self.new bytes }
+        ensures { (bytes : List ℕ) → IsBytes bytes → Holds256 self.old.hasher bytes
+            → held fields ≡ bytes → length bytes ≡ 32 → Judges self.new bytes }
     {
         match Header::read(fields.as_slice()) {
             Err(error) => self.stage = Stage::Over(Err(error)),
@@ -204,8 +205,8 @@ impl Judge {
 
     /// Behind the head of the plain area.
     fn after_head(&mut self, sealed: Sealed, head: Gather<4>)
-        ensures { (body rest : List ℕ) → IsBytes (body ++ rest) → IsSealed sealed body → held head ≡ rest
-            → length rest ≡ 4 → Judges self.new (body ++ rest) }
+        ensures { (body rest : List ℕ) → IsBytes (body ++ rest) → IsSealed sealed body
+            → held head ≡ rest → length rest ≡ 4 → Judges self.new (body ++ rest) }
     {
         match plain_total(head.as_slice()) {
             Err(error) => self.stage = Stage::Over(Err(error)),
@@ -269,7 +270,8 @@ impl Judge {
 
     /// Goes on with the bytes that follow those before, at most 2^32 in all.
     pub fn feed(&mut self, piece: &[u8])
-        requires { (bytes : List ℕ) × Judges self.old bytes × (length bytes + length piece.now ≤ 2 ^ 32) }
+        requires { (bytes : List ℕ) × Judges self.old bytes
+            × (length bytes + length piece.now ≤ 2 ^ 32) }
         ensures { (bytes : List ℕ) → Judges self.old bytes → Judges self.new (bytes ++ piece.now) }
     {
         let mut rest = piece;

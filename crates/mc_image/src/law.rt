@@ -36,7 +36,7 @@ pub fn same_front()
 
 /// Any cut: judges that were fed one list of bytes, however it was cut into pieces, answer the same.
 pub fn any_cut()
-    ensures { (pieces others : List (List ℕ)) → concat pieces ≡ concat others → (first second : Judge)
-        → Judges first (concat pieces) → Judges second (concat others)
+    ensures { (pieces others : List (List ℕ)) → concat pieces ≡ concat others
+        → (first second : Judge) → Judges first (concat pieces) → Judges second (concat others)
         → (r s : Result Judged ImageError) → Finishes first r → Finishes second s → r ≡ s }
 {}

@@ -40,7 +40,8 @@ impl fmt::Display for GoodLine {
 ///
 /// `Write` where a write fails or takes no bytes, or the line is too long.
 fn write_good<W: Write>(output: &mut W, judged: Judged) -> Result<(), ToolError>
-    ensures whole { OnOk result (Appends (W.contents output.old) (W.contents output.new) (good_text judged)) }
+    ensures whole { OnOk result
+        (Appends (W.contents output.old) (W.contents output.new) (good_text judged)) }
     ensures front { IfErr result (λ e. (e ≡ ToolError.Write)
         × AppendsFront (W.contents output.old) (W.contents output.new) (good_text judged)) }
 {
