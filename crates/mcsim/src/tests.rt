@@ -4,7 +4,7 @@ mod creation;
 mod faults;
 mod faulty;
 mod pages;
-mod refusals;
+mod slots;
 mod support;
 mod trailers;
 mod vectors;

@@ -1,11 +1,10 @@
-//! `create`: the images that it makes, by themselves and in a slot that they fill.
+//! `create`: the images that it makes, and what it refuses.
 use super::support::{Case, create_words, ends, outcome_of, scratch_path};
-use super::vectors::{
-    COUNTER_IMAGE, EMPTY_IMAGE, FIRST_IMAGE, GOOD, IMAGE, PADDED, PAYLOAD, REPORT,
-};
-use std::alloc::{AllocError, Global};
+use super::vectors::{COUNTER_IMAGE, EMPTY_IMAGE, FIRST_IMAGE, GOOD, IMAGE, PADDED, PAYLOAD};
+use std::alloc::Global;
 use std::fs;
 use std::os::unix::fs::symlink;
+use std::process::Abort;
 use std::test::Fail;
 
 #[test]
@@ -53,137 +52,156 @@ fn keeps_a_payload_that_is_the_output_too(rt: HostRuntime) -> Result<(), Fail> {
     Ok(())
 }
 
-/// Lines of `create` with a header before the input that make `IMAGE` of `PAYLOAD`: by imgtool's short options and its way to
-/// write numbers, and in slots as short as can be and at the ends of the ranges.
-static OPTIONS: [&str; 12] = [
-    "",
-    "--slot-size +224 --align 0x8 --max-sectors 4",
-    "--align 8 --max-sectors 4 --slot-size 224",
-    "--slot-size 3200",
-    "--slot-size 16777216",
-    "--align 1",
-    "--align 2",
-    "--align 4",
-    "--max-sectors 1",
-    "--max-sectors 1024",
-    "-S 3200 -M 128 --align 8",
-    "-S 0XE0 -M 4",
-];
+/// Options of `create` of a header before its input.
+const PADDING: &str = "--version 1.2.3+4 --pad-header --header-size 32";
+
+/// Runs lines of `create` with these options and this input, which are to write these bytes.
+fn make(rt: &impl Abort, alloc: Global, cases: &[(&str, &str, &[u8], &[u8])]) -> Result<(), Fail> {
+    for (start, options, input, written) in cases {
+        let case = Case {
+            command: "create",
+            start,
+            options,
+            words: "in out",
+            input,
+            status: 0,
+            out: "",
+            err: "",
+            written,
+        };
+        ends(rt, alloc, &case)?;
+    }
+    Ok(())
+}
 
 #[test]
 fn makes_images(rt: HostRuntime) -> Result<(), Fail> {
-    let alloc = rt.alloc();
-    for options in OPTIONS {
-        let made = Case {
-            more: options,
-            written: &IMAGE,
-            ..Case::of(
-                "create --version 1.2.3+4 --pad-header --header-size 32 in out",
-                &PAYLOAD,
-            )
-        };
-        ends(&rt, alloc, &made)?;
-    }
-    let payload = [0, 1, 2, 3, 4, 5, 6, 7];
-    let cases: [(&str, &[u8], &[u8]); 8] = [
+    let unpadded = "--version 1.2.3+4 --header-size 32";
+    let version = "--version 1 --pad-header --header-size 32";
+    // imgtool's short options, and its way to write numbers.
+    let short = "-v 1.2.3+4 --pad-header -H 0x20";
+    let cases: [(&str, &str, &[u8], &[u8]); 8] = [
+        (PADDING, "", &PAYLOAD, &IMAGE),
+        (short, "", &PAYLOAD, &IMAGE),
+        (short, "-s 0X7 -S 0xeC -M 4", &PAYLOAD, &COUNTER_IMAGE),
         (
-            "create -v 1.2.3+4 --pad-header -H 0x20 in out",
+            PADDING,
+            "--slot-size +224 --align 0x8 --max-sectors 4",
             &PAYLOAD,
             &IMAGE,
         ),
-        (
-            "sign --version 1.2.3+4 --pad-header --header-size 32 in out",
-            &PAYLOAD,
-            &IMAGE,
-        ),
-        (
-            "create --version 1.2.3+4 --header-size 32 in out",
-            &PADDED,
-            &IMAGE,
-        ),
-        (
-            "create --version 1.2.3+4 --pad-header --header-size 32 in out",
-            &[],
-            &EMPTY_IMAGE,
-        ),
-        (
-            "create --version 1 --pad-header --header-size 32 in out",
-            &payload,
-            &FIRST_IMAGE,
-        ),
-        (
-            "create -v 1.2.3+4 --pad-header -H 0x20 -s 0X7 -S 0xeC -M 4 in out",
-            &PAYLOAD,
-            &COUNTER_IMAGE,
-        ),
-        (
-            "create --version 1.2.3+4 --pad-header --header-size 32 --security-counter 7 in out",
-            &PAYLOAD,
-            &COUNTER_IMAGE,
-        ),
-        (
-            "create --version 1.2.3+4 --pad-header --header-size 32 --security-counter 7 --align 8 --max-sectors 4 --slot-size 236 in out",
-            &PAYLOAD,
-            &COUNTER_IMAGE,
-        ),
+        (unpadded, "", &PADDED, &IMAGE),
+        (PADDING, "", &[], &EMPTY_IMAGE),
+        (version, "", &[0, 1, 2, 3, 4, 5, 6, 7], &FIRST_IMAGE),
+        (PADDING, "--security-counter 7", &PAYLOAD, &COUNTER_IMAGE),
     ];
-    for (line, input, written) in cases {
-        let made = Case {
-            written,
-            ..Case::of(line, input)
-        };
-        ends(&rt, alloc, &made)?;
-    }
-    Ok(())
-}
-
-/// What ends a slot that asks for a swap.
-static MAGIC: [u8; 16] = [
-    0x77, 0xc2, 0x95, 0xf3, 0x60, 0xd2, 0xef, 0x7f, 0x35, 0x52, 0x50, 0x0f, 0x2c, 0xb6, 0x79, 0x80,
-];
-
-/// A slot of 768 bytes that begins with an image, with this byte as the flag of the confirmed image.
-fn slot_of(alloc: Global, image: &[u8], flag: u8) -> Result<Vec<u8>, AllocError> {
-    let mut slot = image.to_vec(alloc)?;
-    slot.resize(744, 0xff)?;
-    slot.push(flag)?;
-    slot.resize(752, 0xff)?;
-    slot.extend_from_slice(&MAGIC)?;
-    Ok(slot)
+    make(&rt, rt.alloc(), &cases)?;
+    let case = Case {
+        command: "sign",
+        start: PADDING,
+        options: "",
+        words: "in out",
+        input: &PAYLOAD,
+        status: 0,
+        out: "",
+        err: "",
+        written: &IMAGE,
+    };
+    ends(&rt, rt.alloc(), &case)
 }
 
 #[test]
-fn fills_a_slot(rt: HostRuntime) -> Result<(), Fail> {
-    let alloc = rt.alloc();
-    let padded = slot_of(alloc, &IMAGE, 0xff)?;
-    let confirmed = slot_of(alloc, &IMAGE, 0x01)?;
-    let counted = slot_of(alloc, &COUNTER_IMAGE, 0x01)?;
-    let line =
-        "create --version 1.2.3+4 --header-size 32 --pad-header --slot-size 768 --align 8 --max-sectors 4 in out";
-    for (options, written) in [
-        ("--pad", padded.as_slice()),
-        ("--confirm", confirmed.as_slice()),
-        ("--pad --confirm", confirmed.as_slice()),
-        ("--confirm --security-counter 7", counted.as_slice()),
-    ] {
+fn leaves_room_for_a_trailer(rt: HostRuntime) -> Result<(), Fail> {
+    let room = "--align 8 --max-sectors 4 --slot-size 224";
+    let counted = "--security-counter 7 --align 8 --max-sectors 4 --slot-size 236";
+    let cases: [(&str, &str, &[u8], &[u8]); 9] = [
+        (PADDING, room, &PAYLOAD, &IMAGE),
+        (PADDING, "--slot-size 3200", &PAYLOAD, &IMAGE),
+        (PADDING, counted, &PAYLOAD, &COUNTER_IMAGE),
+        // The ends of the ranges.
+        (PADDING, "--slot-size 16777216", &PAYLOAD, &IMAGE),
+        (PADDING, "--align 1", &PAYLOAD, &IMAGE),
+        (PADDING, "--align 2", &PAYLOAD, &IMAGE),
+        (PADDING, "--align 4", &PAYLOAD, &IMAGE),
+        (PADDING, "--max-sectors 1", &PAYLOAD, &IMAGE),
+        (PADDING, "--max-sectors 1024", &PAYLOAD, &IMAGE),
+    ];
+    make(&rt, rt.alloc(), &cases)
+}
+
+/// Runs lines of `create` with these options and files, which are refused with this status and line.
+fn refuse(
+    rt: &impl Abort,
+    alloc: Global,
+    input: &[u8],
+    cases: &[(&str, &str, &str, u8, &str)],
+) -> Result<(), Fail> {
+    for (start, options, words, status, err) in cases {
         let case = Case {
-            more: options,
-            written,
-            ..Case::of(line, &PAYLOAD)
+            command: "create",
+            start,
+            options,
+            words,
+            input,
+            status: *status,
+            out: "",
+            err,
+            written: &[],
         };
-        ends(&rt, alloc, &case)?;
-    }
-    let report = REPORT.replace(alloc, "\nrest 0\n", "\nrest 676\n")?;
-    for (command, input, out) in [
-        ("verify", padded.as_slice(), GOOD),
-        ("verify", confirmed.as_slice(), GOOD),
-        ("dumpinfo", counted.as_slice(), report.as_str()),
-    ] {
-        let case = Case {
-            out,
-            ..Case::of(command, input)
-        };
-        ends(&rt, alloc, &case)?;
+        ends(rt, alloc, &case)?;
     }
     Ok(())
+}
+
+#[test]
+fn refuses_slots(rt: HostRuntime) -> Result<(), Fail> {
+    let small = "--align 8 --max-sectors 4 --slot-size 223";
+    let counted = "--security-counter 7 --align 8 --max-sectors 4 --slot-size 235";
+    let too_small = "mcsim: E21 SlotTooSmall\n";
+    let needs_size = "mcsim: E22 NeedsSlotSize\n";
+    let cases = [
+        (PADDING, small, "in out", 1, too_small),
+        (PADDING, "--slot-size 3199", "in out", 1, too_small),
+        (PADDING, "--slot-size 1", "in out", 1, too_small),
+        (PADDING, counted, "in out", 1, too_small),
+        (PADDING, "--pad", "in out", 2, needs_size),
+        (PADDING, "--confirm", "in out", 2, needs_size),
+    ];
+    refuse(&rt, rt.alloc(), &PAYLOAD, &cases)
+}
+
+#[test]
+fn judges_in_order(rt: HostRuntime) -> Result<(), Fail> {
+    let not_zeros = "mcsim: E20 NotZeros\n";
+    let syntax = "mcsim: E15 Syntax\n";
+    let open = "mcsim: E71 Open\n";
+    let cases = [
+        // The version is checked before the files are opened, and INFILE is opened before OUTFILE.
+        (
+            "--version 01 --header-size 32",
+            "",
+            "missing out",
+            2,
+            syntax,
+        ),
+        (
+            "--version 1.2+4 --header-size 32",
+            "",
+            "missing out",
+            2,
+            syntax,
+        ),
+        (
+            "--version 256 --header-size 32",
+            "",
+            "missing out",
+            2,
+            "mcsim: E16 Range\n",
+        ),
+        (PADDING, "", "missing out", 3, open),
+        (PADDING, "", "in missing", 3, open),
+        // The input begins with 31 zeros, one fewer than a header has.
+        ("--version 1 --header-size 32", "", "in out", 1, not_zeros),
+    ];
+    refuse(&rt, rt.alloc(), &PADDED[1..], &cases)
 }

@@ -1,10 +1,12 @@
 //! `explore`: whole pages, by their digests as a model that shares no code with this repository computed them. The file `in`
 //! has the first image, and `second` the second.
-use super::support::{Case, ends, runs};
-use super::trailers::{begun, flash_of};
+use super::faulty::{Fault, FaultyFiles};
+use super::support::{Case, ends, outcome_over};
+use super::trailers::{WORKED, begun, flash_of};
 use super::vectors::FIRST_IMAGE;
 use sha2::{Digest, Sha256};
-use std::alloc::Global;
+use std::alloc::{AllocError, Global};
+use std::cell::RefCell;
 use std::process::Abort;
 use std::test::Fail;
 
@@ -15,7 +17,7 @@ fn layout_words(name: &str) -> &'static str {
         "three" => { "--sector 256 --unit 8 --max-sectors 4 --chunk 128 --primary 3 --secondary 3" }
         "small" => "--sector 64 --unit 1 --max-sectors 4 --chunk 32 --primary 4 --secondary 3",
         "two" => "--sector 128 --unit 8 --max-sectors 4 --chunk 128 --primary 5 --secondary 4",
-        _ => "WORKED",
+        _ => WORKED,
     }
 }
 
@@ -271,24 +273,40 @@ static UNIT_PAGES: [Page<'static>; 12] = [
     ),
 ];
 
-/// What an exploration prints.
-fn prints(alloc: Global, line: &str, more: &str) -> Result<String, Fail> {
-    let case = Case {
-        more,
-        ..Case::of(line, &FIRST_IMAGE)
+/// What an exploration with these options prints.
+fn prints_at(alloc: Global, layout: &str, options: &str, more: &str) -> Result<String, Fail> {
+    let written = RefCell::new(Vec::new(alloc));
+    let files = FaultyFiles {
+        input: &FIRST_IMAGE,
+        written: &written,
+        reads: u32::MAX,
+        writes: u32::MAX,
+        fault: Fault::Error,
     };
-    let (ended, _) = runs(alloc, &case)?;
+    let mut words = Vec::new(alloc);
+    for part in ["mcsim explore", layout, options, more] {
+        for word in part.split_whitespace() {
+            words.push(word)?;
+        }
+    }
+    let ended = outcome_over(alloc, &files, words.as_slice(), &mut [].as_slice())?;
     if ended.status != 0 {
         return Err(Fail::from("the exploration is refused"));
     }
     Ok(ended.out)
 }
 
+/// The same at the worked layout.
+fn prints(alloc: Global, options: &str, more: &str) -> Result<String, Fail> {
+    prints_at(alloc, WORKED, options, more)
+}
+
 /// Looks at the number of lines and the digest of each page.
 fn pages_are(rt: &impl Abort, alloc: Global, pages: &[Page<'_>]) -> Result<(), Fail> {
+    let images = "--image-a in --image-b second";
     for (layout, kind, cuts, limit, lines, digest) in pages {
-        let line = format!(in alloc; "explore IMAGES --kind {kind} --cuts {cuts} --limit {limit}")?;
-        let page = prints(alloc, line.as_str(), layout_words(layout))?;
+        let options = format!(in alloc; "--kind {kind} --cuts {cuts} --limit {limit}")?;
+        let page = prints_at(alloc, layout_words(layout), options.as_str(), images)?;
         assert_eq!(rt; page.as_str().lines().count(), *lines, "{kind} {cuts}");
         let sum = hex::encode(alloc, Sha256::digest(page.as_str().as_bytes()))?;
         assert_eq!(rt; sum.as_str(), *digest, "{kind} {cuts}");
@@ -306,9 +324,27 @@ fn prints_the_pages_of_cuts_between_units(rt: HostRuntime) -> Result<(), Fail> {
     pages_are(&rt, rt.alloc(), &UNIT_PAGES)
 }
 
+/// An exploration of the flash in `in`.
+fn explore_of<'a>(input: &'a [u8], options: &'a str, out: &'a str) -> Case<'a> {
+    Case {
+        command: "explore",
+        start: WORKED,
+        options: "--flash in",
+        words: options,
+        input,
+        status: 0,
+        out,
+        err: "",
+        written: &[],
+    }
+}
+
 #[test]
 fn prints_the_rows_of_a_flash(rt: HostRuntime) -> Result<(), Fail> {
     let alloc = rt.alloc();
+    let erased = flash_of(&[]);
+    let blank = explore_of(&erased, "--cuts 2", "- none none 0 none none none\nend\n");
+    ends(&rt, alloc, &blank)?;
     let mut stuck = begun(&[
         (976, 0x50),
         (977, 0),
@@ -317,116 +353,70 @@ fn prints_the_rows_of_a_flash(rt: HostRuntime) -> Result<(), Fail> {
         (984, 2),
         (993, 0),
     ]);
-    let mut lost = stuck;
     stuck[920] = 1;
-    lost[888] = 1;
-    let fault = "- fault test 0 none none test\nend\n";
-    for (flash, cuts, out) in [
-        (
-            flash_of(&[]),
-            "--cuts 2",
-            "- none none 0 none none none\nend\n",
-        ),
-        (stuck, "--cuts 0", fault),
-        (stuck, "--cuts 2", fault),
-        (stuck, "--cuts 16", fault),
-        (lost, "--cuts 16", "- panic panic 0 none none panic\nend\n"),
-    ] {
-        let case = Case {
-            more: cuts,
-            out,
-            ..Case::of("explore WORKED --flash in", &flash)
-        };
-        ends(&rt, alloc, &case)?;
-    }
     let none = Case {
-        out: "- boot none 0 1.0.0+0/80 2.0.0+0/80 none\nend\n",
-        ..Case::of("explore WORKED --kind none IMAGES --cuts 16", &FIRST_IMAGE)
+        options: "--kind none --image-a in --image-b second",
+        ..explore_of(
+            &FIRST_IMAGE,
+            "--cuts 16",
+            "- boot none 0 1.0.0+0/80 2.0.0+0/80 none\nend\n",
+        )
     };
-    ends(&rt, alloc, &none)
+    ends(&rt, alloc, &none)?;
+    for cuts in ["--cuts 0", "--cuts 2", "--cuts 16"] {
+        let fault = "- fault test 0 none none test\nend\n";
+        ends(&rt, alloc, &explore_of(&stuck, cuts, fault))?;
+    }
+    stuck[920] = 0xff;
+    stuck[888] = 1;
+    let panic = "- panic panic 0 none none panic\nend\n";
+    ends(&rt, alloc, &explore_of(&stuck, "--cuts 16", panic))
 }
 
 /// The digest of the start of a test.
 static START: &str = "9b07a99687c30f1c748c995c0d4df48a8af881b571e209fd613b03ba09e2b5b7";
 
-/// Pages behind a cursor: the rules, the head of their cursors, the most cuts and the most rows, the cursor's schedule; a row, if
-/// one is printed, and the schedule of the cursor at the end, if it is not `end`.
-type Continued<'a> = (&'a str, &'a str, u32, u32, &'a str, &'a str, &'a str);
+/// An exploration of the images' test swap.
+fn explore_images<'a>(options: &'a str) -> Case<'a> {
+    Case {
+        options: "--kind test --image-a in --image-b second",
+        ..explore_of(&FIRST_IMAGE, options, "")
+    }
+}
 
-static CONTINUED: [Continued<'static>; 10] = [
-    ("", "mc1", 2, 1, "0.17", "1 boot test 18", "1"),
-    ("", "mc1", 2, 1000, "17.0", "", ""),
-    ("", "mc1", 1, 1, "16", "17 boot test 1", "17"),
-    ("", "mc1", 1, 2, "16", "17 boot test 1", ""),
-    ("", "mc1", 0, 1, "-", "", ""),
-    (
-        "--grain unit --profile 1",
-        "mc2:unit:1",
-        1,
-        1,
-        "-",
-        "0 boot test 109",
-        "0",
-    ),
-    (
-        "--grain unit --profile 1",
-        "mc2:unit:1",
-        1,
-        1,
-        "107",
-        "108 boot test 1",
-        "108",
-    ),
-    (
-        "--grain unit --profile 2",
-        "mc2:unit:2",
-        1,
-        1,
-        "-",
-        "0 boot test 109",
-        "0",
-    ),
-    (
-        "--grain unit --profile 2",
-        "mc2:unit:2",
-        1,
-        1,
-        "107",
-        "108 boot test 1",
-        "108",
-    ),
-    (
-        "--profile 2",
-        "mc2:call:2",
-        1,
-        1,
-        "16",
-        "17 boot test 1",
-        "17",
-    ),
-];
+/// The page of one row at most, and where it goes on.
+fn page_of(alloc: Global, cuts: u32, row: &str, next: &str) -> Result<String, AllocError> {
+    let mut page = String::new(alloc);
+    if row != "" {
+        let line = format!(in alloc; "{row} 2.0.0+0/80 1.0.0+0/80 revert\n")?;
+        page.push_str(line.as_str())?;
+    }
+    if next == "" {
+        page.push_str("end\n")?;
+    } else {
+        let line = format!(in alloc; "next mc1:{START}:{cuts}:{next}\n")?;
+        page.push_str(line.as_str())?;
+    }
+    Ok(page)
+}
 
 #[test]
 fn goes_on_behind_cursors(rt: HostRuntime) -> Result<(), Fail> {
     let alloc = rt.alloc();
-    for (rules, head, cuts, limit, place, row, next) in CONTINUED {
-        let line = format!(in alloc;
-            "explore WORKED --kind test IMAGES --cuts {cuts} --limit {limit} --cursor {head}:{START}:{cuts}:{place}"
+    for (cuts, schedule, limit, row, next) in [
+        (2, "0.17", 1, "1 boot test 18", "1"),
+        (2, "17.0", 1000, "", ""),
+        (1, "16", 1, "17 boot test 1", "17"),
+        (1, "16", 2, "17 boot test 1", ""),
+        (0, "-", 1, "", ""),
+    ] {
+        let options = format!(in alloc;
+            "--cuts {cuts} --limit {limit} --cursor mc1:{START}:{cuts}:{schedule}"
         )?;
-        let mut page = String::new(alloc);
-        if row != "" {
-            page = format!(in alloc; "{row} 2.0.0+0/80 1.0.0+0/80 revert\n")?;
-        }
-        if next == "" {
-            page.push_str("end\n")?;
-        } else {
-            let last = format!(in alloc; "next {head}:{START}:{cuts}:{next}\n")?;
-            page.push_str(last.as_str())?;
-        }
+        let page = page_of(alloc, cuts, row, next)?;
         let case = Case {
-            more: rules,
             out: page.as_str(),
-            ..Case::of(line.as_str(), &FIRST_IMAGE)
+            ..explore_images(options.as_str())
         };
         ends(&rt, alloc, &case)?;
     }
@@ -434,15 +424,95 @@ fn goes_on_behind_cursors(rt: HostRuntime) -> Result<(), Fail> {
 }
 
 #[test]
+fn goes_on_behind_cursors_of_other_rules(rt: HostRuntime) -> Result<(), Fail> {
+    let alloc = rt.alloc();
+    for (rules, head) in [
+        ("--grain unit --profile 1", "mc2:unit:1"),
+        ("--grain unit --profile 2", "mc2:unit:2"),
+    ] {
+        for (place, row) in [("-", "0 boot test 109"), ("107", "108 boot test 1")] {
+            let options = format!(in alloc;
+                "{rules} --cuts 1 --limit 1 --cursor {head}:{START}:1:{place}"
+            )?;
+            let cut = row.split_whitespace().next().unwrap_or("");
+            let page = format!(in alloc;
+                "{row} 2.0.0+0/80 1.0.0+0/80 revert\nnext {head}:{START}:1:{cut}\n"
+            )?;
+            let case = Case {
+                out: page.as_str(),
+                ..explore_images(options.as_str())
+            };
+            ends(&rt, alloc, &case)?;
+        }
+    }
+    let page = format!(in alloc;
+        "17 boot test 1 2.0.0+0/80 1.0.0+0/80 revert\nnext mc2:call:2:{START}:1:17\n"
+    )?;
+    let options = format!(in alloc;
+        "--profile 2 --cuts 1 --limit 1 --cursor mc2:call:2:{START}:1:16"
+    )?;
+    let case = Case {
+        out: page.as_str(),
+        ..explore_images(options.as_str())
+    };
+    ends(&rt, alloc, &case)
+}
+
+#[test]
+fn refuses_cursors(rt: HostRuntime) -> Result<(), Fail> {
+    let alloc = rt.alloc();
+    let other = "0cf2f5a1b9a451dc9bb060b1858a94da9927942d58635a051bee1bff2fd4356b";
+    for (cuts, head, digest, tail, status, error) in [
+        (2, "mc1", START, "2:18", 1, "E58 CannotOccur"),
+        (1, "mc1", START, "1:0.0", 1, "E58 CannotOccur"),
+        (2, "mc1", START, "1:0", 1, "E57 OtherBound"),
+        // The first reason is reported.
+        (2, "mc1", other, "1:18", 1, "E56 OtherStart"),
+        (2, "mc2:unit:1", other, "1:18", 1, "E56 OtherStart"),
+        (2, "mc2:unit:1", START, "1:18", 1, "E61 OtherRules"),
+        (2, "mc2:call:2", START, "2:-", 1, "E61 OtherRules"),
+        (2, "mc2:call:1", START, "2:-", 2, "E55 Syntax"),
+        (2, "mc1", START, "02:-", 2, "E55 Syntax"),
+        (2, "mc1", START, "17:-", 2, "E55 Syntax"),
+        (2, "mc1", START, "2:00", 2, "E55 Syntax"),
+        (2, "MC1", START, "2:-", 2, "E55 Syntax"),
+    ] {
+        let options = format!(in alloc; "--cuts {cuts} --cursor {head}:{digest}:{tail}")?;
+        let err = format!(in alloc; "mcsim: {error}\n")?;
+        let case = Case {
+            status,
+            err: err.as_str(),
+            ..explore_images(options.as_str())
+        };
+        ends(&rt, alloc, &case)?;
+    }
+    // A cursor of whole calls does not serve where the power is cut between units.
+    let options = format!(in alloc; "--cuts 1 --grain unit --cursor mc1:{START}:1:-")?;
+    let case = Case {
+        status: 1,
+        err: "mcsim: E61 OtherRules\n",
+        ..explore_images(options.as_str())
+    };
+    ends(&rt, alloc, &case)?;
+    // The text is checked before a file is opened.
+    let case = Case {
+        status: 2,
+        err: "mcsim: E55 Syntax\n",
+        options: "--flash missing",
+        ..explore_of(&[], "--cuts 0 --cursor -", "")
+    };
+    ends(&rt, alloc, &case)
+}
+
+#[test]
 fn pages_join_up(rt: HostRuntime) -> Result<(), Fail> {
     let alloc = rt.alloc();
+    let source = "--kind test --image-a in --image-b second";
     for (limit, lines) in [(1000u32, [1001usize, 1001, 59]), (1029, [1030, 1030, 1])] {
         let mut cursor = String::new(alloc);
         for count in lines {
-            let line = format!(in alloc;
-                "explore WORKED --kind test IMAGES --cuts 3 --limit {limit}"
-            )?;
-            let page = prints(alloc, line.as_str(), cursor.as_str())?;
+            let options = format!(in alloc; "{source} --cuts 3 --limit {limit}")?;
+            let page = prints(alloc, options.as_str(), cursor.as_str())?;
             assert_eq!(rt; page.as_str().lines().count(), count);
             let last = page.as_str().lines().last().unwrap_or("");
             cursor = match last.strip_prefix("next ") {

@@ -84,11 +84,11 @@ pub fn create_words<'a>(version: &'a str, infile: &'a str, outfile: &'a str) -> 
 /// A command line over the files `in`, `second` and `out`, and how it is to end. Other files are missing.
 #[derive(Clone, Copy)]
 pub struct Case<'a> {
-    /// The words after `mcsim`. `WORKED` stands for the options of the worked layout, and `IMAGES` for two images, of which
-    /// `in` has the first.
-    pub line: &'a str,
-    /// Further words.
-    pub more: &'a str,
+    pub command: &'a str,
+    /// The words after the command: first options, further ones, and the rest.
+    pub start: &'a str,
+    pub options: &'a str,
+    pub words: &'a str,
     /// What the file `in` and standard input hold.
     pub input: &'a [u8],
     pub status: u8,
@@ -96,66 +96,6 @@ pub struct Case<'a> {
     pub err: &'a str,
     /// What is written to the file `out`.
     pub written: &'a [u8],
-}
-
-impl<'a> Case<'a> {
-    /// A line that ends well and prints nothing.
-    pub fn of(line: &'a str, input: &'a [u8]) -> Case<'a> {
-        Case {
-            line,
-            more: "",
-            input,
-            status: 0,
-            out: "",
-            err: "",
-            written: &[],
-        }
-    }
-}
-
-/// The worked layout: slots of 1024 and 768 bytes.
-static WORKED: &str = "--sector 256 --unit 8 --max-sectors 4 --chunk 128 --primary 4 --secondary 3";
-
-static IMAGES: &str = "--image-a in --image-b second";
-
-/// The words of a line.
-fn words_of<'a>(alloc: Global, case: &Case<'a>) -> Result<Vec<&'a str>, AllocError> {
-    let mut words = Vec::new(alloc);
-    words.push("mcsim")?;
-    for part in [case.line, case.more] {
-        for word in part.split_whitespace() {
-            match word {
-                "WORKED" => {
-                    for option in WORKED.split_whitespace() {
-                        words.push(option)?;
-                    }
-                }
-                "IMAGES" => {
-                    for option in IMAGES.split_whitespace() {
-                        words.push(option)?;
-                    }
-                }
-                _ => words.push(word)?,
-            }
-        }
-    }
-    Ok(words)
-}
-
-/// Runs a command line, and gives how it ended and what it wrote to the file `out`.
-pub fn runs(alloc: Global, case: &Case<'_>) -> Result<(Outcome, Vec<u8>), Fail> {
-    let written = RefCell::new(Vec::new(alloc));
-    let files = FaultyFiles {
-        input: case.input,
-        written: &written,
-        reads: u32::MAX,
-        writes: u32::MAX,
-        fault: Fault::Error,
-    };
-    let words = words_of(alloc, case)?;
-    let mut input = case.input;
-    let ended = outcome_over(alloc, &files, words.as_slice(), &mut input)?;
-    Ok((ended, written.into_inner()))
 }
 
 /// Runs a command line, and looks at how it ends.
@@ -167,13 +107,22 @@ pub fn ends(rt: &impl Abort, alloc: Global, case: &Case<'_>) -> Result<(), Fail>
 
 /// Runs a command line, looks at its status and texts, and gives what it wrote to the file `out`.
 pub fn writes(rt: &impl Abort, alloc: Global, case: &Case<'_>) -> Result<Vec<u8>, Fail> {
-    let (ended, written) = runs(alloc, case)?;
-    assert_eq!(rt;
-        ended.parts(),
-        (case.status, case.out, case.err),
-        "{} {}",
-        case.line,
-        case.more
-    );
-    Ok(written)
+    let written = RefCell::new(Vec::new(alloc));
+    let files = FaultyFiles {
+        input: case.input,
+        written: &written,
+        reads: u32::MAX,
+        writes: u32::MAX,
+        fault: Fault::Error,
+    };
+    let mut words = Vec::new(alloc);
+    for part in ["mcsim", case.command, case.start, case.options, case.words] {
+        for word in part.split_whitespace() {
+            words.push(word)?;
+        }
+    }
+    let mut input = case.input;
+    let ended = outcome_over(alloc, &files, words.as_slice(), &mut input)?;
+    assert_eq!(rt; ended.parts(), (case.status, case.out, case.err));
+    Ok(written.into_inner())
 }

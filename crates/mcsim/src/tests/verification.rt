@@ -5,36 +5,85 @@ use std::io;
 use std::io::Read;
 use std::test::Fail;
 
+/// A command that reads an image, of these words and this input.
+fn reading<'a>(command: &'a str, words: &'a str, input: &'a [u8]) -> Case<'a> {
+    Case {
+        command,
+        start: "",
+        options: "",
+        words,
+        input,
+        status: 0,
+        out: "",
+        err: "",
+        written: &[],
+    }
+}
+
 #[test]
 fn reads_images(rt: HostRuntime) -> Result<(), Fail> {
+    for (command, words, input, out) in [
+        ("verify", "", IMAGE.as_slice(), GOOD),
+        ("verify", "in", &IMAGE, GOOD),
+        ("dumpinfo", "", &COUNTER_IMAGE, REPORT),
+        ("dumpinfo", "in", &COUNTER_IMAGE, REPORT),
+    ] {
+        let case = Case {
+            out,
+            ..reading(command, words, input)
+        };
+        ends(&rt, rt.alloc(), &case)?;
+    }
     // Another byte follows.
     let mut longer = [0x69; 81];
     longer[..80].copy_from_slice(&IMAGE);
-    let mut wrong = IMAGE;
-    wrong[39] ^= 1;
-    let mut counted = COUNTER_IMAGE;
-    counted[39] ^= 1;
-    let report = REPORT.replace(rt.alloc(), "\ndigest good\n", "\ndigest wrong\n")?;
-    for (line, input, status, out, err) in [
-        ("verify", IMAGE.as_slice(), 0, GOOD, ""),
-        ("verify in", &IMAGE, 0, GOOD, ""),
-        ("verify", &longer, 0, GOOD, ""),
-        ("verify", &wrong, 1, "", "mcsim: E12 WrongDigest\n"),
-        ("verify", &IMAGE[..31], 1, "", "mcsim: E1 Truncated\n"),
-        ("verify", &IMAGE[..39], 1, "", "mcsim: E5 TruncatedBody\n"),
-        ("verify", &IMAGE[..43], 1, "", "mcsim: E7 BadTlvMagic\n"),
-        ("verify", &IMAGE[..79], 1, "", "mcsim: E8 BadTlvLength\n"),
-        ("dumpinfo", &COUNTER_IMAGE, 0, REPORT, ""),
-        ("dumpinfo in", &COUNTER_IMAGE, 0, REPORT, ""),
-        ("dumpinfo", &counted, 0, report.as_str(), ""),
-    ] {
+    let case = Case {
+        out: GOOD,
+        ..reading("verify", "", &longer)
+    };
+    ends(&rt, rt.alloc(), &case)
+}
+
+#[test]
+fn refuses_each_front_of_an_image(rt: HostRuntime) -> Result<(), Fail> {
+    for length in 0..80 {
+        let err = match length {
+            0..=31 => "mcsim: E1 Truncated\n",
+            32..=39 => "mcsim: E5 TruncatedBody\n",
+            40..=43 => "mcsim: E7 BadTlvMagic\n",
+            _ => "mcsim: E8 BadTlvLength\n",
+        };
         let case = Case {
-            status,
-            out,
+            status: 1,
             err,
-            ..Case::of(line, input)
+            ..reading("verify", "", &IMAGE[..length])
         };
         ends(&rt, rt.alloc(), &case)?;
+    }
+    Ok(())
+}
+
+#[test]
+fn finds_each_changed_bit_of_a_payload(rt: HostRuntime) -> Result<(), Fail> {
+    let report = REPORT.replace(rt.alloc(), "\ndigest good\n", "\ndigest wrong\n")?;
+    for place in 32..40 {
+        for bit in [1u8, 2, 4, 8, 16, 32, 64, 128] {
+            let mut image = IMAGE;
+            image[place] ^= bit;
+            let case = Case {
+                status: 1,
+                err: "mcsim: E12 WrongDigest\n",
+                ..reading("verify", "", &image)
+            };
+            ends(&rt, rt.alloc(), &case)?;
+            let mut counted = COUNTER_IMAGE;
+            counted[place] ^= bit;
+            let case = Case {
+                out: report.as_str(),
+                ..reading("dumpinfo", "", &counted)
+            };
+            ends(&rt, rt.alloc(), &case)?;
+        }
     }
     Ok(())
 }
