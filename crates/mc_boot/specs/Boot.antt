@@ -1,10 +1,8 @@
 -- What callers see of a boot, and what a step does to it and to the flash.
-use Rattle.std.specs.Prelude.{◌≡◌, ℕ, ◌+◌, Bool, true, false, if◌then◌else◌, List, [], ◌∷◌, drop, Option, Some, None, Result, Ok, Err, IfSome}
+use Rattle.std.specs.Prelude.{◌≡◌, ℕ, ◌+◌, Bool, true, false, if◌then◌else◌, List, [], ◌∷◌, drop, Result, Ok, Err, IfSome}
 use Rattle.mc_flash.specs.Geometry.{Geometry}
 use Rattle.mc_flash.specs.Pieces.{in_pieces}
-use Rattle.mc_flash.specs.Content.{Content}
-use Rattle.mc_flash.specs.Apply.{apply}
-use Rattle.mc_flash.specs.Ledger.{Ledger, Notes}
+use Rattle.mc_flash.specs.Seen.{Seen, Does}
 use Rattle.mc_flash.specs.declared.op.Op.{Op}
 use Rattle.mc_flash.specs.declared.flash.FlashError.{FlashError}
 use Rattle.mc_flash.specs.declared.flash.FlashError.TheVariants as errors
@@ -50,27 +48,19 @@ stepped p rest = record { rules = p.rules; kind = p.kind; to_come = rest; count 
 abbrev pub refused : Progress → Progress
 refused p = record { rules = p.rules; kind = p.kind; to_come = []; count = p.count; faulted = true }
 
--- One operation, where it would give `given`: it happens, or for want of memory nothing changes. Where it is undefined it
--- is refused, and the boot is at its end.
-abbrev pub Tries : Option Content → List Op → Progress → Progress → Content → Content → Result (Unit {0}) FlashError → Type 0
-Tries (Some given) rest p q s t (Ok _) = (q ≡ stepped p rest) × (t ≡ given)
-Tries (Some given) rest p q s t (Err errors.Memory) = (q ≡ p) × (t ≡ s)
-Tries (Some given) rest p q s t (Err errors.NotErased) = ⊥
-Tries None rest p q s t (Ok _) = ⊥
-Tries None rest p q s t (Err errors.Memory) = ⊥
-Tries None rest p q s t (Err errors.NotErased) = (q ≡ refused p) × (t ≡ s)
+-- What a boot becomes by the answer to its next operation: it happened; or it was refused, and the boot is at its end; or memory
+-- was wanted, and nothing changed.
+abbrev pub Turns : List Op → Progress → Result (Unit {0}) FlashError → Progress → Type 0
+Turns rest p (Ok _) q = q ≡ stepped p rest
+Turns rest p (Err errors.NotErased) q = q ≡ refused p
+Turns rest p (Err errors.Memory) q = q ≡ p
 
 -- The first operation to come; at the end nothing happens, and the answer is Ok.
-abbrev pub TriesFirst : Geometry → List Op → Progress → Progress → Content → Content → Result (Unit {0}) FlashError → Type 0
-TriesFirst g [] p q s t (Ok _) = (q ≡ p) × (t ≡ s)
-TriesFirst g [] p q s t (Err e) = ⊥
-TriesFirst g (op ∷ rest) p q s t result = Tries (apply g op s) rest p q s t result
+abbrev pub StepsAlong : List Op → Progress → Seen → Result (Unit {0}) FlashError → Progress → Seen → Type 0
+StepsAlong [] p old (Ok _) q new = (q ≡ p) × (new ≡ old)
+StepsAlong [] p old (Err e) q new = ⊥
+StepsAlong (op ∷ rest) p old result q new = Turns rest p result q × Does op old result new
 
--- A step of a boot that is at p, from a flash of content s: the boot is at q then, and the content is t.
-abbrev pub Steps : Geometry → Progress → Progress → Content → Content → Result (Unit {0}) FlashError → Type 0
-Steps g p q s t result = TriesFirst g p.to_come p q s t result
-
--- What a step does to the flash's ledger: what the first operation to come does, and nothing at the end.
-abbrev pub NotesFirst : Bool → Geometry → List Op → Result (Unit {0}) FlashError → Ledger → Ledger → Type 0
-NotesFirst counted g [] result old new = new ≡ old
-NotesFirst counted g (op ∷ rest) result old new = Notes counted g op result old new
+-- A step of a boot that is at p, over a flash: the boot is at q then.
+abbrev pub Steps : Progress → Seen → Result (Unit {0}) FlashError → Progress → Seen → Type 0
+Steps p old result q new = StepsAlong p.to_come p old result q new

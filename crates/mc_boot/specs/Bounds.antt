@@ -11,7 +11,7 @@ use Rattle.std.proofs.lemmas.List.FromFn.{length-range_with_len}
 use Rattle.mc_flash.specs.Geometry.{Geometry, IsLayout, trailer_sectors, greatest_sectors}
 use Rattle.mc_flash.specs.Content.{Content}
 use Rattle.mc_flash.specs.Apply.{apply}
-use Rattle.mc_flash.specs.Ledger.{saves, most_operations, most_saved}
+use Rattle.mc_flash.specs.Ledger.{Counts, saves, most_operations, most_saved}
 use Rattle.mc_flash.specs.Pieces.{in_pieces, pieces_layout}
 use Rattle.mc_flash.specs.declared.flash.Grain.{Grain}
 use Rattle.mc_flash.specs.declared.flash.Grain.TheVariants as grains
@@ -45,6 +45,10 @@ use Rattle.mc_boot.specs.Run.{HasCome}
 abbrev pub all_saves : Geometry → List Op → ℕ
 all_saves g [] = 0
 all_saves g (op ∷ rest) = saves g op + all_saves g rest
+
+-- What a boot has still to count: the operations to come, and the bytes that they save.
+abbrev pub left_of : Geometry → Progress → Counts
+left_of g p = record { entries = length p.to_come; saved = all_saves g p.to_come }
 
 -- At most so many operations, and at most so many bytes that they save.
 pub record IsBounded (g : Geometry) (ops : List Op) (count saved : ℕ) : Type 0 where

@@ -10,6 +10,7 @@ pub mod Boot
 pub mod Run
 pub mod RunFacts
 pub mod Bounds
+pub mod StepFacts
 pub mod WriteFacts
 pub mod Outcome
 pub mod Joins

@@ -1,6 +1,6 @@
 -- What follows from where a boot is on its way. Proved here, so that the crates above can cite it.
 use Rattle.std.specs.Prelude.{◌≡◌, ℕ, zero, suc, ◌+◌, ◌<◌, ◌≤◌, nat_lt, Bool, true, false, if◌then◌else◌, List, [], ◌∷◌, ◌++◌, length, take, drop, Option, Some, None, option_and_then, option_map, Result, Ok, Err, refl}
-use Rattle.std.proofs.Common.{arith, sym, ap, subst, ◌∙◌}
+use Rattle.std.proofs.Common.{arith, inl, inr, sym, ap, subst, ◌∙◌}
 use Rattle.std.proofs.lemmas.Bool.Decides.{nat_tests}
 use Rattle.std.proofs.lemmas.List.{length-take-le, length-drop, take_at, append-nil}
 use Rattle.std.proofs.Common.{length-append}
@@ -14,7 +14,10 @@ use Rattle.mc_trailer.specs.declared.tables.Rules.{Rules}
 use Rattle.mc_trailer.specs.declared.tables.SwapType.{SwapType}
 use Rattle.mc_boot.specs.Plan.{plan}
 use Rattle.mc_boot.specs.Runs.{applied, first_then, happening, ops_of, at, is_faulted, left_by}
-use Rattle.mc_boot.specs.Boot.{Progress, begun, stepped, refused, Tries, TriesFirst, Steps}
+use Rattle.mc_boot.specs.Boot.{Progress, begun, stepped, refused, StepsAlong, Steps}
+use Rattle.mc_flash.specs.Seen.{Seen, GivesUp}
+use Rattle.mc_flash.specs.Ledger.{IsFull}
+use Rattle.mc_flash.specs.DoneFacts.{did, undefined}
 use Rattle.mc_boot.specs.Run.{HasCome}
 use Rattle.mc_boot.specs.Outcome.{Report, report, outcome_of}
 
@@ -85,56 +88,58 @@ left_is false rest ops other is = is
 none_first : (g : Geometry) (op : Op) (rest : List Op) (t : Content) → apply g op t ≡ None → happening g (op ∷ rest) t ≡ []
 none_first g op rest t none = ap (λ (o : Option Content). first_then op (λ u. happening g rest u) o) none
 
--- A step keeps a boot on its way.
-pub come_steps : (r : Rules) (g : Geometry) (s : Content) (p q : Progress) (t u : Content) (result : Result (Unit {0}) FlashError) → HasCome r g s p t → Steps g p q t u result → HasCome r g s q u
-come_steps r g s p q t u result come steps = go p.to_come refl result steps
+-- A step keeps a boot on its way, and the layout as it is.
+pub come_steps : (r : Rules) (s : Content) (p q : Progress) (old new : Seen) (result : Result (Unit {0}) FlashError) → HasCome r old.geometry s p old.content
+    → Steps p old result q new → HasCome r old.geometry s q new.content
+come_steps r s p q old new result come steps = go p.to_come refl result steps
   where
-    stays : q ≡ p → u ≡ t → HasCome r g s q u
+    stays : q ≡ p → new ≡ old → HasCome r old.geometry s q new.content
     stays a b =
-        let P : Progress → Type 0 = λ x. HasCome r g s x u in
-        let Q : Content → Type 0 = λ x. HasCome r g s p x in
+        let P : Progress → Type 0 = λ x. HasCome r old.geometry s x new.content in
+        let Q : Seen → Type 0 = λ x. HasCome r old.geometry s p x.content in
         subst P (sym a) (subst Q (sym b) come)
 
-    happens : (rest : List Op) (op : Op) → p.to_come ≡ op ∷ rest → apply g op t ≡ Some u → HasCome r g s (stepped p rest) u
+    happens : (rest : List Op) (op : Op) → p.to_come ≡ op ∷ rest → apply old.geometry op old.content ≡ Some new.content → HasCome r old.geometry s (stepped p rest) new.content
     happens rest op to given =
-        let next = next_of p.faulted rest (drop p.count (plan r g s).list) op (sym to ∙ come.rest) in
+        let next = next_of p.faulted rest (drop p.count (plan r old.geometry s).list) op (sym to ∙ come.rest) in
         record {
           rules = come.rules;
           kind = come.kind;
-          within = omega (arith, more_left (plan r g s).list rest op p.count next.1);
-          happened = ap (λ n. applied g (take n (plan r g s).list) s) (plus_one p.count) ∙ applied_next g (plan r g s).list rest op p.count s t u come.happened next.1 given;
-          rest = left_is p.faulted rest (drop (p.count + 1) (plan r g s).list) next.0 (sym (ap (λ n. drop n (plan r g s).list) (plus_one p.count) ∙ drop_next (plan r g s).list rest op p.count next.1));
+          within = omega (arith, more_left (plan r old.geometry s).list rest op p.count next.1);
+          happened = ap (λ n. applied old.geometry (take n (plan r old.geometry s).list) s) (plus_one p.count) ∙ applied_next old.geometry (plan r old.geometry s).list rest op p.count s old.content new.content come.happened next.1 given;
+          rest = left_is p.faulted rest (drop (p.count + 1) (plan r old.geometry s).list) next.0 (sym (ap (λ n. drop n (plan r old.geometry s).list) (plus_one p.count) ∙ drop_next (plan r old.geometry s).list rest op p.count next.1));
           refused = λ e. let q : true ≡ false = sym e ∙ next.0 in absurd cc;
         }
 
-    refuses : (rest : List Op) (op : Op) → p.to_come ≡ op ∷ rest → apply g op t ≡ None → q ≡ refused p → u ≡ t → HasCome r g s q u
+    refuses : (rest : List Op) (op : Op) → p.to_come ≡ op ∷ rest → apply old.geometry op old.content ≡ None → q ≡ refused p → new ≡ old → HasCome r old.geometry s q new.content
     refuses rest op to none a b =
-        let next = next_of p.faulted rest (drop p.count (plan r g s).list) op (sym to ∙ come.rest) in
-        let P : Progress → Type 0 = λ x. HasCome r g s x u in
-        let Q : Content → Type 0 = λ x. HasCome r g s (refused p) x in
+        let next = next_of p.faulted rest (drop p.count (plan r old.geometry s).list) op (sym to ∙ come.rest) in
+        let P : Progress → Type 0 = λ x. HasCome r old.geometry s x new.content in
+        let Q : Seen → Type 0 = λ x. HasCome r old.geometry s (refused p) x.content in
         subst P (sym a) (subst Q (sym b) (record {
           rules = come.rules;
           kind = come.kind;
           within = come.within;
           happened = come.happened;
           rest = refl;
-          refused = λ _. (rw next.1 (none_first g op rest t none), more_left (plan r g s).list rest op p.count next.1);
+          refused = λ _. (rw next.1 (none_first old.geometry op rest old.content none), more_left (plan r old.geometry s).list rest op p.count next.1);
         }))
 
-    go : (ops : List Op) → p.to_come ≡ ops → (x : Result (Unit {0}) FlashError) → TriesFirst g ops p q t u x → HasCome r g s q u
+    go : (ops : List Op) → p.to_come ≡ ops → (x : Result (Unit {0}) FlashError) → StepsAlong ops p old x q new → HasCome r old.geometry s q new.content
     go [] to (Ok v) done = stays done.0 done.1
     go [] to (Err e) done = absurd done
-    go (op ∷ rest) to x done = tries (apply g op t) refl x done
+    go (op ∷ rest) to (Ok v) done =
+        let P : Progress → Type 0 = λ y. HasCome r old.geometry s y new.content in
+        subst P (sym done.0) (happens rest op to (did op old new done.1.0).applied)
+    go (op ∷ rest) to (Err errors.NotErased) done = refuses rest op to (undefined op old done.1.0) done.0 done.1.1
+    go (op ∷ rest) to (Err errors.Memory) done = wanted done.0 done.1.1
       where
-        tries : (o : Option Content) → apply g op t ≡ o → (x : Result (Unit {0}) FlashError) → Tries o rest p q t u x → HasCome r g s q u
-        tries (Some given) is (Ok v) done =
-            let P : Progress → Type 0 = λ y. HasCome r g s y u in
-            subst P (sym done.0) (happens rest op to (is ∙ ap (λ (y : Content). Some y) (sym done.1)))
-        tries (Some given) is (Err errors.Memory) done = stays done.0 done.1
-        tries (Some given) is (Err errors.NotErased) done = absurd done
-        tries None is (Ok v) done = absurd done
-        tries None is (Err errors.Memory) done = absurd done
-        tries None is (Err errors.NotErased) done = refuses rest op to is done.0 done.1
+        wanted : q ≡ p → GivesUp (IsFull old.geometry op old.ledger) old new → HasCome r old.geometry s q new.content
+        wanted a (inl kept) = stays a kept.2
+        wanted a (inr lost) =
+            let P : Progress → Type 0 = λ x. HasCome r old.geometry s x new.content in
+            let Q : Content → Type 0 = λ x. HasCome r old.geometry s p x in
+            subst P (sym a) (subst Q (sym (ap (λ (x : Seen). x.content) lost.1)) come)
 
 -- Behind what happened nothing more can happen, at the end.
 ends : (r : Rules) (g : Geometry) (s : Content) (p : Progress) (t : Content) → HasCome r g s p t → p.to_come ≡ []

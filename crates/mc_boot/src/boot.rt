@@ -1,10 +1,12 @@
 //! The boot as a machine that makes one operation at a time.
-ghost use Rattle.std.specs.Prelude.{◌≡◌, ◌<◌, ◌≤◌, [], length, slice_get, Some, ◌↔◌, IsSome, IfSome};
+ghost use Rattle.std.specs.Prelude.{◌≡◌, ◌<◌, ◌≤◌, [], length, slice_get, Some, ◌↔◌, IsSome, IfSome, IfErr, OnOk};
 ghost use Rattle.mc_trailer.specs.Entries.{highest_entry};
 ghost use Rattle.mc_flash.specs.Geometry.{Geometry};
-ghost use Rattle.mc_flash.specs.Content.{Content};
-ghost use Rattle.mc_flash.specs.Apply.{CanTry, Does, apply};
-ghost use Rattle.mc_flash.specs.Ledger.{Notes, most_operations, most_saved};
+ghost use Rattle.mc_flash.specs.Content.{Content, IsSized};
+ghost use Rattle.mc_flash.specs.Apply.{CanTry};
+ghost use Rattle.mc_flash.specs.Seen.{Does, Keeps};
+ghost use Rattle.mc_flash.specs.Spends.{Spends, Allows};
+ghost use Rattle.mc_flash.specs.Ledger.{most_operations, most_saved};
 ghost use Rattle.mc_trailer.specs.declared.tables.Rules.{Rules};
 ghost use Rattle.mc_boot.specs.After.{IsCut, operations_kept};
 ghost use Rattle.mc_boot.specs.Boot.{progress, IsBootOf, begun};
@@ -35,13 +37,8 @@ pub struct Boot {
 
 // Makes one operation.
 fn perform<F: Flash>(flash: &mut F, op: Op) -> Result<(), FlashError>
-    requires { CanTry (F.geometry flash.old) op }
-    ensures does { Does (apply (F.geometry flash.old) op (F.content flash.old))
-        result (F.content flash.old) (F.content flash.new) }
-    ensures notes { Notes F.counted (F.geometry flash.old) op
-        result (F.ledger flash.old) (F.ledger flash.new) }
-    ensures geometry { F.geometry flash.new ≡ F.geometry flash.old }
-    ensures marks { F.marks flash.new ≡ F.marks flash.old }
+    requires { CanTry (F.seen flash.old).geometry op }
+    ensures { Does op (F.seen flash.old) result (F.seen flash.new) }
 {
     match op {
         Op::Erase(slot, sector) => flash.erase(slot, sector),
@@ -58,9 +55,9 @@ fn confirms(kind: SwapType, image_ok: Flag) -> bool
 }
 
 impl Boot {
-    ghost use Rattle.mc_boot.specs.Boot.{all_of, to_come, progress, IsBootOf, Steps, NotesFirst, begun};
+    ghost use Rattle.mc_boot.specs.Boot.{all_of, to_come, progress, IsBootOf, Steps, begun};
     ghost use Rattle.mc_boot.specs.Run.{HasCome};
-    ghost use Rattle.mc_boot.specs.Bounds.{all_saves};
+    ghost use Rattle.mc_boot.specs.Bounds.{all_saves, left_of};
     ghost use Rattle.mc_boot.specs.Outcome.{shown, report, outcome_of};
 
     // A boot with no operations.
@@ -103,10 +100,10 @@ impl Boot {
 
     // A boot that the tables ask for. Images are read where it is a swap alone, unless they are known.
     fn new_boot<F: Flash>(flash: &F, rules: Rules, known: Option<Images>, kind: SwapType) -> Boot
-        requires { IfSome known (λ images. images ≡ images_of (F.content flash.now)) }
+        requires { IfSome known (λ images. images ≡ images_of (F.seen flash.now).content) }
         ensures progress { progress result
-            ≡ begun rules (new_plan rules.grain (F.geometry flash.now) (images_of (F.content flash.now)) kind) }
-        ensures layout { IsBootOf (F.geometry flash.now) result }
+            ≡ begun rules (new_plan rules.grain (F.seen flash.now).geometry (images_of (F.seen flash.now).content) kind) }
+        ensures layout { IsBootOf (F.seen flash.now).geometry result }
     {
         match kind {
             SwapType::Test | SwapType::Perm | SwapType::Revert => {
@@ -128,9 +125,9 @@ impl Boot {
         kind: SwapType,
         sectors: u32,
     ) -> Boot
-        ensures progress { let highest = highest_entry (F.geometry flash.now) (F.content flash.now)
-            in progress result ≡ begun rules (resumed_swap rules.grain (F.geometry flash.now) image_ok highest kind sectors) }
-        ensures layout { IsBootOf (F.geometry flash.now) result }
+        ensures progress { let highest = highest_entry (F.seen flash.now).geometry (F.seen flash.now).content
+            in progress result ≡ begun rules (resumed_swap rules.grain (F.seen flash.now).geometry image_ok highest kind sectors) }
+        ensures layout { IsBootOf (F.seen flash.now).geometry result }
     {
         let layout = flash.layout();
         if sectors == 0 {
@@ -163,9 +160,9 @@ impl Boot {
 
     // A boot that goes on with a swap that was cut, by the primary's trailer.
     fn resumed_boot<F: Flash>(flash: &F, rules: Rules, primary: &Trailer) -> Boot
-        ensures progress { let highest = highest_entry (F.geometry flash.now) (F.content flash.now)
-            in progress result ≡ begun rules (resumed_plan rules.grain (F.geometry flash.now) primary.now highest) }
-        ensures layout { IsBootOf (F.geometry flash.now) result }
+        ensures progress { let highest = highest_entry (F.seen flash.now).geometry (F.seen flash.now).content
+            in progress result ≡ begun rules (resumed_plan rules.grain (F.seen flash.now).geometry primary.now highest) }
+        ensures layout { IsBootOf (F.seen flash.now).geometry result }
     {
         let sectors = primary.swap_size.div_ceil(flash.layout().sector());
         match primary.swap_info {
@@ -178,10 +175,10 @@ impl Boot {
 
     // A boot at power-on. Images are read where it begins a swap alone, unless they are known.
     pub(crate) fn begin<F: Flash>(flash: &F, rules: Rules, known: Option<Images>) -> Boot
-        requires { IfSome known (λ images. images ≡ images_of (F.content flash.now)) }
+        requires { IfSome known (λ images. images ≡ images_of (F.seen flash.now).content) }
         ensures progress { progress result
-            ≡ begun rules (plan rules (F.geometry flash.now) (F.content flash.now)) }
-        ensures layout { IsBootOf (F.geometry flash.now) result }
+            ≡ begun rules (plan rules (F.seen flash.now).geometry (F.seen flash.now).content) }
+        ensures layout { IsBootOf (F.seen flash.now).geometry result }
     {
         let primary = Trailer::read(flash, Slot::Primary);
         let secondary = Trailer::read(flash, Slot::Secondary);
@@ -197,18 +194,21 @@ impl Boot {
     #[tactic(auto, using(crate::specs::Bounds::plan_few, crate::specs::Bounds::plan_saves, crate::proofs::AfterCut::begun_list))]
     pub fn cold<F: Flash>(flash: &F, rules: Rules) -> Boot
         ensures progress { progress result
-            ≡ begun rules (plan rules (F.geometry flash.now) (F.content flash.now)) }
-        ensures layout { IsBootOf (F.geometry flash.now) result }
+            ≡ begun rules (plan rules (F.seen flash.now).geometry (F.seen flash.now).content) }
+        ensures layout { IsBootOf (F.seen flash.now).geometry result }
         ensures whole { all_of result
-            ≡ (plan rules (F.geometry flash.now) (F.content flash.now)).list }
-        ensures come { HasCome rules (F.geometry flash.now) (F.content flash.now)
-            (progress result) (F.content flash.now) }
+            ≡ (plan rules (F.seen flash.now).geometry (F.seen flash.now).content).list }
+        ensures come { HasCome rules (F.seen flash.now).geometry (F.seen flash.now).content
+            (progress result) (F.seen flash.now).content }
+        ensures sized { IsSized (F.seen flash.now).geometry (F.seen flash.now).content }
         // It has few operations, and what their erases save is little.
-        ensures few { length (progress result).to_come ≤ most_operations rules.grain (F.geometry flash.now) }
-        ensures few_saves { all_saves (F.geometry flash.now) (progress result).to_come ≤ most_saved (F.geometry flash.now) }
+        ensures few { length (progress result).to_come ≤ most_operations rules.grain (F.seen flash.now).geometry }
+        ensures few_saves { all_saves (F.seen flash.now).geometry (progress result).to_come ≤ most_saved (F.seen flash.now).geometry }
     {
-        // Each number of a layout tells that it is one.
+        // Each number of a layout tells that it is one, and each slot how long it is.
         let _sector = flash.layout().sector();
+        let _primary = flash.read(Slot::Primary);
+        let _secondary = flash.read(Slot::Secondary);
         Boot::begin(flash, rules, None)
     }
 
@@ -249,20 +249,16 @@ impl Boot {
     /// `NotErased` exactly where the operation can't be done: the boot is at its end then, and the flash as it was.
     /// `Memory` where the flash can't grow: boot and flash are as they were.
     pub fn step<F: Flash>(&mut self, flash: &mut F) -> Result<(), FlashError>
-        requires { IsBootOf (F.geometry flash.old) self.old }
-        ensures step { Steps (F.geometry flash.old) (progress self.old) (progress self.new)
-            (F.content flash.old) (F.content flash.new) result }
+        requires { IsBootOf (F.seen flash.old).geometry self.old }
+        ensures step { Steps (progress self.old) (F.seen flash.old) result (progress self.new) (F.seen flash.new) }
         // It stays on its way from the flash at power-on.
         ensures come { (r : Rules) (s : Content)
-            → HasCome r (F.geometry flash.old) s (progress self.old) (F.content flash.old)
-            → HasCome r (F.geometry flash.old) s (progress self.new) (F.content flash.new) }
+            → HasCome r (F.seen flash.old).geometry s (progress self.old) (F.seen flash.old).content
+            → HasCome r (F.seen flash.old).geometry s (progress self.new) (F.seen flash.new).content }
         ensures whole { all_of self.new ≡ all_of self.old }
-        // What happens to the ledger, and why memory was wanted.
-        ensures notes { NotesFirst F.counted (F.geometry flash.old) (to_come self.old)
-            result (F.ledger flash.old) (F.ledger flash.new) }
-        ensures layout { IsBootOf (F.geometry flash.new) self.new }
-        ensures geometry { F.geometry flash.new ≡ F.geometry flash.old }
-        ensures marks { F.marks flash.new ≡ F.marks flash.old }
+        ensures layout { IsBootOf (F.seen flash.new).geometry self.new }
+        // The layout and the marks stay.
+        ensures keeps { Keeps (F.seen flash.old) (F.seen flash.new) }
     {
         let Some(op) = self.next_op() else {
             return Ok(());
@@ -280,6 +276,44 @@ impl Boot {
         }
     }
 
+    /// How many operations happened.
+    pub fn count(&self) -> u32
+        ensures { result ≡ (progress self.now).count }
+    {
+        self.done
+    }
+
+    /// Makes all operations that are left. After one that is refused the boot is at its end.
+    ///
+    /// # Errors
+    ///
+    /// `Memory` where the flash can't grow.
+    pub fn finish<F: Flash>(&mut self, flash: &mut F) -> Result<(), FlashError>
+        requires layout { IsBootOf (F.seen flash.old).geometry self.old }
+        requires room { Allows (left_of (F.seen flash.old).geometry (progress self.old))
+            (F.seen flash.old) }
+        ensures come { (r : Rules) (s : Content)
+            → HasCome r (F.seen flash.old).geometry s (progress self.old) (F.seen flash.old).content
+            → HasCome r (F.seen flash.old).geometry s (progress self.new)
+            (F.seen flash.new).content }
+        ensures end { OnOk result (to_come self.new ≡ []) }
+        ensures layout { IsBootOf (F.seen flash.new).geometry self.new }
+        ensures whole { all_of self.new ≡ all_of self.old }
+        ensures keeps { Keeps (F.seen flash.old) (F.seen flash.new) }
+        // With that room it fails only where the flash takes memory as it goes.
+        ensures spends { Spends (length (to_come self.old)) (F.seen flash.old) result
+            (F.seen flash.new) }
+        ensures err { IfErr result (λ e. e ≡ FlashError.Memory) }
+    {
+        'steps: while self.peek().is_some() {
+            match self.step(flash) {
+                Ok(()) | Err(FlashError::NotErased) => {}
+                Err(FlashError::Memory) => return Err(FlashError::Memory),
+            }
+        }
+        Ok(())
+    }
+
     /// The type that the boot chose at power-on.
     pub(crate) fn kind(&self) -> SwapType
         ensures { result ≡ (progress self.now).kind }
@@ -290,11 +324,11 @@ impl Boot {
     /// What the boot has done, to be asked at its end, where `peek` gives none. It reads and hashes each slot once.
     pub fn outcome<F: Flash>(&self, flash: &F) -> Outcome
         ensures report { let p = progress self.now
-            in shown result ≡ report p.rules (F.geometry flash.now) p.kind p.count p.faulted (F.content flash.now) }
+            in shown result ≡ report p.rules (F.seen flash.now).geometry p.kind p.count p.faulted (F.seen flash.now).content }
         // At the end it is the outcome of the uncut boot from the flash at power-on.
         ensures end { (r : Rules) (s : Content)
-            → HasCome r (F.geometry flash.now) s (progress self.now) (F.content flash.now)
-            → to_come self.now ≡ [] → outcome_of r (F.geometry flash.now) s ≡ Some (shown result) }
+            → HasCome r (F.seen flash.now).geometry s (progress self.now) (F.seen flash.now).content
+            → to_come self.now ≡ [] → outcome_of r (F.seen flash.now).geometry s ≡ Some (shown result) }
     {
         Outcome::read(flash, self.rules, self.kind, self.done, self.faulted)
     }

@@ -36,7 +36,7 @@ pub struct Held {
 
 /// The bytes of a slot, as many as its layout says.
 pub fn slot_bytes<F: Flash>(flash: &F, slot: Slot) -> &[u8]
-    ensures value { result.now ≡ bytes_of (F.content flash.now) slot }
+    ensures value { result.now ≡ bytes_of (F.seen flash.now).content slot }
     ensures few { length result.now ≤ 2 ^ 24 }
 {
     let size = flash.layout().size(slot) as usize;
@@ -114,7 +114,7 @@ impl Images {
 
     /// By the bytes of the slots. Of the primary no digest is asked.
     pub fn read<F: Flash>(flash: &F) -> Images
-        ensures { result ≡ images_of (F.content flash.now) }
+        ensures { result ≡ images_of (F.seen flash.now).content }
     {
         let primary = image_size(slot_bytes(flash, Slot::Primary));
         let secondary = Held::read(slot_bytes(flash, Slot::Secondary));

@@ -62,7 +62,7 @@ impl Outcome {
         faulted: bool,
     ) -> Outcome
         ensures { shown result
-            ≡ report rules (F.geometry flash.now) kind ops faulted (F.content flash.now) }
+            ≡ report rules (F.seen flash.now).geometry kind ops faulted (F.seen flash.now).content }
     {
         let primary = Held::read(slot_bytes(flash, Slot::Primary));
         let secondary = Held::read(slot_bytes(flash, Slot::Secondary));

@@ -128,10 +128,10 @@ fn are_same(a: Op, b: Op) -> bool {
 
 /// Makes so many steps, or all that there are.
 fn run<F: Flash>(flash: &mut F, boot: &mut Boot, steps: u32)
-    requires { IsBootOf (F.geometry flash.old) boot.old }
-    ensures boot { IsBootOf (F.geometry flash.new) boot.new }
-    ensures geometry { F.geometry flash.new ≡ F.geometry flash.old }
-    ensures marks { F.marks flash.new ≡ F.marks flash.old }
+    requires { IsBootOf (F.seen flash.old).geometry boot.old }
+    ensures boot { IsBootOf (F.seen flash.new).geometry boot.new }
+    ensures geometry { (F.seen flash.new).geometry ≡ (F.seen flash.old).geometry }
+    ensures marks { (F.seen flash.new).marks ≡ (F.seen flash.old).marks }
 {
     for _ in 0..steps {
         let _ = boot.step(flash);
@@ -140,7 +140,7 @@ fn run<F: Flash>(flash: &mut F, boot: &mut Boot, steps: u32)
 
 /// The outcome of a whole boot.
 fn told<F: Flash>(flash: &mut F, rules: Rules) -> Outcome
-    ensures { F.marks flash.new ≡ F.marks flash.old }
+    ensures { (F.seen flash.new).marks ≡ (F.seen flash.old).marks }
 {
     let mut boot = Boot::cold(flash, rules);
     run(flash, &mut boot, 200);
@@ -149,8 +149,8 @@ fn told<F: Flash>(flash: &mut F, rules: Rules) -> Outcome
 
 /// Whether these are the operations of the boot, one after the other.
 fn makes<F: Flash>(flash: &mut F, boot: &mut Boot, ops: &[Op]) -> bool
-    requires { IsBootOf (F.geometry flash.old) boot.old }
-    ensures { IsBootOf (F.geometry flash.new) boot.new }
+    requires { IsBootOf (F.seen flash.old).geometry boot.old }
+    ensures { IsBootOf (F.seen flash.new).geometry boot.new }
 {
     for op in ops {
         let Some(next) = boot.peek() else {
@@ -204,6 +204,24 @@ fn a_swap_for_a_test(rt: HostRuntime) -> Result<(), Fail> {
 }
 
 #[test]
+#[tactic(auto, unfolding(mc_flash::specs::Snap::ample))]
+fn a_boot_to_its_end(rt: HostRuntime) -> Result<(), Fail> {
+    let mut flash = test_flash(rt.alloc())?;
+    let mut boot = Boot::cold(&flash, Rules::PLAIN);
+    boot.finish(&mut flash)?;
+    assert!(rt; boot.peek().is_none());
+    assert_eq!(rt; boot.outcome(&flash).ops, 18);
+    // Copy-done reads as unset and can't be written.
+    let mut flash = begun_flash(rt.alloc(), SIZE, &[(984, 2), (993, 0)])?;
+    let mut boot = Boot::cold(&flash, Rules::PLAIN);
+    boot.finish(&mut flash)?;
+    assert!(rt; boot.peek().is_none());
+    let outcome = boot.outcome(&flash);
+    assert_eq!(rt; (outcome.result, outcome.ops), (BootResult::Fault, 13));
+    Ok(())
+}
+
+#[test]
 fn a_revert(rt: HostRuntime) -> Result<(), Fail> {
     let mut flash = test_flash(rt.alloc())?;
     let _ = told(&mut flash, Rules::PLAIN);
@@ -216,6 +234,7 @@ fn a_revert(rt: HostRuntime) -> Result<(), Fail> {
 }
 
 #[test]
+#[tactic(auto, unfolding(mc_flash::specs::Seen::went_back))]
 fn a_kept_boot_serves_again(rt: HostRuntime) -> Result<(), Fail> {
     let mut flash = test_flash(rt.alloc())?;
     let mut boot = Boot::cold(&flash, Rules::PLAIN);

@@ -1,26 +1,18 @@
 -- The one list of the rows to come, as that of a tree.
-use Rattle.std.proofs.Common.{◌≡◌, ℕ, List, [], ◌∷◌, ◌++◌, Bool, true, false, Option, Some, None, option_and_then, inl, inr, refl, sym, ap, subst, ◌∙◌, arith}
-use Rattle.mc_flash.specs.Geometry.{Geometry}
+use Rattle.std.proofs.Common.{◌≡◌, ℕ, List, [], ◌∷◌, ◌++◌, Option, Some, option_and_then, inl, inr, refl, ap, subst, ◌∙◌, arith}
 use Rattle.mc_flash.specs.Content.{Content}
 use Rattle.mc_boot.specs.RunFacts.{outcome_defined}
 use Rattle.mc_boot.specs.Outcome.{Report, outcome_of}
-use Rattle.mc_tree.specs.Tree as tree
 use Rattle.mc_tree.specs.Tree.{landed, Allowed}
-use Rattle.mc_tree.specs.Paths.{Precedes, After, IsNext, IsOver}
-use Rattle.mc_tree.specs.facts.Past.{same_next, same_over}
+use Rattle.mc_tree.specs.Paths.{Precedes}
 use Rattle.mc_tree.specs.facts.OneList as lists_facts
 use Rattle.mc_tree.specs.facts.Existence as existence
 use Rattle.mc_tree.specs.facts.Existence.{AreRows}
 use Rattle.mc_explore.specs.Boots.{boots}
 use Rattle.mc_explore.specs.Rest.{schedule_of, IsRow, IsRest}
-use Rattle.mc_explore.specs.Schedules.{IsMember}
 use Rattle.mc_explore.specs.Start.{Begun}
 use Rattle.mc_explore.specs.State as states
 use Rattle.mc_explore.specs.State.{State, Told, told, HasOutcome, Finds, outcome_after, moved_to}
-use Rattle.mc_explore.specs.Stack.{Advances, dones}
-use Rattle.mc_explore.specs.declared.frames.Frame.{Frame}
-use Rattle.mc_explore.specs.declared.row.Row.{Row}
-use Rattle.mc_explore.specs.declared.walk.Walk.{Walk}
 use Rattle.mc_explore.proofs.Occurring.{allowed_after, member_of, path_of}
 
 one_outcome : (a b : List ℕ) (x y : Report) (o : List ℕ → Option Report) → a ≡ b → o a ≡ Some x → o b ≡ Some y → x ≡ y
@@ -99,21 +91,3 @@ module _ (state : State) where
   longer_first front between rest first later one two r =
       let before = in_order front between rest first later r in
       one_is_later (subst (Precedes (1 ∷ [])) two (subst (λ l. Precedes l later.schedule) one before))
-
--- What an advance of the walk comes to is the next row of the schedules.
-module _ (w : Walk) (g : Geometry) (start : Content) (failed : Bool) (l : List ℕ) (fs : List Frame) (went : Bool) (step : Advances w g start l went (dones fs)) where
-  abbrev pub walked : State
-  walked = record { start = record { geometry = g; rules = w.rules; content = start }; bound = w.bound; position = After l; failed = failed }
-
-  pub found_row : (row : Row) → went ≡ true → row.schedule ≡ dones fs → HasOutcome walked.start (told row) → Finds walked (Some row)
-  found_row row went_on is outcome =
-      let there : IsNext (tree.IsMember (boots w.rules g) start w.bound) (After l) (dones fs) = subst (λ b. Advances w g start l b (dones fs)) went_on step in
-      let next = same_next (tree.IsMember (boots w.rules g) start w.bound) (IsMember w.rules g start w.bound)
-      (member_of w.rules g start w.bound) (path_of w.rules g start w.bound) (After l) (dones fs) there in
-      (subst (IsNext (IsMember w.rules g start w.bound) (After l)) (sym is) next, outcome)
-
-  pub found_none : went ≡ false → Finds walked None
-  found_none stayed =
-      let over : IsOver (tree.IsMember (boots w.rules g) start w.bound) (After l) = subst (λ b. Advances w g start l b (dones fs)) stayed step in
-      same_over (tree.IsMember (boots w.rules g) start w.bound) (IsMember w.rules g start w.bound)
-      (member_of w.rules g start w.bound) (path_of w.rules g start w.bound) (After l) over

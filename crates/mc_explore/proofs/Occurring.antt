@@ -1,19 +1,15 @@
 -- The flash that power cuts leave, as an option and as a total function: where the cuts can occur the two are one.
-use Rattle.std.specs.Prelude.{◌≡◌, ℕ, ◌+◌, ◌<◌, nat_lt, Bool, true, false, is_some, if◌then◌else◌, List, [], ◌∷◌, length, drop, take, Option, Some, None, option_and_then, Result, Ok, Err, refl}
-use Rattle.std.proofs.Common.{arith, sym, ap, subst, ◌∙◌, length-append}
+use Rattle.std.specs.Prelude.{◌≡◌, ℕ, ◌<◌, nat_lt, Bool, true, false, is_some, if◌then◌else◌, List, [], ◌∷◌, length, Option, Some, None, option_and_then, refl}
+use Rattle.std.proofs.Common.{arith, sym, ap, ◌∙◌}
 use Rattle.std.proofs.lemmas.Bool.Decides.{nat_tests}
 use Rattle.mc_flash.specs.Geometry.{Geometry}
 use Rattle.mc_flash.specs.Content.{Content}
-use Rattle.mc_flash.specs.Apply.{apply}
-use Rattle.mc_flash.specs.declared.op.Op.{Op}
-use Rattle.mc_flash.specs.declared.flash.FlashError.{FlashError}
-use Rattle.mc_flash.specs.declared.flash.FlashError.TheVariants as errors
 use Rattle.mc_trailer.specs.declared.tables.Rules.{Rules}
 use Rattle.mc_boot.specs.Plan.{plan}
-use Rattle.mc_boot.specs.Runs.{first_then, happening, ops_of, at, cut_at, after}
-use Rattle.mc_boot.specs.Boot.{Progress, begun, Tries, TriesFirst, Steps}
+use Rattle.mc_boot.specs.Runs.{ops_of, at, cut_at, after}
+use Rattle.mc_boot.specs.Boot.{Progress, begun}
 use Rattle.mc_boot.specs.Run.{HasCome}
-use Rattle.mc_boot.specs.RunFacts.{at_defined, come_at, come_count, come_front}
+use Rattle.mc_boot.specs.RunFacts.{at_defined, come_begun, come_at}
 use Rattle.mc_explore.specs.Schedules.{CanOccur, IsMember}
 use Rattle.mc_tree.specs.Tree.{landed, Allowed}
 use Rattle.mc_tree.specs.Tree as tree
@@ -70,56 +66,6 @@ path_of r g s bound l m = (m.0, occurs_allowed r g s l m.1)
 pub come_lands : (r : Rules) (g : Geometry) (s : Content) (p : Progress) (t : Content) → HasCome r g s p t → t ≡ at_cut r g s p.count
 come_lands r g s p t come = lands_at r g s t p.count (come_at r g s p t come)
 
--- At power-on.
-pub lands_at_zero : (r : Rules) (g : Geometry) (s : Content) (p : Progress) → HasCome r g s p s → p ≡ begun r (plan r g s) → s ≡ at_cut r g s 0
-lands_at_zero r g s p come is = come_lands r g s p s come ∙ ap (λ (q : Progress). at_cut r g s q.count) is
-
--- ---- a step of a boot with operations left
-
--- The operation that comes next, and that it can be done.
-pub record HasNext (g : Geometry) (p : Progress) (t : Content) : Type 0 where
-  pub op : Op
-  pub rest : List Op
-  pub given : Content
-  pub next : p.to_come ≡ op ∷ rest
-  pub does : apply g op t ≡ Some given
-
-left_some : (r : Rules) (g : Geometry) (s : Content) (p : Progress) (t : Content) → HasCome r g s p t → p.count < length (ops_of r g s) → 0 < length (happening g (drop p.count (plan r g s).list) t)
-left_some r g s p t come lt =
-    omega (arith, come_count r g s p t come, ap (λ (ops : List Op). length ops) (come_front r g s p t come), length-append (take p.count (plan r g s).list) (happening g (drop p.count (plan r g s).list) t))
-
-not_refused : (r : Rules) (g : Geometry) (s : Content) (p : Progress) (t : Content) (b : Bool) → p.faulted ≡ b → HasCome r g s p t → p.count < length (ops_of r g s) → b ≡ false
-not_refused r g s p t false e come lt = refl
-not_refused r g s p t true e come lt =
-    absurd (omega (arith, left_some r g s p t come lt, ap (λ (ops : List Op). length ops) (come.refused e).0))
-
-next_does : (g : Geometry) (op : Op) (rest : List Op) (t : Content) (o : Option Content) → apply g op t ≡ o → 0 < length (first_then op (λ u. happening g rest u) o) → (z : Content) × (o ≡ Some z)
-next_does g op rest t None e some = absurd (omega (arith, some))
-next_does g op rest t (Some z) e some = (z, refl)
-
-next_in : (g : Geometry) (p : Progress) (t : Content) (ops : List Op) → p.to_come ≡ ops → 0 < length (happening g ops t) → HasNext g p t
-next_in g p t [] e some = absurd (omega (arith, some))
-next_in g p t (op ∷ rest) e some =
-    let does = next_does g op rest t (apply g op t) refl some in
-    record { op = op; rest = rest; given = does.0; next = e; does = does.1 }
-
-pub has_next : (r : Rules) (g : Geometry) (s : Content) (p : Progress) (t : Content) → HasCome r g s p t → p.count < length (ops_of r g s) → HasNext g p t
-has_next r g s p t come lt =
-    let fine = not_refused r g s p t p.faulted refl come lt in
-    next_in g p t (drop p.count (plan r g s).list) (come.rest ∙ ap (λ (b : Bool). if b then [] else drop p.count (plan r g s).list) fine) (left_some r g s p t come lt)
-
--- It is done, or memory is wanted.
-abbrev pub Goes : Progress → Progress → Result (Unit {0}) FlashError → Type 0
-Goes p q (Ok _) = q.count ≡ p.count + 1
-Goes p q (Err e) = e ≡ errors.Memory
-
-goes_by : (p q : Progress) (t u : Content) (given : Content) (rest : List Op) (result : Result (Unit {0}) FlashError) → Tries (Some given) rest p q t u result → Goes p q result
-goes_by p q t u given rest (Ok v) done = ap (λ (x : Progress). x.count) done.0
-goes_by p q t u given rest (Err errors.Memory) done = refl
-goes_by p q t u given rest (Err errors.NotErased) done = absurd done
-
-pub step_goes : (r : Rules) (g : Geometry) (s : Content) (p q : Progress) (t u : Content) (result : Result (Unit {0}) FlashError) → HasCome r g s p t → p.count < length (ops_of r g s) → Steps g p q t u result → Goes p q result
-step_goes r g s p q t u result come lt steps =
-    let n = has_next r g s p t come lt in
-    let first : TriesFirst g (n.op ∷ n.rest) p q t u result = subst (λ (ops : List Op). TriesFirst g ops p q t u result) n.next steps in
-    goes_by p q t u n.given n.rest result (subst (λ (o : Option Content). Tries o n.rest p q t u result) n.does first)
+-- No operation leaves the flash as it is.
+pub at_zero : (r : Rules) (g : Geometry) (s : Content) → s ≡ at_cut r g s 0
+at_zero r g s = come_lands r g s (begun r (plan r g s)) s (come_begun r g s)

@@ -1,8 +1,9 @@
 -- A page, as its lines are written one after another.
-use Rattle.std.proofs.Common.{◌≡◌, ℕ, suc, List, [], ◌++◌, length, take, drop, Some, None, Option, refl, sym, ap, subst, ◌∙◌, append_assoc, append-nil}
+use Rattle.std.proofs.Common.{◌≡◌, ℕ, suc, ◌+◌, ◌*◌, ◌≤◌, List, [], ◌++◌, length, take, drop, Some, None, Option, refl, sym, ap, subst, ◌∙◌, append_assoc, append-nil, arith}
 use Rattle.std.proofs.lemmas.List.{take_at, take-append-drop}
 use Rattle.std.specs.Io.KnownBytes.{Appends}
 use Rattle.mc_explore.specs.CursorText.{cursor_text}
+use Rattle.mc_explore.specs.Bounds.{most_for_row, row_cost}
 use Rattle.mc_explore.specs.Rest.{IsRest}
 use Rattle.mc_explore.specs.Start.{Begun}
 use Rattle.mc_explore.specs.State.{State, Told, told, state_after, Finds, IsOver}
@@ -157,3 +158,16 @@ began_when_full old now limit room last before after more line e h is a =
 -- The line of the cursor.
 pub next_is : (state : State) (last : List ℕ) (cursor : Cursor) (bytes : List ℕ) → cursor ≡ cursor_of state.start state.bound last → bytes ≡ cursor_text cursor → bytes ≡ cursor_text (cursor_of state.start state.bound last)
 next_is state last cursor bytes e is = is ∙ ap cursor_text e
+
+-- ---- what a page costs
+
+-- One row of those that are left.
+pub row_paid : (old new room left cost most : ℕ) → room ≡ suc left → new ≤ old + cost → old + room * cost ≤ most → new + left * cost ≤ most
+row_paid old new room left cost most is more less = let e : room * cost ≡ left * cost + cost = ap (λ n. n * cost) is ∙ one_more left cost in omega (arith, more, less, e)
+  where
+    one_more : (n l : ℕ) → suc n * l ≡ n * l + l
+    one_more n l = omega arith
+
+-- What a row costs from a start that is known.
+pub found_cost : {R : Type 0} → (from start : Begun) (found : Option R) (row : R) → from ≡ start → found ≡ Some row → row_cost from.rules from.geometry found ≡ most_for_row start.rules start.geometry
+found_cost from start found row same is = cc

@@ -7,8 +7,9 @@ pub mod Boots
 pub mod State
 pub mod Rest
 pub mod RowText
-pub mod Stack
+pub mod Once
 pub mod View
+pub mod Rows
 pub mod Want
 pub mod Bounds
 pub mod CursorText

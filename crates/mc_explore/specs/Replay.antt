@@ -1,33 +1,25 @@
 -- One schedule, cut by cut.
-use Rattle.std.specs.Prelude.{◌≡◌, ℕ, ◌+◌, ◌<◌, Bool, true, false, List, [], length, take, Some, None, ⊤}
+use Rattle.std.specs.Prelude.{◌≡◌, ℕ, ◌+◌, ◌<◌, false, List, [], length, take, Some, None, ⊤}
+use Rattle.mc_flash.specs.Seen.{Seen}
 use Rattle.mc_flash.specs.Geometry.{Geometry}
 use Rattle.mc_flash.specs.Content.{Content}
 use Rattle.mc_trailer.specs.declared.tables.Rules.{Rules}
 use Rattle.mc_boot.specs.Boot.{Progress}
 use Rattle.mc_boot.specs.Run.{HasCome}
-use Rattle.mc_boot.specs.Runs.{ops_of, cut_at, after, left_by}
-use Rattle.mc_boot.specs.Outcome.{Report, outcome_of}
+use Rattle.mc_boot.specs.Runs.{after, left_by}
+use Rattle.mc_boot.specs.Outcome.{Report, outcome_of, shown}
 use Rattle.mc_boot.specs.Restart.{BeginsImage, EndsIn, forgets_reverts}
 use Rattle.mc_boot.specs.Start.{StartKind, no_swap, revert, start_flash, named, other}
 use Rattle.mc_boot.specs.declared.outcome.BootResult.TheVariants as results
+use Rattle.mc_boot.specs.declared.outcome.Outcome.{Outcome}
 use Rattle.mc_image.specs.Valid.{id_of}
 use Rattle.mc_explore.specs.declared.replaying.ReplayError.{ReplayError}
 use Rattle.mc_explore.specs.declared.replaying.ReplayError.TheVariants as errors
 
--- One more operation happened, or no more can: those that did are all of the uncut boot.
-abbrev pub Goes : Geometry → Progress → Progress → Content → Bool → Type 0
-Goes g p q t true = q.count ≡ p.count + 1
-Goes g p q t false = (r : Rules) (s : Content) → HasCome r g s p t → length (ops_of r g s) ≡ p.count
-
--- One more operation can happen of a boot that has come to p, or no more can.
-abbrev pub GoesOn : Geometry → Progress → Content → Bool → Type 0
-GoesOn g p t true = (r : Rules) (s : Content) → HasCome r g s p t → p.count < length (ops_of r g s)
-GoesOn g p t false = (r : Rules) (s : Content) → HasCome r g s p t → length (ops_of r g s) ≡ p.count
-
--- The boot from s was cut there and left t, or that cut can't occur.
-abbrev pub Cuts : Rules → Geometry → Content → ℕ → Bool → Content → Type 0
-Cuts r g s cut true t = cut_at r g s cut ≡ Some t
-Cuts r g s cut false t = cut_at r g s cut ≡ None
+-- A boot that has come to p on this flash ends with that outcome.
+abbrev pub EndsWith : Seen → Progress → Outcome → Type 0
+EndsWith f p outcome =
+    (r : Rules) (s : Content) → HasCome r f.geometry s p f.content → outcome_of r f.geometry s ≡ Some (shown outcome)
 
 -- The cuts from s can occur, and the uncut boot from what they leave has that outcome and leaves z.
 pub record IsReplayed (r : Rules) (g : Geometry) (s : Content) (cuts : List ℕ) (outcome : Report) (z : Content) : Type 0 where

@@ -1,18 +1,12 @@
 -- Where a cursor serves to go on, and the first reason why it does not.
-use Rattle.std.specs.Prelude.{◌≡◌, ◌≢◌, ℕ, List, [], ◌∷◌, false, Result, Ok, Err}
-use Rattle.mc_flash.specs.Geometry.{Geometry}
-use Rattle.mc_flash.specs.Content.{Content}
-use Rattle.mc_flash.specs.Ledger.{Ledger, Spot}
-use Rattle.mc_explore.specs.Bounds.{IsRoomyAt}
+use Rattle.std.specs.Prelude.{◌≡◌, ◌≢◌, ℕ, List, false, Result, Ok, Err}
 use Rattle.mc_explore.specs.Schedules.{IsMember}
-use Rattle.mc_explore.specs.Stack.{contents}
 use Rattle.mc_explore.specs.Start.{Begun, start_digest}
 use Rattle.mc_tree.specs.Paths.{After}
 use Rattle.mc_explore.specs.State.{Explored, State}
 use Rattle.mc_explore.specs.declared.cursor.Cursor.{Cursor}
 use Rattle.mc_explore.specs.declared.error.ExploreError.{ExploreError}
 use Rattle.mc_explore.specs.declared.error.ExploreError.TheVariants as errors
-use Rattle.mc_explore.specs.declared.walk.Walk.{Walk}
 
 -- The cursor names this start, its rules and this bound.
 pub record Names (start : Begun) (bound : ℕ) (c : Cursor) : Type 0 where
@@ -41,15 +35,3 @@ abbrev pub Resumes : Begun → ℕ → Cursor → Result Explored ExploreError �
 Resumes start bound c (Ok explorer) =
     Names start bound c × IsMember start.rules start.geometry start.content bound c.schedule × (explorer.state ≡ behind start bound c.schedule)
 Resumes start bound c (Err e) = Refuses start bound c e
-
--- A flash was loaded for a walk, and marked. It has room for the walk, and did no operation.
-pub record IsLoaded (start : Begun) (bound : ℕ) (w : Walk) (g : Geometry) (content : Content) (marks : List Spot) (ledger : Ledger) : Type 0 where
-  pub rules_are : w.rules ≡ start.rules
-  pub bound_is : w.bound ≡ bound
-  pub home_is : w.home ≡ 0
-  pub geometry_is : g ≡ start.geometry
-  pub content_is : content ≡ start.content
-  pub marks_are : contents marks ≡ start.content ∷ []
-  pub calm : ledger.failed ≡ false
-  pub idle : ledger.applied ≡ 0
-  pub roomy : IsRoomyAt w g ledger marks []

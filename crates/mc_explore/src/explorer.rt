@@ -12,16 +12,15 @@ ghost use Rattle.mc_explore.specs.Want.{RanOut};
 
 use crate::cursor::Cursor;
 use crate::error::ExploreError;
-use crate::frames::Frame;
 use crate::loading::{ask, load};
+use crate::once::Once;
 use crate::phase::Phase;
 use crate::row::Row;
-use crate::rows::{next_row_of, row_here};
-use crate::run::run;
-use crate::walk::Walk;
+use crate::rows::{first_row, later_row};
 use crate::{Schedule, Start};
 use mc_boot::restart_law;
 use mc_flash::Flash;
+use mc_walk::Walk;
 use std::alloc::Global;
 use std::marker::Model;
 
@@ -29,33 +28,21 @@ use std::marker::Model;
 /// flash.
 #[derive(Drop)]
 pub struct Explorer<F: Flash> {
-    walk: Walk,
-    // The start's, for cursors.
-    digest: [u8; 32],
-    flash: F,
-    frames: Vec<Frame>,
-    last: Schedule,
-    // How many operations an uncut boot makes after the last schedule.
-    here: u32,
+    walk: Walk<F, Once>,
+    // Where to go on behind the last row.
+    cursor: Cursor,
     phase: Phase,
 }
 
 impl<F: Flash> Model for Explorer<F> {
-    ghost use Rattle.std.specs.Prelude.{length};
-    ghost use Rattle.std.specs.Vec.{vec_capacity};
     ghost use Rattle.mc_explore.specs.State.{Explored};
-    ghost use Rattle.mc_explore.specs.View.{state_of, IsSound};
+    ghost use Rattle.mc_explore.specs.View.{explored, position_of, IsSound};
 
     ghost Value = { Explored };
 
-    ghost view = { λ e. record {
-      state = state_of e.walk (F.geometry e.flash) (F.marks e.flash) (F.ledger e.flash).failed e.last e.phase;
-      content = F.content e.flash;
-      ledger = F.ledger e.flash;
-      marked = length (F.marks e.flash);
-    } };
+    ghost view = { λ e. explored e.walk (position_of e.phase e.cursor.schedule) };
 
-    ghost invariant = { λ e. IsSound e.walk (F.geometry e.flash) (F.content e.flash) (F.marks e.flash) (F.ledger e.flash) (vec_capacity e.frames) e.digest e.frames.items e.last e.here e.phase };
+    ghost invariant = { λ e. IsSound e.walk F.counted e.cursor e.phase };
 }
 
 impl<F: Flash + Drop> Explorer<F> {
@@ -73,15 +60,16 @@ impl<F: Flash + Drop> Explorer<F> {
         ensures exact { IfOk result (λ explorer. F.counted ≡ true → explorer.ledger.limits ≡ limits_for start.now.rules.grain start.now.geometry (bound + 1)) }
         ensures err { IfErr result (λ e. e ≡ ExploreError.Memory) }
     {
-        let (flash, walk) = load(alloc, start, bound)?;
-        let frames = Vec::with_capacity(alloc, walk.bound)?;
+        let walk = load(alloc, start, bound)?;
+        let cursor = Cursor {
+            rules: start.rules(),
+            digest: start.digest(),
+            bound,
+            schedule: Schedule::new(),
+        };
         Ok(Explorer {
             walk,
-            digest: start.digest(),
-            flash,
-            frames,
-            last: Schedule::new(),
-            here: 0,
+            cursor,
             phase: Phase::Fresh,
         })
     }
@@ -109,19 +97,14 @@ impl<F: Flash + Drop> Explorer<F> {
         if cuts.len() > usize::from(bound) {
             return Err(ExploreError::CannotOccur);
         }
-        let (mut flash, walk) = load(alloc, start, bound)?;
-        let mut frames = Vec::with_capacity(alloc, walk.bound)?;
-        if !walk.follow(&mut flash, &mut frames, cuts)? {
+        let mut walk = load(alloc, start, bound)?;
+        walk.begin()?;
+        if !walk.follow(cuts)? {
             return Err(ExploreError::CannotOccur);
         }
-        let outcome = run(&mut flash, walk.rules)?;
         Ok(Explorer {
             walk,
-            digest: cursor.digest,
-            flash,
-            frames,
-            last: cursor.schedule,
-            here: outcome.ops,
+            cursor: *cursor,
             phase: Phase::Going,
         })
     }
@@ -159,18 +142,16 @@ impl<F: Flash + Drop> Explorer<F> {
             }
             Phase::Fresh => {
                 self.phase = Phase::Broken;
-                let row = row_here(self.walk, &mut self.flash, &self.frames)?;
-                self.last = row.schedule;
-                self.here = row.outcome.ops;
+                let row = first_row(&mut self.walk)?;
+                self.cursor.schedule = row.schedule;
                 self.phase = Phase::Going;
                 return Ok(Some(row));
             }
             Phase::Going => {
                 self.phase = Phase::Broken;
-                match next_row_of(self.walk, &mut self.flash, &mut self.frames, self.here)? {
+                match later_row(&mut self.walk)? {
                     Some(row) => {
-                        self.last = row.schedule;
-                        self.here = row.outcome.ops;
+                        self.cursor.schedule = row.schedule;
                         self.phase = Phase::Going;
                         return Ok(Some(row));
                     }
@@ -185,21 +166,20 @@ impl<F: Flash + Drop> Explorer<F> {
 
     /// The flash as it is.
     pub fn flash(&self) -> &F
-        ensures content { F.content result.now ≡ self.now.content }
-        ensures ledger { F.ledger result.now ≡ self.now.ledger }
-        ensures marked { length (F.marks result.now) ≡ self.now.marked }
+        ensures content { (F.seen result.now).content ≡ self.now.content }
+        ensures ledger { (F.seen result.now).ledger ≡ self.now.ledger }
+        ensures marked { length (F.seen result.now).marks ≡ self.now.marked }
     {
-        &self.flash
+        self.walk.flash()
     }
+
     /// Where to go on after a schedule.
     pub(crate) fn cursor(&self, schedule: &Schedule) -> Cursor
         ensures { self.now.state.position ≢ Lost → result ≡ cursor_of self.now.state.start self.now.state.bound schedule.now }
     {
         Cursor {
-            rules: self.walk.rules,
-            digest: self.digest,
-            bound: self.walk.bound as u8,
             schedule: *schedule,
+            ..self.cursor
         }
     }
 

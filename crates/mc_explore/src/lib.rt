@@ -1,17 +1,15 @@
 //! The flashes that a swap starts from, the schedules of power cuts on its way, and the explorer of all of them.
 #![tactic(auto)]
 
-mod boots;
 mod cursor;
 mod cursor_reading;
 mod cursor_text;
 mod error;
 mod explorer;
-mod follow;
-mod frames;
 mod kind;
 mod laws;
 mod loading;
+mod once;
 mod output;
 mod pages;
 mod phase;
@@ -19,12 +17,9 @@ mod replaying;
 mod row;
 mod row_text;
 mod rows;
-mod run;
 mod schedule;
 mod slots;
-mod stack;
 mod start;
-mod walk;
 
 pub use cursor::{Cursor, CursorError};
 pub use error::ExploreError;

@@ -1,39 +1,40 @@
-//! The flash of a start, and whether a cursor is of that start.
+//! The walk from a start, and whether a cursor is of that start.
 ghost use Rattle.std.specs.Prelude.{◌≡◌, ◌+◌, ◌≤◌, true, IfOk, IfErr, OnOk};
 ghost use Rattle.mc_flash.specs.Ledger.{limits_for};
-ghost use Rattle.mc_explore.specs.Resume.{IsLoaded, Names, Refuses};
+ghost use Rattle.mc_explore.specs.Resume.{Names, Refuses};
 ghost use Rattle.mc_explore.specs.Start.{begun};
+ghost use Rattle.mc_explore.specs.View.{IsLoaded};
 
 use crate::Start;
 use crate::cursor::Cursor;
 use crate::error::ExploreError;
-use crate::stack::mark;
-use crate::walk::Walk;
+use crate::once::Once;
 use mc_flash::{Flash, FlashError};
+use mc_walk::Walk;
 use std::alloc::Global;
 
-/// Loads the flash of a start for one boot more than there are cuts, and marks it.
+/// Loads the flash of a start for one boot more than there are cuts, for a walk from there.
 ///
 /// # Errors
 ///
 /// `Memory` where an allocation failed.
-pub fn load<F: Flash>(alloc: Global, start: &Start, bound: u8) -> Result<(F, Walk), FlashError>
+pub fn load<F: Flash>(alloc: Global, start: &Start, bound: u8) -> Result<Walk<F, Once>, FlashError>
     requires { bound ≤ 16 }
-    ensures loaded { IfOk result (λ loaded. IsLoaded (begun start.now) bound loaded.1 (F.geometry loaded.0) (F.content loaded.0) (F.marks loaded.0) (F.ledger loaded.0)) }
-    ensures exact { IfOk result (λ loaded. F.counted ≡ true → (F.ledger loaded.0).limits ≡ limits_for start.now.rules.grain start.now.geometry (bound + 1)) }
+    ensures loaded { IfOk result (IsLoaded F.counted (begun start.now) bound) }
+    ensures exact { IfOk result (λ walk. F.counted ≡ true
+        → walk.seen.ledger.limits ≡ limits_for start.now.rules.grain start.now.geometry (bound + 1)) }
 {
     let rules = start.rules();
-    let mut flash = F::load(
+    let layout = *start.layout();
+    let flash = F::load(
         alloc,
-        start.layout(),
+        &layout,
         rules.grain,
         start.primary(),
         start.secondary(),
         u32::from(bound) + 1,
     )?;
-    let home = mark(&mut flash)?;
-    let bound = usize::from(bound);
-    Ok((flash, Walk { rules, home, bound }))
+    Walk::start(alloc, Once { rules, layout }, usize::from(bound), flash)
 }
 
 /// Whether a cursor is one of this start and this bound.

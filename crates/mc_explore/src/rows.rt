@@ -1,80 +1,57 @@
-//! The row at which a stack stands, and the next.
-ghost use Rattle.std.specs.Vec.{vec_capacity};
-ghost use Rattle.std.specs.Prelude.{◌≡◌, ◌+◌, ◌≤◌, length, IfOk, OnOk, OnErr, IfSome, vec_len};
-ghost use Rattle.mc_flash.specs.Ledger.{most_operations};
-ghost use Rattle.mc_boot.specs.Runs.{ops_of};
-ghost use Rattle.mc_explore.specs.Bounds.{IsRoomyAt, row_cost};
-ghost use Rattle.mc_explore.specs.Stack.{StandsAt, start_of, contents, dones};
-ghost use Rattle.mc_tree.specs.Paths.{After};
-ghost use Rattle.mc_explore.specs.State.{told, HasOutcome, Finds};
-ghost use Rattle.mc_explore.specs.Want.{RanOut};
+//! The rows of a walk.
+ghost use Rattle.std.specs.Prelude.{◌≡◌, ◌≤◌, IfOk, true};
+ghost use Rattle.mc_flash.specs.Spends.{Spends};
+ghost use Rattle.mc_tree.specs.Paths.{AtStart};
+ghost use Rattle.mc_walk.specs.Walks.{IsFresh};
+ghost use Rattle.mc_explore.specs.Bounds.{most_for_row};
+ghost use Rattle.mc_explore.specs.Once.{once};
+ghost use Rattle.mc_explore.specs.Rows.{Gives, GoesTo, GivesNext};
 
-use crate::frames::Frame;
+use crate::once::Once;
 use crate::row::Row;
-use crate::run::run;
-use crate::stack::schedule_of;
-use crate::walk::Walk;
+use crate::schedule::Schedule;
 use mc_flash::{Flash, FlashError};
+use mc_walk::Walk;
 
-/// The row at which the stack stands.
-#[tactic(auto, using(crate::proofs::Bounds::stays_roomy))]
-pub fn row_here<F: Flash>(walk: Walk, flash: &mut F, frames: &[Frame]) -> Result<Row, FlashError>
-    requires stands { StandsAt walk (F.geometry flash.old) (start_of walk (F.marks flash.old)) (F.content flash.old) (F.marks flash.old) frames.now }
-    requires room { length frames.now ≤ 16 }
-    requires roomy { IsRoomyAt walk (F.geometry flash.old) (F.ledger flash.old) (F.marks flash.old) frames.now }
-    ensures applied { OnOk result ((F.ledger flash.new).applied ≤ (F.ledger flash.old).applied + most_operations walk.rules.grain (F.geometry flash.old)) }
-    ensures limits { (F.ledger flash.new).limits ≡ (F.ledger flash.old).limits }
-    ensures calm { OnOk result ((F.ledger flash.new).failed ≡ (F.ledger flash.old).failed) }
-    ensures cause { OnErr result (RanOut F.counted (F.ledger flash.new).failed) }
-    ensures schedule { IfOk result (λ row. row.schedule ≡ dones frames.now) }
-    ensures outcome { IfOk result (λ row. HasOutcome (record { geometry = F.geometry flash.old; rules = walk.rules; content = start_of walk (F.marks flash.old) }) (told row)) }
-    ensures ops { IfOk result (λ row. row.outcome.ops ≡ length (ops_of walk.rules (F.geometry flash.old) (F.content flash.old))) }
-    ensures roomy { OnOk result (IsRoomyAt walk (F.geometry flash.old) (F.ledger flash.new) (F.marks flash.new) frames.now) }
-    ensures content { OnOk result (F.content flash.new ≡ F.content flash.old) }
-    ensures marks { OnOk result (contents (F.marks flash.new) ≡ contents (F.marks flash.old)) }
-    ensures geometry { F.geometry flash.new ≡ F.geometry flash.old }
+/// The first row of all, that of no cut.
+///
+/// # Errors
+///
+/// `Memory` where the flash was refused memory.
+pub fn first_row<F: Flash>(walk: &mut Walk<F, Once>) -> Result<Row, FlashError>
+    requires { IsFresh (once walk.old.branches.rules walk.old.branches.layout) walk.old }
+    ensures gives { IfOk result (Gives walk.old AtStart) }
+    ensures goes { IfOk result (λ row. GoesTo walk.old row walk.new) }
+    ensures spends { Spends (most_for_row walk.old.branches.rules walk.old.branches.layout)
+        walk.old.seen result walk.new.seen }
 {
-    let outcome = run(flash, walk.rules)?;
-    let schedule = schedule_of(frames);
-    Ok(Row { schedule, outcome })
+    let told = walk.begin()?;
+    Ok(Row {
+        schedule: Schedule::new(),
+        outcome: told.outcome,
+    })
 }
 
-/// The row after the one at which the stack stands, after whose schedule a boot makes `here` operations.
-pub fn next_row_of<F: Flash>(
-    walk: Walk,
-    flash: &mut F,
-    frames: &mut Vec<Frame>,
-    here: u32,
-) -> Result<Option<Row>, FlashError>
-    requires stands { StandsAt walk (F.geometry flash.old) (start_of walk (F.marks flash.old)) (F.content flash.old) (F.marks flash.old) frames.old.items }
-    requires few { vec_len frames.old ≤ walk.bound }
-    requires room { walk.bound ≤ 16 }
-    requires capacity { walk.bound ≤ vec_capacity frames.old }
-    requires here { here ≡ length (ops_of walk.rules (F.geometry flash.old) (F.content flash.old)) }
-    requires roomy { IsRoomyAt walk (F.geometry flash.old) (F.ledger flash.old) (F.marks flash.old) frames.old.items }
-    ensures applied { IfOk result (λ found. (F.ledger flash.new).applied ≤ (F.ledger flash.old).applied + row_cost walk.rules (F.geometry flash.old) found) }
-    ensures limits { (F.ledger flash.new).limits ≡ (F.ledger flash.old).limits }
-    ensures calm { OnOk result ((F.ledger flash.new).failed ≡ (F.ledger flash.old).failed) }
-    ensures cause { OnErr result (RanOut F.counted (F.ledger flash.new).failed) }
-    ensures capacity { vec_capacity frames.old ≤ vec_capacity frames.new }
-    ensures geometry { F.geometry flash.new ≡ F.geometry flash.old }
-    ensures stands { IfOk result (λ found. IfSome found (λ row.
-        StandsAt walk (F.geometry flash.old) (start_of walk (F.marks flash.old)) (F.content flash.new) (F.marks flash.new) frames.new.items
-        × (dones frames.new.items ≡ row.schedule)
-        × (row.outcome.ops ≡ length (ops_of walk.rules (F.geometry flash.old) (F.content flash.new))))) }
-    ensures roomy { IfOk result (λ found. IfSome found (λ _. IsRoomyAt walk (F.geometry flash.old) (F.ledger flash.new) (F.marks flash.new) frames.new.items)) }
-    ensures start { OnOk result (start_of walk (F.marks flash.new) ≡ start_of walk (F.marks flash.old)) }
-    ensures found { IfOk result (λ found. Finds
-        (record {
-          start = record { geometry = F.geometry flash.old; rules = walk.rules; content = start_of walk (F.marks flash.old) };
-          bound = walk.bound;
-          position = After (dones frames.old.items);
-          failed = (F.ledger flash.old).failed;
-        }) found) }
+/// The row after the one at which the walk stands.
+///
+/// # Errors
+///
+/// `Memory` where the flash was refused memory.
+pub fn later_row<F: Flash>(walk: &mut Walk<F, Once>) -> Result<Option<Row>, FlashError>
+    requires stands { walk.old.stands ≡ true }
+    requires room { walk.old.bound ≤ 16 }
+    ensures gives { IfOk result (λ found. GivesNext walk.old found walk.new) }
+    ensures spends { Spends (most_for_row walk.old.branches.rules walk.old.branches.layout)
+        walk.old.seen result walk.new.seen }
 {
-    if walk.advance(flash, frames, here)? {
-        let row = row_here(walk, flash, frames)?;
-        return Ok(Some(row));
+    if !walk.advance()? {
+        return Ok(None);
     }
-    Ok(None)
+    let Some(told) = walk.told() else {
+        return Ok(None);
+    };
+    Ok(Some(Row {
+        schedule: Schedule::of(walk.path().as_slice()),
+        outcome: told.outcome,
+    }))
 }

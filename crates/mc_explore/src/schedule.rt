@@ -94,6 +94,18 @@ impl Schedule {
         }
     }
 
+    /// The schedule of these cuts.
+    pub(crate) fn of(cuts: &[u32]) -> Schedule
+        requires { length cuts.now ≤ 16 }
+        ensures { result ≡ cuts.now }
+    {
+        let mut schedule = Schedule::new();
+        for cut in cuts {
+            schedule.push(*cut);
+        }
+        schedule
+    }
+
     /// The cuts, in their order.
     pub fn cuts(&self) -> &[u32]
         ensures value { result.now ≡ self.now }

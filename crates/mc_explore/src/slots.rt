@@ -8,8 +8,8 @@ ghost use Rattle.mc_boot.specs.Runs.{left_by};
 ghost use Rattle.mc_boot.specs.Start.{image_bytes, filled, placed, test_flash, perm_flash, start_flash};
 ghost use Rattle.mc_explore.specs.Slots.{content_of, kind_of};
 
-use crate::boots::boot_whole;
 use crate::kind::Kind;
+use mc_boot::Boot;
 use mc_flash::{Flash, FlashError, Layout, Slot, SnapFlash};
 use mc_trailer::{Field, MAGIC, Rules, place};
 use std::alloc::{AllocError, Global};
@@ -103,8 +103,8 @@ fn perm_slots(
 
 // What a flash holds.
 fn slots_of<F: Flash>(alloc: Global, flash: &F) -> Result<Slots, AllocError>
-    ensures content { IfOk result (λ s. content_of s ≡ F.content flash.now) }
-    ensures sized { IfOk result (λ s. IsSized (F.geometry flash.now) (content_of s)) }
+    ensures content { IfOk result (λ s. content_of s ≡ (F.seen flash.now).content) }
+    ensures sized { IfOk result (λ s. IsSized (F.seen flash.now).geometry (content_of s)) }
 {
     Ok(Slots {
         primary: flash.read(Slot::Primary).to_vec(alloc)?,
@@ -127,7 +127,8 @@ fn booted<F: Flash>(
     ensures err { IfErr result (λ e. e ≡ FlashError.Memory) }
 {
     let mut flash = F::load(alloc, layout, Rules::PLAIN.grain, primary, secondary, 1)?;
-    boot_whole(&mut flash, Rules::PLAIN)?;
+    let mut boot = Boot::cold(&flash, Rules::PLAIN);
+    boot.finish(&mut flash)?;
     Ok(slots_of(alloc, &flash)?)
 }
 

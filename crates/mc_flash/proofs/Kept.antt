@@ -1,6 +1,6 @@
 -- What a journal keeps: its room, the order of its marks, and the marked contents.
-use Rattle.std.proofs.Common.{◌≡◌, ℕ, ◌+◌, ◌<◌, ◌≤◌, true, false, List, [], ◌∷◌, ◌++◌, length, map, take, get_or, refl, sym, ap, subst, ◌∙◌, arith, length-append}
-use Rattle.std.specs.Prelude.{if◌then◌else◌, zero, suc, replicate, slice_get, Some, None, option_map, Ok, Err}
+use Rattle.std.proofs.Common.{◌≡◌, ℕ, ◌+◌, ◌<◌, ◌≤◌, true, false, List, [], ◌∷◌, ◌++◌, length, map, take, get_or, refl, sym, ap, subst, ◌∙◌, arith, length-append, inl, inr}
+use Rattle.std.specs.Prelude.{if◌then◌else◌, zero, suc, replicate, slice_get, Some, None, option_map, min, ◌-◌, ◌^◌, IsSome, Ok, Err}
 use Rattle.std.specs.List.{between, AllByRecursion}
 use Rattle.std.proofs.lemmas.List.{map-append, take-map, length-take-le}
 use Rattle.std.proofs.lemmas.List.Edits.{length-between}
@@ -8,13 +8,16 @@ use Rattle.std.proofs.lemmas.Option.{slice_get-map, slice_get-get_or}
 use Rattle.mc_flash.specs.Blank.{is_blank}
 use Rattle.mc_flash.specs.Geometry.{Geometry}
 use Rattle.mc_flash.specs.Content.{Content, bytes_of, with_bytes, put, size_of}
-use Rattle.mc_flash.specs.Apply.{apply, Does, in_slot}
-use Rattle.mc_flash.specs.Ledger.{Limits, Spot}
-use Rattle.mc_flash.specs.Journal.{Change, changes, taken_back, all_saved, spot_after, IsInside, Ascend, IsSound}
+use Rattle.mc_flash.specs.Apply.{apply, in_slot, erased}
+use Rattle.mc_flash.specs.Ledger.{Ledger, Limits, Spot, IsFull, noted, saves}
+use Rattle.mc_flash.specs.Seen.{Seen, Does, no_spot, went_back}
+use Rattle.mc_flash.specs.DoneFacts.{done_as, done_not}
+use Rattle.mc_flash.specs.declared.flash.FlashError.TheVariants as errors
+use Rattle.mc_flash.specs.Journal.{Change, changes, taken_back, all_saved, spot_after, journal_of, IsInside, Ascend, IsSound}
 use Rattle.mc_flash.specs.declared.op.Slot.{Slot}
 use Rattle.mc_flash.specs.declared.op.Slot.TheVariants.{Primary, Secondary}
+use Rattle.mc_flash.specs.declared.op.Op.{Op}
 use Rattle.mc_flash.specs.declared.op.Op.TheVariants as ops
-use Rattle.mc_flash.specs.declared.flash.FlashError.TheVariants as errors
 use Rattle.mc_flash.specs.declared.entry.Entry.{Entry}
 use Rattle.mc_flash.specs.declared.entry.Entry.TheVariants.{Written, Erased}
 use Rattle.mc_flash.proofs.Undo.{erase_back, write_back, push_written, push_erased, saves_push, spot_push, spot_now, ascend_grow, ascend_push, ascend_take, same_marks}
@@ -181,18 +184,87 @@ copy_is g s from to at offset len fits =
     let n : length new ≡ len = omega (arith, length-between (bytes_of s from) at (at + len) fits) in
     ap (λ (k : ℕ). in_slot s to (if is_blank (between offset (offset + k) (bytes_of s to)) then Some (put (bytes_of s to) offset new) else None)) n
 
-pub copy_done : (g : Geometry) (s t : Content) (from to : Slot) (at offset len : ℕ) → at + len ≤ length (bytes_of s from) → is_blank (between offset (offset + len) (bytes_of s to)) ≡ true
-    → t ≡ with_bytes s to (put (bytes_of s to) offset (between at (at + len) (bytes_of s from)))
-    → Does (apply g (ops.Copy from at to offset len) s) (Ok tt) s t
-copy_done g s t from to at offset len fits blank is = rw (copy_is g s from to at offset len fits, blank) is
+module _ (g : Geometry) (s t : Content) (from to : Slot) (at offset len : ℕ) (fits : at + len ≤ length (bytes_of s from)) where
+  pub copy_done : is_blank (between offset (offset + len) (bytes_of s to)) ≡ true → t ≡ with_bytes s to (put (bytes_of s to) offset (between at (at + len) (bytes_of s from)))
+      → apply g (ops.Copy from at to offset len) s ≡ Some t
+  copy_done blank is = copy_is g s from to at offset len fits ∙ rw (blank, is) refl
 
-pub copy_full : (g : Geometry) (s : Content) (from to : Slot) (at offset len : ℕ) → at + len ≤ length (bytes_of s from) → is_blank (between offset (offset + len) (bytes_of s to)) ≡ true
-    → Does (apply g (ops.Copy from at to offset len) s) (Err errors.Memory) s s
-copy_full g s from to at offset len fits blank = rw (copy_is g s from to at offset len fits, blank) refl
+  pub copy_refused : is_blank (between offset (offset + len) (bytes_of s to)) ≡ false → apply g (ops.Copy from at to offset len) s ≡ None
+  copy_refused other = copy_is g s from to at offset len fits ∙ rw other refl
 
-pub copy_refused : (g : Geometry) (s : Content) (from to : Slot) (at offset len : ℕ) → at + len ≤ length (bytes_of s from) → is_blank (between offset (offset + len) (bytes_of s to)) ≡ false
-    → Does (apply g (ops.Copy from at to offset len) s) (Err errors.NotErased) s s
-copy_refused g s from to at offset len fits other = rw (copy_is g s from to at offset len fits, other) refl
+abbrev pub with_marks : Geometry → Content → List Spot → Ledger → Seen
+with_marks g t marks ledger = record { geometry = g; content = t; marks = marks; ledger = ledger }
+
+abbrev counted_at : Limits → ℕ → ℕ → ℕ → Ledger
+counted_at limits e s a = record { counts = record { entries = e; saved = s }; limits = limits; applied = a; failed = false }
+
+-- A journal with room for these.
+abbrev pub room_for : ℕ → ℕ → ℕ → Limits
+room_for a b m = record { counted = true; entries = a; saved = b; marks = m }
+
+seen_is : (g : Geometry) (t : Content) (ms ns : List Spot) (k l : Ledger) → ms ≡ ns → k ≡ l
+    → with_marks g t ms k ≡ with_marks g t ns l
+seen_is g t ms ns k l p q = cc
+
+ledger_is : (limits : Limits) (e e' s s' a a' : ℕ) → e ≡ e' → s ≡ s' → a ≡ a' → counted_at limits e s a ≡ counted_at limits e' s' a'
+ledger_is limits e e' s s' a a' p q r = cc
+
+-- What a call of a journal does, by its answer.
+module _ (g : Geometry) (a b m : ℕ) (op : Op) (s : Content) (es : List Entry) (saved marks : List ℕ) (applied : ℕ) where
+  abbrev pub before : Seen
+  before = journal_of g s (room_for a b m) es saved marks applied
+
+  pub journal_refuses : apply g op s ≡ None → Does op before (Err errors.NotErased) before
+  journal_refuses undefined = (done_not before op undefined, refl)
+
+  pub journal_full : (t : Content) → apply g op s ≡ Some t → IsFull g op before.ledger → Does op before (Err errors.Memory) before
+  journal_full t is full = (subst IsSome (sym (done_as before op t is)) refl, inl (refl, full, refl))
+
+  pub journal_does : (t : Content) (es' : List Entry) (saved' : List ℕ) (applied' : ℕ) → apply g op s ≡ Some t
+      → map (spot_after es' saved' t) marks ≡ map (spot_after es saved s) marks → length es' ≡ length es + 1 → length saved' ≡ length saved + saves g op
+      → applied' ≡ min (applied + 1) (2 ^ 64 - 1) → length es < a → length saved + saves g op ≤ b
+      → Does op before (Ok tt) (journal_of g t (room_for a b m) es' saved' marks applied')
+  journal_does t es' saved' applied' is kept more fuller on few little = (
+    done_as before op t is
+        ∙ ap (λ (z : Seen). Some z) (seen_is g t (map (spot_after es saved s) marks) (map (spot_after es' saved' t) marks)
+        (counted_at (room_for a b m) (length es + 1) (length saved + saves g op) (min (applied + 1) (2 ^ 64 - 1)))
+        (counted_at (room_for a b m) (length es') (length saved') applied')
+        (sym kept) (ledger_is (room_for a b m) _ _ _ _ _ _ (sym more) (sym fuller) (sym on))),
+    λ _ full. elim full [ inl x ↦ omega (arith, x, few) | inr x ↦ omega (arith, x, little) ],
+  )
+
+-- Back at a mark.
+at_mark : (marks : List Spot) (place : ℕ) (spot : Spot) → slice_get marks place ≡ Some spot → get_or marks place no_spot ≡ spot
+at_mark [] place spot is = absurd cc
+at_mark (m ∷ ms) zero spot is = cc
+at_mark (m ∷ ms) (suc place) spot is = at_mark ms place spot is
+
+parts_are : (g : Geometry) (s t : Content) (ms ns : List Spot) (k l : Ledger) → s ≡ t → ms ≡ ns → k ≡ l → with_marks g s ms k ≡ with_marks g t ns l
+parts_are g s t ms ns k l p q r = cc
+
+pub journal_back : (g : Geometry) (limits : Limits) (s t : Content) (es es' : List Entry) (saved saved' marks marks' : List ℕ) (applied place : ℕ)
+    → slice_get (map (spot_after es saved s) marks) place ≡ Some (record { content = t; counts = record { entries = length es'; saved = length saved' } })
+    → map (spot_after es' saved' t) marks' ≡ take place (map (spot_after es saved s) marks)
+    → journal_of g t limits es' saved' marks' applied ≡ went_back place (journal_of g s limits es saved marks applied)
+unfolding went_back
+journal_back g limits s t es es' saved saved' marks marks' applied place is left =
+    let spot = at_mark (map (spot_after es saved s) marks) place (record { content = t; counts = record { entries = length es'; saved = length saved' } }) is in
+    let ledger : Spot → Ledger = λ x. record { counts = x.counts; limits = limits; applied = applied; failed = false } in
+    parts_are g t _ (map (spot_after es' saved' t) marks') _ _ _ (sym (ap (λ (x : Spot). x.content) spot)) left (sym (ap ledger spot))
+
+module _ (g : Geometry) (s t : Content) (slot : Slot) (at : ℕ) (new : List ℕ) where
+  pub program_done : is_blank (between at (at + length new) (bytes_of s slot)) ≡ true → t ≡ with_bytes s slot (put (bytes_of s slot) at new)
+      → apply g (ops.Program slot at new) s ≡ Some t
+  unfolding apply
+  program_done blank is = rw (blank, is) refl
+
+  pub program_refused : is_blank (between at (at + length new) (bytes_of s slot)) ≡ false → apply g (ops.Program slot at new) s ≡ None
+  unfolding apply
+  program_refused other = rw other refl
+
+pub erase_done : (g : Geometry) (s t : Content) (slot : Slot) (sector : ℕ) → t ≡ with_bytes s slot (erased g.sector sector (bytes_of s slot)) → apply g (ops.Erase slot sector) s ≡ Some t
+unfolding apply
+erase_done g s t slot sector is = ap (λ (z : Content). Some z) (sym is)
 
 pub length_of : (g : Geometry) (s : Content) (slot : Slot) → length s.primary ≡ size_of g Primary → length s.secondary ≡ size_of g Secondary → length (bytes_of s slot) ≡ size_of g slot
 length_of g s Primary p q = p

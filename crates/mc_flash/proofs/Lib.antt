@@ -5,3 +5,4 @@ mod Undo
 mod Kept
 mod Popped
 mod Lanes
+mod Copies

@@ -49,12 +49,8 @@ CanTry g (ops.Erase slot sector) = sector < sectors_of g slot
 CanTry g (ops.Program slot at bytes) = IsRange g slot at (length bytes)
 CanTry g (ops.Copy from at to offset len) = IsRange g from at len × IsRange g to offset len × AreApart from at to offset len
 
--- What a call leaves, where the operation would give `given`: that, or for want of memory all as it was; and where it
--- is undefined always the refusal, and all as it was.
-abbrev pub Does : {X : Type 0} → Option X → Result (Unit {0}) FlashError → X → X → Type 0
-Does (Some given) (Ok _) old new = new ≡ given
-Does (Some given) (Err errors.Memory) old new = new ≡ old
-Does (Some given) (Err errors.NotErased) old new = ⊥
-Does None (Ok _) old new = ⊥
-Does None (Err errors.Memory) old new = ⊥
-Does None (Err errors.NotErased) old new = new ≡ old
+-- What bytes become where the operation would give `given`; where it is undefined it is refused, and all is as it was.
+abbrev pub Becomes : Option Content → Result (Unit {0}) FlashError → Content → Content → Type 0
+Becomes (Some given) (Ok _) old new = new ≡ given
+Becomes None (Err errors.NotErased) old new = new ≡ old
+Becomes _ _ old new = ⊥

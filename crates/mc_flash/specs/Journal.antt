@@ -3,7 +3,8 @@ use Rattle.std.specs.Prelude.{◌≡◌, ℕ, ◌+◌, ◌≤◌, false, List, [
 use Rattle.std.specs.List.{AllByRecursion}
 use Rattle.mc_flash.specs.Geometry.{Geometry}
 use Rattle.mc_flash.specs.Content.{Content, bytes_of, with_bytes, put, size_of}
-use Rattle.mc_flash.specs.Ledger.{Ledger, Limits, Spot}
+use Rattle.mc_flash.specs.Ledger.{Limits, Spot}
+use Rattle.mc_flash.specs.Seen.{Seen}
 use Rattle.mc_flash.specs.declared.op.Slot.{Slot}
 use Rattle.mc_flash.specs.declared.entry.Entry.{Entry}
 use Rattle.mc_flash.specs.declared.entry.Entry.TheVariants.{Written, Erased}
@@ -49,13 +50,7 @@ spot_after entries saved s n = record {
 }
 
 -- A flash with a journal, as it is seen.
-pub record Journal : Type 0 where
-  pub geometry : Geometry
-  pub content : Content
-  pub marks : List Spot
-  pub ledger : Ledger
-
-abbrev pub journal_of : Geometry → Content → Limits → List Entry → List ℕ → List ℕ → ℕ → Journal
+abbrev pub journal_of : Geometry → Content → Limits → List Entry → List ℕ → List ℕ → ℕ → Seen
 journal_of g s limits entries saved marks applied = record {
   geometry = g;
   content = s;

@@ -16,8 +16,9 @@ pub record Counts : Type 0 where
   pub entries : ℕ
   pub saved : ℕ
 
--- The most of each, and the most marks.
+-- Whether a flash counts; and the most of each, and the most marks.
 pub record Limits : Type 0 where
+  pub counted : Bool
   pub entries : ℕ
   pub saved : ℕ
   pub marks : ℕ
@@ -42,9 +43,6 @@ no_counts = record { entries = 0; saved = 0 }
 abbrev pub fresh : Limits → Ledger
 fresh limits = record { counts = no_counts; limits = limits; applied = 0; failed = false }
 
-abbrev pub spot_at : Content → Ledger → Spot
-spot_at content ledger = record { content = content; counts = ledger.counts }
-
 -- The most operations of a boot: 3T + 9 + 3 nmax (S / C + 2) where each call is one, and
 -- 3T + 5 + 2 ceil(4 / W) + 32 / W + 3 nmax (S / W + 2) where each unit is.
 abbrev pub most_operations : Grain → Geometry → ℕ
@@ -60,6 +58,7 @@ most_saved g = (3 * trailer_sectors g + 3 * greatest_sectors g) * g.sector
 -- The limits of a flash for so many boots: as much as that many make at most, and one mark more.
 unfoldable pub limits_for : Grain → Geometry → ℕ → Limits
 limits_for grain g boots = record {
+  counted = true;
   entries = boots * most_operations grain g;
   saved = boots * most_saved g;
   marks = boots + 1;
@@ -82,14 +81,18 @@ abbrev pub IsFull : Geometry → Op → Ledger → Type 0
 IsFull g op ledger =
     (ledger.limits.entries < ledger.counts.entries + 1) ⊎ (ledger.limits.saved < ledger.counts.saved + saves g op)
 
--- the ledger with one operation more
-abbrev pub noted : Geometry → Op → Ledger → Ledger
-noted g op ledger = record {
+-- the ledger with one operation more, which stands still where nothing is counted
+abbrev pub noted_by : Bool → Geometry → Op → Ledger → Ledger
+noted_by true g op ledger = record {
   counts = record { entries = ledger.counts.entries + 1; saved = ledger.counts.saved + saves g op };
   limits = ledger.limits;
   applied = min (ledger.applied + 1) (2 ^ 64 - 1);
   failed = ledger.failed;
 }
+noted_by false g op ledger = ledger
+
+abbrev pub noted : Geometry → Op → Ledger → Ledger
+noted g op ledger = noted_by ledger.limits.counted g op ledger
 
 -- the ledger of a flash that memory has failed
 abbrev pub run_out : Ledger → Ledger
@@ -98,32 +101,3 @@ run_out ledger = record { counts = ledger.counts; limits = ledger.limits; applie
 -- the ledger with the counts of a mark
 abbrev pub back_at : Counts → Ledger → Ledger
 back_at counts ledger = record { counts = counts; limits = ledger.limits; applied = ledger.applied; failed = ledger.failed }
-
--- An operation was done. A flash that counts was not full.
-abbrev pub NotesDone : Bool → Geometry → Op → Ledger → Ledger → Type 0
-NotesDone true g op old new = (new ≡ noted g op old) × (IsFull g op old → ⊥)
-NotesDone false g op old new = new ≡ old
-
--- Why memory was wanted: a flash that counts is full, and nothing changes; another was refused a growth.
-abbrev pub RunsOut : Bool → Type 0 → Ledger → Ledger → Type 0
-RunsOut true full old new = full × (new ≡ old)
-RunsOut false full old new = new ≡ run_out old
-
--- What an operation does to the ledger, by its answer.
-abbrev pub Notes : Bool → Geometry → Op → Result (Unit {0}) FlashError → Ledger → Ledger → Type 0
-Notes counted g op (Ok _) old new = NotesDone counted g op old new
-Notes counted g op (Err errors.Memory) old new = RunsOut counted (IsFull g op old) old new
-Notes counted g op (Err errors.NotErased) old new = new ≡ old
-
--- What a mark does to the ledger, where so many contents are marked: nothing, or memory was wanted; a flash that counts
--- marks at most as many as its limit.
-abbrev pub NotesMark : Bool → ℕ → Result ℕ FlashError → Ledger → Ledger → Type 0
-NotesMark true marked (Ok _) old new = (new ≡ old) × (marked < old.limits.marks)
-NotesMark false marked (Ok _) old new = new ≡ old
-NotesMark counted marked (Err errors.Memory) old new = RunsOut counted (old.limits.marks < marked + 1) old new
-NotesMark counted marked (Err errors.NotErased) old new = ⊥
-
--- What a mark does to the marks: this one more, or nothing.
-abbrev pub Adds : Result ℕ FlashError → Spot → List Spot → List Spot → Type 0
-Adds (Ok place) spot old new = (place ≡ length old) × (new ≡ old ++ spot ∷ [])
-Adds (Err _) spot old new = new ≡ old

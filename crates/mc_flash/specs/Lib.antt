@@ -4,6 +4,7 @@ pub mod Room
 pub mod Content
 pub mod Apply
 pub mod Ledger
+pub mod Seen
 pub mod Slots
 pub mod Reserve
 pub mod Journal
@@ -14,3 +15,6 @@ pub mod Changes
 pub mod Pieces
 pub mod Worked
 pub mod Texts
+pub mod DoneFacts
+pub mod Spends
+pub mod SpendsFacts

@@ -1,21 +1,34 @@
 -- A flash that keeps copies, as a flash is seen.
-use Rattle.std.specs.Prelude.{◌+◌, ◌*◌, Bool}
+use Rattle.std.specs.Prelude.{◌+◌, ◌*◌, Bool, false, List, map}
+use Rattle.mc_flash.specs.Content.{Content}
 use Rattle.mc_flash.specs.Geometry.{Geometry}
-use Rattle.mc_flash.specs.Ledger.{Ledger, Limits, Spot, no_counts, most_operations, most_saved}
+use Rattle.mc_flash.specs.Seen.{Seen}
+use Rattle.mc_flash.specs.Slots.{held}
+use Rattle.mc_flash.specs.Ledger.{Limits, Spot, no_counts, most_operations, most_saved}
 use Rattle.mc_flash.specs.declared.flash.Grain.TheVariants as grains
+use Rattle.mc_flash.specs.declared.snap.SnapFlash.{SnapFlash}
 use Rattle.mc_flash.specs.declared.snap.Snapshot.{Snapshot}
 
 -- a copy, as a marked content
-abbrev pub spot_of : Snapshot → Spot
-spot_of m = record { content = record { primary = m.primary.items; secondary = m.secondary.items }; counts = no_counts }
+abbrev pub copy_seen : Snapshot → Spot
+copy_seen m = record { content = record { primary = m.primary.items; secondary = m.secondary.items }; counts = no_counts }
 
 -- limits that no number of boots meets, for a flash that does not count
 unfoldable pub ample : Geometry → Limits
 ample g = record {
+  counted = false;
   entries = 32 * (most_operations grains.Call g + most_operations grains.Unit g);
   saved = 32 * most_saved g;
   marks = 33;
 }
 
-abbrev pub ledger_of : Geometry → Bool → Ledger
-ledger_of g failed = record { counts = no_counts; limits = ample g; applied = 0; failed = failed }
+abbrev pub copies_seen : Geometry → Content → List Spot → Bool → Seen
+copies_seen g content marks failed = record {
+  geometry = g;
+  content = content;
+  marks = marks;
+  ledger = record { counts = no_counts; limits = ample g; applied = 0; failed = failed };
+}
+
+abbrev pub snap_seen : SnapFlash → Seen
+snap_seen f = copies_seen f.slots.layout (held f.slots) (map copy_seen f.marks.items) f.failed

@@ -1,5 +1,5 @@
 //! The flash: two slots of bytes, changed by operations that happen whole or not at all, and contents that were marked.
-ghost use Rattle.std.specs.Prelude.{◌≡◌, ℕ, Bool, true, ◌<◌, ◌≤◌, List, [], length, take, IfOk, IfErr, slice_get, Some};
+ghost use Rattle.std.specs.Prelude.{◌≡◌, Bool, ◌<◌, ◌≤◌, length, IfOk, IfErr};
 
 use crate::layout::Layout;
 use crate::op::Slot;
@@ -46,29 +46,19 @@ impl<T: Drop> From<AllocFailed<T>> for FlashError {
     }
 }
 
-/// A flash, seen by its layout, its content, the contents that were marked, and its ledger of counts and limits.
+/// A flash, seen as one value: its layout, its content, the contents that were marked, and its ledger of counts and limits.
 pub trait Flash: Sized + Drop {
-    ghost use Rattle.mc_flash.specs.Geometry.{Geometry};
-    ghost use Rattle.mc_flash.specs.Content.{Content, bytes_of, size_of};
-    ghost use Rattle.mc_flash.specs.Apply.{CanTry, Does, apply};
-    ghost use Rattle.mc_flash.specs.Ledger.{Ledger, Spot, IsWithin, Notes, NotesMark, Adds, fresh, limits_for, spot_at, back_at};
+    ghost use Rattle.mc_flash.specs.Content.{bytes_of, size_of};
+    ghost use Rattle.mc_flash.specs.Apply.{CanTry};
+    ghost use Rattle.mc_flash.specs.Seen.{Seen, Does, Marks, Loads, went_back};
     ghost use Rattle.mc_flash.specs.declared.op.Op.TheVariants.{Erase, Program, Copy};
     ghost use Rattle.mc_flash.specs.declared.op.Slot.TheVariants.{Primary, Secondary};
 
     /// Whether it works in room that it took when it was loaded, and counts it. Another takes memory as it goes.
     ghost counted: { Bool };
 
-    /// Its layout.
-    ghost geometry: { Self → Geometry };
-
-    /// The bytes of its slots.
-    ghost content: { Self → Content };
-
-    /// The contents that were marked and not given up, the oldest first, with the counts there.
-    ghost marks: { Self → List Spot };
-
-    /// Its counts and limits.
-    ghost ledger: { Self → Ledger };
+    /// All that can be seen of it.
+    ghost seen: { Self → Seen };
 
     /// A flash of these bytes, without marks. One that counts has room for so many boots, of that grain.
     fn load(
@@ -82,42 +72,28 @@ pub trait Flash: Sized + Drop {
         requires primary { length primary.now ≡ size_of layout.now Primary }
         requires secondary { length secondary.now ≡ size_of layout.now Secondary }
         requires boots { (1 ≤ boots) × (boots ≤ 32) }
-        ensures geometry { IfOk result (λ f. geometry f ≡ layout.now) }
-        ensures content { IfOk result (λ f. content f ≡ record { primary = primary.now; secondary = secondary.now }) }
-        ensures marks { IfOk result (λ f. marks f ≡ []) }
-        ensures ledger { IfOk result (λ f. ledger f ≡ fresh (ledger f).limits) }
-        ensures room { IfOk result (λ f. IsWithin (limits_for grain layout.now boots) (ledger f).limits) }
-        ensures exact { IfOk result (λ f. counted ≡ true → (ledger f).limits ≡ limits_for grain layout.now boots) }
+        ensures loads { IfOk result (λ flash.
+            Loads counted layout.now primary.now secondary.now grain boots (seen flash)) }
         ensures err { IfErr result (λ e. e ≡ FlashError.Memory) };
 
     /// The layout. It takes no memory.
     fn layout(&self) -> &Layout
-        ensures { result.now ≡ geometry self.now };
+        ensures { result.now ≡ (seen self.now).geometry };
 
     /// The bytes of a slot. It takes no memory.
     fn read(&self, slot: Slot) -> &[u8]
-        ensures value { result.now ≡ bytes_of (content self.now) slot }
-        ensures len { length result.now ≡ size_of (geometry self.now) slot };
+        ensures value { result.now ≡ bytes_of (seen self.now).content slot }
+        ensures len { length result.now ≡ size_of (seen self.now).geometry slot };
 
     /// Makes a sector 0xff.
     fn erase(&mut self, slot: Slot, sector: u32) -> Result<(), FlashError>
-        requires { CanTry (geometry self.old) (Erase slot sector) }
-        ensures does { Does (apply (geometry self.old) (Erase slot sector) (content self.old))
-            result (content self.old) (content self.new) }
-        ensures notes { Notes counted (geometry self.old) (Erase slot sector)
-            result (ledger self.old) (ledger self.new) }
-        ensures geometry { geometry self.new ≡ geometry self.old }
-        ensures marks { marks self.new ≡ marks self.old };
+        requires { CanTry (seen self.old).geometry (Erase slot sector) }
+        ensures { Does (Erase slot sector) (seen self.old) result (seen self.new) };
 
     /// Writes bytes at an offset where each byte is 0xff, and is refused elsewhere.
     fn program(&mut self, slot: Slot, offset: u32, bytes: &[u8]) -> Result<(), FlashError>
-        requires { CanTry (geometry self.old) (Program slot offset bytes.now) }
-        ensures does { Does (apply (geometry self.old) (Program slot offset bytes.now) (content self.old))
-            result (content self.old) (content self.new) }
-        ensures notes { Notes counted (geometry self.old) (Program slot offset bytes.now)
-            result (ledger self.old) (ledger self.new) }
-        ensures geometry { geometry self.new ≡ geometry self.old }
-        ensures marks { marks self.new ≡ marks self.old };
+        requires { CanTry (seen self.old).geometry (Program slot offset bytes.now) }
+        ensures { Does (Program slot offset bytes.now) (seen self.old) result (seen self.new) };
 
     /// Writes the bytes that stand elsewhere, in the same way.
     fn copy(
@@ -128,26 +104,15 @@ pub trait Flash: Sized + Drop {
         offset: u32,
         len: u32,
     ) -> Result<(), FlashError>
-        requires { CanTry (geometry self.old) (Copy from at to offset len) }
-        ensures does { Does (apply (geometry self.old) (Copy from at to offset len) (content self.old))
-            result (content self.old) (content self.new) }
-        ensures notes { Notes counted (geometry self.old) (Copy from at to offset len)
-            result (ledger self.old) (ledger self.new) }
-        ensures geometry { geometry self.new ≡ geometry self.old }
-        ensures marks { marks self.new ≡ marks self.old };
+        requires { CanTry (seen self.old).geometry (Copy from at to offset len) }
+        ensures { Does (Copy from at to offset len) (seen self.old) result (seen self.new) };
 
     /// Marks the content, and returns the mark's place.
     fn mark(&mut self) -> Result<usize, FlashError>
-        ensures marks { Adds result (spot_at (content self.old) (ledger self.old)) (marks self.old) (marks self.new) }
-        ensures notes { NotesMark counted (length (marks self.old)) result (ledger self.old) (ledger self.new) }
-        ensures content { content self.new ≡ content self.old }
-        ensures geometry { geometry self.new ≡ geometry self.old };
+        ensures { Marks (seen self.old) result (seen self.new) };
 
     /// Gives back a marked content, and gives up that mark and all later ones. It takes no memory.
     fn back_to(&mut self, place: usize)
-        requires { place < length (marks self.old) }
-        ensures content { slice_get (marks self.old) place ≡ Some (spot_at (content self.new) (ledger self.new)) }
-        ensures ledger { ledger self.new ≡ back_at (ledger self.new).counts (ledger self.old) }
-        ensures marks { marks self.new ≡ take place (marks self.old) }
-        ensures geometry { geometry self.new ≡ geometry self.old };
+        requires { place < length (seen self.old).marks }
+        ensures { seen self.new ≡ went_back place (seen self.old) };
 }

@@ -32,9 +32,10 @@ impl Model for JournalFlash {
     ghost use Rattle.std.specs.Vec.{vec_capacity};
     ghost use Rattle.mc_flash.specs.Slots.{held};
     ghost use Rattle.mc_flash.specs.Reserve.{limits_of};
-    ghost use Rattle.mc_flash.specs.Journal.{Journal, journal_of, IsSound};
+    ghost use Rattle.mc_flash.specs.Journal.{journal_of, IsSound};
+    ghost use Rattle.mc_flash.specs.Seen.{Seen};
 
-    ghost Value = { Journal };
+    ghost Value = { Seen };
 
     ghost view = { λ f. journal_of f.slots.layout (held f.slots) (limits_of f.reserve) f.entries.items f.saved.items f.marks.items f.applied };
 
@@ -104,13 +105,7 @@ impl JournalFlash {
 impl Flash for JournalFlash {
     ghost counted = { true };
 
-    ghost geometry = { λ f. f.geometry };
-
-    ghost content = { λ f. f.content };
-
-    ghost marks = { λ f. f.marks };
-
-    ghost ledger = { λ f. f.ledger };
+    ghost seen = { λ f. f };
 
     fn load(
         alloc: Global,

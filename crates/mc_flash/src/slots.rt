@@ -2,7 +2,7 @@
 ghost use Rattle.std.specs.Prelude.{◌≡◌, ℕ, ◌+◌, ◌*◌, ◌<◌, ◌≤◌, length, replicate, ◌⊎◌, IfOk, IfErr};
 ghost use Rattle.std.specs.List.{between};
 ghost use Rattle.mc_flash.specs.Content.{Content, bytes_of, with_bytes, put, sectors_of, size_of};
-ghost use Rattle.mc_flash.specs.Apply.{AreApart, CanTry, Does, apply, erased};
+ghost use Rattle.mc_flash.specs.Apply.{AreApart, CanTry, Becomes, apply, erased};
 ghost use Rattle.mc_flash.specs.Blank.{is_blank};
 ghost use Rattle.mc_flash.specs.declared.op.Op.TheVariants.{Program, Copy};
 ghost use Rattle.mc_flash.specs.declared.op.Slot.TheVariants.{Primary, Secondary};
@@ -188,7 +188,7 @@ impl Slots {
     #[tactic(auto, unfolding(crate::specs::Apply::apply))]
     pub fn program(&mut self, slot: Slot, offset: u32, bytes: &[u8]) -> Result<(), FlashError>
         requires { CanTry self.old.layout (Program slot offset bytes.now) }
-        ensures does { Does (apply self.old.layout (Program slot offset bytes.now) (held self.old))
+        ensures does { Becomes (apply self.old.layout (Program slot offset bytes.now) (held self.old))
             result (held self.old) (held self.new) }
         ensures err { IfErr result (λ e. e ≡ FlashError.NotErased) }
         ensures layout { self.new.layout ≡ self.old.layout }
@@ -211,7 +211,7 @@ impl Slots {
         len: u32,
     ) -> Result<(), FlashError>
         requires { CanTry self.old.layout (Copy from at to offset len) }
-        ensures does { Does (apply self.old.layout (Copy from at to offset len) (held self.old))
+        ensures does { Becomes (apply self.old.layout (Copy from at to offset len) (held self.old))
             result (held self.old) (held self.new) }
         ensures err { IfErr result (λ e. e ≡ FlashError.NotErased) }
         ensures layout { self.new.layout ≡ self.old.layout }

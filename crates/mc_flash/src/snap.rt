@@ -1,7 +1,6 @@
 //! A flash in memory that keeps a copy of its content for each mark.
 ghost use Rattle.std.specs.Prelude.{◌≡◌, ℕ, ◌+◌, ◌<◌, ◌≤◌, List, [], ◌∷◌, ◌++◌, length, true, false, All, IfOk, IfErr, map};
 ghost use Rattle.mc_flash.specs.Content.{Content, bytes_of, size_of};
-ghost use Rattle.mc_flash.specs.Apply.{Does};
 ghost use Rattle.mc_flash.specs.Slots.{held};
 ghost use Rattle.mc_flash.specs.declared.op.Slot.TheVariants.{Primary, Secondary};
 
@@ -43,19 +42,12 @@ fn copy_of(alloc: Global, slots: &Slots) -> Result<Snapshot, FlashError>
 }
 
 impl Flash for SnapFlash {
-    ghost use Rattle.mc_flash.specs.Snap.{ledger_of, spot_of};
+    ghost use Rattle.mc_flash.specs.Snap.{snap_seen};
 
     ghost counted = { false };
 
-    ghost geometry = { λ f. f.slots.layout };
+    ghost seen = { snap_seen };
 
-    ghost content = { λ f. held f.slots };
-
-    ghost marks = { λ f. map spot_of f.marks.items };
-
-    ghost ledger = { λ f. ledger_of f.slots.layout f.failed };
-
-    #[tactic(auto, using(crate::proofs::Limits::ample_allows))]
     fn load(
         alloc: Global,
         layout: &Layout,

@@ -7,8 +7,8 @@ use mc_flash::{Flash, Slot, blank};
 
 // Whether a status entry is written: its bytes are not all 0xff.
 fn is_written<F: Flash>(flash: &F, entry: u32) -> bool
-    requires { entry < 3 * (F.geometry flash.now).max_sectors }
-    ensures { result ≡ is_written (F.geometry flash.now) (F.content flash.now) entry }
+    requires { entry < 3 * (F.seen flash.now).geometry.max_sectors }
+    ensures { result ≡ is_written (F.seen flash.now).geometry (F.seen flash.now).content entry }
 {
     let layout = flash.layout();
     let at = entry_place(layout, entry) as usize;
@@ -18,8 +18,8 @@ fn is_written<F: Flash>(flash: &F, entry: u32) -> bool
 /// The highest status entry of the primary that is written: one whose bytes are not all 0xff. It takes no memory.
 #[tactic(auto, using(crate::specs::EntryFacts::highest_is, crate::specs::EntryFacts::greatest_at, crate::specs::EntryFacts::none_passes))]
 pub fn highest_entry<F: Flash>(flash: &F) -> Option<u32>
-    ensures value { result ≡ highest_entry (F.geometry flash.now) (F.content flash.now) }
-    ensures highest { IsHighest (F.geometry flash.now) (F.content flash.now) result }
+    ensures value { result ≡ highest_entry (F.seen flash.now).geometry (F.seen flash.now).content }
+    ensures highest { IsHighest (F.seen flash.now).geometry (F.seen flash.now).content result }
 {
     for entry in (0..3 * flash.layout().max_sectors()).rev() {
         if is_written(flash, entry) {

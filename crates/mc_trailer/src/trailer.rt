@@ -77,7 +77,7 @@ fn flag_of(byte: u8) -> Flag
 // The first bytes of a field.
 fn field_bytes<F: Flash>(flash: &F, slot: Slot, field: Field, len: usize) -> &[u8]
     requires { len ≤ before_end field }
-    ensures value { result.now ≡ bytes_at (F.content flash.now) slot (place (F.geometry flash.now) slot field) len }
+    ensures value { result.now ≡ bytes_at (F.seen flash.now).content slot (place (F.seen flash.now).geometry slot field) len }
     ensures len { length result.now ≡ len }
 {
     let at = place(flash.layout(), slot, field) as usize;
@@ -86,7 +86,7 @@ fn field_bytes<F: Flash>(flash: &F, slot: Slot, field: Field, len: usize) -> &[u
 
 // The first byte of a field.
 fn field_byte<F: Flash>(flash: &F, slot: Slot, field: Field) -> u8
-    ensures { result ≡ byte (F.content flash.now) slot (place (F.geometry flash.now) slot field) }
+    ensures { result ≡ byte (F.seen flash.now).content slot (place (F.seen flash.now).geometry slot field) }
 {
     let at = place(flash.layout(), slot, field) as usize;
     flash.read(slot)[at]
@@ -96,7 +96,7 @@ impl Trailer {
     /// The trailer of a slot. It takes no memory.
     #[tactic(auto, unfolding(crate::specs::Fields::trailer_of))]
     pub fn read<F: Flash>(flash: &F, slot: Slot) -> Trailer
-        ensures { result ≡ trailer_of (F.geometry flash.now) (F.content flash.now) slot }
+        ensures { result ≡ trailer_of (F.seen flash.now).geometry (F.seen flash.now).content slot }
     {
         Trailer {
             magic: magic_of(field_bytes(flash, slot, Field::Magic, 16)),

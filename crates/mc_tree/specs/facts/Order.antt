@@ -11,16 +11,10 @@ beyond_after (x ∷ xs) [] b = absurd b
 beyond_after (x ∷ xs) (y ∷ ys) (inl lt) = inl lt
 beyond_after (x ∷ xs) (y ∷ ys) (inr b) = inr (b.0, beyond_after xs ys b.1)
 
-beyond_front : (l : List ℕ) (number : ℕ) (m : List ℕ) → Beyond l m → Beyond (l ++ number ∷ []) m
-beyond_front [] number m b = absurd b
-beyond_front (x ∷ xs) number [] b = absurd b
-beyond_front (x ∷ xs) number (y ∷ ys) (inl lt) = inl lt
-beyond_front (x ∷ xs) number (y ∷ ys) (inr b) = inr (b.0, beyond_front xs number ys b.1)
-
--- The next number at a path's end lies beyond it, and nothing lies between.
-beyond_later : (l : List ℕ) (number : ℕ) → Beyond (l ++ number ∷ []) (l ++ (number + 1) ∷ [])
-beyond_later [] number = inl (omega arith)
-beyond_later (x ∷ xs) number = inr (refl, beyond_later xs number)
+-- The next number at a place of a path lies beyond it, and nothing lies between.
+beyond_later : (l : List ℕ) (number : ℕ) (more : List ℕ) → Beyond (l ++ number ∷ more) (l ++ (number + 1) ∷ [])
+beyond_later [] number more = inl (omega arith)
+beyond_later (x ∷ xs) number more = inr (refl, beyond_later xs number more)
 
 none_between_later : (l : List ℕ) (number : ℕ) (m : List ℕ) → Beyond (l ++ number ∷ []) m → Precedes m (l ++ (number + 1) ∷ []) → ⊥
 none_between_later [] number [] b p = b
@@ -83,12 +77,6 @@ module _ {N : Type 0} (t : Tree N) where
   abbrev pub HasNoChild : N → ℕ → List ℕ → Type 0
   HasNoChild s bound l = (number : ℕ) → IsMember t s bound (l ++ number ∷ []) → ⊥
 
-  pub childless_node : (s : N) (bound : ℕ) (l : List ℕ) → t.width (landed t s l) ≡ 0 → HasNoChild s bound l
-  childless_node s bound l none number mem = omega (arith, none, allowed-last s l number mem.1)
-
-  pub none_at_bound : (s : N) (bound : ℕ) (l : List ℕ) → bound ≤ length l → HasNoChild s bound l
-  none_at_bound s bound l h number mem = omega (arith, mem.0, length-append l (number ∷ []))
-
   -- The next path after one is that with a 0 behind it, where there is such a one.
   pub next_below : (s : N) (bound : ℕ) (l : List ℕ) → IsMember t s bound (l ++ 0 ∷ []) → IsNext (IsMember t s bound) (After l) (l ++ 0 ∷ [])
   next_below s bound l h = record {
@@ -109,41 +97,47 @@ module _ {N : Type 0} (t : Tree N) where
   abbrev pub NoneBeyond : N → List ℕ → Type 0
   NoneBeyond s l = (m : List ℕ) → Allowed t s m → Beyond l m → ⊥
 
-  -- Where a path ends at a last child, nothing more lies beyond its front.
-  beyond_last : (s : N) (l : List ℕ) (number : ℕ) (m : List ℕ) → t.width (landed t s l) ≤ number + 1 → Allowed t s m → Beyond (l ++ number ∷ []) m → Beyond l m
-  beyond_last s [] number [] h a b = absurd b
-  beyond_last s [] number (y ∷ ys) h a (inl lt) = absurd (omega (arith, a.0))
-  beyond_last s [] number (y ∷ ys) h a (inr b) = absurd b.1
-  beyond_last s (x ∷ xs) number [] h a b = absurd b
-  beyond_last s (x ∷ xs) number (y ∷ ys) h a (inl lt) = inl lt
-  beyond_last s (x ∷ xs) number (y ∷ ys) h a (inr b) = inr (b.0, beyond_last (t.child s x) xs number ys h (allowed_at s x y ys b.0 a.1) b.1)
+  -- Each step of a path is to the last child.
+  abbrev pub AllLast : N → List ℕ → Type 0
+  AllLast s [] = Unit {0}
+  AllLast s (x ∷ xs) = (t.width s ≤ x + 1) × AllLast (t.child s x) xs
 
-  -- On the way up from `first` one has come to l: beyond the two lies the same.
-  pub record Rises (s : N) (first l : List ℕ) : Type 0 where
-    pub shorter : length l ≤ length first
-    pub keeps : (m : List ℕ) → Allowed t s m → Beyond first m → Beyond l m
-    pub within : (m : List ℕ) → Beyond l m → Beyond first m
+  -- Beyond such a path there is nothing.
+  pub none_beyond : (s : N) (l : List ℕ) → AllLast s l → NoneBeyond s l
+  none_beyond s [] last m a b = b
+  none_beyond s (x ∷ xs) last [] a b = b
+  none_beyond s (x ∷ xs) last (y ∷ ys) a (inl lt) = omega (arith, last.0, a.0)
+  none_beyond s (x ∷ xs) last (y ∷ ys) a (inr b) = none_beyond (t.child s x) xs last.1 ys (allowed_at s x y ys b.0 a.1) b.1
 
-  pub rises_start : (s : N) (l : List ℕ) → Rises s l l
-  rises_start s l = record { shorter = omega arith; keeps = λ m _ b. b; within = λ m b. b }
+  -- Such an end of a path can be left away.
+  beyond_cut : (s : N) (l : List ℕ) (number : ℕ) (xs m : List ℕ) → AllLast (t.child (landed t s l) number) xs → Allowed t s m
+      → Beyond (l ++ number ∷ xs) m → Beyond (l ++ number ∷ []) m
+  beyond_cut s [] number xs [] last a b = absurd b
+  beyond_cut s [] number xs (y ∷ ys) last a (inl lt) = inl lt
+  beyond_cut s [] number xs (y ∷ ys) last a (inr b) = absurd (none_beyond (t.child s number) xs last ys (allowed_at s number y ys b.0 a.1) b.1)
+  beyond_cut s (x ∷ l) number xs [] last a b = absurd b
+  beyond_cut s (x ∷ l) number xs (y ∷ ys) last a (inl lt) = inl lt
+  beyond_cut s (x ∷ l) number xs (y ∷ ys) last a (inr b) =
+      inr (b.0, beyond_cut (t.child s x) l number xs ys last (allowed_at s x y ys b.0 a.1) b.1)
 
-  pub rises_on : (s : N) (first l : List ℕ) (number : ℕ) → Rises s first (l ++ number ∷ []) → t.width (landed t s l) ≤ number + 1 → Rises s first l
-  rises_on s first l number up h = record {
-    shorter = omega (arith, up.shorter, length-append l (number ∷ []));
-    keeps = λ m a b. beyond_last s l number m h a (up.keeps m a b);
-    within = λ m b. up.within m (beyond_front l number m b);
+  allowed_before : (s : N) (l m : List ℕ) → Allowed t s (l ++ m) → Allowed t s l
+  allowed_before s [] m a = tt
+  allowed_before s (x ∷ xs) m a = (a.0, allowed_before (t.child s x) xs m a.1)
+
+  -- Up past steps to last children, and one child on.
+  pub next_beyond : (s : N) (l : List ℕ) (number : ℕ) (xs : List ℕ) → Allowed t s (l ++ number ∷ xs) → AllLast (t.child (landed t s l) number) xs
+      → number + 1 < t.width (landed t s l) → IsNextBeyond s (l ++ number ∷ xs) (l ++ (number + 1) ∷ [])
+  next_beyond s l number xs a last lt = record {
+    shorter = omega (arith, length-append l (number ∷ xs), length-append l ((number + 1) ∷ []));
+    allowed = allowed-push s l (number + 1) (allowed_before s l (number ∷ xs) a) lt;
+    beyond = beyond_later l number xs;
+    none_between = λ m am b p. none_between_later l number m (beyond_cut s l number xs m last am b) p;
   }
 
-  pub rises_found : (s : N) (first l : List ℕ) (number : ℕ) → Rises s first (l ++ number ∷ []) → Allowed t s l → number + 1 < t.width (landed t s l) → IsNextBeyond s first (l ++ (number + 1) ∷ [])
-  rises_found s first l number up a h = record {
-    shorter = omega (arith, up.shorter, length-append l (number ∷ []), length-append l ((number + 1) ∷ []));
-    allowed = allowed-push s l (number + 1) a h;
-    beyond = up.within (l ++ (number + 1) ∷ []) (beyond_later l number);
-    none_between = λ m am b p. none_between_later l number m (up.keeps m am b) p;
-  }
-
-  pub rises_none : (s : N) (first : List ℕ) → Rises s first [] → NoneBeyond s first
-  rises_none s first up = λ m a b. up.keeps m a b
+  -- Where there is no first child there is none.
+  pub childless : (s : N) (bound : ℕ) (l : List ℕ) → (IsMember t s bound (l ++ 0 ∷ []) → ⊥) → HasNoChild s bound l
+  childless s bound l none number m =
+      none (omega (arith, m.0, length-append l (number ∷ []), length-append l (0 ∷ [])), allowed-push s l 0 (allowed_before s l (number ∷ []) m.1) (omega (arith, allowed-last s l number m.1)))
 
   -- ---- both
 

@@ -4,7 +4,7 @@ use Rattle.mc_boot.proofs.tests.run.Given as goal
 
 abbrev pub invariant-loop : goal.invariant-loop
 invariant-loop g l = record {
-  boot : IsBootOf (g.F.Flash.geometry l.flash) l.boot;
-  geometry : g.F.Flash.geometry l.flash ≡ g.F.Flash.geometry l.fn.flash;
-  marks : g.F.Flash.marks l.flash ≡ g.F.Flash.marks l.fn.flash;
+  boot : IsBootOf (g.F.Flash.seen l.flash).geometry l.boot;
+  geometry : (g.F.Flash.seen l.flash).geometry ≡ (g.F.Flash.seen l.fn.flash).geometry;
+  marks : (g.F.Flash.seen l.flash).marks ≡ (g.F.Flash.seen l.fn.flash).marks;
 }

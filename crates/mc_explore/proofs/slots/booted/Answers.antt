@@ -1,20 +1,17 @@
-use Rattle.std.proofs.Common.{length, refl}
+use Rattle.std.proofs.Common.{}
 use Rattle.mc_boot.specs.Boot.{progress}
 use Rattle.mc_boot.specs.Plan.{plain}
-use Rattle.mc_explore.proofs.Bounds.{loaded_room, room_for_one}
-use Rattle.mc_explore.proofs.Left.{same_left}
+use Rattle.mc_explore.proofs.Loaded.{allows, left_here}
 use Rattle.mc_explore.proofs.slots.booted.Goals as goal
+
+pub finish-requires : goal.finish-requires
+finish-requires g c = record {
+  layout = c.cold-boot.ensures.layout;
+  room = allows g.F.Flash.counted c.args.layout.now c.args.primary.now c.args.secondary.now (g.F.Flash.seen c.in_ok-flash.flash) (progress c.cold-boot.result) c.in_ok-flash.ensures.loads c.cold-boot.ensures.few c.cold-boot.ensures.few_saves;
+}
 
 pub returns-clause-content : goal.returns-clause-content
 returns-clause-content g c =
-    let e = c.in_ok-boot_whole.ensures in
-    same_left c.args.layout.now (g.F.Flash.geometry c.in_ok-flash.flash) (record { primary = c.args.primary.now; secondary = c.args.secondary.now })
-    (g.F.Flash.content c.in_ok-flash.flash) (g.F.Flash.content c.boot_whole.new.flash) _ (progress c.in_ok-boot_whole.field-0) e.come e.end
-    c.in_ok-flash.ensures.geometry c.in_ok-flash.ensures.content c.in_ok-slots_of.ensures.content
-
-pub boot_whole-requires : goal.boot_whole-requires
-boot_whole-requires g c =
-    let e = c.in_ok-flash.ensures in
-    let flash = c.in_ok-flash.flash in
-    room_for_one plain (g.F.Flash.geometry flash) (g.F.Flash.ledger flash) (length (g.F.Flash.marks flash))
-    (loaded_room 1 1 plain c.args.layout.now (g.F.Flash.geometry flash) (g.F.Flash.ledger flash) (g.F.Flash.marks flash) refl e.geometry e.ledger e.room e.marks)
+    let e = c.in_ok-finish.ensures in
+    let f = g.F.Flash.seen c.in_ok-flash.flash in
+    left_here g.F.Flash.counted c.args.layout.now c.args.primary.now c.args.secondary.now f (progress c.finish.new.self) (g.F.Flash.seen c.finish.new.flash) _ c.in_ok-flash.ensures.loads (e.come plain f.content c.cold-boot.ensures.come) e.end c.in_ok-slots_of.ensures.content

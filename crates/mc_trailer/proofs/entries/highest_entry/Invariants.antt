@@ -5,4 +5,4 @@ use Rattle.mc_trailer.proofs.entries.highest_entry.Given as goal
 -- no entry from here on is written
 abbrev pub invariant-loop-entry : goal.invariant-loop-entry
 invariant-loop-entry g l =
-    (e : ℕ) → l.entry ≤ e → e < 3 * (g.F.Flash.geometry l.flash).max_sectors → is_written (g.F.Flash.geometry l.flash) (g.F.Flash.content l.flash) e ≡ false
+    (e : ℕ) → l.entry ≤ e → e < 3 * (g.F.Flash.seen l.flash).geometry.max_sectors → is_written (g.F.Flash.seen l.flash).geometry (g.F.Flash.seen l.flash).content e ≡ false

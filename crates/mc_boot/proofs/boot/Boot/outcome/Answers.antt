@@ -7,5 +7,5 @@ use Rattle.mc_boot.proofs.boot.Boot.outcome.Goals as goal
 
 pub returns-clause-end : goal.returns-clause-end
 returns-clause-end g c r s come end =
-    come_outcome r (g.F.Flash.geometry c.args.flash.now) s (progress c.args.self.now) (g.F.Flash.content c.args.flash.now) come end
+    come_outcome r (g.F.Flash.seen c.args.flash.now).geometry s (progress c.args.self.now) (g.F.Flash.seen c.args.flash.now).content come end
     ∙ ap (λ (x : Report). Some x) (sym c.read.ensures)

@@ -1,7 +1,29 @@
-use Rattle.mc_explore.proofs.Bounds.{has_room}
+use Rattle.mc_explore.specs.Start.{begun}
+use Rattle.mc_explore.proofs.Going.{Followed, behind_it, followed, listed, not_listed, resumed}
+use Rattle.mc_explore.proofs.explorer.Explorer.resume.Given.{Over}
 use Rattle.mc_explore.proofs.explorer.Explorer.resume.Goals as goal
+use Rattle.mc_explore.proofs.explorer.Explorer.resume.Goals.{After-result-1}
 
-pub run-requires : goal.run-requires
-run-requires g c =
-    let followed = c.in_ok-follow.ensures in
-    rw followed.geometry (has_room c.in_ok-flash.walk _ (g.F.Flash.ledger c.follow.new.flash) (g.F.Flash.marks c.follow.new.flash) c.follow.new.frames.items followed.roomy)
+pub returns-then-not-branch-clause-resumes : goal.returns-then-not-branch-clause-resumes
+returns-then-not-branch-clause-resumes g c = (
+  c.in_ok-ask.ensures.names,
+  not_listed g.F.Flash.counted (begun c.args.start.now) c.args.bound c.args.cursor.now.schedule c.in_ok-walk.walk c.begin.new.self c.follow.new.self c.in_ok-begin.field-0 c.in_ok-walk.ensures.loaded c.in_ok-begin.ensures.begins c.in_ok-follow.field-0 c.if-not-branch.true (rw c.cuts-cuts.ensures.value at c.in_ok-follow.ensures.step),
+)
+
+there : (g : Over) (c : After-result-1 g) → Followed g.F.Flash.counted (begun c.args.start.now) c.args.bound c.args.cursor.now.schedule c.follow.new.self
+there g c =
+    followed g.F.Flash.counted (begun c.args.start.now) c.args.bound c.args.cursor.now.schedule c.in_ok-walk.walk c.begin.new.self c.follow.new.self c.in_ok-begin.field-0 c.in_ok-walk.ensures.loaded c.in_ok-begin.ensures.begins c.in_ok-follow.field-0 c.if-not-branch.false (rw c.cuts-cuts.ensures.value at c.in_ok-follow.ensures.step) c.in_ok-begin.ensures.spends (rw c.cuts-cuts.ensures.value at c.in_ok-follow.ensures.spends)
+
+pub invariant_of-result : goal.invariant_of-result
+invariant_of-result g c = resumed g.F.Flash.counted (begun c.args.start.now) c.args.bound c.args.cursor.now c.follow.new.self (there g (goal.at.invariant_of-result g c).After-result-1) c.in_ok-ask.ensures.names c.requires
+
+pub returns-clause-resumes : goal.returns-clause-resumes
+returns-clause-resumes g c =
+    let f = there g (goal.at.returns-clause-resumes g c).After-result-1 in (
+      c.in_ok-ask.ensures.names,
+      listed g.F.Flash.counted (begun c.args.start.now) c.args.bound c.args.cursor.now.schedule c.follow.new.self f,
+      behind_it g.F.Flash.counted (begun c.args.start.now) c.args.bound c.args.cursor.now c.follow.new.self f,
+    )
+
+pub returns-clause-applied : goal.returns-clause-applied
+returns-clause-applied g c = (there g (goal.at.returns-clause-applied g c).After-result-1).applied

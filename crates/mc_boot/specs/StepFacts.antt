@@ -1,0 +1,183 @@
+-- What a step of a boot spends. Proved here, so that the crates above can cite it.
+use Rattle.std.specs.Prelude.{◌≡◌, ◌+◌, ◌<◌, ◌≤◌, true, false, List, [], ◌∷◌, length, slice_get, is_some, Option, Result, Ok, Err, refl}
+use Rattle.std.proofs.Common.{arith, inl, inr, sym, ap, subst, ◌∙◌}
+use Rattle.mc_flash.specs.Geometry.{Geometry}
+use Rattle.mc_flash.specs.Ledger.{Counts, Limits, IsFull}
+use Rattle.mc_flash.specs.Seen.{Seen, GivesUp}
+use Rattle.mc_flash.specs.Spends.{Spent, RanOut, LeaveRoom, Allows, plus, room_of}
+use Rattle.mc_flash.specs.SpendsFacts.{Notes, done_notes, gave_up}
+use Rattle.mc_flash.specs.declared.op.Op.{Op}
+use Rattle.mc_flash.specs.declared.flash.FlashError.{FlashError}
+use Rattle.mc_flash.specs.declared.flash.FlashError.TheVariants as errors
+use Rattle.mc_boot.specs.Boot.{Progress, StepsAlong, Steps}
+use Rattle.mc_boot.specs.Bounds.{all_saves, left_of}
+
+-- What is counted and what is left to count are together no more than before.
+abbrev pub CountsOn : Progress → Progress → Seen → Seen → Type 0
+CountsOn p q old new = LeaveRoom new.ledger.counts (left_of old.geometry q) (plus old.ledger.counts (left_of old.geometry p))
+
+-- Operations done and operations to come are together no more than before, and memory did not fail.
+pub record StepSpends (p q : Progress) (old new : Seen) : Type 0 where
+  pub applied : new.ledger.applied + length q.to_come ≤ old.ledger.applied + length p.to_come
+  pub limits : new.ledger.limits ≡ old.ledger.limits
+  pub failed : new.ledger.failed ≡ old.ledger.failed
+
+-- ---- one after another
+
+pub step_spends_none : (p : Progress) (f : Seen) → StepSpends p p f f
+step_spends_none p f = record { applied = omega arith; limits = refl; failed = refl }
+
+pub step_spends_both : (o p q : Progress) (x y z : Seen) → StepSpends o p x y → StepSpends p q y z → StepSpends o q x z
+step_spends_both o p q x y z s t = record {
+  applied = omega (arith, s.applied, t.applied);
+  limits = t.limits ∙ s.limits;
+  failed = t.failed ∙ s.failed;
+}
+
+pub spent_along : (p q : Progress) (old new : Seen) → StepSpends p q old new → Spent (length p.to_come) old new
+spent_along p q old new s = record { applied = omega (arith, s.applied); limits = s.limits; failed = s.failed }
+
+-- ---- the first operation to come
+
+pub some_first : (ops : List Op) (first : Option Op) → first ≡ slice_get ops 0 → is_some first ≡ true → 0 < length ops
+some_first [] first is some = absurd cc
+some_first (op ∷ rest) first is some = omega arith
+
+pub none_first : (ops : List Op) (first : Option Op) → first ≡ slice_get ops 0 → is_some first ≡ false → ops ≡ []
+none_first [] first is none = refl
+none_first (op ∷ rest) first is none = absurd cc
+
+-- ---- a step
+
+module _ (p q : Progress) (old new : Seen) where
+  stays_counted : q ≡ p → new.ledger.counts ≡ old.ledger.counts → CountsOn p q old new
+  stays_counted a b =
+      let P : Progress → Type 0 = λ x. CountsOn p x old new in
+      let Q : Counts → Type 0 = λ c. LeaveRoom c (left_of old.geometry p) (plus old.ledger.counts (left_of old.geometry p)) in
+      subst P (sym a) (subst Q (sym b) (record { entries = omega arith; saved = omega arith }))
+
+  stays_spent : q ≡ p → new ≡ old → StepSpends p q old new
+  stays_spent a b =
+      let P : Progress → Type 0 = λ x. StepSpends p x old new in
+      let Q : Seen → Type 0 = λ f. StepSpends p p old f in
+      subst P (sym a) (subst Q (sym b) (step_spends_none p old))
+
+  module _ (op : Op) (rest : List Op) (first : p.to_come ≡ op ∷ rest) where
+    next_counted : q.to_come ≡ rest → Notes old.geometry op old.ledger new.ledger → CountsOn p q old new
+    next_counted left n = record {
+      entries = omega (arith, n.entries, ap (λ (ops : List Op). length ops) first, ap (λ (ops : List Op). length ops) left);
+      saved = omega (arith, n.saved, ap (all_saves old.geometry) first, ap (all_saves old.geometry) left);
+    }
+
+    next_spent : q.to_come ≡ rest → Notes old.geometry op old.ledger new.ledger → StepSpends p q old new
+    next_spent left n = record {
+      applied = omega (arith, n.applied, ap (λ (ops : List Op). length ops) first, ap (λ (ops : List Op). length ops) left);
+      limits = n.limits;
+      failed = n.failed;
+    }
+
+  none_counted : q.to_come ≡ [] → new ≡ old → CountsOn p q old new
+  none_counted left same = record {
+    entries = omega (arith, ap (λ (f : Seen). f.ledger.counts.entries) same, ap (λ (ops : List Op). length ops) left);
+    saved = omega (arith, ap (λ (f : Seen). f.ledger.counts.saved) same, ap (all_saves old.geometry) left);
+  }
+
+  none_spent : q.to_come ≡ [] → new ≡ old → StepSpends p q old new
+  none_spent left same = record {
+    applied = omega (arith, ap (λ (f : Seen). f.ledger.applied) same, ap (λ (ops : List Op). length ops) left);
+    limits = ap (λ (f : Seen). f.ledger.limits) same;
+    failed = ap (λ (f : Seen). f.ledger.failed) same;
+  }
+
+  given_up : (op : Op) → GivesUp (IsFull old.geometry op old.ledger) old new → new.ledger.counts ≡ old.ledger.counts
+  given_up op (inl kept) = ap (λ (f : Seen). f.ledger.counts) kept.2
+  given_up op (inr lost) = ap (λ (f : Seen). f.ledger.counts) lost.1
+
+  -- Whatever it answers.
+  pub step_counts : (result : Result (Unit {0}) FlashError) → Steps p old result q new → CountsOn p q old new
+  step_counts result steps = at p.to_come refl result steps
+    where
+      at : (ops : List Op) → p.to_come ≡ ops → (x : Result (Unit {0}) FlashError) → StepsAlong ops p old x q new → CountsOn p q old new
+      at [] is (Ok v) d = stays_counted d.0 (ap (λ (f : Seen). f.ledger.counts) d.1)
+      at [] is (Err e) d = absurd d
+      at (op ∷ rest) is (Ok v) d = next_counted op rest is (ap (λ (x : Progress). x.to_come) d.0) (done_notes op old new d.1.0)
+      at (op ∷ rest) is (Err errors.NotErased) d = none_counted (ap (λ (x : Progress). x.to_come) d.0) d.1.1
+      at (op ∷ rest) is (Err errors.Memory) d = stays_counted d.0 (given_up op d.1.1)
+
+  -- Where memory does not fail.
+  pub step_spends : (result : Result (Unit {0}) FlashError) → (result ≡ Err errors.Memory → ⊥) → Steps p old result q new
+      → StepSpends p q old new
+  step_spends result other steps = at p.to_come refl result other steps
+    where
+      at : (ops : List Op) → p.to_come ≡ ops → (x : Result (Unit {0}) FlashError) → (x ≡ Err errors.Memory → ⊥) → StepsAlong ops p old x q new
+          → StepSpends p q old new
+      at [] is (Ok v) fine d = stays_spent d.0 d.1
+      at [] is (Err e) fine d = absurd d
+      at (op ∷ rest) is (Ok v) fine d = next_spent op rest is (ap (λ (x : Progress). x.to_come) d.0) (done_notes op old new d.1.0)
+      at (op ∷ rest) is (Err errors.NotErased) fine d = none_spent (ap (λ (x : Progress). x.to_come) d.0) d.1.1
+      at (op ∷ rest) is (Err errors.Memory) fine d = absurd (fine refl)
+
+  -- With room for all that is to come memory is wanted only where it fails a flash that does not count.
+  pub step_ran_out : (result : Result (Unit {0}) FlashError) → result ≡ Err errors.Memory → Steps p old result q new
+      → LeaveRoom old.ledger.counts (left_of old.geometry p) (room_of old.ledger.limits) → RanOut old new
+  step_ran_out result wanted steps room = at p.to_come refl result wanted steps
+    where
+      not_full : (op : Op) (rest : List Op) → p.to_come ≡ op ∷ rest → IsFull old.geometry op old.ledger → ⊥
+      not_full op rest is (inl full) = omega (arith, room.entries, full, ap (λ (ops : List Op). length ops) is)
+      not_full op rest is (inr full) = omega (arith, room.saved, full, ap (all_saves old.geometry) is)
+
+      at : (ops : List Op) → p.to_come ≡ ops → (x : Result (Unit {0}) FlashError) → x ≡ Err errors.Memory → StepsAlong ops p old x q new
+          → RanOut old new
+      at [] is (Ok v) memory d = absurd cc
+      at [] is (Err e) memory d = absurd d
+      at (op ∷ rest) is (Ok v) memory d = absurd cc
+      at (op ∷ rest) is (Err errors.NotErased) memory d = absurd cc
+      at (op ∷ rest) is (Err errors.Memory) memory d = gave_up (IsFull old.geometry op old.ledger) old new (not_full op rest is) d.1.1
+
+  -- There is still room for all that is to come.
+  pub step_allows : (result : Result (Unit {0}) FlashError) → (result ≡ Err errors.Memory → ⊥) → Steps p old result q new
+      → new.geometry ≡ old.geometry → Allows (left_of old.geometry p) old → Allows (left_of new.geometry q) new
+  step_allows result other steps same allows =
+      let c = step_counts result steps in
+      let limits = (step_spends result other steps).limits in
+      let P : Geometry → Type 0 = λ g. Allows (left_of g q) new in
+      let Q : Limits → Type 0 = λ l. LeaveRoom new.ledger.counts (left_of old.geometry q) (room_of l) in
+      subst P (sym same) (subst Q (sym limits) (record {
+        entries = omega (arith, c.entries, allows.entries);
+        saved = omega (arith, c.saved, allows.saved);
+      }))
+
+  -- Fewer operations are to come.
+  pub less_to_come : (result : Result (Unit {0}) FlashError) → (result ≡ Err errors.Memory → ⊥) → 0 < length p.to_come
+      → Steps p old result q new → length q.to_come < length p.to_come
+  less_to_come result other some steps = at p.to_come refl result other steps
+    where
+      at : (ops : List Op) → p.to_come ≡ ops → (x : Result (Unit {0}) FlashError) → (x ≡ Err errors.Memory → ⊥) → StepsAlong ops p old x q new
+          → length q.to_come < length p.to_come
+      at [] is x fine d = absurd (omega (arith, some, ap (λ (ops : List Op). length ops) is))
+      at (op ∷ rest) is (Ok v) fine d = omega (arith, ap (λ (ops : List Op). length ops) is, ap (λ (x : Progress). length x.to_come) d.0)
+      at (op ∷ rest) is (Err errors.NotErased) fine d = omega (arith, some, ap (λ (x : Progress). length x.to_come) d.0)
+      at (op ∷ rest) is (Err errors.Memory) fine d = absurd (fine refl)
+
+  -- After a refusal nothing is to come, and no operation more happened.
+  pub refused_here : (result : Result (Unit {0}) FlashError) → result ≡ Err errors.NotErased → Steps p old result q new
+      → (q.to_come ≡ []) × (q.count ≡ p.count)
+  refused_here result refuses steps = at p.to_come result refuses steps
+    where
+      at : (ops : List Op) (x : Result (Unit {0}) FlashError) → x ≡ Err errors.NotErased → StepsAlong ops p old x q new
+          → (q.to_come ≡ []) × (q.count ≡ p.count)
+      at ops (Ok v) is d = absurd cc
+      at ops (Err errors.Memory) is d = absurd cc
+      at [] (Err errors.NotErased) is d = absurd d
+      at (op ∷ rest) (Err errors.NotErased) is d = (ap (λ (x : Progress). x.to_come) d.0, ap (λ (x : Progress). x.count) d.0)
+
+  -- Where one was to come, one more happened.
+  pub stepped_here : (result : Result (Unit {0}) FlashError) (v : Unit {0}) → result ≡ Ok v → 0 < length p.to_come → Steps p old result q new
+      → q.count ≡ p.count + 1
+  stepped_here result v happens some steps = at p.to_come refl result happens steps
+    where
+      at : (ops : List Op) → p.to_come ≡ ops → (x : Result (Unit {0}) FlashError) → x ≡ Ok v → StepsAlong ops p old x q new
+          → q.count ≡ p.count + 1
+      at [] to x is d = absurd (omega (arith, some, ap (λ (ops : List Op). length ops) to))
+      at (op ∷ rest) to (Ok w) is d = ap (λ (x : Progress). x.count) d.0
+      at (op ∷ rest) to (Err e) is d = absurd cc

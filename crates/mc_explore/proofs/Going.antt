@@ -1,0 +1,242 @@
+-- A walk that was loaded for a start goes along a schedule.
+use Rattle.std.specs.Prelude.{◌≡◌, ℕ, suc, ◌+◌, ◌*◌, ◌≤◌, Bool, true, false, is_some, List, [], ◌∷◌, length, take, Option, Some, None, refl}
+use Rattle.std.proofs.Common.{arith, sym, ap, subst, ◌∙◌}
+use Rattle.std.proofs.Math.Nat.{mul-le-mul_right}
+use Rattle.std.proofs.lemmas.List.{length-take-le, take_all}
+use Rattle.mc_tree.specs.Tree as tree
+use Rattle.mc_tree.specs.Tree.{Allowed, landed}
+use Rattle.mc_tree.specs.Paths as paths
+use Rattle.mc_tree.specs.Paths.{After}
+use Rattle.mc_tree.specs.facts.Order.{allowed_front}
+use Rattle.mc_flash.specs.Content.{Content}
+use Rattle.mc_flash.specs.Geometry.{Geometry, IsLayout}
+use Rattle.mc_flash.specs.Ledger.{Limits, most_operations}
+use Rattle.mc_flash.specs.Seen.{Seen}
+use Rattle.mc_flash.specs.Spends.{Allows, LeaveRoom, Spent, room_of}
+use Rattle.mc_flash.specs.declared.op.Op.{Op}
+use Rattle.mc_trailer.specs.declared.tables.Rules.{Rules}
+use Rattle.mc_walk.specs.Walks.{Walked, Begins, Follows, IsSame, IsThere, IsPath, path_cost, start_of}
+use Rattle.mc_boot.specs.Boot.{Progress, progress}
+use Rattle.mc_boot.specs.Bounds.{left_of, ops_few}
+use Rattle.mc_boot.specs.Outcome.{shown}
+use Rattle.mc_boot.specs.Run.{HasCome}
+use Rattle.mc_boot.specs.RunFacts.{come_begun, come_left}
+use Rattle.mc_boot.specs.Runs.{after, ops_of}
+use Rattle.mc_explore.specs.Boots.{at_cut, boots}
+use Rattle.mc_explore.specs.Once.{IsTold, most_of, once}
+use Rattle.mc_explore.specs.Replay.{CannotOccurAt, IsReplayed}
+use Rattle.mc_explore.specs.Resume.{Names, behind}
+use Rattle.mc_explore.specs.Schedules.{IsMember, CanOccur}
+use Rattle.mc_explore.specs.Start.{Begun}
+use Rattle.mc_explore.specs.State.{State, IsOver}
+use Rattle.mc_explore.specs.View.{IsLoaded, IsSound, begun_of, position_of, state_of}
+use Rattle.mc_explore.specs.declared.cursor.Cursor.{Cursor}
+use Rattle.mc_explore.specs.declared.once.Once.{Once}
+use Rattle.mc_explore.specs.declared.once.Told.{Told}
+use Rattle.mc_explore.specs.declared.phase.Phase.{Phase}
+use Rattle.mc_explore.specs.declared.phase.Phase.TheVariants as phases
+use Rattle.mc_explore.proofs.Moving.{over_listed}
+use Rattle.mc_explore.proofs.Occurring.{allowed_after, occurs_allowed, member_of, path_of}
+
+-- ---- what a path costs
+
+few_ops : (r : Rules) (g : Geometry) (s : Content) → IsLayout g → length (ops_of r g s) ≤ most_operations r.grain g
+few_ops r g s valid =
+    let few = ops_few r g s (length (ops_of r g s)) valid in
+    omega (arith, few, ap (λ (ops : List Op). length ops) (take_all (length (ops_of r g s)) (ops_of r g s) (omega arith)))
+
+cost_few : (r : Rules) (g : Geometry) (s : Content) (l : List ℕ) → IsLayout g → Allowed (boots r g) s l → path_cost (once r g) l ≤ length l * (2 * most_operations r.grain g)
+cost_few r g s [] valid a = omega arith
+cost_few r g s (c ∷ cs) valid a =
+    let rest = cost_few r g (at_cut r g s c) cs valid a.1 in
+    let first = few_ops r g s valid in
+    let more : suc (length cs) * (2 * most_operations r.grain g) ≡ 2 * most_operations r.grain g + length cs * (2 * most_operations r.grain g) = omega arith in
+    omega (arith, rest, first, a.0, more)
+
+-- ---- the same start
+
+same_begun : (old new : Walked Once) → IsSame old new → begun_of new ≡ begun_of old
+same_begun old new s =
+    ap (λ (b : Once). record { geometry = b.layout; rules = b.rules; content = start_of new.seen }) s.branches
+    ∙ ap (λ (c : Content). record { geometry = old.branches.layout; rules = old.branches.rules; content = c }) s.start
+
+-- A walk that has come along a schedule, from a start.
+pub record Followed (counted : Bool) (start : Begun) (bound : ℕ) (path : List ℕ) (w : Walked Once) : Type 0 where
+  pub start_is : begun_of w ≡ start
+  pub bound_is : w.bound ≡ bound
+  pub path_is : w.path ≡ path
+  pub stands : w.stands ≡ true
+  pub allowed : tree.IsMember (boots start.rules start.geometry) start.content bound path
+  pub counted_is : w.seen.ledger.limits.counted ≡ counted
+  pub calm : w.seen.ledger.failed ≡ false
+  pub applied : w.seen.ledger.applied ≤ 2 * (bound + 1) * most_operations start.rules.grain start.geometry
+
+module _ (counted : Bool) (start : Begun) (bound : ℕ) (path : List ℕ) (zero_walk one two : Walked Once) (told : Told) (l : IsLoaded counted start bound zero_walk)
+    (b : Begins (once zero_walk.branches.rules zero_walk.branches.layout) zero_walk told one) where
+  one_start : begun_of one ≡ start
+  one_start = same_begun zero_walk one b.same ∙ l.start_is
+
+  one_bound : one.bound ≡ bound
+  one_bound = b.same.bound ∙ l.bound_is
+
+  at_start : tree.IsMember (boots one.branches.rules one.branches.layout) (start_of one.seen) one.bound path → tree.IsMember (boots start.rules start.geometry) start.content bound path
+  at_start m =
+      let P : Begun → Type 0 = λ s. tree.IsMember (boots s.rules s.geometry) s.content one.bound path in
+      subst (λ n. tree.IsMember (boots start.rules start.geometry) start.content n path) one_bound (subst P one_start m)
+
+  -- There.
+  pub followed : (went : Bool) → went ≡ true → Follows (once one.branches.rules one.branches.layout) path one went two → Spent (most_operations zero_walk.branches.rules.grain zero_walk.branches.layout) zero_walk.seen one.seen
+      → Spent (path_cost (once one.branches.rules one.branches.layout) path) one.seen two.seen → Followed counted start bound path two
+  followed false is f s t = absurd cc
+  followed true is f s t =
+      let allowed = at_start f.1 in
+      let P : Begun → Type 0 = λ x. Spent (most_operations x.rules.grain x.geometry) zero_walk.seen one.seen in
+      let Q : Begun → Type 0 = λ x. Spent (path_cost (once x.rules x.geometry) path) one.seen two.seen in
+      let first : Spent (most_operations start.rules.grain start.geometry) zero_walk.seen one.seen = subst P l.start_is s in
+      let along : Spent (path_cost (once start.rules start.geometry) path) one.seen two.seen = subst Q one_start t in
+      let cost = cost_few start.rules start.geometry start.content path l.valid allowed.1 in
+      let few : length path * (2 * most_operations start.rules.grain start.geometry) ≤ bound * (2 * most_operations start.rules.grain start.geometry) = mul-le-mul_right (2 * most_operations start.rules.grain start.geometry) allowed.0 in
+      record {
+        start_is = same_begun one two f.2 ∙ one_start;
+        bound_is = f.2.bound ∙ one_bound;
+        path_is = f.0;
+        stands = f.3;
+        allowed = allowed;
+        counted_is = ap (λ (x : Limits). x.counted) (along.limits ∙ first.limits) ∙ l.counted_is;
+        calm = along.failed ∙ first.failed ∙ l.calm;
+        applied = sum (most_operations start.rules.grain start.geometry) bound (path_cost (once start.rules start.geometry) path) (length path * (2 * most_operations start.rules.grain start.geometry)) zero_walk.seen.ledger.applied one.seen.ledger.applied two.seen.ledger.applied l.idle first.applied along.applied cost few;
+      }
+    where
+      sum : (most n cost many a b c : ℕ) → a ≡ 0 → b ≤ a + most → c ≤ b + cost → cost ≤ many → many ≤ n * (2 * most) → c ≤ 2 * (n + 1) * most
+      sum most n cost many a b c z first along few all = let e : 2 * (n + 1) * most ≡ n * (2 * most) + 2 * most = omega arith in omega (arith, z, first, along, few, all, e)
+
+  -- Or the schedule is none of those.
+  pub not_listed : (went : Bool) → went ≡ false → Follows (once one.branches.rules one.branches.layout) path one went two → IsMember start.rules start.geometry start.content bound path → ⊥
+  not_listed true is f m = absurd cc
+  not_listed false is f m =
+      let here = path_of start.rules start.geometry start.content bound path m in
+      let n : ℕ = length two.path + 1 in
+      let len : length (take n path) ≤ bound = omega (arith, length-take-le n path (omega (arith, f.inside)), f.inside, here.0) in
+      let front = allowed_front (boots start.rules start.geometry) start.content path n here.1 in
+      let P : Begun → Type 0 = λ x. tree.IsMember (boots x.rules x.geometry) x.content one.bound (take n path) in
+      f.no_child (subst P (sym one_start) (subst (λ k. tree.IsMember (boots start.rules start.geometry) start.content k (take n path)) (sym one_bound) (len, front)))
+
+  -- And the cut where it stops is the first that can't occur.
+  pub stops : (went : Bool) → went ≡ false → Follows (once one.branches.rules one.branches.layout) path one went two → bound ≡ length path → (place : ℕ) → place ≡ length two.path
+      → CannotOccurAt start.rules start.geometry start.content path place
+  stops true is f whole place at = absurd cc
+  stops false is f whole place at =
+      let n : ℕ = length two.path in
+      let P : Begun → Type 0 = λ x. tree.IsMember (boots x.rules x.geometry) x.content one.bound two.path in
+      let member = subst P one_start f.member in
+      subst (CannotOccurAt start.rules start.geometry start.content path) (sym at) (record {
+        inside = f.inside;
+        cut = landed (boots start.rules start.geometry) start.content two.path;
+        before = ap (after start.rules start.geometry start.content) (sym f.front) ∙ allowed_after start.rules start.geometry start.content two.path member.1;
+        not_there = none (after start.rules start.geometry start.content (take (n + 1) path)) refl;
+      })
+    where
+      none : (o : Option Content) → after start.rules start.geometry start.content (take (length two.path + 1) path) ≡ o → after start.rules start.geometry start.content (take (length two.path + 1) path) ≡ None
+      none None e = e
+      none (Some u) e =
+          let n : ℕ = length two.path + 1 in
+          let occurs : CanOccur start.rules start.geometry start.content (take n path) = ap (λ (o : Option Content). is_some o) e in
+          let len : length (take n path) ≤ bound = omega (arith, length-take-le n path (omega (arith, f.inside)), f.inside, whole) in
+          let Q : Begun → Type 0 = λ x. tree.IsMember (boots x.rules x.geometry) x.content one.bound (take n path) in
+          absurd (f.no_child (subst Q (sym one_start) (subst (λ k. tree.IsMember (boots start.rules start.geometry) start.content k (take n path)) (sym one_bound) (len, occurs_allowed start.rules start.geometry start.content (take n path) occurs))))
+
+-- ---- an explorer behind a cursor
+
+pub resumed : (counted : Bool) (start : Begun) (bound : ℕ) (c : Cursor) (w : Walked Once) → Followed counted start bound c.schedule w → Names start bound c → bound ≤ 16 → IsSound w counted c phases.Going
+resumed counted start bound c w f names few = (
+  record {
+    names = subst (λ (s : Begun). Names s w.bound c) (sym f.start_is) (subst (λ n. Names start n c) (sym f.bound_is) names);
+    few = omega (arith, f.bound_is, few);
+    counted_is = f.counted_is;
+  },
+  f.stands,
+  f.path_is,
+)
+
+pub started : (counted : Bool) (start : Begun) (bound : ℕ) (c : Cursor) (w : Walked Once) → IsLoaded counted start bound w → Names start bound c → bound ≤ 16 → IsSound w counted c phases.Fresh
+started counted start bound c w l names few = (
+  record {
+    names = subst (λ (s : Begun). Names s w.bound c) (sym l.start_is) (subst (λ n. Names start n c) (sym l.bound_is) names);
+    few = omega (arith, l.bound_is, few);
+    counted_is = l.counted_is;
+  },
+  l.fresh,
+)
+
+pub behind_it : (counted : Bool) (start : Begun) (bound : ℕ) (c : Cursor) (w : Walked Once) → Followed counted start bound c.schedule w → state_of w (After c.schedule) ≡ behind start bound c.schedule
+behind_it counted start bound c w f =
+    ap (λ (s : Begun). record { start = s; bound = w.bound; position = After c.schedule; failed = w.seen.ledger.failed }) f.start_is
+    ∙ ap (λ (n : ℕ). record { start = start; bound = n; position = After c.schedule; failed = w.seen.ledger.failed }) f.bound_is
+    ∙ ap (λ (b : Bool). record { start = start; bound = bound; position = After c.schedule; failed = b }) f.calm
+
+pub listed : (counted : Bool) (start : Begun) (bound : ℕ) (path : List ℕ) (w : Walked Once) → Followed counted start bound path w → IsMember start.rules start.geometry start.content bound path
+listed counted start bound path w f = member_of start.rules start.geometry start.content bound path f.allowed
+
+-- ---- a replay
+
+module _ (counted : Bool) (start : Begun) (bound : ℕ) (path : List ℕ) (w : Walked Once) (told : Told) (f : Followed counted start bound path w)
+    (there : IsThere (once w.branches.rules w.branches.layout) w told) where
+  abbrev cut : Content
+  cut = landed (boots start.rules start.geometry) start.content path
+
+  node_is : landed (boots w.branches.rules w.branches.layout) (start_of w.seen) w.path ≡ cut
+  node_is =
+      ap (λ (s : Begun). landed (boots s.rules s.geometry) s.content w.path) f.start_is ∙ ap (landed (boots start.rules start.geometry) start.content) f.path_is
+
+  pub told_here : IsTold start.rules start.geometry cut told
+  told_here =
+      let P : Begun → Type 0 = λ s. IsTold s.rules s.geometry (landed (boots w.branches.rules w.branches.layout) (start_of w.seen) w.path) told in
+      subst (λ s. IsTold start.rules start.geometry s told) node_is (subst P f.start_is there.told_is)
+
+  pub layout_here : w.seen.geometry ≡ start.geometry
+  layout_here = there.layout_is ∙ ap (λ (s : Begun). s.geometry) f.start_is
+
+  -- There is room for the boot.
+  pub room_here : Allows (left_of w.seen.geometry (progress told.boot)) w.seen
+  room_here =
+      let t = told_here in
+      let few : LeaveRoom w.seen.ledger.counts (left_of start.geometry (progress told.boot)) (room_of w.seen.ledger.limits) = record {
+        entries = omega (arith, there.room.allows.entries, t.few.few, ap (λ (p : Progress). length p.to_come) t.boot_is, ap (λ (s : Begun). most_operations s.rules.grain s.geometry) f.start_is);
+        saved = omega (arith, there.room.allows.saved, t.few.saves, ap (λ (p : Progress). (left_of start.geometry p).saved) t.boot_is, ap (λ (s : Begun). (most_of s.rules s.geometry).saved) f.start_is);
+      } in
+      subst (λ (x : Geometry). LeaveRoom w.seen.ledger.counts (left_of x (progress told.boot)) (room_of w.seen.ledger.limits)) (sym layout_here) few
+
+  -- What it leaves is what the replay leaves.
+  pub replayed : (q : Progress) (new : Seen) → ((r : Rules) (s : Content) → HasCome r w.seen.geometry s (progress told.boot) w.seen.content → HasCome r w.seen.geometry s q new.content) → q.to_come ≡ []
+      → IsReplayed start.rules start.geometry start.content path (shown told.outcome) new.content
+  replayed q new come end =
+      let t = told_here in
+      let P : Progress → Type 0 = λ p. HasCome start.rules start.geometry cut p cut in
+      let at : w.seen.content ≡ cut = there.content_is ∙ node_is in
+      let begins : HasCome start.rules start.geometry cut (progress told.boot) cut = subst P (sym t.boot_is) (come_begun start.rules start.geometry cut) in
+      let Q : Geometry → Type 0 = λ x. HasCome start.rules x cut (progress told.boot) w.seen.content in
+      let R : Geometry → Type 0 = λ x. HasCome start.rules x cut q new.content in
+      let ends = subst R layout_here (come start.rules cut (subst Q (sym layout_here) (subst (HasCome start.rules start.geometry cut (progress told.boot)) (sym at) begins))) in
+      record {
+        cut = cut;
+        occurs = allowed_after start.rules start.geometry start.content path f.allowed.1;
+        outcome_is = t.outcome_is;
+        left = come_left start.rules start.geometry cut q new.content ends end;
+      }
+
+-- ---- no further row
+
+module _ (w : Walked Once) (counted : Bool) (c : Cursor) (phase : Phase) (state : State) (is : state_of w (position_of phase c.schedule) ≡ state) where
+  pub over_done : phase ≡ phases.Done → IsSound w counted c phase → IsOver state
+  over_done e sound =
+      let P : Phase → Type 0 = λ p. IsSound w counted c p in
+      let Q : Phase → Type 0 = λ p. state_of w (position_of p c.schedule) ≡ state in
+      subst IsOver (subst Q e is) (over_listed w (After c.schedule) (subst P e sound).1)
+
+  pub over_going : phase ≡ phases.Going → IsSound w counted c phase → paths.IsOver (IsPath (once w.branches.rules w.branches.layout) w) (After w.path) → IsOver state
+  over_going e sound over =
+      let P : Phase → Type 0 = λ p. IsSound w counted c p in
+      let Q : Phase → Type 0 = λ p. state_of w (position_of p c.schedule) ≡ state in
+      let path : w.path ≡ c.schedule = (subst P e sound).2 in
+      let R : List ℕ → Type 0 = λ l. IsOver (state_of w (After l)) in
+      subst IsOver (subst Q e is) (subst R path (over_listed w (After w.path) over))

@@ -1,0 +1,82 @@
+-- A flash that was just loaded, and a walk on it.
+use Rattle.std.specs.Prelude.{◌≡◌, ℕ, ◌+◌, ◌*◌, ◌≤◌, Bool, List, [], length, Some}
+use Rattle.std.proofs.Common.{arith, sym, ap, subst, ◌∙◌}
+use Rattle.mc_flash.specs.Content.{Content}
+use Rattle.mc_flash.specs.Geometry.{Geometry, IsLayout}
+use Rattle.mc_flash.specs.Ledger.{Ledger, Limits, IsWithin, limits_for, most_operations, most_saved}
+use Rattle.mc_flash.specs.Seen.{Seen, Loads}
+use Rattle.mc_flash.specs.Spends.{Allows, Spent}
+use Rattle.mc_flash.specs.declared.flash.Grain.{Grain}
+use Rattle.mc_trailer.specs.declared.tables.Rules.{Rules}
+use Rattle.mc_boot.specs.Boot.{Progress}
+use Rattle.mc_boot.specs.Bounds.{left_of}
+use Rattle.mc_boot.specs.Plan.{plain}
+use Rattle.mc_boot.specs.Run.{HasCome}
+use Rattle.mc_boot.specs.RunFacts.{come_left}
+use Rattle.mc_boot.specs.Runs.{left_by}
+use Rattle.mc_walk.specs.Walks.{IsClear, IsFresh, IsOf, Walked, start_of}
+use Rattle.mc_explore.specs.Once.{once}
+use Rattle.mc_explore.specs.Start.{Begun}
+use Rattle.mc_explore.specs.View.{IsLoaded}
+use Rattle.mc_explore.specs.declared.once.Once.{Once}
+
+record AreLimits (grain : Grain) (g : Geometry) (boots : ℕ) (limits : Limits) : Type 0 where
+  for_entries : boots * most_operations grain g ≤ limits.entries
+  for_saved : boots * most_saved g ≤ limits.saved
+  for_marks : boots + 1 ≤ limits.marks
+
+limits_are : (grain : Grain) (g : Geometry) (boots : ℕ) (limits : Limits) → IsWithin (limits_for grain g boots) limits → AreLimits grain g boots limits
+unfolding limits_for
+limits_are grain g boots limits within = record { for_entries = within.entries; for_saved = within.saved; for_marks = within.marks }
+
+module _ (counted : Bool) (g : Geometry) (primary secondary : List ℕ) (f : Seen) where
+  -- It serves for a walk of one cut less than there are boots.
+  pub clear : (r : Rules) (bound : ℕ) → Loads counted g primary secondary r.grain (bound + 1) f → IsClear (once r g) bound f
+  clear r bound l =
+      let limits = limits_are r.grain g (bound + 1) f.ledger.limits l.room in
+      record {
+        none = l.none;
+        counts = ap (λ (x : Ledger). x.counts) l.ledger_is;
+        layout_is = l.geometry_is;
+        roomy = record {
+          entries = limits.for_entries;
+          saved = limits.for_saved;
+          marks = omega (arith, limits.for_marks);
+        };
+      }
+
+  -- It has room for a boot.
+  pub allows : (p : Progress) → Loads counted g primary secondary plain.grain 1 f → length p.to_come ≤ most_operations plain.grain f.geometry → (left_of f.geometry p).saved ≤ most_saved f.geometry
+      → Allows (left_of f.geometry p) f
+  allows p l few saves =
+      let limits = limits_are plain.grain g 1 f.ledger.limits l.room in
+      let entries = ap (λ x. most_operations plain.grain x) l.geometry_is in
+      let saved = ap most_saved l.geometry_is in
+      record {
+        entries = omega (arith, few, entries, limits.for_entries, ap (λ (x : Ledger). x.counts.entries) l.ledger_is);
+        saved = omega (arith, saves, saved, limits.for_saved, ap (λ (x : Ledger). x.counts.saved) l.ledger_is);
+      }
+
+  -- What the uncut boot leaves.
+  pub left_here : (p : Progress) (new : Seen) (v : Content) → Loads counted g primary secondary plain.grain 1 f → HasCome plain f.geometry f.content p new.content → p.to_come ≡ [] → v ≡ new.content
+      → left_by plain g (record { primary = primary; secondary = secondary }) ≡ Some v
+  left_here p new v l come end same =
+      ap (λ (x : Geometry). left_by plain x (record { primary = primary; secondary = secondary })) (sym l.geometry_is) ∙ ap (left_by plain f.geometry) (sym l.content_is)
+      ∙ come_left plain f.geometry f.content p new.content come end ∙ ap (λ (x : Content). Some x) (sym same)
+
+-- A walk from there.
+pub loaded : (counted : Bool) (start : Begun) (primary secondary : List ℕ) (bound many : ℕ) (f : Seen) (b : Once) (w : Walked Once) → Loads counted start.geometry primary secondary start.rules.grain many f
+    → b ≡ record { rules = start.rules; layout = start.geometry } → start.content ≡ record { primary = primary; secondary = secondary } → IsOf b bound f w → IsFresh (once b.rules b.layout) w → Spent 0 f w.seen → IsLayout start.geometry
+    → IsLoaded counted start bound w
+loaded counted start primary secondary bound many f b w l is content of fresh spent valid =
+    let at : start_of w.seen ≡ start.content = of.start ∙ l.content_is ∙ sym content in
+    let branches : w.branches ≡ record { rules = start.rules; layout = start.geometry } = of.branches_are ∙ is in
+    record {
+      start_is = ap (λ (x : Once). record { geometry = x.layout; rules = x.rules; content = start_of w.seen }) branches ∙ ap (λ (x : Content). record { geometry = start.geometry; rules = start.rules; content = x }) at;
+      bound_is = of.bound_is;
+      fresh = subst (λ (x : Once). IsFresh (once x.rules x.layout) w) (sym of.branches_are) fresh;
+      counted_is = ap (λ (x : Limits). x.counted) spent.limits ∙ l.counted_is;
+      idle = omega (arith, spent.applied, ap (λ (x : Ledger). x.applied) l.ledger_is);
+      calm = spent.failed ∙ ap (λ (x : Ledger). x.failed) l.ledger_is;
+      valid = valid;
+    }

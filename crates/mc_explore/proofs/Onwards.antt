@@ -1,0 +1,226 @@
+-- From one cut of a boot to the next, and what is told of the flash there.
+use Rattle.std.specs.Prelude.{◌≡◌, ℕ, ◌+◌, ◌<◌, ◌≤◌, List, [], ◌∷◌, length, Option, Some, None, Result, Ok, Err, IfOk, option_map, refl}
+use Rattle.std.proofs.Common.{arith, sym, ap, subst, ◌∙◌}
+use Rattle.mc_flash.specs.Content.{Content, IsSized}
+use Rattle.mc_flash.specs.Geometry.{Geometry}
+use Rattle.mc_flash.specs.Ledger.{Counts, most_operations, most_saved}
+use Rattle.mc_flash.specs.Seen.{Seen, Keeps}
+use Rattle.mc_flash.specs.Spends.{Spends, LeaveRoom, plus, room_of}
+use Rattle.mc_flash.specs.declared.op.Op.{Op}
+use Rattle.mc_flash.specs.declared.flash.FlashError.{FlashError}
+use Rattle.mc_flash.specs.declared.flash.FlashError.TheVariants as errors
+use Rattle.mc_trailer.specs.declared.tables.Rules.{Rules}
+use Rattle.mc_boot.specs.After.{IsCut}
+use Rattle.mc_boot.specs.Boot.{Progress, IsBootOf, StepsAlong, Steps, all_of, begun, progress}
+use Rattle.mc_boot.specs.Bounds.{IsBounded, all_saves, left_of}
+use Rattle.mc_boot.specs.Outcome.{Report, outcome_of, report, shown}
+use Rattle.mc_boot.specs.Plan.{plan}
+use Rattle.mc_boot.specs.Run.{HasCome}
+use Rattle.mc_boot.specs.RunFacts.{come_begun, come_ops, left_defined}
+use Rattle.mc_boot.specs.Runs.{is_faulted, ops_of}
+use Rattle.mc_boot.specs.StepFacts.{refused_here, step_counts, step_ran_out, step_spends, stepped_here}
+use Rattle.mc_boot.specs.declared.boot.Boot.{Boot}
+use Rattle.mc_boot.specs.declared.outcome.Outcome.{Outcome}
+use Rattle.mc_walk.specs.Kind.{IsAt, HasNext, GoesOn}
+use Rattle.mc_explore.specs.Boots.{at_cut}
+use Rattle.mc_explore.specs.Once.{HasMade, IsTold, most_of, once}
+use Rattle.mc_explore.specs.Replay.{EndsWith}
+use Rattle.mc_explore.specs.declared.once.Told.{Told}
+use Rattle.mc_explore.proofs.Occurring.{at_zero, come_lands}
+
+count_in : Option Report → ℕ
+count_in None = 0
+count_in (Some o) = o.ops
+
+-- What an outcome says of the operations.
+pub outcome_ops : (r : Rules) (g : Geometry) (s : Content) (o : Report) → outcome_of r g s ≡ Some o → o.ops ≡ length (ops_of r g s)
+unfolding outcome_of report count_in
+outcome_ops r g s o e =
+    let left = left_defined r g s in
+    let is : Some o ≡ Some (report r g (plan r g s).kind (length (ops_of r g s)) (is_faulted r g s) left.0) =
+    sym e ∙ ap (option_map (λ z. report r g (plan r g s).kind (length (ops_of r g s)) (is_faulted r g s) z)) left.1 in
+    ap count_in is
+
+-- At most one operation is done.
+step_once : (p q : Progress) (old new : Seen) (result : Result (Unit {0}) FlashError) → (result ≡ Err errors.Memory → ⊥) → Steps p old result q new → length p.to_come ≤ length q.to_come + 1
+    → new.ledger.applied ≤ old.ledger.applied + 1
+step_once p q old new result other steps near = omega (arith, near, (step_spends p q old new result other steps).applied)
+
+-- After an operation that happened the others are to come.
+others_left : (p q : Progress) (old new : Seen) (v : Unit {0}) → Steps p old (Ok v) q new → length p.to_come ≤ length q.to_come + 1
+others_left p q old new v steps = at p.to_come refl steps
+  where
+    at : (ops : List Op) → p.to_come ≡ ops → StepsAlong ops p old (Ok v) q new → length p.to_come ≤ length q.to_come + 1
+    at [] is d = omega (arith, ap (λ (ops : List Op). length ops) is)
+    at (op ∷ rest) is d = omega (arith, ap (λ (ops : List Op). length ops) is, ap (λ (x : Progress). length x.to_come) d.0)
+
+module _ (r : Rules) (g : Geometry) where
+  -- Something is to come of a boot that has not made all its operations.
+  some_to_come : (s : Content) (p : Progress) (t : Content) → HasCome r g s p t → p.count < length (ops_of r g s) → 0 < length p.to_come
+  some_to_come s p t come early = at p.to_come refl
+    where
+      at : (ops : List Op) → p.to_come ≡ ops → 0 < length p.to_come
+      at [] is = absurd (omega (arith, early, come_ops r g s p t come is))
+      at (op ∷ rest) is = omega (arith, ap (λ (ops : List Op). length ops) is)
+
+  -- ---- what is told
+
+  pub width_is : (told : Told) (s : Content) → IsTold r g s told → told.outcome.ops ≡ length (ops_of r g s)
+  width_is told s t = outcome_ops r g s (shown told.outcome) t.outcome_is
+
+  pub first_on : (s : Content) (told : Told) → IsTold r g s told → HasMade r g s 0 told.boot
+  first_on s told t =
+      let P : Progress → Type 0 = λ p. HasCome r g s p s in
+      record {
+        layout_is = t.layout_is;
+        list_is = t.list_is;
+        come = subst (HasCome r g s (progress told.boot)) (at_zero r g s) (subst P (sym t.boot_is) (come_begun r g s));
+        count_is = ap (λ (p : Progress). p.count) t.boot_is;
+      }
+
+  -- What it has left is a whole boot at most.
+  pub first_left : (s : Content) (told : Told) → IsTold r g s told → (old : Counts) → LeaveRoom old (left_of g (progress told.boot)) (plus old (most_of r g))
+  first_left s told t old = record {
+    entries = omega (arith, t.few.few, ap (λ (p : Progress). length p.to_come) t.boot_is);
+    saved = omega (arith, t.few.saves, ap (λ (p : Progress). (left_of g p).saved) t.boot_is);
+  }
+
+  -- ---- the next cut
+
+  module _ (s : Content) (i : ℕ) (b b' : Boot) (old new : Seen) (at : IsAt (once r g) s i b old) (early : i < length (ops_of r g s)) where
+    come_here : HasCome r old.geometry s (progress b) old.content
+    come_here =
+        let P : Geometry → Type 0 = λ x. HasCome r x s (progress b) old.content in
+        subst P (sym at.layout_is) (subst (HasCome r g s (progress b)) (sym at.content_is) at.on_is.come)
+
+    early_here : (progress b).count < length (ops_of r old.geometry s)
+    early_here = omega (arith, early, at.on_is.count_is, ap (λ (x : Geometry). length (ops_of r x s)) at.layout_is)
+
+    -- The operation is not refused.
+    pub not_refused : (result : Result (Unit {0}) FlashError) → Steps (progress b) old result (progress b') new → HasCome r old.geometry s (progress b') new.content
+        → result ≡ Err errors.NotErased → ⊥
+    not_refused result steps come refused =
+        let h = refused_here (progress b) (progress b') old new result refused steps in
+        omega (arith, early_here, h.1, come_ops r old.geometry s (progress b') new.content come h.0)
+
+    -- It happens, and the boot has made one more.
+    pub went_on : (v : Unit {0}) → Steps (progress b) old (Ok v) (progress b') new → HasCome r old.geometry s (progress b') new.content → all_of b' ≡ all_of b → IsBootOf new.geometry b'
+        → Keeps old new → IsAt (once r g) s (i + 1) b' new
+    went_on v steps come whole layout keeps =
+        let some = some_to_come_at in
+        let count : b'.done ≡ i + 1 = stepped_here (progress b) (progress b') old new (Ok v) v refl some steps ∙ ap (λ n. n + 1) at.on_is.count_is in
+        let P : Geometry → Type 0 = λ x. HasCome r x s (progress b') new.content in
+        let come' : HasCome r g s (progress b') new.content = subst P at.layout_is come in
+        let there : new.content ≡ at_cut r g s (i + 1) = come_lands r g s (progress b') new.content come' ∙ ap (at_cut r g s) count in
+        let same : new.geometry ≡ g = keeps.geometry ∙ at.layout_is in
+        record {
+          on_is = record {
+            layout_is = subst (λ (x : Geometry). IsBootOf x b') same layout;
+            list_is = whole ∙ at.on_is.list_is;
+            come = subst (HasCome r g s (progress b')) there come';
+            count_is = count;
+          };
+          content_is = there;
+          layout_is = same;
+        }
+      where
+        some_to_come_at : 0 < length (progress b).to_come
+        some_to_come_at = let Q : Geometry → Type 0 = λ x. HasCome r x s (progress b) old.content in
+            some_to_come s (progress b) old.content (subst Q at.layout_is come_here) (omega (arith, early, at.on_is.count_is))
+
+  -- What a step leaves on the way to the next cut.
+  pub goes_on : (b b' : Boot) (old new : Seen) (result : Result (Unit {0}) FlashError) → HasNext (once r g) b old
+      → Steps (progress b) old result (progress b') new
+      → ((x : Rules) (s : Content) → HasCome x old.geometry s (progress b) old.content → HasCome x old.geometry s (progress b') new.content)
+      → all_of b' ≡ all_of b → IsBootOf new.geometry b' → Keeps old new → GoesOn (once r g) b old result b' new
+  goes_on b b' old new (Err e) has steps come whole layout keeps = tt
+  goes_on b b' old new (Ok v) has steps come whole layout keeps =
+      let same : old.geometry ≡ g = has.2.layout_is in
+      let counts = step_counts (progress b) (progress b') old new (Ok v) steps in
+      let P : Geometry → Type 0 = λ x. LeaveRoom new.ledger.counts (left_of x (progress b')) (plus old.ledger.counts (left_of x (progress b))) in
+      (λ s i at more. went_on s i b b' old new at (omega (arith, more)) v steps (come r s (come_here s i b b' old new at (omega (arith, more)))) whole layout keeps, subst P same counts)
+
+  -- And what it spends.
+  pub next_spends : (b b' : Boot) (old new : Seen) (result : Result (Unit {0}) FlashError) → HasNext (once r g) b old → Steps (progress b) old result (progress b') new
+      → ((x : Rules) (s : Content) → HasCome x old.geometry s (progress b) old.content → HasCome x old.geometry s (progress b') new.content)
+      → Spends 1 old result new
+  next_spends b b' old new (Ok v) has steps come =
+      let other : Ok v ≡ Err errors.Memory → ⊥ = λ e. absurd cc in
+      let s = step_spends (progress b) (progress b') old new (Ok v) other steps in
+      record {
+        applied = step_once (progress b) (progress b') old new (Ok v) other steps (others_left (progress b) (progress b') old new v steps);
+        limits = s.limits;
+        failed = s.failed;
+      }
+  next_spends b b' old new (Err errors.NotErased) has steps come =
+      let early : has.1 < length (ops_of r g has.0) = omega (arith, has.3) in
+      let came = come r has.0 (come_here has.0 has.1 b b' old new has.2 early) in
+      absurd (not_refused has.0 has.1 b b' old new has.2 early (Err errors.NotErased) steps came refl)
+  next_spends b b' old new (Err errors.Memory) has steps come =
+      let P : Geometry → Type 0 = λ x. LeaveRoom old.ledger.counts (left_of x (progress b)) (room_of old.ledger.limits) in
+      step_ran_out (progress b) (progress b') old new (Err errors.Memory) refl steps (subst P (sym has.2.layout_is) has.4)
+
+  -- ---- what is told of a flash
+
+  -- A boot at power-on, and that it was run.
+  pub told_of : (s : Content) (f : Seen) (b : Boot) (outcome : Outcome) → f.geometry ≡ g → f.content ≡ s → progress b ≡ begun r (plan r f.geometry f.content)
+      → all_of b ≡ (plan r f.geometry f.content).list → IsBootOf f.geometry b → IsBounded g (progress b).to_come (most_of r g).entries (most_of r g).saved → IsSized f.geometry f.content
+      → outcome_of r g s ≡ Some (shown outcome) → IsTold r g s (record { boot = b; outcome = outcome })
+  told_of s f b outcome layout content boot list of few sized is =
+      let plans : plan r f.geometry f.content ≡ plan r g s = ap (λ (x : Geometry). plan r x f.content) layout ∙ ap (plan r g) content in
+      let P : List Op → Type 0 = λ ops. IsBounded g ops (most_of r g).entries (most_of r g).saved in
+      let Q : Geometry → Type 0 = λ x. IsSized x f.content in
+      record {
+        boot_is = boot ∙ ap (begun r) plans;
+        list_is = list ∙ ap (λ p. p.list) plans;
+        layout_is = subst (λ (x : Geometry). IsBootOf x b) layout of;
+        few = subst P (ap (λ (p : Progress). p.to_come) (boot ∙ ap (begun r) plans)) few;
+        sized = subst (IsSized g) content (subst Q layout sized);
+        outcome_is = is;
+      }
+
+  -- A boot that was cut, where that was told before it.
+  pub cut_here : (s : Content) (i : ℕ) (b : Boot) (f : Seen) (told : Told) → IsAt (once r g) s i b f → i < length (ops_of r g s) → IsTold r g s told
+      → IsCut r g s (at_cut r g s i) b (shown told.outcome)
+  cut_here s i b f told at early t = record {
+    sized = t.sized;
+    layout = at.on_is.layout_is;
+    list = at.on_is.list_is;
+    come = at.on_is.come;
+    early = omega (arith, early, at.on_is.count_is);
+    outcome = t.outcome_is;
+  }
+
+  -- Before the first operation.
+  pub told_still : (s : Content) (i : ℕ) (told : Told) → i ≡ 0 → IsTold r g s told → IsTold r g (at_cut r g s i) told
+  told_still s i told none t =
+      subst (λ n. IsTold r g (at_cut r g s n) told) (sym none) (subst (λ x. IsTold r g x told) (at_zero r g s) t)
+
+  -- The answer of what runs a boot, and of a boot that was cut.
+  module _ (f : Seen) (b : Boot) (layout : f.geometry ≡ g) (boot : progress b ≡ begun r (plan r f.geometry f.content)) (list : all_of b ≡ (plan r f.geometry f.content).list)
+      (of : IsBootOf f.geometry b) (few : IsBounded g (progress b).to_come (most_of r g).entries (most_of r g).saved) (sized : IsSized f.geometry f.content) where
+    pub told_run : (s : Content) → f.content ≡ s → (t : Told) → t.boot ≡ b → EndsWith f (progress b) t.outcome → IsTold r g s t
+    told_run s content t same ends =
+        let P : Progress → Type 0 = λ p. HasCome r f.geometry f.content p f.content in
+        let come : HasCome r f.geometry f.content (progress b) f.content = subst P (sym boot) (come_begun r f.geometry f.content) in
+        let is : outcome_of r g s ≡ Some (shown t.outcome) =
+        ap (λ (x : Content). outcome_of r g x) (sym content) ∙ ap (λ (x : Geometry). outcome_of r x f.content) (sym layout) ∙ ends r f.content come in
+        subst (λ (x : Boot). IsTold r g s (record { boot = x; outcome = t.outcome })) (sym same) (told_of s f b t.outcome layout content boot list of few sized is)
+
+    pub told_derived : (s : Content) (i : ℕ) (at : Boot) (parent : Told) (outcome : Outcome) → IsAt (once r g) s i at f → i < length (ops_of r g s) → IsTold r g s parent
+        → ((x : Rules) (y : Geometry) (v u : Content) → IsCut x y v u at (shown parent.outcome) → IsBootOf y b → progress b ≡ begun x (plan x y u) → outcome_of x y u ≡ Some (shown outcome))
+        → IsTold r g (at_cut r g s i) (record { boot = b; outcome = outcome })
+    told_derived s i at parent outcome here early told after =
+        let plans : plan r f.geometry f.content ≡ plan r g (at_cut r g s i) = ap (λ (x : Geometry). plan r x f.content) layout ∙ ap (plan r g) here.content_is in
+        let is = after r g s (at_cut r g s i) (cut_here s i at f parent here early told) (subst (λ (x : Geometry). IsBootOf x b) layout of) (boot ∙ ap (begun r) plans) in
+        told_of (at_cut r g s i) f b outcome layout here.content_is boot list of few sized is
+
+-- By its answer.
+pub tells : {A : Type 0} (told : Result Told A) (Is : Told → Type 0) (b : Boot) (f : Seen) → IfOk told (λ t. t.boot ≡ b) → IfOk told (λ t. EndsWith f (progress b) t.outcome)
+    → ((t : Told) → t.boot ≡ b → EndsWith f (progress b) t.outcome → Is t) → IfOk told Is
+tells (Ok t) Is b f boot ends is = is t boot ends
+tells (Err e) Is b f boot ends is = tt
+
+-- It has few operations.
+pub few_of : (r : Rules) (g h : Geometry) (ops : List Op) → h ≡ g → length ops ≤ most_operations r.grain h → all_saves h ops ≤ most_saved h → IsBounded g ops (most_of r g).entries (most_of r g).saved
+few_of r g h ops same few saves = subst (λ (x : Geometry). IsBounded x ops (most_operations r.grain x) (most_saved x)) same (record { few = few; saves = saves })

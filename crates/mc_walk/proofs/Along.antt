@@ -1,0 +1,101 @@
+-- A walk from one path to another.
+use Rattle.std.proofs.Common.{◌≡◌, ℕ, zero, suc, ◌+◌, ◌<◌, ◌≤◌, Bool, true, false, List, [], ◌∷◌, ◌++◌, length, take, get_or, sym, ap, subst, ◌∙◌, arith}
+use Rattle.std.proofs.lemmas.List.{take_more, take_all, length-take-le}
+use Rattle.mc_flash.specs.Spends.{Spent}
+use Rattle.mc_flash.specs.SpendsFacts.{spent_both, spent_more}
+use Rattle.mc_tree.specs.Tree.{IsMember}
+use Rattle.mc_tree.specs.Paths.{After, IsNext}
+use Rattle.mc_tree.specs.facts.Order.{next_below, next_above, none_above, childless}
+use Rattle.mc_walk.specs.Kind.{Kind}
+use Rattle.mc_walk.specs.Walks.{Walked, IsSame, StopsOn, GoesDown, Climbs, Advances, Follows, root_of, start_of, child_cost, path_cost}
+
+module _ {N A T B : Type 0} (kind : B → Kind N A T) where
+  abbrev IsPath : Walked B → List ℕ → Type 0
+  IsPath w l = IsMember (kind w.branches).tree (root_of (kind w.branches) w) w.bound l
+
+  pub advanced_down : (old new : Walked B) (went : Bool) → went ≡ true → GoesDown (kind old.branches) 0 old went new → Advances (kind old.branches) old true new
+  advanced_down old new true e d =
+      let k : Kind N A T = kind old.branches in
+      (subst (IsNext (IsMember k.tree (root_of k old) old.bound) (After old.path)) (sym d.0) (next_below k.tree (root_of k old) old.bound old.path (subst (IsPath old) d.0 d.1)), d.2, d.3)
+  advanced_down old new false e d = absurd (cc)
+
+  advanced_from : (old new : Walked B) (up : Bool) → length old.path ≤ old.bound → (IsPath old (old.path ++ 0 ∷ []) → ⊥) → Climbs (kind old.branches) old up new → Advances (kind old.branches) old up new
+  advanced_from old new true few none c =
+      let k : Kind N A T = kind old.branches in
+      (next_above k.tree (root_of k old) old.bound old.path new.path few (childless k.tree (root_of k old) old.bound old.path none) c.0, c.1, c.2)
+  advanced_from old new false few none c =
+      let k : Kind N A T = kind old.branches in
+      (none_above k.tree (root_of k old) old.bound old.path (childless k.tree (root_of k old) old.bound old.path none) c.0, c.1, c.2)
+
+  pub advanced_up : (old mid new : Walked B) (down up : Bool) → length old.path ≤ old.bound → down ≡ false → GoesDown (kind old.branches) 0 old down mid → Climbs (kind mid.branches) mid up new → Advances (kind old.branches) old up new
+  advanced_up old mid new true up few e d c = absurd (cc)
+  advanced_up old mid new false up few e d c =
+      advanced_from old new up few d.0 (subst (λ z. Climbs (kind z.branches) z up new) d.1 c)
+
+  same_sym : (old new : Walked B) → IsSame old new → IsSame new old
+  same_sym old new s = record { branches = sym s.branches; bound = sym s.bound; start = sym s.start }
+
+  path_of_same : (old new : Walked B) (l : List ℕ) → IsSame old new → IsPath new l → IsPath old l
+  path_of_same old new l s m =
+      let bound = subst (λ n. IsMember (kind new.branches).tree ((kind new.branches).root (start_of new.seen)) n l) s.bound m in
+      let start = subst (λ c. IsMember (kind new.branches).tree ((kind new.branches).root c) old.bound l) s.start bound in
+      subst (λ b. IsMember (kind b).tree ((kind b).root (start_of old.seen)) old.bound l) s.branches start
+
+  -- It has come along so many steps of a path.
+  pub record IsAlong (path : List ℕ) (n : ℕ) (old now : Walked B) : Type 0 where
+    pub path_is : now.path ≡ take n path
+    pub stands : now.stands ≡ true
+    pub same : IsSame old now
+    pub member : IsPath old now.path
+    pub spent : Spent (path_cost (kind old.branches) (take n path)) old.seen now.seen
+
+  path_cost-push : (k : Kind N A T) (l : List ℕ) (x : ℕ) → path_cost k (l ++ x ∷ []) ≡ path_cost k l + child_cost k x
+  path_cost-push k [] x = omega arith
+  path_cost-push k (y ∷ ys) x = omega (arith, path_cost-push k ys x)
+
+  path_cost-take : (k : Kind N A T) (l : List ℕ) (n : ℕ) → path_cost k (take n l) ≤ path_cost k l
+  path_cost-take k l zero = omega arith
+  path_cost-take k [] (suc n) = omega arith
+  path_cost-take k (y ∷ ys) (suc n) = omega (arith, path_cost-take k ys n)
+
+  pub along_more : (path : List ℕ) (n : ℕ) (old mid new : Walked B) (went : Bool) → IsAlong path n old mid → n < length path → went ≡ true → GoesDown (kind mid.branches) (get_or path n 0) mid went new → Spent (child_cost (kind mid.branches) (get_or path n 0)) mid.seen new.seen → IsAlong path (n + 1) old new
+  along_more path n old mid new false a lt e d s = absurd (cc)
+  along_more path n old mid new true a lt e d s =
+      let more : take (n + 1) path ≡ take n path ++ get_or path n 0 ∷ [] = take_more path n 0 lt in
+      let step = subst (λ b. Spent (child_cost (kind b) (get_or path n 0)) mid.seen new.seen) a.same.branches s in
+      let k : Kind N A T = kind old.branches in
+      let cost : path_cost k (take n path) + child_cost k (get_or path n 0) ≡ path_cost k (take (n + 1) path) = sym (ap (path_cost k) more ∙ path_cost-push k (take n path) (get_or path n 0)) in
+      let same : IsSame old new = record { branches = d.2.branches ∙ a.same.branches; bound = d.2.bound ∙ a.same.bound; start = d.2.start ∙ a.same.start } in
+      record {
+        path_is = d.0 ∙ ap (λ z. z ++ get_or path n 0 ∷ []) a.path_is ∙ sym more;
+        stands = d.3;
+        same = same;
+        member = path_of_same old mid new.path a.same d.1;
+        spent = subst (λ z. Spent z old.seen new.seen) cost (spent_both (path_cost k (take n path)) (child_cost k (get_or path n 0)) old.seen mid.seen new.seen a.spent step);
+      }
+
+  pub along_none : (path : List ℕ) (n : ℕ) (old mid new : Walked B) (went : Bool) → IsAlong path n old mid → n < length path → went ≡ false → GoesDown (kind mid.branches) (get_or path n 0) mid went new → StopsOn (kind old.branches) path old new
+  along_none path n old mid new true a lt e d = absurd (cc)
+  along_none path n old mid new false a lt e d =
+      let k : Kind N A T = kind old.branches in
+      let len : length mid.path ≡ n = ap length a.path_is ∙ length-take-le n path (omega (arith, lt)) in
+      let more : take (length mid.path + 1) path ≡ mid.path ++ get_or path n 0 ∷ [] = ap (λ m. take (m + 1) path) len ∙ take_more path n 0 lt ∙ ap (λ z. z ++ get_or path n 0 ∷ []) (sym a.path_is) in
+      subst (StopsOn k path old) (sym d.1) (record {
+        inside = omega (arith, len, lt);
+        front = a.path_is ∙ ap (λ m. take m path) (sym len);
+        member = a.member;
+        no_child = λ m. d.0 (path_of_same mid old (mid.path ++ get_or path n 0 ∷ []) (same_sym old mid a.same) (subst (IsPath old) more m));
+        same = a.same;
+        stands = a.stands;
+      })
+
+  pub along_none_spent : (path : List ℕ) (n : ℕ) (old mid new : Walked B) (went : Bool) → IsAlong path n old mid → went ≡ false → GoesDown (kind mid.branches) (get_or path n 0) mid went new → Spent (path_cost (kind old.branches) path) old.seen new.seen
+  along_none_spent path n old mid new true a e d = absurd (cc)
+  along_none_spent path n old mid new false a e d =
+      let k : Kind N A T = kind old.branches in
+      subst (λ z. Spent (path_cost k path) old.seen z.seen) (sym d.1) (spent_more (path_cost k (take n path)) (path_cost k path) old.seen mid.seen (path_cost-take k path n) a.spent)
+
+  pub along_all : (path : List ℕ) (n : ℕ) (old now : Walked B) → IsAlong path n old now → length path ≤ n → Follows (kind old.branches) path old true now × Spent (path_cost (kind old.branches) path) old.seen now.seen
+  along_all path n old now a le =
+      let all : take n path ≡ path = take_all n path le in
+      ((a.path_is ∙ all, subst (IsPath old) (a.path_is ∙ all) a.member, a.same, a.stands), subst (λ z. Spent (path_cost (kind old.branches) z) old.seen now.seen) all a.spent)

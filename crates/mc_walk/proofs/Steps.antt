@@ -1,0 +1,298 @@
+-- A walk on its way to a further node.
+use Rattle.std.proofs.Common.{◌≡◌, ℕ, ◌+◌, ◌*◌, ◌<◌, ◌≤◌, true, false, List, [], ◌∷◌, ◌++◌, length, Option, Some, None, Ok, IfSome, is_some, slice_index_or, refl, sym, ap, subst, ◌∙◌, arith, length-append}
+use Rattle.std.proofs.Math.Nat.{mul-le-mul_right}
+use Rattle.std.proofs.lemmas.List.{map-append, length-map}
+use Rattle.mc_tree.specs.Tree.{Allowed, IsMember}
+use Rattle.mc_tree.specs.facts.Order.{IsNextBeyond, allowed-last, none_beyond, next_beyond}
+use Rattle.mc_flash.specs.Content.{Content}
+use Rattle.mc_flash.specs.Ledger.{Counts, Limits, Spot, no_counts}
+use Rattle.mc_flash.specs.Seen.{Seen, Keeps, no_spot, spot_of, went_back, marked}
+use Rattle.mc_flash.specs.Spends.{Spent, Stays, HasRoom, LeaveRoom, plus, times, room_of}
+use Rattle.mc_flash.specs.SpendsFacts.{spent_back, spent_both, spent_more}
+use Rattle.mc_flash.specs.declared.flash.FlashError.{FlashError}
+use Rattle.mc_walk.specs.Kind.{Kind, IsAt, IsNode, HasNext, GoesOn, CanReach, Reaches}
+use Rattle.mc_walk.specs.Stack.{path_of, AreSpent, IsLastOpen, AreFrames, Stacked, node_of, Stands, Comes, IsRoomy}
+use Rattle.mc_walk.specs.Walks.{walked, start_of, IsFresh, Begins, IsThere, IsGoing, IsSound, GoesDown, Climbs}
+use Rattle.mc_walk.specs.declared.frame.Frame.{Frame}
+use Rattle.mc_walk.proofs.Stacks.{path-push, no_path, frames_allowed, frames_last, among, started, length-stack, popped}
+
+module _ {N A T : Type 0} (k : Kind N A T) where
+  -- A walk that does not stand.
+  pub lost_sound : (bound before capacity : ℕ) (seen : Seen) (fs : List (Frame A T)) → bound ≤ before → before ≤ capacity → IsSound k bound capacity seen fs None
+  lost_sound bound before capacity seen fs le more = record { reserved = omega (arith, le, more); going = tt }
+
+  pub roomy_stays : (bound : ℕ) (old new : Seen) → new.ledger.limits ≡ old.ledger.limits → IsRoomy k bound old → IsRoomy k bound new
+  roomy_stays bound old new e r = record {
+    entries = omega (arith, r.entries, ap (λ (l : Limits). l.entries) e);
+    saved = omega (arith, r.saved, ap (λ (l : Limits). l.saved) e);
+    marks = omega (arith, r.marks, ap (λ (l : Limits). l.marks) e);
+  }
+
+  -- Room for what is counted at so many levels, and for one level more.
+  level_room : (bound level : ℕ) (counts more : Counts) (seen : Seen) → IsRoomy k bound seen → level ≤ bound → LeaveRoom counts more (times level k.most)
+      → LeaveRoom (plus counts more) k.most (room_of seen.ledger.limits)
+  level_room bound level counts more seen r le h =
+      let entries : level * k.most.entries ≤ bound * k.most.entries = mul-le-mul_right k.most.entries le in
+      let saved : level * k.most.saved ≤ bound * k.most.saved = mul-le-mul_right k.most.saved le in
+      record { entries = omega (arith, entries, r.entries, h.entries); saved = omega (arith, saved, r.saved, h.saved) }
+
+  pub enter_room : (bound : ℕ) (start : Content) (seen : Seen) (fs : List (Frame A T)) (f : Frame A T) → Comes k start seen fs f → IsRoomy k bound seen → length fs < bound
+      → HasRoom k.most (marked seen)
+  enter_room bound start seen fs f c r few =
+      let n = length-stack k start seen.marks fs c.stacked in
+      let room = level_room bound (length seen.marks) seen.ledger.counts (k.left f.at) seen r (omega (arith, n, few)) c.frame.room in
+      record {
+        allows = record { entries = omega (arith, room.entries); saved = omega (arith, room.saved) };
+        mark = omega (arith, n, few, r.marks, length-append seen.marks (spot_of seen ∷ []));
+      }
+
+  pub mark_room : (bound : ℕ) (start : Content) (seen : Seen) (fs : List (Frame A T)) (f : Frame A T) → Comes k start seen fs f → IsRoomy k bound seen → length fs < bound
+      → length seen.marks < seen.ledger.limits.marks
+  mark_room bound start seen fs f c r few = omega (arith, length-stack k start seen.marks fs c.stacked, few, r.marks)
+
+  -- A walk that stands is told where.
+  pub standing : (bound : ℕ) (seen : Seen) (fs : List (Frame A T)) (told : Option T) → is_some told ≡ true → IfSome told (IsGoing k bound seen fs) → (t : T) × IsGoing k bound seen fs t
+  standing bound seen fs None stands going = absurd cc
+  standing bound seen fs (Some t) stands going = (t, going)
+
+  -- A walk is told of its root.
+  pub begun : {B : Type 0} (b : B) (bound : ℕ) (old new : Seen) (fs : List (Frame A T)) (stood : Option T) (told : T) → IsFresh k (walked b bound old fs stood) → Stays old new
+      → k.IsTold (k.root old.content) told → new.ledger.limits ≡ old.ledger.limits
+      → IsGoing k bound new fs told × Begins k (walked b bound old fs stood) told (walked b bound new fs (Some told))
+  begun b bound old new fs stood told fresh stays told_is limits =
+      let none : [] ≡ fs = sym (no_path fs fresh.path) in
+      let marks : new.marks ≡ spot_of old ∷ [] = stays.marks ∙ fresh.marks_are in
+      let start : start_of new ≡ old.content = ap (λ (ms : List Spot). (slice_index_or ms 0 no_spot).content) marks in
+      let here : start_of old ≡ old.content = ap (λ (ms : List Spot). (slice_index_or ms 0 no_spot).content) fresh.marks_are in
+      let stands : Stands k (start_of new) new [] told = record {
+        stacked = record { first = spot_of old; above = []; marks_are = marks; start_is = sym start; frames = tt };
+        content_is = stays.content ∙ sym (k.root_is old.content) ∙ ap (λ c. k.content (k.root c)) (sym start);
+        layout_is = stays.geometry ∙ fresh.layout_is;
+        told_is = subst (λ c. k.IsTold (k.root c) told) (sym start) told_is;
+        counts = record {
+          entries = omega (arith, ap (λ c. c.entries) (stays.counts ∙ fresh.counts));
+          saved = omega (arith, ap (λ c. c.saved) (stays.counts ∙ fresh.counts));
+        };
+      } in (
+        subst (λ xs. IsGoing k bound new xs told) none (record { stands = stands; few = omega arith; roomy = roomy_stays bound old new limits fresh.roomy }),
+        record {
+          path = fresh.path;
+          told_is = subst (λ c. k.IsTold (k.root c) told) (sym here) told_is;
+          same = record { branches = refl; bound = refl; start = start ∙ sym here };
+          stands = refl;
+        },
+      )
+
+  -- The flash is back at the last child that is not the last of its parent's.
+  pub record Back (bound : ℕ) (old seen : Seen) (all fs : List (Frame A T)) (f : Frame A T) : Type 0 where
+    pub comes : Comes k (start_of old) seen fs f
+    pub in_range : length fs + 1 < length old.marks
+    pub few : length fs < bound
+    pub roomy : IsRoomy k bound seen
+    pub spent : Spent 0 old seen
+    pub more : f.number + 1 < k.tree.width (node_of k (start_of old) fs)
+    pub has_next : HasNext k f.at seen
+
+  went_up_to : (bound : ℕ) (old : Seen) (all fs : List (Frame A T)) (f : Frame A T) (told : T) → IsGoing k bound old all told → IsLastOpen k f all fs
+      → Back bound old (went_back (length fs + 1) old) all fs f
+  went_up_to bound old all fs f told going last =
+      let seen : Seen = went_back (length fs + 1) old in
+      let p = popped k (start_of old) old all fs f last.more going.stands.stacked going.stands.layout_is last.split in
+      let spent = spent_back (length fs + 1) old in
+      let roomy = roomy_stays bound old seen spent.limits going.roomy in
+      let few : length fs < bound = omega (arith, going.few, ap length last.split, length-append fs (f ∷ last.more)) in
+      let n = length-stack k (start_of old) seen.marks fs p.0.stacked in
+      let here : IsAt k (node_of k (start_of old) fs) f.number f.at seen = record { on_is = p.0.frame.on_is; content_is = p.0.frame.content_is; layout_is = p.0.layout_is } in
+      let room = level_room bound (length seen.marks) seen.ledger.counts (k.left f.at) seen roomy (omega (arith, n, few)) p.0.frame.room in
+      let more : f.number + 1 < k.tree.width (node_of k (start_of old) fs) = last.open_is (node_of k (start_of old) fs) p.0.frame.told_is in
+      record {
+        comes = p.0;
+        in_range = p.1;
+        few = few;
+        roomy = roomy;
+        spent = spent;
+        more = more;
+        has_next = (node_of k (start_of old) fs, f.number, here, more, record { entries = omega (arith, room.entries); saved = omega (arith, room.saved) });
+      }
+
+  pub went_up : (bound : ℕ) (old seen : Seen) (all fs : List (Frame A T)) (f : Frame A T) (told : T) → IsGoing k bound old all told → IsLastOpen k f all fs
+      → seen ≡ went_back (length fs + 1) old → Back bound old seen all fs f
+  went_up bound old seen all fs f told going last e = subst (λ z. Back bound old z all fs f) (sym e) (went_up_to bound old all fs f told going last)
+
+  room_at : (same other : ℕ) (counts more : Counts) → same ≡ other → LeaveRoom counts more (times same k.most) → LeaveRoom counts more (times other k.most)
+  room_at same other counts more e r = subst (λ z. LeaveRoom counts more (times z k.most)) e r
+
+  -- It goes on to the next child.
+  pub went_on : (start : Content) (seen new : Seen) (fs : List (Frame A T)) (f : Frame A T) (at : A) → Comes k start seen fs f → f.number + 1 < k.tree.width (node_of k start fs)
+      → Keeps seen new → GoesOn k {E = FlashError} f.at seen (Ok tt) at new → Comes k start new fs (record { at = at; number = f.number + 1; parent = f.parent })
+  went_on start seen new fs f at c lt keeps goes =
+      let same : length seen.marks ≡ length new.marks = ap length (sym keeps.marks) in
+      let before : IsAt k (node_of k start fs) f.number f.at seen = record { on_is = c.frame.on_is; content_is = c.frame.content_is; layout_is = c.layout_is } in
+      let here = goes.0 (node_of k start fs) f.number before lt in
+      let room = room_at (length seen.marks) (length new.marks) seen.ledger.counts (k.left f.at) same c.frame.room in
+      record {
+        stacked = subst (λ ms. Stacked k start ms fs) (sym keeps.marks) c.stacked;
+        layout_is = here.layout_is;
+        frame = record {
+          some = lt;
+          on_is = here.on_is;
+          content_is = here.content_is;
+          told_is = c.frame.told_is;
+          room = record { entries = omega (arith, goes.1.entries, room.entries); saved = omega (arith, goes.1.saved, room.saved) };
+        };
+      }
+
+  -- A child is on its way, at that cost.
+  pub record Ready (bound cost : ℕ) (old mid : Seen) (fs : List (Frame A T)) (f : Frame A T) : Type 0 where
+    pub comes : Comes k (start_of old) mid fs f
+    pub few : length fs < bound
+    pub roomy : IsRoomy k bound old
+    pub spent : Spent cost old mid
+
+  pub ready_up : (bound : ℕ) (old seen mid : Seen) (all fs : List (Frame A T)) (f : Frame A T) (at : A) → IsRoomy k bound old → Back bound old seen all fs f → Keeps seen mid
+      → GoesOn k {E = FlashError} f.at seen (Ok tt) at mid → Spent k.step seen mid
+      → Ready bound ((0 + 1) * k.step) old mid fs (record { at = at; number = f.number + 1; parent = f.parent })
+  ready_up bound old seen mid all fs f at roomy b keeps goes spent = record {
+    comes = went_on (start_of old) seen mid fs f at b.comes b.more keeps goes;
+    few = b.few;
+    roomy = roomy;
+    spent = spent_more (0 + k.step) ((0 + 1) * k.step) old mid (omega arith) (spent_both 0 k.step old seen mid b.spent spent);
+  }
+
+  here_node : (old : Seen) (fs : List (Frame A T)) (told : T) → Stands k (start_of old) old fs told → IsNode k (node_of k (start_of old) fs) told old
+  here_node old fs told s = record { told_is = s.told_is; content_is = s.content_is; layout_is = s.layout_is }
+
+  pub can_reach : (bound number width : ℕ) (old : Seen) (fs : List (Frame A T)) (told : T) → IsGoing k bound old fs told
+      → ((n : N) → k.IsTold n told → width ≡ k.tree.width n) → number < width → CanReach k number told old
+  can_reach bound number width old fs told go has lt =
+      let s = go.stands in
+      let n : N = node_of k (start_of old) fs in
+      let room = level_room bound (length fs) old.ledger.counts no_counts old go.roomy go.few s.counts in
+      (n, here_node old fs told s, omega (arith, lt, has n s.told_is), record { entries = omega (arith, room.entries); saved = omega (arith, room.saved) })
+
+  pub ready_down : (bound number width cost : ℕ) (old mid : Seen) (fs : List (Frame A T)) (told : T) (at : A) → IsGoing k bound old fs told → length fs < bound
+      → ((n : N) → k.IsTold n told → width ≡ k.tree.width n) → number < width → Keeps old mid → Reaches k {E = FlashError} number told old (Ok at) mid → Spent cost old mid
+      → Ready bound cost old mid fs (record { at = at; number = number; parent = told })
+  ready_down bound number width cost old mid fs told at go few has lt keeps reaches spent =
+      let s = go.stands in
+      let n : N = node_of k (start_of old) fs in
+      let marks : length fs + 1 ≡ length mid.marks = omega (arith, length-stack k (start_of old) old.marks fs s.stacked, ap length keeps.marks) in
+      let below : number < k.tree.width n = omega (arith, lt, has n s.told_is) in
+      let here = reaches.0 n (here_node old fs told s) below in
+      let next : LeaveRoom mid.ledger.counts (k.left at) (times (length fs + 1) k.most) = record {
+        entries = omega (arith, reaches.1.entries, s.counts.entries);
+        saved = omega (arith, reaches.1.saved, s.counts.saved);
+      } in
+      record {
+        comes = record {
+          stacked = subst (λ ms. Stacked k (start_of old) ms fs) (sym keeps.marks) s.stacked;
+          layout_is = here.layout_is;
+          frame = record {
+            some = below;
+            on_is = here.on_is;
+            content_is = here.content_is;
+            told_is = s.told_is;
+            room = room_at (length fs + 1) (length mid.marks) mid.ledger.counts (k.left at) marks next;
+          };
+        };
+        few = few;
+        roomy = go.roomy;
+        spent = spent;
+      }
+
+  module _ (bound cost : ℕ) (old mid : Seen) (fs : List (Frame A T)) (f : Frame A T) (r : Ready bound cost old mid fs f) where
+    pub ready_here : Comes k (start_of mid) mid fs f
+    ready_here = subst (λ z. Comes k z mid fs f) (sym (started k (start_of old) mid fs r.comes.stacked)) r.comes
+
+    pub ready_room : HasRoom k.most (marked mid)
+    ready_room = enter_room bound (start_of old) mid fs f r.comes (roomy_stays bound old mid r.spent.limits r.roomy) r.few
+
+    pub ready_mark : length mid.marks < mid.ledger.limits.marks
+    ready_mark = mark_room bound (start_of old) mid fs f r.comes (roomy_stays bound old mid r.spent.limits r.roomy) r.few
+
+  -- A walk that stands is where it was told.
+  pub is_there : {B : Type 0} (b : B) (bound : ℕ) (seen : Seen) (fs : List (Frame A T)) (told : T) → IsGoing k bound seen fs told
+      → IsThere k (walked b bound seen fs (Some told)) told
+  is_there b bound seen fs told going =
+      let s = going.stands in
+      let room = level_room bound (length fs) seen.ledger.counts no_counts seen going.roomy going.few s.counts in
+      record {
+        told_is = s.told_is;
+        content_is = s.content_is;
+        layout_is = s.layout_is;
+        room = record {
+          allows = record { entries = omega (arith, room.entries); saved = omega (arith, room.saved) };
+          mark = omega (arith, going.few, going.roomy.marks, length-stack k (start_of seen) seen.marks fs s.stacked);
+        };
+      }
+
+  pub told_there : {B : Type 0} (b : B) (bound : ℕ) (seen : Seen) (fs : List (Frame A T)) (told : Option T) → IfSome told (IsGoing k bound seen fs)
+      → IfSome told (IsThere k (walked b bound seen fs told))
+  told_there b bound seen fs None going = tt
+  told_there b bound seen fs (Some told) going = is_there b bound seen fs told going
+
+  -- It has arrived.
+  pub record Arrives (bound cost : ℕ) (old new : Seen) (all : List (Frame A T)) (told : T) : Type 0 where
+    pub going : IsGoing k bound new all told
+    pub start : start_of new ≡ start_of old
+    pub spent : Spent (cost + k.most.entries) old new
+
+  pub arrives : (bound cost : ℕ) (old mid new : Seen) (fs all : List (Frame A T)) (f : Frame A T) (told : T) → Ready bound cost old mid fs f → Stands k (start_of mid) new all told
+      → all ≡ fs ++ f ∷ [] → Spent k.most.entries mid new → Arrives bound cost old new all told
+  arrives bound cost old mid new fs all f told r s a spent =
+      let here = started k (start_of mid) new all s.stacked in
+      record {
+        going = record {
+          stands = subst (λ z. Stands k z new all told) (sym here) s;
+          few = omega (arith, ap length a, length-append fs (f ∷ []), r.few);
+          roomy = roomy_stays bound old new (spent.limits ∙ r.spent.limits) r.roomy;
+        };
+        start = here ∙ started k (start_of old) mid fs r.comes.stacked;
+        spent = spent_both cost k.most.entries old mid new r.spent spent;
+      }
+
+  pub gone_down : {B : Type 0} (b : B) (bound cost number : ℕ) (old new : Seen) (fs all : List (Frame A T)) (f : Frame A T) (told : T) (stood : Option T)
+      → Arrives bound cost old new all told → f.number ≡ number → all ≡ fs ++ f ∷ [] → GoesDown k number (walked b bound old fs stood) true (walked b bound new all (Some told))
+  gone_down b bound cost number old new fs all f told stood a e n =
+      let path : path_of all ≡ path_of fs ++ number ∷ [] = ap path_of n ∙ path-push fs f ∙ ap (λ z. path_of fs ++ z ∷ []) e in
+      let st = a.going.stands.stacked in
+      let allowed = subst (λ z. Allowed k.tree (k.root z) (path_of all)) a.start (frames_allowed k (k.root (start_of new)) 1 st.above all st.frames) in
+      (path, (omega (arith, a.going.few, length-map all (λ (h : Frame A T). h.number)), allowed), record { branches = refl; bound = refl; start = a.start }, refl)
+
+  pub not_below_bound : (bound number : ℕ) (start : N) (fs : List (Frame A T)) → bound ≤ length fs → IsMember k.tree start bound (path_of fs ++ number ∷ []) → ⊥
+  not_below_bound bound number start fs le m = omega (arith, le, m.0, length-append (path_of fs) (number ∷ []), length-map fs (λ (h : Frame A T). h.number))
+
+  pub not_that_child : (bound number width : ℕ) (old : Seen) (fs : List (Frame A T)) (told : T) → IsGoing k bound old fs told → ((n : N) → k.IsTold n told → width ≡ k.tree.width n)
+      → width ≤ number → IsMember k.tree (k.root (start_of old)) bound (path_of fs ++ number ∷ []) → ⊥
+  not_that_child bound number width old fs told go has le m =
+      omega (arith, le, has (node_of k (start_of old) fs) go.stands.told_is, allowed-last k.tree (k.root (start_of old)) (path_of fs) number m.1)
+
+  -- The order of its paths.
+  climbed_to : (start : Content) (marks : List Spot) (all fs : List (Frame A T)) (f g : Frame A T) → Stacked k start marks all → IsLastOpen k f all fs → g.number ≡ f.number + 1
+      → IsNextBeyond k.tree (k.root start) (path_of all) (path_of (fs ++ g ∷ []))
+  climbed_to start marks all fs f g st last e =
+      let r = among k (k.root start) 1 st.above fs f last.more (subst (AreFrames k (k.root start) 1 st.above) last.split st.frames) in
+      let path : path_of all ≡ path_of fs ++ f.number ∷ path_of last.more = ap path_of last.split ∙ map-append (λ (h : Frame A T). h.number) fs (f ∷ last.more) in
+      let new : path_of (fs ++ g ∷ []) ≡ path_of fs ++ (f.number + 1) ∷ [] = path-push fs g ∙ ap (λ z. path_of fs ++ z ∷ []) e in
+      let allowed = frames_allowed k (k.root start) 1 st.above all st.frames in
+      let spent = frames_last k (k.tree.child (node_of k start fs) f.number) ((1 + length fs) + 1) r.after last.more r.rest last.spent in
+      let beyond = next_beyond k.tree (k.root start) (path_of fs) f.number (path_of last.more) (subst (Allowed k.tree (k.root start)) path allowed) spent (last.open_is (node_of k start fs) r.frame.told_is) in
+      subst (λ z. IsNextBeyond k.tree (k.root start) z (path_of (fs ++ g ∷ []))) (sym path)
+      (subst (IsNextBeyond k.tree (k.root start) (path_of fs ++ f.number ∷ path_of last.more)) (sym new) beyond)
+
+  pub climbed : {B : Type 0} (b : B) (bound : ℕ) (old new : Seen) (all fs next : List (Frame A T)) (f g : Frame A T) (stood : Option T) (told : T) → Stacked k (start_of old) old.marks all
+      → IsLastOpen k f all fs → g.number ≡ f.number + 1 → next ≡ fs ++ g ∷ [] → start_of new ≡ start_of old
+      → Climbs k (walked b bound old all stood) true (walked b bound new next (Some told))
+  climbed b bound old new all fs next f g stood told st last e n s = (
+    subst (λ z. IsNextBeyond k.tree (k.root (start_of old)) (path_of all) (path_of z)) (sym n) (climbed_to (start_of old) old.marks all fs f g st last e),
+    record { branches = refl; bound = refl; start = s },
+    refl,
+  )
+
+  pub none_on : {B : Type 0} (b : B) (bound : ℕ) (old : Seen) (all fs : List (Frame A T)) (stood : Option T) → Stacked k (start_of old) old.marks all → AreSpent k all
+      → Climbs k (walked b bound old all stood) false (walked {A = A} {T = T} b bound old fs None)
+  none_on b bound old all fs stood st spent = (
+    none_beyond k.tree (k.root (start_of old)) (path_of all) (frames_last k (k.root (start_of old)) 1 st.above all st.frames spent),
+    record { branches = refl; bound = refl; start = refl },
+    refl,
+  )

@@ -1,0 +1,16 @@
+use Rattle.std.proofs.Common.{sym, subst}
+use Rattle.mc_flash.specs.Spends.{HasRoom}
+use Rattle.mc_walk.specs.Walks.{start_of}
+use Rattle.mc_walk.proofs.Stacks.{child_here, entered_told}
+use Rattle.mc_walk.proofs.enter.enter.Goals as goal
+
+pub child-requires : goal.child-requires
+child-requires g c = record {
+  child = child_here (g.B.Branches.kind c.args.branches) _ _ _ _ c.args.frame c.requires.comes c.in_ok-mark.ensures.1;
+  room = subst (HasRoom (g.B.Branches.kind c.args.branches).most) (sym c.in_ok-mark.ensures.1) c.requires.room;
+}
+
+pub returns-clause-stands : goal.returns-clause-stands
+returns-clause-stands g c =
+    let seen = g.F.Flash.seen c.args.flash.now in
+    entered_told (g.B.Branches.kind c.args.branches) (start_of seen) seen (g.F.Flash.seen c.mark.new.self) (g.F.Flash.seen c.child.new.flash) c.args.frames.now.items c.push.new.self.items c.args.frame c.child.result c.requires.comes c.in_ok-mark.ensures.1 c.in_ok-push.ensures.items c.child.ensures.tells c.child.ensures.stays

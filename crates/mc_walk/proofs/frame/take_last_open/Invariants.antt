@@ -1,0 +1,13 @@
+use Rattle.std.proofs.Common.{◌≡◌, vec_len}
+use Rattle.std.specs.Vec.{vec_capacity}
+use Rattle.mc_walk.specs.Stack.{AreOff}
+use Rattle.mc_walk.proofs.frame.take_last_open.Given as goal
+
+abbrev pub invariant-loop-frame : goal.invariant-loop-frame
+invariant-loop-frame g l = record {
+  off : AreOff (g.B.Branches.kind l.branches) l.fn.frames.items l.frames.items;
+  capacity : vec_capacity l.frames ≡ vec_capacity l.fn.frames;
+}
+
+abbrev pub decreases-loop-frame : goal.decreases-loop-frame
+decreases-loop-frame g l = vec_len l.frames

@@ -1,0 +1,17 @@
+use Rattle.std.proofs.Common.{◌+◌, ◌*◌, ◌<◌}
+use Rattle.mc_flash.specs.Seen.{Keeps}
+use Rattle.mc_flash.specs.Spends.{LeaveRoom, Spent, plus}
+use Rattle.mc_walk.specs.Kind.{IsNode, IsAt}
+use Rattle.mc_walk.proofs.reach.reach.Given as goal
+
+abbrev pub invariant-loop-i : goal.invariant-loop-i
+invariant-loop-i g l =
+    let k = g.B.Branches.kind l.branches in
+    let old = g.F.Flash.seen l.fn.flash in
+    let now = g.F.Flash.seen l.flash in
+    record {
+      here : (n : g.B.Branches.Node) → IsNode k n l.told old → l.number < k.tree.width n → IsAt k n l._i l.at now;
+      room : LeaveRoom now.ledger.counts (k.left l.at) (plus old.ledger.counts k.most);
+      keeps : Keeps old now;
+      spent : Spent ((l._i + 1) * k.step) old now;
+    }

@@ -1,0 +1,93 @@
+use Rattle.std.proofs.Common.{◌+◌, ◌*◌, ◌++◌, ◌∷◌, [], true, Some, IfSome, refl, subst, arith}
+use Rattle.mc_flash.specs.Spends.{Spent}
+use Rattle.mc_walk.specs.Walks.{Walked, walked, GoesDown, IsGoing, IsPath, child_cost}
+use Rattle.mc_walk.specs.declared.frame.Frame.{Frame}
+use Rattle.mc_walk.proofs.Steps.{Ready, Arrives, can_reach, ready_down, ready_here, ready_room, ready_mark, arrives, gone_down, not_that_child}
+use Rattle.mc_walk.proofs.walk.Walk.go_down.Given.{Over}
+use Rattle.mc_walk.proofs.walk.Walk.go_down.Goals as goal
+use Rattle.mc_walk.proofs.walk.Walk.go_down.Goals.{In-Some, In_ok-at, In_ok-told}
+
+going : (g : Over) (c : In-Some g) → IsGoing (g.B.Branches.kind c.self.inside.branches) c.self.inside.bound (g.F.Flash.seen c.self.inside.flash) c.self.inside.frames.items c.in-Some.told
+going g c =
+    let w = c.self.inside in
+    subst (λ z. IfSome z (IsGoing (g.B.Branches.kind w.branches) w.bound (g.F.Flash.seen w.flash) w.frames.items)) c.in-Some.is c.self.invariant.going
+
+abbrev down : (g : Over) (c : In_ok-at g) → Frame g.row.B-At.Denot g.row.B-Told.Denot
+down g c = record { at = c.in_ok-at.at; number = c.args.number; parent = c.in-Some.told }
+
+abbrev IsReady : (g : Over) (c : In_ok-at g) → Frame g.row.B-At.Denot g.row.B-Told.Denot → Type 0
+IsReady g c f =
+    let k = g.B.Branches.kind c.self.inside.branches in
+    Ready k c.self.inside.bound ((c.args.number + 1) * k.step) (g.F.Flash.seen c.self.inside.flash) (g.F.Flash.seen c.reach.new.flash) c.self.inside.frames.items f
+
+ready : (g : Over) (c : In_ok-at g) → IsReady g c (down g c)
+ready g c =
+    let w = c.self.inside in
+    let k = g.B.Branches.kind w.branches in
+    let going = subst (λ z. IfSome z (IsGoing k w.bound (g.F.Flash.seen w.flash) w.frames.items)) c.in-Some.is c.self.invariant.going in
+    let h = c.in_ok-at.ensures in
+    ready_down k w.bound c.args.number c.width.result _ _ _ w.frames.items c.in-Some.told c.in_ok-at.at going (omega (arith, c.len.ensures, w.frames.ok.0, c.if-len-self.false)) c.width.ensures c.if-number-width.false h.keeps h.reaches h.spends
+
+abbrev WasReady : (g : Over) (c : In_ok-told g) → Type 0
+WasReady g c =
+    let k = g.B.Branches.kind c.self.inside.branches in
+    let f : Frame g.row.B-At.Denot g.row.B-Told.Denot = record { at = c.in_ok-at.at; number = c.args.number; parent = c.in-Some.told } in
+    Ready k c.self.inside.bound ((c.args.number + 1) * k.step) (g.F.Flash.seen c.self.inside.flash) (g.F.Flash.seen c.reach.new.flash) c.self.inside.frames.items f
+
+abbrev HasArrived : (g : Over) (c : In_ok-told g) → Type 0
+HasArrived g c =
+    let k = g.B.Branches.kind c.self.inside.branches in
+    Arrives k c.self.inside.bound ((c.args.number + 1) * k.step) (g.F.Flash.seen c.self.inside.flash) (g.F.Flash.seen c.enter.new.flash) c.enter.new.frames.items c.in_ok-told.told
+
+there : (g : Over) (c : In_ok-told g) → WasReady g c → HasArrived g c
+there g c r =
+    let h = c.in_ok-told.ensures in
+    arrives (g.B.Branches.kind c.self.inside.branches) c.self.inside.bound _ _ _ _ _ _ _ c.in_ok-told.told r h.stands h.frames h.spends
+
+pub returns-then-number-width-clause-step : goal.returns-then-number-width-clause-step
+returns-then-number-width-clause-step g c =
+    let w = c.self.inside in
+    let k = g.B.Branches.kind w.branches in
+    let s = (goal.at.returns-then-number-width-clause-step g c).In-Some in (
+      subst (λ (z : Walked g.row.B.Denot). IsPath (g.B.Branches.kind z.branches) z (z.path ++ c.args.number ∷ []) → ⊥) c.self.view_is
+          (not_that_child k w.bound c.args.number c.width.result _ w.frames.items c.in-Some.told (going g s) c.width.ensures c.if-number-width.true),
+      refl,
+    )
+
+pub reach-requires : goal.reach-requires
+reach-requires g c =
+    let w = c.self.inside in
+    let s = (goal.at.reach-requires g c).In-Some in
+    can_reach (g.B.Branches.kind w.branches) w.bound c.args.number c.width.result _ w.frames.items c.in-Some.told (going g s) c.width.ensures c.if-number-width.false
+
+pub enter-requires : goal.enter-requires
+enter-requires g c =
+    let k = g.B.Branches.kind c.self.inside.branches in
+    let a = goal.at.enter-requires g c in
+    let r = ready g a.In_ok-at in
+    record {
+      comes = ready_here k _ _ _ _ _ _ r;
+      room = ready_room k _ _ _ _ _ _ r;
+      mark = ready_mark k _ _ _ _ _ _ r;
+      capacity = omega (arith, r.few, c.self.invariant.reserved, c.self.inside.frames.ok.0);
+    }
+
+pub invariant_of-self-2 : goal.invariant_of-self-2
+invariant_of-self-2 g c =
+    let a = goal.at.invariant_of-self-2 g c in
+    let h = there g a.In_ok-told (ready g a.In_ok-at) in
+    record { reserved = omega (arith, c.self.invariant.reserved, c.in_ok-told.ensures.capacity); going = h.going }
+
+pub returns-clause-step : goal.returns-clause-step
+returns-clause-step g c =
+    let w = c.self.inside in
+    let a = goal.at.returns-clause-step g c in
+    let h = there g a.In_ok-told (ready g a.In_ok-at) in
+    subst (λ (z : Walked g.row.B.Denot). GoesDown (g.B.Branches.kind z.branches) c.args.number z true (walked w.branches w.bound (g.F.Flash.seen c.enter.new.flash) c.enter.new.frames.items (Some c.in_ok-told.told))) c.self.view_is
+    (gone_down (g.B.Branches.kind w.branches) w.branches w.bound _ c.args.number _ _ w.frames.items c.enter.new.frames.items (down g a.In_ok-at) _ w.told h refl c.in_ok-told.ensures.frames)
+
+pub returns-clause-spends : goal.returns-clause-spends
+returns-clause-spends g c =
+    let a = goal.at.returns-clause-spends g c in
+    let h = there g a.In_ok-told (ready g a.In_ok-at) in
+    subst (λ (z : Walked g.row.B.Denot). Spent (child_cost (g.B.Branches.kind z.branches) c.args.number) z.seen (g.F.Flash.seen c.enter.new.flash)) c.self.view_is h.spent

@@ -1,0 +1,78 @@
+-- A kind of tree over the contents of a flash.
+use Rattle.std.specs.Prelude.{◌≡◌, ℕ, ◌+◌, ◌<◌, Result, Ok, Err}
+use Rattle.mc_tree.specs.Tree.{Tree}
+use Rattle.mc_flash.specs.Content.{Content}
+use Rattle.mc_flash.specs.Geometry.{Geometry}
+use Rattle.mc_flash.specs.Ledger.{Counts}
+use Rattle.mc_flash.specs.Seen.{Seen}
+use Rattle.mc_flash.specs.Spends.{Allows, LeaveRoom, plus}
+
+pub record Kind (N A T : Type 0) : Type 1 where
+  pub tree : Tree N
+  -- the layout of the flash, what it contains at a node, and the node that a content is the root of
+  pub geometry : Geometry
+  pub content : N → Content
+  pub root : Content → N
+  pub root_is : (c : Content) → content (root c) ≡ c
+  -- the child of that number is on its way from that node
+  pub IsOn : N → ℕ → A → Type 0
+  pub IsTold : N → T → Type 0
+  -- the most operations from one child to the next, and the counts that one on its way has left
+  pub step : ℕ
+  pub left : A → Counts
+  -- the most from a node to its last child, and to tell of it
+  pub most : Counts
+
+module _ {N A T : Type 0} (k : Kind N A T) where
+  -- That child is on its way, and the flash contains what it does there.
+  pub record IsAt (n : N) (i : ℕ) (at : A) (seen : Seen) : Type 0 where
+    pub on_is : k.IsOn n i at
+    pub content_is : seen.content ≡ k.content (k.tree.child n i)
+    pub layout_is : seen.geometry ≡ k.geometry
+
+  -- The flash stands at a node, of which that is told.
+  pub record IsNode (n : N) (told : T) (seen : Seen) : Type 0 where
+    pub told_is : k.IsTold n told
+    pub content_is : seen.content ≡ k.content n
+    pub layout_is : seen.geometry ≡ k.geometry
+
+  abbrev pub HasWidth : T → ℕ → Type 0
+  HasWidth told width = (n : N) → k.IsTold n told → width ≡ k.tree.width n
+
+  -- It has a child of that number, and there is room to go to it and on.
+  abbrev pub CanReach : ℕ → T → Seen → Type 0
+  CanReach number told seen = (n : N) × IsNode n told seen × (number < k.tree.width n) × Allows k.most seen
+
+  -- That child is on its way.
+  abbrev pub Reaches : {E : Type 0} → ℕ → T → Seen → Result A E → Seen → Type 0
+  Reaches number told old (Ok at) new =
+      ((n : N) → IsNode n told old → number < k.tree.width n → IsAt n number at new)
+      × LeaveRoom new.ledger.counts (k.left at) (plus old.ledger.counts k.most)
+  Reaches number told old (Err _) new = Unit {0}
+
+  -- There is a next child, and room for what it has left.
+  abbrev pub HasNext : A → Seen → Type 0
+  HasNext at seen = (n : N) × (i : ℕ) × IsAt n i at seen × (i + 1 < k.tree.width n) × Allows (k.left at) seen
+
+  abbrev pub GoesOn : {E : Type 0} → A → Seen → Result (Unit {0}) E → A → Seen → Type 0
+  GoesOn at old (Ok _) at' new =
+      ((n : N) (i : ℕ) → IsAt n i at old → i + 1 < k.tree.width n → IsAt n (i + 1) at' new)
+      × LeaveRoom new.ledger.counts (k.left at') (plus old.ledger.counts (k.left at))
+  GoesOn at old (Err _) at' new = Unit {0}
+
+  -- The flash has the layout of the tree.
+  abbrev pub IsRoot : Seen → Type 0
+  IsRoot seen = seen.geometry ≡ k.geometry
+
+  -- That is told of the root at which the flash stands.
+  abbrev pub TellsRoot : Seen → T → Type 0
+  TellsRoot seen told = k.IsTold (k.root seen.content) told
+
+  -- The flash stands at a child on its way, where that was told of its parent.
+  abbrev pub IsChild : A → T → Seen → Type 0
+  IsChild at parent seen = (n : N) × (i : ℕ) × IsAt n i at seen × (i < k.tree.width n) × k.IsTold n parent
+
+  -- That is told of that child.
+  abbrev pub TellsChild : A → T → Seen → T → Type 0
+  TellsChild at parent seen told =
+      (n : N) (i : ℕ) → IsAt n i at seen → i < k.tree.width n → k.IsTold n parent → k.IsTold (k.tree.child n i) told

@@ -1,0 +1,88 @@
+-- The frames of a walk.
+use Rattle.std.specs.Prelude.{◌≡◌, ℕ, ◌+◌, ◌*◌, ◌<◌, ◌≤◌, List, [], ◌∷◌, ◌++◌, length, map}
+use Rattle.mc_tree.specs.Tree.{landed}
+use Rattle.mc_flash.specs.Content.{Content}
+use Rattle.mc_flash.specs.Ledger.{Spot, no_counts}
+use Rattle.mc_flash.specs.Seen.{Seen, spot_of}
+use Rattle.mc_flash.specs.Spends.{LeaveRoom, times}
+use Rattle.mc_walk.specs.Kind.{Kind}
+use Rattle.mc_walk.specs.declared.frame.Frame.{Frame}
+
+-- The path that the frames stand for.
+abbrev pub path_of : {A T : Type 0} → List (Frame A T) → List ℕ
+path_of fs = map (λ f. f.number) fs
+
+module _ {N A T : Type 0} (k : Kind N A T) where
+  -- It is the last child of its parent.
+  abbrev pub IsSpent : Frame A T → Type 0
+  IsSpent f = (n : N) → k.IsTold n f.parent → k.tree.width n ≤ f.number + 1
+
+  -- Its parent has one child more.
+  abbrev pub IsOpen : Frame A T → Type 0
+  IsOpen f = (n : N) → k.IsTold n f.parent → f.number + 1 < k.tree.width n
+
+  abbrev pub AreSpent : List (Frame A T) → Type 0
+  AreSpent [] = Unit {0}
+  AreSpent (f ∷ fs) = IsSpent f × AreSpent fs
+
+  -- Such frames were taken off.
+  pub record AreOff (old new : List (Frame A T)) : Type 0 where
+    pub more : List (Frame A T)
+    pub spent : AreSpent more
+    pub split : old ≡ new ++ more
+
+  -- It is the last that is open; those before it are left.
+  pub record IsLastOpen (f : Frame A T) (old new : List (Frame A T)) : Type 0 where
+    pub open_is : IsOpen f
+    pub more : List (Frame A T)
+    pub spent : AreSpent more
+    pub split : old ≡ new ++ f ∷ more
+
+  -- The child of a node that a frame says was on its way when the flash was marked. The counts there, with what it has left,
+  -- are at most those of so many levels.
+  pub record IsFrame (n : N) (levels : ℕ) (spot : Spot) (f : Frame A T) : Type 0 where
+    pub some : f.number < k.tree.width n
+    pub on_is : k.IsOn n f.number f.at
+    pub content_is : spot.content ≡ k.content (k.tree.child n f.number)
+    pub told_is : k.IsTold n f.parent
+    pub room : LeaveRoom spot.counts (k.left f.at) (times levels k.most)
+
+  -- So it is with each frame and its mark, from a node down.
+  abbrev pub AreFrames : N → ℕ → List Spot → List (Frame A T) → Type 0
+  AreFrames n levels [] [] = Unit {0}
+  AreFrames n levels [] (f ∷ fs) = ⊥
+  AreFrames n levels (spot ∷ spots) [] = ⊥
+  AreFrames n levels (spot ∷ spots) (f ∷ fs) =
+      IsFrame n levels spot f × AreFrames (k.tree.child n f.number) (levels + 1) spots fs
+
+  -- The frames stand over their marks, and those over that of the start.
+  pub record Stacked (start : Content) (marks : List Spot) (fs : List (Frame A T)) : Type 0 where
+    pub first : Spot
+    pub above : List Spot
+    pub marks_are : marks ≡ first ∷ above
+    pub start_is : first.content ≡ start
+    pub frames : AreFrames (k.root start) 1 above fs
+
+  -- The node at the end of the frames.
+  abbrev pub node_of : Content → List (Frame A T) → N
+  node_of start fs = landed k.tree (k.root start) (path_of fs)
+
+  -- The flash stands at that node, of which that is told.
+  pub record Stands (start : Content) (seen : Seen) (fs : List (Frame A T)) (told : T) : Type 0 where
+    pub stacked : Stacked start seen.marks fs
+    pub content_is : seen.content ≡ k.content (node_of start fs)
+    pub layout_is : seen.geometry ≡ k.geometry
+    pub told_is : k.IsTold (node_of start fs) told
+    pub counts : LeaveRoom seen.ledger.counts no_counts (times (length fs) k.most)
+
+  -- A child of that node is on its way, and the flash stands at it.
+  pub record Comes (start : Content) (seen : Seen) (fs : List (Frame A T)) (f : Frame A T) : Type 0 where
+    pub stacked : Stacked start seen.marks fs
+    pub layout_is : seen.geometry ≡ k.geometry
+    pub frame : IsFrame (node_of start fs) (length seen.marks) (spot_of seen) f
+
+  -- There is room for so many levels, and to tell of the last.
+  pub record IsRoomy (bound : ℕ) (seen : Seen) : Type 0 where
+    pub entries : (bound + 1) * k.most.entries ≤ seen.ledger.limits.entries
+    pub saved : (bound + 1) * k.most.saved ≤ seen.ledger.limits.saved
+    pub marks : bound + 2 ≤ seen.ledger.limits.marks

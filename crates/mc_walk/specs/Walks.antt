@@ -1,0 +1,131 @@
+-- What callers see of a walk, and how it goes on.
+use Rattle.std.specs.Prelude.{◌≡◌, ℕ, ◌+◌, ◌*◌, ◌<◌, ◌≤◌, Bool, true, false, is_some, List, [], ◌∷◌, ◌++◌, length, take, Option, IfSome}
+use Rattle.mc_tree.specs.Tree.{IsMember, landed}
+use Rattle.mc_tree.specs.Paths.{After, IsNext, IsOver}
+use Rattle.mc_tree.specs.facts.Order.{IsNextBeyond, NoneBeyond}
+use Rattle.mc_flash.specs.Content.{Content}
+use Rattle.mc_flash.specs.Ledger.{no_counts}
+use Rattle.mc_flash.specs.Seen.{Seen, spot_at, spot_of}
+use Rattle.mc_flash.specs.Spends.{HasRoom}
+use Rattle.mc_walk.specs.Kind.{Kind}
+use Rattle.mc_walk.specs.Stack.{Stands, IsRoomy, path_of}
+use Rattle.mc_walk.specs.declared.frame.Frame.{Frame}
+
+-- A walk: its kind of tree, the most steps of a path, the flash, the path, and whether the flash stands at its end, of which
+-- something is told.
+pub record Walked (B : Type 0) : Type 0 where
+  pub branches : B
+  pub bound : ℕ
+  pub seen : Seen
+  pub path : List ℕ
+  pub stands : Bool
+
+-- The walk with these fields.
+abbrev pub walked : {A T B : Type 0} → B → ℕ → Seen → List (Frame A T) → Option T → Walked B
+walked branches bound seen fs told = record { branches = branches; bound = bound; seen = seen; path = path_of fs; stands = is_some told }
+
+-- The content with which it began: the first that is marked.
+abbrev pub start_of : Seen → Content
+start_of seen = (spot_at seen 0).content
+
+-- The same walk, elsewhere.
+pub record IsSame {B : Type 0} (old new : Walked B) : Type 0 where
+  pub branches : new.branches ≡ old.branches
+  pub bound : new.bound ≡ old.bound
+  pub start : start_of new.seen ≡ start_of old.seen
+
+module _ {N A T B : Type 0} (k : Kind N A T) where
+  abbrev pub root_of : Walked B → N
+  root_of w = k.root (start_of w.seen)
+
+  -- The node at the end of its path.
+  abbrev pub node_at : Walked B → N
+  node_at w = landed k.tree (root_of w) w.path
+
+  -- The flash stands at that node, of which that is told, and has room to tell of it once more.
+  pub record IsThere (w : Walked B) (told : T) : Type 0 where
+    pub told_is : k.IsTold (node_at w) told
+    pub content_is : w.seen.content ≡ k.content (node_at w)
+    pub layout_is : w.seen.geometry ≡ k.geometry
+    pub room : HasRoom k.most w.seen
+
+  -- The paths that it can take.
+  abbrev pub IsPath : Walked B → List ℕ → Type 0
+  IsPath w = IsMember k.tree (root_of w) w.bound
+
+  -- From its root it goes nowhere, and that is told of the root.
+  pub record Begins (old : Walked B) (told : T) (new : Walked B) : Type 0 where
+    pub path : new.path ≡ []
+    pub told_is : k.IsTold (root_of old) told
+    pub same : IsSame old new
+    pub stands : new.stands ≡ true
+
+  -- From its path it went down to that child, or there is none within the bound, and it stays.
+  abbrev pub GoesDown : ℕ → Walked B → Bool → Walked B → Type 0
+  GoesDown number old true new = (new.path ≡ old.path ++ number ∷ []) × IsPath old new.path × IsSame old new × (new.stands ≡ true)
+  GoesDown number old false new = (IsPath old (old.path ++ number ∷ []) → ⊥) × (new ≡ old)
+
+  -- It went on to the next path beyond; or there is none, and the flash stays.
+  abbrev pub Climbs : Walked B → Bool → Walked B → Type 0
+  Climbs old true new = IsNextBeyond k.tree (root_of old) old.path new.path × IsSame old new × (new.stands ≡ true)
+  Climbs old false new = NoneBeyond k.tree (root_of old) old.path × IsSame old new × (new.seen ≡ old.seen)
+
+  -- It went on to the next path; or there is none, and the flash stays.
+  abbrev pub Advances : Walked B → Bool → Walked B → Type 0
+  Advances old true new = IsNext (IsPath old) (After old.path) new.path × IsSame old new × (new.stands ≡ true)
+  Advances old false new = IsOver (IsPath old) (After old.path) × IsSame old new × (new.seen ≡ old.seen)
+
+  -- From the root it went along a front of a path, at whose end there is no such child, or the bound is reached.
+  pub record StopsOn (path : List ℕ) (old new : Walked B) : Type 0 where
+    pub inside : length new.path < length path
+    pub front : new.path ≡ take (length new.path) path
+    pub member : IsPath old new.path
+    pub no_child : IsPath old (take (length new.path + 1) path) → ⊥
+    pub same : IsSame old new
+    pub stands : new.stands ≡ true
+
+  -- From the root it went to that path; or there is none such.
+  abbrev pub Follows : List ℕ → Walked B → Bool → Walked B → Type 0
+  Follows path old true new = (new.path ≡ path) × IsPath old path × IsSame old new × (new.stands ≡ true)
+  Follows path old false new = StopsOn path old new
+
+module _ {N A T : Type 0} (k : Kind N A T) where
+  -- The most operations to go to a child, and to tell of it; and along a path.
+  abbrev pub child_cost : ℕ → ℕ
+  child_cost number = (number + 1) * k.step + k.most.entries
+
+  abbrev pub path_cost : List ℕ → ℕ
+  path_cost [] = 0
+  path_cost (number ∷ path) = child_cost number + path_cost path
+
+  -- What holds of a walk that stands at the end of its path.
+  pub record IsGoing (bound : ℕ) (seen : Seen) (fs : List (Frame A T)) (told : T) : Type 0 where
+    pub stands : Stands k (start_of seen) seen fs told
+    pub few : length fs ≤ bound
+    pub roomy : IsRoomy k bound seen
+
+  -- What holds of a walk's fields.
+  pub record IsSound (bound capacity : ℕ) (seen : Seen) (fs : List (Frame A T)) (told : Option T) : Type 0 where
+    pub reserved : bound ≤ capacity
+    pub going : IfSome told (IsGoing bound seen fs)
+
+  -- A flash with no marks, of that layout, on which nothing was done.
+  pub record IsClear (bound : ℕ) (seen : Seen) : Type 0 where
+    pub none : seen.marks ≡ []
+    pub counts : seen.ledger.counts ≡ no_counts
+    pub layout_is : seen.geometry ≡ k.geometry
+    pub roomy : IsRoomy k bound seen
+
+  -- A walk at its root, of which nothing is told yet.
+  pub record IsFresh {B : Type 0} (walk : Walked B) : Type 0 where
+    pub path : walk.path ≡ []
+    pub marks_are : walk.seen.marks ≡ spot_of walk.seen ∷ []
+    pub counts : walk.seen.ledger.counts ≡ no_counts
+    pub layout_is : walk.seen.geometry ≡ k.geometry
+    pub roomy : IsRoomy k walk.bound walk.seen
+
+-- A walk of those branches and that bound, from what the flash contains.
+pub record IsOf {B : Type 0} (branches : B) (bound : ℕ) (seen : Seen) (walk : Walked B) : Type 0 where
+  pub branches_are : walk.branches ≡ branches
+  pub bound_is : walk.bound ≡ bound
+  pub start : start_of walk.seen ≡ seen.content

@@ -1,0 +1,11 @@
+//! A walk through a tree of flash contents, depth first, over one flash with marks. What the tree is stands in a trait.
+#![tactic(auto)]
+
+mod branches;
+mod enter;
+mod frame;
+mod reach;
+mod walk;
+
+pub use branches::Branches;
+pub use walk::Walk;

@@ -1,0 +1,27 @@
+//! From a node to one of its children.
+ghost use Rattle.std.specs.Prelude.{◌+◌, ◌*◌, OnOk};
+ghost use Rattle.mc_flash.specs.Seen.{Keeps};
+ghost use Rattle.mc_flash.specs.Spends.{Spends};
+ghost use Rattle.mc_walk.specs.Kind.{CanReach, Reaches};
+
+use crate::Branches;
+use mc_flash::{Flash, FlashError};
+
+/// Goes from a node, of which that is told, to its child of that number.
+pub(crate) fn reach<F: Flash, B: Branches>(
+    branches: B,
+    flash: &mut F,
+    told: &B::Told,
+    number: u32,
+) -> Result<B::At, FlashError>
+    requires { CanReach (B.kind branches) number told.now (F.seen flash.old) }
+    ensures reaches { Reaches (B.kind branches) number told.now (F.seen flash.old) result (F.seen flash.new) }
+    ensures keeps { OnOk result (Keeps (F.seen flash.old) (F.seen flash.new)) }
+    ensures spends { Spends ((number + 1) * (B.kind branches).step) (F.seen flash.old) result (F.seen flash.new) }
+{
+    let mut at = branches.first(flash, told)?;
+    for _i in 0..number {
+        branches.next(flash, &mut at)?;
+    }
+    Ok(at)
+}

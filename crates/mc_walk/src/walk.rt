@@ -1,0 +1,212 @@
+//! A walk through a tree.
+ghost use Rattle.std.specs.Prelude.{◌≡◌, ◌≤◌, [], is_some, IfOk, IfSome, true, false};
+ghost use Rattle.mc_flash.specs.Spends.{Spends, Spent};
+ghost use Rattle.mc_walk.specs.Walks.{IsClear, IsFresh, IsOf, Begins, GoesDown, Climbs, Advances, Follows, IsThere, child_cost, path_cost};
+
+use crate::Branches;
+use crate::enter::enter;
+use crate::frame::{Frame, take_last_open};
+use crate::reach::reach;
+use arrayvec::ArrayVec;
+use mc_flash::{Flash, FlashError};
+use std::alloc::Global;
+use std::marker::Model;
+
+/// A walk depth first through a tree, over one flash. It takes its own memory at the start, and none later but through the
+/// flash.
+#[derive(Drop)]
+pub struct Walk<F: Flash, B: Branches> {
+    branches: B,
+    bound: usize,
+    flash: F,
+    frames: Vec<Frame<B::At, B::Told>>,
+    // What is told of the node at the end of the path; none before the first, while it moves, and after an error.
+    told: Option<B::Told>,
+}
+
+impl<F: Flash, B: Branches> Model for Walk<F, B> {
+    ghost use Rattle.mc_walk.specs.Walks.{Walked};
+
+    ghost Value = { Walked B };
+
+    ghost use Rattle.std.specs.Vec.{vec_capacity};
+    ghost use Rattle.mc_walk.specs.Walks.{walked, IsSound};
+
+    ghost view = { λ w. walked w.branches w.bound (F.seen w.flash) w.frames.items w.told };
+
+    ghost invariant = { λ w. IsSound (B.kind w.branches) w.bound (vec_capacity w.frames) (F.seen w.flash) w.frames.items w.told };
+}
+
+impl<F: Flash, B: Branches> Walk<F, B> {
+    /// Marks the root, which is what the flash contains.
+    ///
+    /// # Errors
+    ///
+    /// `Memory` where an allocation failed.
+    pub fn start(
+        alloc: Global,
+        branches: B,
+        bound: usize,
+        mut flash: F,
+    ) -> Result<Walk<F, B>, FlashError>
+        requires { IsClear (B.kind branches) bound (F.seen flash) }
+        ensures of { IfOk result (IsOf branches bound (F.seen flash)) }
+        ensures fresh { IfOk result (IsFresh (B.kind branches)) }
+        ensures spent { IfOk result (λ walk. Spent 0 (F.seen flash) walk.seen) }
+    {
+        let frames = Vec::with_capacity(alloc, bound)?;
+        flash.mark()?;
+        Ok(Walk {
+            branches,
+            bound,
+            flash,
+            frames,
+            told: None,
+        })
+    }
+
+    /// Tells of the root.
+    ///
+    /// # Errors
+    ///
+    /// `Memory` where the flash was refused memory.
+    pub fn begin(&mut self) -> Result<B::Told, FlashError>
+        requires { IsFresh (B.kind self.old.branches) self.old }
+        ensures begins { IfOk result (λ told. Begins (B.kind self.old.branches) self.old told self.new) }
+        ensures spends { Spends (B.kind self.old.branches).most.entries self.old.seen result self.new.seen }
+    {
+        self.told = None;
+        let told = self.branches.root(&mut self.flash)?;
+        self.told = Some(told);
+        Ok(told)
+    }
+
+    /// What is told of the node at the end of its path, where it stands there.
+    pub fn told(&self) -> Option<B::Told>
+        ensures stands { is_some result ≡ self.now.stands }
+        ensures told { IfSome result (IsThere (B.kind self.now.branches) self.now) }
+    {
+        self.told
+    }
+
+    /// The path at whose end it stands.
+    pub fn path(&self) -> ArrayVec<u32, 16>
+        requires stands { self.now.stands ≡ true }
+        requires room { self.now.bound ≤ 16 }
+        ensures { result.items ≡ self.now.path }
+    {
+        let mut path = ArrayVec::new();
+        for frame in &self.frames {
+            path.push(frame.number);
+        }
+        path
+    }
+
+    /// The flash as it is.
+    pub fn flash(&self) -> &F
+        ensures { F.seen result.now ≡ self.now.seen }
+    {
+        &self.flash
+    }
+
+    /// The flash as it is, where the walk is over.
+    pub fn into_flash(self) -> F
+        ensures { F.seen result ≡ self.seen }
+    {
+        self.flash
+    }
+
+    /// Goes down to the child of that number, if there is one and the path may be longer.
+    ///
+    /// # Errors
+    ///
+    /// `Memory` where the flash was refused memory; then the walk stands nowhere.
+    pub fn go_down(&mut self, number: u32) -> Result<bool, FlashError>
+        requires { self.old.stands ≡ true }
+        ensures step { IfOk result (λ went. GoesDown (B.kind self.old.branches) number self.old went self.new) }
+        ensures spends { Spends (child_cost (B.kind self.old.branches) number) self.old.seen result self.new.seen }
+    {
+        let Some(told) = self.told else {
+            return Ok(false);
+        };
+        if self.frames.len() >= self.bound {
+            return Ok(false);
+        }
+        if number >= self.branches.width(&told) {
+            return Ok(false);
+        }
+        self.told = None;
+        let at = reach(self.branches, &mut self.flash, &told, number)?;
+        let frame = Frame {
+            at,
+            number,
+            parent: told,
+        };
+        let told = enter(self.branches, &mut self.flash, &mut self.frames, frame)?;
+        self.told = Some(told);
+        Ok(true)
+    }
+
+    /// Goes up to the last node that has a further child, and on to that child.
+    ///
+    /// # Errors
+    ///
+    /// `Memory` where the flash was refused memory; then the walk stands nowhere.
+    #[tactic(auto, using(mc_flash::specs::SpendsFacts::ran_out_later, mc_flash::specs::SpendsFacts::spent_back))]
+    pub fn climb(&mut self) -> Result<bool, FlashError>
+        requires { self.old.stands ≡ true }
+        ensures step { IfOk result (λ went. Climbs (B.kind self.old.branches) self.old went self.new) }
+        ensures spends { Spends (child_cost (B.kind self.old.branches) 0) self.old.seen result self.new.seen }
+    {
+        self.told = None;
+        let Some(mut frame) = take_last_open(self.branches, &mut self.frames) else {
+            return Ok(false);
+        };
+        // Its mark stands behind that of the root and those of the frames below it.
+        self.flash.back_to(self.frames.len() + 1);
+        self.branches.next(&mut self.flash, &mut frame.at)?;
+        frame.number += 1;
+        let told = enter(self.branches, &mut self.flash, &mut self.frames, frame)?;
+        self.told = Some(told);
+        Ok(true)
+    }
+
+    /// Goes on to the next path.
+    ///
+    /// # Errors
+    ///
+    /// `Memory` where the flash was refused memory; then the walk stands nowhere.
+    #[tactic(auto, using(crate::proofs::Along::advanced_down))]
+    pub fn advance(&mut self) -> Result<bool, FlashError>
+        requires { self.old.stands ≡ true }
+        ensures step { IfOk result (λ went. Advances (B.kind self.old.branches) self.old went self.new) }
+        ensures spends { Spends (child_cost (B.kind self.old.branches) 0) self.old.seen result self.new.seen }
+    {
+        let _bound = self.bound;
+        if self.go_down(0)? {
+            return Ok(true);
+        }
+        let went = self.climb()?;
+        Ok(went)
+    }
+
+    /// Goes from the root along a path, as far as it has such children and the bound allows.
+    ///
+    /// # Errors
+    ///
+    /// `Memory` where the flash was refused memory; then the walk stands nowhere.
+    #[tactic(auto, using(crate::proofs::Along::along_more, crate::proofs::Along::along_none, crate::proofs::Along::along_none_spent))]
+    pub fn follow(&mut self, path: &[u32]) -> Result<bool, FlashError>
+        requires stands { self.old.stands ≡ true }
+        requires root { self.old.path ≡ [] }
+        ensures step { IfOk result (λ went. Follows (B.kind self.old.branches) path.now self.old went self.new) }
+        ensures spends { Spends (path_cost (B.kind self.old.branches) path.now) self.old.seen result self.new.seen }
+    {
+        for number in path {
+            if !self.go_down(*number)? {
+                return Ok(false);
+            }
+        }
+        Ok(true)
+    }
+}
