@@ -76,7 +76,8 @@ impl Boot {
 
     // A swap from its start.
     fn new_swap(layout: &Layout, rules: Rules, images: &Images, kind: SwapType) -> Boot
-        ensures progress { progress result ≡ begun rules (new_swap rules.grain layout.now images.now kind) }
+        ensures progress { progress result
+            ≡ begun rules (new_swap rules.grain layout.now images.now kind) }
         ensures layout { IsBootOf layout.now result }
     {
         let size = images.size;
@@ -102,7 +103,8 @@ impl Boot {
     fn new_boot<F: Flash>(flash: &F, rules: Rules, known: Option<Images>, kind: SwapType) -> Boot
         requires { IfSome known (λ images. images ≡ images_of (F.seen flash.now).content) }
         ensures progress { progress result
-            ≡ begun rules (new_plan rules.grain (F.seen flash.now).geometry (images_of (F.seen flash.now).content) kind) }
+            ≡ begun rules (new_plan rules.grain (F.seen flash.now).geometry
+            (images_of (F.seen flash.now).content) kind) }
         ensures layout { IsBootOf (F.seen flash.now).geometry result }
     {
         match kind {
@@ -125,8 +127,10 @@ impl Boot {
         kind: SwapType,
         sectors: u32,
     ) -> Boot
-        ensures progress { let highest = highest_entry (F.seen flash.now).geometry (F.seen flash.now).content
-            in progress result ≡ begun rules (resumed_swap rules.grain (F.seen flash.now).geometry image_ok highest kind sectors) }
+        ensures progress { let highest = highest_entry (F.seen flash.now).geometry
+            (F.seen flash.now).content in progress result
+            ≡ begun rules (resumed_swap rules.grain (F.seen flash.now).geometry image_ok highest
+            kind sectors) }
         ensures layout { IsBootOf (F.seen flash.now).geometry result }
     {
         let layout = flash.layout();
@@ -160,8 +164,10 @@ impl Boot {
 
     // A boot that goes on with a swap that was cut, by the primary's trailer.
     fn resumed_boot<F: Flash>(flash: &F, rules: Rules, primary: &Trailer) -> Boot
-        ensures progress { let highest = highest_entry (F.seen flash.now).geometry (F.seen flash.now).content
-            in progress result ≡ begun rules (resumed_plan rules.grain (F.seen flash.now).geometry primary.now highest) }
+        ensures progress { let highest = highest_entry (F.seen flash.now).geometry
+            (F.seen flash.now).content in progress result
+            ≡ begun rules (resumed_plan rules.grain (F.seen flash.now).geometry primary.now
+            highest) }
         ensures layout { IsBootOf (F.seen flash.now).geometry result }
     {
         let sectors = primary.swap_size.div_ceil(flash.layout().sector());
@@ -202,8 +208,10 @@ impl Boot {
             (progress result) (F.seen flash.now).content }
         ensures sized { IsSized (F.seen flash.now).geometry (F.seen flash.now).content }
         // It has few operations, and what their erases save is little.
-        ensures few { length (progress result).to_come ≤ most_operations rules.grain (F.seen flash.now).geometry }
-        ensures few_saves { all_saves (F.seen flash.now).geometry (progress result).to_come ≤ most_saved (F.seen flash.now).geometry }
+        ensures few { length (progress result).to_come ≤ most_operations rules.grain
+            (F.seen flash.now).geometry }
+        ensures few_saves { all_saves (F.seen flash.now).geometry
+            (progress result).to_come ≤ most_saved (F.seen flash.now).geometry }
     {
         // Each number of a layout tells that it is one, and each slot how long it is.
         let _sector = flash.layout().sector();
@@ -250,11 +258,13 @@ impl Boot {
     /// `Memory` where the flash can't grow: boot and flash are as they were.
     pub fn step<F: Flash>(&mut self, flash: &mut F) -> Result<(), FlashError>
         requires { IsBootOf (F.seen flash.old).geometry self.old }
-        ensures step { Steps (progress self.old) (F.seen flash.old) result (progress self.new) (F.seen flash.new) }
+        ensures step { Steps (progress self.old) (F.seen flash.old) result (progress self.new)
+            (F.seen flash.new) }
         // It stays on its way from the flash at power-on.
         ensures come { (r : Rules) (s : Content)
             → HasCome r (F.seen flash.old).geometry s (progress self.old) (F.seen flash.old).content
-            → HasCome r (F.seen flash.old).geometry s (progress self.new) (F.seen flash.new).content }
+            → HasCome r (F.seen flash.old).geometry s (progress self.new)
+            (F.seen flash.new).content }
         ensures whole { all_of self.new ≡ all_of self.old }
         ensures layout { IsBootOf (F.seen flash.new).geometry self.new }
         // The layout and the marks stay.
@@ -323,12 +333,14 @@ impl Boot {
 
     /// What the boot has done, to be asked at its end, where `peek` gives none. It reads and hashes each slot once.
     pub fn outcome<F: Flash>(&self, flash: &F) -> Outcome
-        ensures report { let p = progress self.now
-            in shown result ≡ report p.rules (F.seen flash.now).geometry p.kind p.count p.faulted (F.seen flash.now).content }
+        ensures report { let p = progress self.now in shown result
+            ≡ report p.rules (F.seen flash.now).geometry p.kind p.count p.faulted
+            (F.seen flash.now).content }
         // At the end it is the outcome of the uncut boot from the flash at power-on.
         ensures end { (r : Rules) (s : Content)
             → HasCome r (F.seen flash.now).geometry s (progress self.now) (F.seen flash.now).content
-            → to_come self.now ≡ [] → outcome_of r (F.seen flash.now).geometry s ≡ Some (shown result) }
+            → to_come self.now ≡ [] → outcome_of r (F.seen flash.now).geometry s
+            ≡ Some (shown result) }
     {
         Outcome::read(flash, self.rules, self.kind, self.done, self.faulted)
     }

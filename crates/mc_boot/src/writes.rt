@@ -92,7 +92,8 @@ fn size_bytes(layout: &Layout, size: u32) -> Bytes16
 
 /// How many operations the writes of the size and the magic are.
 fn marking_len(layout: &Layout, grain: Grain) -> u32
-    ensures len { (slot : FlashSlot) (size : ℕ) → length (marking grain layout.now slot size) ≡ result }
+    ensures len { (slot : FlashSlot) (size : ℕ) → length (marking grain layout.now slot size)
+        ≡ result }
     ensures few { result ≤ 32 }
 {
     write_len(layout, grain, layout.unit().max(4)) + write_len(layout, grain, 16)

@@ -1,17 +1,65 @@
 -- A page, as its lines are written one after another.
-use Rattle.std.proofs.Common.{◌≡◌, ℕ, suc, ◌+◌, ◌*◌, ◌≤◌, List, [], ◌++◌, length, take, drop, Some, None, Option, refl, sym, ap, subst, ◌∙◌, append_assoc, append-nil, arith}
+use Rattle.std.specs.Prelude.{zero, nat_le, if◌then◌else◌, flat_map, Bool, true, false, ◌∷◌}
+use Rattle.std.proofs.Common.{◌≡◌, ℕ, suc, ◌+◌, ◌*◌, ◌≤◌, List, [], ◌++◌, length, take, drop, Some, None, Option, refl, sym, ap, subst, ◌∙◌, append_assoc, append-nil, arith, inl, inr}
+use Rattle.std.proofs.lemmas.Bool.{cases_lt}
+use Rattle.std.proofs.lemmas.Bool.Decides.{nat_tests}
 use Rattle.std.proofs.lemmas.List.{take_at, take-append-drop}
 use Rattle.std.specs.Io.KnownBytes.{Appends}
+use Rattle.mc_explore.specs.Chain.{last_schedule}
 use Rattle.mc_explore.specs.CursorText.{cursor_text}
 use Rattle.mc_explore.specs.Bounds.{most_for_row, row_cost}
 use Rattle.mc_explore.specs.Rest.{IsRest}
 use Rattle.mc_explore.specs.Start.{Begun}
 use Rattle.mc_explore.specs.State.{State, Told, told, state_after, Finds, IsOver}
-use Rattle.mc_explore.specs.Page.{page_of, page_from, state_past, row_line, next_line, end_line, cursor_of, AppendsFront, PageIsOut, PageBegan}
+use Rattle.mc_explore.specs.Page.{page_at, page_text, last_line, state_past, row_line, cursor_of, PageIsOut, PageBegan}
 use Rattle.mc_explore.specs.declared.cursor.Cursor.{Cursor}
 use Rattle.mc_explore.specs.declared.row.Row.{Row}
 use Rattle.mc_explore.proofs.Listing.{some_rest, rest_next, rest_over}
-use Rattle.mc_explore.proofs.Streams.{Appends_in_turn}
+use Rattle.mc_output.specs.Fronts.{AppendsFront}
+use Rattle.std.proofs.KnownBytes.{Appends-trans}
+
+-- ---- a page along its rows
+
+abbrev pub page_of : State → ℕ → List Told → List ℕ
+page_of state limit rows = page_text (page_at state limit rows)
+
+abbrev pub next_line : Begun → ℕ → List ℕ → List ℕ
+next_line start bound last = last_line (Some (cursor_of start bound last))
+
+abbrev end_line : List ℕ
+end_line = last_line None
+
+-- What is left of a page with room for so many rows, where these are to come and the row of that schedule came last.
+unfoldable pub page_from : Begun → ℕ → List ℕ → ℕ → List Told → List ℕ
+page_from start bound last zero rows = next_line start bound last
+page_from start bound last (suc room) [] = end_line
+page_from start bound last (suc room) (row ∷ rows) = row_line row ++ page_from start bound row.schedule room rows
+
+none_first : (n : ℕ) → nat_le 0 n ≡ true
+none_first n = grind (arith, nat_tests)
+
+one_less : (k n : ℕ) → nat_le (suc k) (suc n) ≡ nat_le k n
+one_less k n = elim (cases_lt n k) [
+  | inl less ↦ let a : nat_le (suc k) (suc n) ≡ false = grind (arith, nat_tests) in let b : nat_le k n ≡ false = grind (arith, nat_tests) in a ∙ sym b
+  | inr more ↦ let a : nat_le (suc k) (suc n) ≡ true = grind (arith, nat_tests) in let b : nat_le k n ≡ true = grind (arith, nat_tests) in a ∙ sym b
+]
+
+not_full : (k : ℕ) → nat_le (suc k) 0 ≡ false
+not_full k = grind (arith, nat_tests)
+
+module _ (start : Begun) (bound : ℕ) where
+  abbrev left_on : List ℕ → ℕ → List Told → Bool → Option Cursor
+  left_on last room rows full = if full then Some (cursor_of start bound (last_schedule last (take room rows))) else None
+
+  page_left : (last : List ℕ) (room : ℕ) (rows : List Told) → flat_map row_line (take room rows) ++ last_line (left_on last room rows (nat_le room (length rows))) ≡ page_from start bound last room rows
+  unfolding page_from
+  page_left last zero rows = ap (λ b. last_line (left_on last zero rows b)) (none_first (length rows))
+  page_left last (suc room) [] = ap (λ b. last_line (left_on last (suc room) [] b)) (not_full room)
+  page_left last (suc room) (row ∷ rows) =
+      let rest : List ℕ = row_line row ++ flat_map row_line (take room rows) in
+      ap (λ b. rest ++ last_line (left_on last (suc room) (row ∷ rows) b)) (one_less room (length rows))
+      ∙ append_assoc (row_line row) (flat_map row_line (take room rows)) (last_line (left_on row.schedule room rows (nat_le room (length rows))))
+      ∙ ap (λ z. row_line row ++ z) (page_left row.schedule room rows)
 
 -- A part of the page is out.
 pub record InPage (old now : State) (limit room : ℕ) (last : List ℕ) (before after : Option (List ℕ)) (rows : List Told) : Type 0 where
@@ -34,7 +82,7 @@ Appends_none None = tt
 Appends_none (Some xs) = sym (append-nil xs)
 
 pub page_begin : (old : State) (limit : ℕ) (out : Option (List ℕ)) → AreInPage old old limit limit [] out out
-page_begin old limit out rows r = record { left = rows; text = []; rest = r; out = Appends_none out; page = refl; past = refl; dropped = refl; start_is = refl; bound_is = refl }
+page_begin old limit out rows r = record { left = rows; text = []; rest = r; out = Appends_none out; page = page_left old.start old.bound [] limit rows; past = refl; dropped = refl; start_is = refl; bound_is = refl }
 
 -- One row more.
 pub page_on : (old now new : State) (limit room k : ℕ) (last : List ℕ) (before after more : Option (List ℕ)) (row : Row) → room ≡ suc k → AreInPage old now limit room last before after → Finds now (Some row) → new ≡ state_after now (Some row) → Appends after more (row_line (told row)) → AreInPage old new limit k row.schedule before more
@@ -46,7 +94,7 @@ page_on old now new limit room k last before after more row e h f m a rows r =
       left = n.0;
       text = p.text ++ row_line (told row);
       rest = subst (λ s. IsRest s n.0) (sym m) n.2;
-      out = Appends_in_turn before after more p.text (row_line (told row)) p.out a;
+      out = Appends-trans before after more p.text (row_line (told row)) p.out a;
       page = p.page ∙ ap (λ z. p.text ++ page_from old.start old.bound last z p.left) e
           ∙ ap (λ z. p.text ++ page_from old.start old.bound last (suc k) z) n.1
           ∙ sym (append_assoc p.text (row_line (told row)) (page_from old.start old.bound row.schedule k n.0));
@@ -64,7 +112,7 @@ front_of a b c page text line more e p q =
     e ∙ ap (λ z. text ++ (z ++ more)) (sym (take-append-drop q.0 line))
     ∙ ap (λ z. text ++ z) (append_assoc (take q.0 line) (drop q.0 line) more)
     ∙ sym (append_assoc text (take q.0 line) (drop q.0 line ++ more)) in
-    (length m, subst (Appends a c) (sym (ap (take (length m)) whole ∙ take_at m (drop q.0 line ++ more) (length m) refl)) (Appends_in_turn a b c text (take q.0 line) p q.1))
+    (length m, subst (Appends a c) (sym (ap (take (length m)) whole ∙ take_at m (drop q.0 line ++ more) (length m) refl)) (Appends-trans a b c text (take q.0 line) p q.1))
 
 -- Nothing of the next line is out.
 front_none : (a b : Option (List ℕ)) (page text more : List ℕ) → page ≡ text ++ more → Appends a b text → AppendsFront a b page
@@ -107,7 +155,7 @@ out_at_end old now new limit room k last before after more e h o m a =
     record {
       rows = r.0;
       rest = r.1;
-      out = subst (Appends before more) (sym q.0) (Appends_in_turn before after more p.text end_line p.out a);
+      out = subst (Appends before more) (sym q.0) (Appends-trans before after more p.text end_line p.out a);
       left = subst (λ s. IsRest s (drop limit r.0)) (sym m) (subst (IsRest now) (sym q.2) p.rest);
       past = m ∙ sym q.1;
     }
@@ -142,7 +190,7 @@ out_when_full old now limit room last before after more line e h is a =
     record {
       rows = r.0;
       rest = r.1;
-      out = subst (Appends before more) (sym q.0) (Appends_in_turn before after more p.text (next_line old.start old.bound last) p.out (subst (Appends after more) l a));
+      out = subst (Appends before more) (sym q.0) (Appends-trans before after more p.text (next_line old.start old.bound last) p.out (subst (Appends after more) l a));
       left = subst (IsRest now) (sym q.2) p.rest;
       past = sym q.1;
     }

@@ -1,6 +1,8 @@
 -- The text of a page: rows, and where to go on.
-use Rattle.std.specs.Prelude.{◌≡◌, ℕ, zero, suc, List, [], ◌∷◌, ◌++◌, take, drop, codes, Option}
+use Rattle.std.specs.Prelude.{◌≡◌, ℕ, zero, suc, nat_le, if◌then◌else◌, List, [], ◌∷◌, ◌++◌, length, take, drop, flat_map, codes, Option, Some, None}
 use Rattle.std.specs.Io.KnownBytes.{Appends}
+use Rattle.mc_output.specs.Fronts.{AppendsFront}
+use Rattle.mc_explore.specs.Chain.{last_schedule}
 use Rattle.mc_explore.specs.CursorText.{cursor_text}
 use Rattle.mc_explore.specs.Rest.{IsRest}
 use Rattle.mc_explore.specs.RowText.{row_text}
@@ -16,21 +18,27 @@ cursor_of start bound l = record { rules = start.rules; digest = start_digest st
 abbrev pub row_line : Told → List ℕ
 row_line row = row_text row ++ 10 ∷ []
 
-abbrev pub next_line : Begun → ℕ → List ℕ → List ℕ
-next_line start bound last = (codes "next " ++ cursor_text (cursor_of start bound last)) ++ 10 ∷ []
+-- A page: its rows, and where to go on, or that there are no more.
+pub record Page : Type 0 where
+  pub rows : List Told
+  pub goes_on : Option Cursor
 
-abbrev pub end_line : List ℕ
-end_line = codes "end" ++ 10 ∷ []
+-- The page of at most so many of the rows to come. A full one goes on behind its last row.
+abbrev pub page_at : State → ℕ → List Told → Page
+page_at state limit rows = record {
+  rows = take limit rows;
+  goes_on =
+      if nat_le limit (length rows)
+      then Some (cursor_of state.start state.bound (last_schedule [] (take limit rows)))
+      else None;
+}
 
--- What is left of a page with room for so many rows, where these are to come and the row of that schedule came last.
-unfoldable pub page_from : Begun → ℕ → List ℕ → ℕ → List Told → List ℕ
-page_from start bound last zero rows = next_line start bound last
-page_from start bound last (suc room) [] = end_line
-page_from start bound last (suc room) (row ∷ rows) = row_line row ++ page_from start bound row.schedule room rows
+abbrev pub last_line : Option Cursor → List ℕ
+last_line (Some cursor) = (codes "next " ++ cursor_text cursor) ++ 10 ∷ []
+last_line None = codes "end" ++ 10 ∷ []
 
--- The page of at most so many of the rows to come.
-abbrev pub page_of : State → ℕ → List Told → List ℕ
-page_of state limit rows = page_from state.start state.bound [] limit rows
+abbrev pub page_text : Page → List ℕ
+page_text page = flat_map row_line page.rows ++ last_line page.goes_on
 
 -- Where an explorer is after the first so many of the rows to come.
 unfoldable pub state_past : State → ℕ → List Told → State
@@ -42,16 +50,12 @@ state_past state (suc room) (row ∷ rows) = state_past (moved_to state row.sche
 pub record PageIsOut (old new : State) (limit : ℕ) (before after : Option (List ℕ)) : Type 0 where
   pub rows : List Told
   pub rest : IsRest old rows
-  pub out : Appends before after (page_of old limit rows)
+  pub out : Appends before after (page_text (page_at old limit rows))
   pub left : IsRest new (drop limit rows)
   pub past : new ≡ state_past old limit rows
-
--- Some front of the text is out.
-abbrev pub AppendsFront : Option (List ℕ) → Option (List ℕ) → List ℕ → Type 0
-AppendsFront before after text = (n : ℕ) × Appends before after (take n text)
 
 -- A beginning of that page is out.
 pub record PageBegan (old : State) (limit : ℕ) (before after : Option (List ℕ)) : Type 0 where
   pub rows : List Told
   pub rest : IsRest old rows
-  pub out : AppendsFront before after (page_of old limit rows)
+  pub out : AppendsFront before after (page_text (page_at old limit rows))

@@ -14,7 +14,8 @@ use mc_trailer::{Profile, Rules};
 
 // The rules that a text tells, and what follows them. Whole calls and the first profile are told in another way.
 fn told_rules(text: &str) -> Option<(Rules, &str)>
-    ensures some { IfSome result (λ found. text.now ≡ rules_text found.0.grain found.0.profile ++ found.1.now) }
+    ensures some { IfSome result (λ found. text.now
+        ≡ rules_text found.0.grain found.0.profile ++ found.1.now) }
     ensures other { IfSome result (λ found. found.0 ≢ Rules.PLAIN) }
     ensures none { IfNone result ((rules : Rules) (rest : List ℕ) → rules ≢ Rules.PLAIN
         → text.now ≢ rules_text rules.grain rules.profile ++ rest) }
@@ -33,8 +34,10 @@ fn told_rules(text: &str) -> Option<(Rules, &str)>
 
 // The rules of a cursor, and what follows them.
 fn rules_of(text: &str) -> Option<(Rules, &str)>
-    ensures some { IfSome result (λ found. text.now ≡ head_text found.0.grain found.0.profile ++ found.1.now) }
-    ensures none { IfNone result ((grain : Grain) (profile : Profile) (rest : List ℕ) → text.now ≢ head_text grain profile ++ rest) }
+    ensures some { IfSome result (λ found. text.now
+        ≡ head_text found.0.grain found.0.profile ++ found.1.now) }
+    ensures none { IfNone result ((grain : Grain) (profile : Profile) (rest : List ℕ)
+        → text.now ≢ head_text grain profile ++ rest) }
 {
     if let Some(rest) = text.strip_prefix("mc1:") {
         return Some((Rules::PLAIN, rest));
@@ -45,7 +48,8 @@ fn rules_of(text: &str) -> Option<(Rules, &str)>
 // The digest that 64 digits write.
 fn digest_of(text: &str) -> Option<[u8; 32]>
     ensures exact { IfSome result (λ d. text.now ≡ encode_lower d) }
-    ensures only { (d : List ℕ) → length d ≡ 32 → IsBytes d → text.now ≡ encode_lower d → result ≡ Some d }
+    ensures only { (d : List ℕ) → length d ≡ 32 → IsBytes d → text.now ≡ encode_lower d → result
+        ≡ Some d }
 {
     let mut digest = [0; 32];
     if hex::decode_to_slice(text, &mut digest).is_err() {

@@ -57,7 +57,8 @@ impl<F: Flash + Drop> Explorer<F> {
         ensures ok { IfOk result (λ explorer. explorer.state ≡ at_start (begun start.now) bound) }
         // No operation is done yet, and a flash that counts has room for exactly so many boots.
         ensures applied { IfOk result (λ explorer. explorer.ledger.applied ≡ 0) }
-        ensures exact { IfOk result (λ explorer. F.counted ≡ true → explorer.ledger.limits ≡ limits_for start.now.rules.grain start.now.geometry (bound + 1)) }
+        ensures exact { IfOk result (λ explorer. F.counted ≡ true → explorer.ledger.limits
+            ≡ limits_for start.now.rules.grain start.now.geometry (bound + 1)) }
         ensures err { IfErr result (λ e. e ≡ ExploreError.Memory) }
     {
         let walk = load(alloc, start, bound)?;
@@ -89,8 +90,10 @@ impl<F: Flash + Drop> Explorer<F> {
         requires { bound ≤ 16 }
         ensures resumes { Resumes (begun start.now) bound cursor.now result }
         // It takes at most two boots a cut, and one.
-        ensures applied { IfOk result (λ explorer. explorer.ledger.applied ≤ 2 * (bound + 1) * most_operations start.now.rules.grain start.now.geometry) }
-        ensures exact { IfOk result (λ explorer. F.counted ≡ true → explorer.ledger.limits ≡ limits_for start.now.rules.grain start.now.geometry (bound + 1)) }
+        ensures applied { IfOk result (λ explorer. explorer.ledger.applied ≤ 2 * (bound + 1)
+            * most_operations start.now.rules.grain start.now.geometry) }
+        ensures exact { IfOk result (λ explorer. F.counted ≡ true → explorer.ledger.limits
+            ≡ limits_for start.now.rules.grain start.now.geometry (bound + 1)) }
     {
         ask(start, bound, cursor)?;
         let cuts = cursor.schedule.cuts();
@@ -119,12 +122,16 @@ impl<F: Flash + Drop> Explorer<F> {
         ensures found { IfOk result (λ found. Finds self.old.state found) }
         ensures moved { IfOk result (λ found. self.new.state ≡ state_after self.old.state found) }
         // The restart theorem, for that row.
-        ensures restarts { IfOk result (λ found. IfSome found (λ row. RowRestarts self.old.state.start (told row))) }
+        ensures restarts { IfOk result (λ found. IfSome found
+            (λ row. RowRestarts self.old.state.start (told row))) }
         // It takes at most one boot and two operations, and none where there is no row. The limits never change.
-        ensures applied { IfOk result (λ found. self.new.ledger.applied ≤ self.old.ledger.applied + row_cost self.old.state.start.rules self.old.state.start.geometry found) }
+        ensures applied { IfOk result (λ
+            found. self.new.ledger.applied ≤ self.old.ledger.applied + row_cost
+            self.old.state.start.rules self.old.state.start.geometry found) }
         ensures limits { self.new.ledger.limits ≡ self.old.ledger.limits }
         // Memory is wanted only where the flash does not count, and was refused some: one that counts has enough.
-        ensures cause { IsErrOf result ExploreError.Memory → RanOut F.counted self.new.ledger.failed }
+        ensures cause { IsErrOf result ExploreError.Memory
+            → RanOut F.counted self.new.ledger.failed }
         // After an error the explorer has failed. It stays so as it is, and says so. No other does.
         ensures lost { OnErr result (self.new.state.position ≡ Lost) }
         ensures stays_lost { self.old.state.position ≡ Lost → IsErrOf result ExploreError.Failed }
@@ -175,7 +182,8 @@ impl<F: Flash + Drop> Explorer<F> {
 
     /// Where to go on after a schedule.
     pub(crate) fn cursor(&self, schedule: &Schedule) -> Cursor
-        ensures { self.now.state.position ≢ Lost → result ≡ cursor_of self.now.state.start self.now.state.bound schedule.now }
+        ensures { self.now.state.position ≢ Lost → result
+            ≡ cursor_of self.now.state.start self.now.state.bound schedule.now }
     {
         Cursor {
             schedule: *schedule,

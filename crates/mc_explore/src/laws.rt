@@ -12,7 +12,8 @@ ghost use Rattle.mc_explore.specs.Rest.{IsRest};
 /// order is that of the cuts, and not of how many they are.
 pub fn one_list_of_rows()
     ensures some { (state : State) → (rows : List Told) × IsRest state rows }
-    ensures only { (state : State) (xs ys : List Told) → IsRest state xs → IsRest state ys → xs ≡ ys }
+    ensures only { (state : State) (xs ys : List Told) → IsRest state xs → IsRest state ys → xs
+        ≡ ys }
     ensures tail { (state : State) (row : Told) (rows : List Told)
         → IsRest state (row ∷ rows) → IsRest (moved_to state row.schedule) rows }
     ensures order { (state : State) (front between rest : List Told) (first later : Told)
@@ -31,7 +32,7 @@ pub fn pages_join_up()
         → state.failed ≡ false → All (λ n. 0 < n) limits → IsRest state whole
         → Chain state limits ended rows → JoinUp whole rows ended }
     // After a full page an explorer is where one begins that goes on from its cursor.
-    ensures resumed { (state : State) (rows : List Told) (limit : ℕ)
-        → state.failed ≡ false → 0 < limit → length (take limit rows) ≡ limit
-        → state_past state limit rows ≡ behind state.start state.bound (last_schedule [] (take limit rows)) }
+    ensures resumed { (state : State) (rows : List Told) (limit : ℕ) → state.failed ≡ false
+        → 0 < limit → length (take limit rows) ≡ limit → state_past state limit rows
+        ≡ behind state.start state.bound (last_schedule [] (take limit rows)) }
 {}

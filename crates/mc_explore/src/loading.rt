@@ -21,8 +21,8 @@ use std::alloc::Global;
 pub fn load<F: Flash>(alloc: Global, start: &Start, bound: u8) -> Result<Walk<F, Once>, FlashError>
     requires { bound ≤ 16 }
     ensures loaded { IfOk result (IsLoaded F.counted (begun start.now) bound) }
-    ensures exact { IfOk result (λ walk. F.counted ≡ true
-        → walk.seen.ledger.limits ≡ limits_for start.now.rules.grain start.now.geometry (bound + 1)) }
+    ensures exact { IfOk result (λ walk. F.counted ≡ true → walk.seen.ledger.limits
+        ≡ limits_for start.now.rules.grain start.now.geometry (bound + 1)) }
 {
     let rules = start.rules();
     let layout = *start.layout();

@@ -29,9 +29,11 @@ pub struct Once {
 // Runs a boot to its end, and goes back.
 fn tell<F: Flash>(flash: &mut F, boot: Boot) -> Result<Told, FlashError>
     requires layout { IsBootOf (F.seen flash.old).geometry boot }
-    requires room { HasRoom (left_of (F.seen flash.old).geometry (progress boot)) (F.seen flash.old) }
+    requires room { HasRoom (left_of (F.seen flash.old).geometry (progress boot))
+        (F.seen flash.old) }
     ensures boot { IfOk result (λ told. told.boot ≡ boot) }
-    ensures outcome { IfOk result (λ told. EndsWith (F.seen flash.old) (progress boot) told.outcome) }
+    ensures outcome { IfOk result (λ told. EndsWith (F.seen flash.old) (progress boot)
+        told.outcome) }
     ensures stays { OnOk result (Stays (F.seen flash.old) (F.seen flash.new)) }
     ensures spends { Spends (length (to_come boot)) (F.seen flash.old) result (F.seen flash.new) }
 {

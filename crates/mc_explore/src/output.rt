@@ -1,10 +1,11 @@
 //! Lines of text, written whole and without memory.
 ghost use Rattle.std.specs.Prelude.{◌≡◌, ◌++◌, ◌∷◌, [], IfErr, IfSome, OnOk, OnErr};
 ghost use Rattle.std.specs.Io.KnownBytes.{Appends};
-ghost use Rattle.mc_explore.specs.Page.{AppendsFront};
+ghost use Rattle.mc_output.specs.Fronts.{AppendsFront};
 
 use crate::error::ExploreError;
 use arrayvec::ArrayString;
+use mc_output::WriteFailed;
 use std::fmt::{Display, Write as _};
 use std::io::Write;
 
@@ -18,17 +19,14 @@ const MOST_BYTES: usize = 512;
 /// `Write` where a write fails or takes no bytes.
 pub fn write_text<W: Write>(writer: &mut W, text: &[u8]) -> Result<(), ExploreError>
     ensures whole { OnOk result (Appends (W.contents writer.old) (W.contents writer.new) text.now) }
-    ensures front { OnErr result (AppendsFront (W.contents writer.old) (W.contents writer.new) text.now) }
+    ensures front { OnErr result (AppendsFront (W.contents writer.old) (W.contents writer.new)
+        text.now) }
     ensures err { IfErr result (λ e. e ≡ ExploreError.Write) }
 {
-    let mut done = 0;
-    while done < text.len() {
-        match writer.write(&text[done..]) {
-            Ok(0) | Err(_) => return Err(ExploreError::Write),
-            Ok(count) => done += count,
-        }
+    match mc_output::write_text(writer, text) {
+        Ok(()) => Ok(()),
+        Err(WriteFailed) => Err(ExploreError::Write),
     }
-    Ok(())
 }
 
 /// Writes a text and a line feed, or a prefix of them.
@@ -37,8 +35,11 @@ pub fn write_text<W: Write>(writer: &mut W, text: &[u8]) -> Result<(), ExploreEr
 ///
 /// `Write` where a write fails or takes no bytes, or the line is too long.
 pub fn write_line<D: Display + Drop, W: Write>(writer: &mut W, text: D) -> Result<(), ExploreError>
-    ensures whole { OnOk result (IfSome (D.Display.output text) (λ bytes. Appends (W.contents writer.old) (W.contents writer.new) (bytes ++ 10 ∷ []))) }
-    ensures front { OnErr result (IfSome (D.Display.output text) (λ bytes. AppendsFront (W.contents writer.old) (W.contents writer.new) (bytes ++ 10 ∷ []))) }
+    ensures whole { OnOk result (IfSome (D.Display.output text)
+        (λ bytes. Appends (W.contents writer.old) (W.contents writer.new) (bytes ++ 10 ∷ []))) }
+    ensures front { OnErr result (IfSome (D.Display.output text)
+        (λ bytes. AppendsFront (W.contents writer.old) (W.contents writer.new)
+        (bytes ++ 10 ∷ []))) }
     ensures err { IfErr result (λ e. e ≡ ExploreError.Write) }
 {
     let mut line = ArrayString::<MOST_BYTES>::new();

@@ -50,11 +50,11 @@ pub fn replay<F: Flash>(
         (λ e. Refuses start.now.rules start.now.geometry start.now.content schedule.now e) }
     ensures geometry { IfOk result (λ done. (F.seen done.1).geometry ≡ start.now.geometry) }
     // A flash that counts has room for exactly so many boots.
-    ensures exact { IfOk result (λ done. F.counted ≡ true
-        → (F.seen done.1).ledger.limits ≡ limits_for start.now.rules.grain start.now.geometry (length schedule.now + 1)) }
+    ensures exact { IfOk result (λ done. F.counted ≡ true → (F.seen done.1).ledger.limits
+        ≡ limits_for start.now.rules.grain start.now.geometry (length schedule.now + 1)) }
     // The restart theorem, for the schedule that was replayed.
-    ensures restarts { IfOk result (λ done. Restarts start.now.rules start.now.geometry start.now.content
-        schedule.now (shown done.0) (F.seen done.1).content) }
+    ensures restarts { IfOk result (λ done. Restarts start.now.rules start.now.geometry
+        start.now.content schedule.now (shown done.0) (F.seen done.1).content) }
 {
     restart_law();
     let cuts = schedule.cuts();

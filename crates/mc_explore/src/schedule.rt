@@ -29,7 +29,8 @@ impl Model for Schedule {
 
     ghost view = { λ s. take s.len s.cuts };
 
-    ghost invariant = { λ s. (s.len ≤ 16) × (length s.cuts ≡ 16) × (drop s.len s.cuts ≡ zeros_after s.len) };
+    ghost invariant = { λ s. (s.len ≤ 16) × (length s.cuts ≡ 16)
+        × (drop s.len s.cuts ≡ zeros_after s.len) };
 
     ghost inverse = { λ l. record { cuts = l ++ zeros_after (length l); len = length l } };
 
@@ -38,7 +39,8 @@ impl Model for Schedule {
 
 // The number that a text writes, without leading zeros.
 fn cut_of(text: &str) -> Result<u32, ScheduleError>
-    ensures { MatchResult result (λ n. text.now ≡ decimal n) (λ _. (n : ℕ) → n < 2 ^ 32 → text.now ≡ decimal n → ⊥) }
+    ensures { MatchResult result (λ n. text.now ≡ decimal n)
+        (λ _. (n : ℕ) → n < 2 ^ 32 → text.now ≡ decimal n → ⊥) }
 {
     match text.parse::<u32>() {
         Ok(cut) if itoa::Buffer::new().format(cut) == text => Ok(cut),
@@ -74,7 +76,8 @@ impl Schedule {
     // Adds the cut that a text writes, where there is room for one.
     fn add(&mut self, text: &str) -> Result<(), ScheduleError>
         ensures added { OnOk result (IsAdded self.old text.now self.new) }
-        ensures refused { OnErr result ((n : ℕ) → n < 2 ^ 32 → text.now ≡ decimal n → length self.old < 16 → ⊥) }
+        ensures refused { OnErr result ((n : ℕ) → n < 2 ^ 32 → text.now ≡ decimal n
+            → length self.old < 16 → ⊥) }
     {
         let cut = cut_of(text)?;
         if self.len == MOST_CUTS {

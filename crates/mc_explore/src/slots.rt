@@ -50,7 +50,8 @@ fn placed(alloc: Global, layout: &Layout, first: &[u8], second: &[u8]) -> Result
 // Writes the magic into the secondary's trailer.
 fn write_magic(layout: &Layout, secondary: &mut [u8])
     requires { length secondary.old ≡ size_of layout.now Secondary }
-    ensures value { secondary.new ≡ put secondary.old (place layout.now Secondary Field.Magic) magic_bytes }
+    ensures value { secondary.new ≡ put secondary.old (place layout.now Secondary Field.Magic)
+        magic_bytes }
     ensures len { length secondary.new ≡ length secondary.old }
 {
     let at = place(layout, Slot::Secondary, Field::Magic) as usize;
@@ -60,7 +61,8 @@ fn write_magic(layout: &Layout, secondary: &mut [u8])
 // Sets image-ok in the secondary's trailer, that byte alone.
 fn write_image_ok(layout: &Layout, secondary: &mut [u8])
     requires { length secondary.old ≡ size_of layout.now Secondary }
-    ensures value { secondary.new ≡ put secondary.old (place layout.now Secondary Field.ImageOk) (1 ∷ []) }
+    ensures value { secondary.new ≡ put secondary.old (place layout.now Secondary Field.ImageOk)
+        (1 ∷ []) }
     ensures len { length secondary.new ≡ length secondary.old }
 {
     let at = place(layout, Slot::Secondary, Field::ImageOk) as usize;
@@ -121,8 +123,8 @@ fn booted<F: Flash>(
 ) -> Result<Slots, FlashError>
     requires primary { length primary.now ≡ size_of layout.now Primary }
     requires secondary { length secondary.now ≡ size_of layout.now Secondary }
-    ensures content { IfOk result (λ s. left_by plain layout.now (record { primary = primary.now; secondary = secondary.now })
-        ≡ Some (content_of s)) }
+    ensures content { IfOk result (λ s. left_by plain layout.now
+        (record { primary = primary.now; secondary = secondary.now }) ≡ Some (content_of s)) }
     ensures sized { IfOk result (λ s. IsSized layout.now (content_of s)) }
     ensures err { IfErr result (λ e. e ≡ FlashError.Memory) }
 {
@@ -141,7 +143,8 @@ fn revert_slots(
 ) -> Result<Slots, FlashError>
     requires first { length first.now ≤ size_of layout.now Secondary }
     requires second { length second.now ≤ size_of layout.now Primary }
-    ensures content { IfOk result (λ s. left_by plain layout.now (test_flash layout.now second.now first.now) ≡ Some (content_of s)) }
+    ensures content { IfOk result (λ s. left_by plain layout.now
+        (test_flash layout.now second.now first.now) ≡ Some (content_of s)) }
     ensures sized { IfOk result (λ s. IsSized layout.now (content_of s)) }
     ensures err { IfErr result (λ e. e ≡ FlashError.Memory) }
 {
@@ -162,8 +165,10 @@ pub(crate) fn start_slots(
     first: &[u8],
     second: &[u8],
 ) -> Result<Slots, FlashError>
-    requires first { (length first.now ≤ size_of layout.now Primary) × (length first.now ≤ size_of layout.now Secondary) }
-    requires second { (length second.now ≤ size_of layout.now Primary) × (length second.now ≤ size_of layout.now Secondary) }
+    requires first { (length first.now ≤ size_of layout.now Primary)
+        × (length first.now ≤ size_of layout.now Secondary) }
+    requires second { (length second.now ≤ size_of layout.now Primary)
+        × (length second.now ≤ size_of layout.now Secondary) }
     ensures content { (a b : List ℕ) → first.now ≡ image_bytes a → second.now ≡ image_bytes b
         → IfOk result (λ s. start_flash layout.now (kind_of kind) a b ≡ Some (content_of s)) }
     ensures sized { IfOk result (λ s. IsSized layout.now (content_of s)) }

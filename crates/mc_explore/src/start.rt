@@ -87,9 +87,15 @@ impl Model for Start {
 
     ghost Value = { Started };
 
-    ghost view = { λ s. record { geometry = s.layout; rules = s.rules; content = content_of s.slots; named = option_map (λ p. (identity_of p.0, identity_of p.1)) s.named } };
+    ghost view = { λ s. record {
+      geometry = s.layout;
+      rules = s.rules;
+      content = content_of s.slots;
+      named = option_map (λ p. (identity_of p.0, identity_of p.1)) s.named;
+    } };
 
-    ghost invariant = { λ s. IsLayout s.layout × IsSized s.layout (content_of s.slots) × (string_bytes s.line ≡ layout_line s.layout ++ 10 ∷ []) };
+    ghost invariant = { λ s. IsLayout s.layout × IsSized s.layout (content_of s.slots)
+        × (string_bytes s.line ≡ layout_line s.layout ++ 10 ∷ []) };
 }
 
 // The line of a layout, with its line feed.
@@ -131,10 +137,13 @@ impl<'a> ValidImage<'a> {
     // The valid image that some bytes begin with.
     fn read(bytes: &'a [u8]) -> Result<ValidImage<'a>, ImageError>
         ensures value { MatchResult result
-            (λ image. (image_fault bytes.entry.now ≡ None) × (image.bytes.now ≡ image_bytes bytes.entry.now) × (id_of bytes.entry.now ≡ Some (identity image.view)))
+            (λ image. (image_fault bytes.entry.now ≡ None)
+            × (image.bytes.now ≡ image_bytes bytes.entry.now)
+            × (id_of bytes.entry.now ≡ Some (identity image.view)))
             (λ e. image_fault bytes.entry.now ≡ Some e) }
         ensures len { IfOk result (λ image. length image.bytes.now ≡ image_size bytes.entry.now) }
-        ensures size { IfOk result (λ image. length (image_text image.view) ≡ image_size bytes.entry.now) }
+        ensures size { IfOk result (λ image. length (image_text image.view)
+            ≡ image_size bytes.entry.now) }
     {
         let view = ImageView::read_valid(bytes)?;
         let size = view.size() as usize;
@@ -252,7 +261,12 @@ impl Start {
 
     /// The same start under other rules. Its flash stays as it is. It takes no memory.
     pub fn with_rules(self, rules: Rules) -> Start
-        ensures { result ≡ record { geometry = self.geometry; rules = rules; content = self.content; named = self.named } }
+        ensures { result ≡ record {
+          geometry = self.geometry;
+          rules = rules;
+          content = self.content;
+          named = self.named;
+        } }
     {
         Start { rules, ..self }
     }

@@ -37,9 +37,11 @@ impl Model for JournalFlash {
 
     ghost Value = { Seen };
 
-    ghost view = { λ f. journal_of f.slots.layout (held f.slots) (limits_of f.reserve) f.entries.items f.saved.items f.marks.items f.applied };
+    ghost view = { λ f. journal_of f.slots.layout (held f.slots) (limits_of f.reserve)
+        f.entries.items f.saved.items f.marks.items f.applied };
 
-    ghost invariant = { λ f. IsSound f.slots.layout (limits_of f.reserve) (vec_capacity f.entries) (vec_capacity f.saved) (vec_capacity f.marks) f.entries.items f.saved.items f.marks.items };
+    ghost invariant = { λ f. IsSound f.slots.layout (limits_of f.reserve) (vec_capacity f.entries)
+        (vec_capacity f.saved) (vec_capacity f.marks) f.entries.items f.saved.items f.marks.items };
 }
 
 // Takes the newest entries back, until so many are left.
@@ -47,7 +49,9 @@ fn undo_to(slots: &mut Slots, entries: &mut Vec<Entry>, saved: &mut Vec<u8>, cou
     requires above { count ≤ length entries.old.items }
     requires saved_for { length saved.old.items ≡ all_saved entries.old.items }
     requires inside { AllByRecursion (IsInside slots.old.layout) entries.old.items }
-    ensures same { (n : ℕ) → n ≤ count → spot_after entries.new.items saved.new.items (held slots.new) n ≡ spot_after entries.old.items saved.old.items (held slots.old) n }
+    ensures same { (n : ℕ) → n ≤ count
+        → spot_after entries.new.items saved.new.items (held slots.new) n
+        ≡ spot_after entries.old.items saved.old.items (held slots.old) n }
     ensures layout { slots.new.layout ≡ slots.old.layout }
     ensures left { entries.new.items ≡ take count entries.old.items }
     ensures saved_for { length saved.new.items ≡ all_saved entries.new.items }

@@ -46,9 +46,24 @@ impl Model for Layout {
 
     ghost Value = { Geometry };
 
-    ghost view = { λ l. record { sector = l.sector; unit = l.unit; max_sectors = l.max_sectors; chunk = l.chunk; primary = l.primary; secondary = l.secondary } };
+    ghost view = { λ l. record {
+      sector = l.sector;
+      unit = l.unit;
+      max_sectors = l.max_sectors;
+      chunk = l.chunk;
+      primary = l.primary;
+      secondary = l.secondary;
+    } };
 
-    ghost invariant = { λ l. IsLayout (record { sector = l.sector; unit = l.unit; max_sectors = l.max_sectors; chunk = l.chunk; primary = l.primary; secondary = l.secondary }) };
+    ghost invariant = { λ l. IsLayout
+        (record {
+          sector = l.sector;
+          unit = l.unit;
+          max_sectors = l.max_sectors;
+          chunk = l.chunk;
+          primary = l.primary;
+          secondary = l.secondary;
+        }) };
 
     ghost inverse = { λ g. record { sector = g.sector; unit = g.unit; max_sectors = g.max_sectors; chunk = g.chunk; primary = g.primary; secondary = g.secondary } };
 }
@@ -58,7 +73,15 @@ fn trailer_count(sector: u32, unit: u32, max_sectors: u32) -> u32
     requires sector { (64 ≤ sector) × (sector ≤ 65536) }
     requires unit { unit ≤ 8 }
     requires max_sectors { max_sectors ≤ 1024 }
-    ensures { let g : Geometry = record { sector = sector; unit = unit; max_sectors = max_sectors; chunk = 0; primary = 0; secondary = 0 } in result ≡ trailer_sectors g }
+    ensures { let g : Geometry = record {
+      sector = sector;
+      unit = unit;
+      max_sectors = max_sectors;
+      chunk = 0;
+      primary = 0;
+      secondary
+          = 0;
+    } in result ≡ trailer_sectors g }
 {
     (3 * max_sectors * unit + 48).div_ceil(sector)
 }
@@ -67,7 +90,8 @@ fn trailer_count(sector: u32, unit: u32, max_sectors: u32) -> u32
 #[tactic(auto, using(crate::proofs::Counts::zero_or_positive))]
 fn sectors_beside(trailer: u32, max_sectors: u32, primary: u32, secondary: u32) -> u32
     ensures value { result ≡ min (primary - 1 - trailer) (min (secondary - trailer) max_sectors) }
-    ensures count { int_lt (count_beside trailer max_sectors primary secondary) (pos 1) ≡ (result == 0) }
+    ensures count { int_lt (count_beside trailer max_sectors primary secondary) (pos 1)
+        ≡ (result == 0) }
 {
     primary
         .saturating_sub(1)
@@ -85,8 +109,16 @@ impl Layout {
         primary: u32,
         secondary: u32,
     ) -> Result<Layout, LayoutError>
-        ensures { let g : Geometry = record { sector = sector; unit = unit; max_sectors = max_sectors; chunk = chunk; primary = primary; secondary = secondary }
-            in MatchResult result (λ l. (l ≡ g) × (refusal_of g ≡ None)) (λ e. refusal_of g ≡ Some e) }
+        ensures { let g : Geometry = record {
+          sector = sector;
+          unit = unit;
+          max_sectors = max_sectors;
+          chunk = chunk;
+          primary =
+              primary;
+          secondary = secondary;
+        } in MatchResult result
+            (λ l. (l ≡ g) × (refusal_of g ≡ None)) (λ e. refusal_of g ≡ Some e) }
     {
         if !matches!(unit, 1 | 2 | 4 | 8) {
             return Err(LayoutError::Unit);

@@ -25,7 +25,8 @@ impl Model for Bytes16 {
 
     ghost view = { λ b. take b.len b.room };
 
-    ghost invariant = { λ b. (b.len ≤ 16) × (length b.room ≡ 16) × (drop b.len b.room ≡ zeros_after b.len) };
+    ghost invariant = { λ b. (b.len ≤ 16) × (length b.room ≡ 16)
+        × (drop b.len b.room ≡ zeros_after b.len) };
 
     ghost inverse = { λ bytes. record { room = bytes ++ zeros_after (length bytes); len = length bytes } };
 

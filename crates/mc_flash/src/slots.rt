@@ -68,7 +68,8 @@ impl Slots {
         requires primary { length primary.now ≡ size_of layout Primary }
         requires secondary { length secondary.now ≡ size_of layout Secondary }
         ensures layout { IfOk result (λ slots. slots.layout ≡ layout) }
-        ensures held { IfOk result (λ slots. held slots ≡ record { primary = primary.now; secondary = secondary.now }) }
+        ensures held { IfOk result (λ slots. held slots
+            ≡ record { primary = primary.now; secondary = secondary.now }) }
         ensures err { IfErr result (λ e. e ≡ FlashError.Memory) }
     {
         Ok(Slots {
@@ -100,7 +101,8 @@ impl Slots {
     pub fn replace(&mut self, primary: Vec<u8>, secondary: Vec<u8>)
         requires primary { length primary.items ≡ size_of self.old.layout Primary }
         requires secondary { length secondary.items ≡ size_of self.old.layout Secondary }
-        ensures held { held self.new ≡ record { primary = primary.items; secondary = secondary.items } }
+        ensures held { held self.new ≡ record
+            { primary = primary.items; secondary = secondary.items } }
         ensures layout { self.new.layout ≡ self.old.layout }
     {
         self.primary = primary;
@@ -111,8 +113,8 @@ impl Slots {
     #[tactic(auto, using(crate::specs::Facts::sector_inside))]
     pub fn sector(&self, slot: Slot, sector: u32) -> &[u8]
         requires { sector < sectors_of self.now.layout slot }
-        ensures value { let at = sector * self.now.layout.sector
-            in result.now ≡ between at (at + self.now.layout.sector) (bytes_of (held self.now) slot) }
+        ensures value { let at = sector * self.now.layout.sector in result.now
+            ≡ between at (at + self.now.layout.sector) (bytes_of (held self.now) slot) }
         ensures len { length result.now ≡ self.now.layout.sector }
     {
         let size = self.layout.sector() as usize;
@@ -131,7 +133,8 @@ impl Slots {
     /// Makes a part of a slot 0xff.
     pub fn fill(&mut self, slot: Slot, at: usize, len: usize)
         requires { at + len ≤ size_of self.old.layout slot }
-        ensures held { held self.new ≡ with_bytes (held self.old) slot (put (bytes_of (held self.old) slot) at (replicate len 255)) }
+        ensures held { held self.new ≡ with_bytes (held self.old) slot
+            (put (bytes_of (held self.old) slot) at (replicate len 255)) }
         ensures layout { self.new.layout ≡ self.old.layout }
     {
         match slot {
@@ -143,7 +146,8 @@ impl Slots {
     /// Puts bytes into a slot, whatever was there.
     pub fn put(&mut self, slot: Slot, at: usize, bytes: &[u8])
         requires { at + length bytes.now ≤ size_of self.old.layout slot }
-        ensures held { held self.new ≡ with_bytes (held self.old) slot (put (bytes_of (held self.old) slot) at bytes.now) }
+        ensures held { held self.new ≡ with_bytes (held self.old) slot
+            (put (bytes_of (held self.old) slot) at bytes.now) }
         ensures layout { self.new.layout ≡ self.old.layout }
     {
         match slot {
@@ -157,8 +161,9 @@ impl Slots {
         requires source { at + len ≤ size_of self.old.layout from }
         requires target { offset + len ≤ size_of self.old.layout to }
         requires apart { AreApart from at to offset len }
-        ensures held { held self.new
-            ≡ with_bytes (held self.old) to (put (bytes_of (held self.old) to) offset (between at (at + len) (bytes_of (held self.old) from))) }
+        ensures held { held self.new ≡ with_bytes (held self.old) to
+            (put (bytes_of (held self.old) to) offset
+            (between at (at + len) (bytes_of (held self.old) from))) }
         ensures layout { self.new.layout ≡ self.old.layout }
     {
         match (from, to) {
@@ -176,8 +181,8 @@ impl Slots {
     /// Makes a sector 0xff.
     pub fn erase(&mut self, slot: Slot, sector: u32)
         requires { sector < sectors_of self.old.layout slot }
-        ensures held { held self.new
-            ≡ with_bytes (held self.old) slot (erased self.old.layout.sector sector (bytes_of (held self.old) slot)) }
+        ensures held { held self.new ≡ with_bytes (held self.old) slot
+            (erased self.old.layout.sector sector (bytes_of (held self.old) slot)) }
         ensures layout { self.new.layout ≡ self.old.layout }
     {
         let size = self.layout.sector() as usize;
@@ -188,8 +193,8 @@ impl Slots {
     #[tactic(auto, unfolding(crate::specs::Apply::apply))]
     pub fn program(&mut self, slot: Slot, offset: u32, bytes: &[u8]) -> Result<(), FlashError>
         requires { CanTry self.old.layout (Program slot offset bytes.now) }
-        ensures does { Becomes (apply self.old.layout (Program slot offset bytes.now) (held self.old))
-            result (held self.old) (held self.new) }
+        ensures does { Becomes (apply self.old.layout (Program slot offset bytes.now)
+            (held self.old)) result (held self.old) (held self.new) }
         ensures err { IfErr result (λ e. e ≡ FlashError.NotErased) }
         ensures layout { self.new.layout ≡ self.old.layout }
     {

@@ -9,7 +9,8 @@ use std::fmt;
 impl Grain {
     /// The grain that a text names: `call` or `unit`. It takes no memory.
     pub fn read(text: &str) -> Option<Grain>
-        ensures { MatchOption result ((g : Grain) → text.now ≡ grain_text g → ⊥) (λ g. text.now ≡ grain_text g) }
+        ensures { MatchOption result ((g : Grain) → text.now ≡ grain_text g → ⊥)
+            (λ g. text.now ≡ grain_text g) }
     {
         match text {
             "call" => Some(Grain::Call),

@@ -289,9 +289,8 @@ impl Walk {
 /// The length of the plain area that the bytes begin with, by its head.
 #[tactic(auto, unfolding(crate::specs::Headers::head_fault))]
 pub(crate) fn plain_total(bytes: &[u8]) -> Result<u16, ImageError>
-    ensures { MatchResult result
-        (λ n. (head_fault bytes.now ≡ None) × (4 ≤ length bytes.now) × (4 ≤ n) × (n ≡ u16_at 2 bytes.now))
-        (λ e. head_fault bytes.now ≡ Some e) }
+    ensures { MatchResult result (λ n. (head_fault bytes.now ≡ None) × (4 ≤ length bytes.now)
+        × (4 ≤ n) × (n ≡ u16_at 2 bytes.now)) (λ e. head_fault bytes.now ≡ Some e) }
 {
     if bytes.len() < 4 || u16_at(bytes, 0) != PLAIN_MAGIC {
         return Err(ImageError::BadTlvMagic);

@@ -63,7 +63,8 @@ pub struct Judge {
 /// The answer for a plain area of this length behind header, payload and protected area.
 fn answer_of(sealed: &Sealed, total: u16, walk: &Walk) -> Result<Judged, ImageError>
     ensures { (body area : List ℕ) → IsSealed sealed.now body → IsPlain total 0 walk.now area
-        → (more : List ℕ) → IsBytes (body ++ (area ++ more)) → verdict (body ++ (area ++ more)) ≡ result }
+        → (more : List ℕ) → IsBytes (body ++ (area ++ more)) → verdict (body ++ (area ++ more))
+        ≡ result }
 {
     let digest = walk.digest()?.to_array();
     if are_same(digest.as_slice(), sealed.digest.as_slice()) {

@@ -3,7 +3,8 @@ use Rattle.std.proofs.Common.{◌≡◌, ℕ, ◌<◌, ◌^◌, List, length, Op
 use Rattle.std.specs.Prelude.{IfSome, IfErr, OnOk, ◌⊎◌}
 use Rattle.std.specs.Io.KnownBytes.{Appends}
 use Rattle.std.proofs.KnownBytes.{Keeps-refl}
-use Rattle.mc_imgtool.specs.Engines.{RefusesReading, AppendsFront, Refuses, Answers}
+use Rattle.mc_imgtool.specs.Engines.{RefusesReading, Refuses, Answers}
+use Rattle.mc_output.specs.Fronts.{AppendsFront}
 use Rattle.mc_imgtool.specs.declared.error.ToolError.{ToolError}
 use Rattle.mc_imgtool.specs.declared.error.ToolError.TheVariants.{Image, NotZeros, SlotTooSmall, NeedsSlotSize, InputTooLong, Read, Write, Memory}
 

@@ -10,7 +10,8 @@ use Rattle.mc_image.specs.Valid.{image_fault}
 use Rattle.mc_image.specs.Judging.{judged_of, judged_or_fault, verdict}
 use Rattle.mc_image.specs.declared.error.ImageError.{ImageError}
 use Rattle.mc_image.specs.declared.judge.Judged.{Judged}
-use Rattle.mc_imgtool.specs.Engines.{AppendsFront, Answers, Refuses, Judges}
+use Rattle.mc_imgtool.specs.Engines.{Answers, Refuses, Judges}
+use Rattle.mc_output.specs.Fronts.{AppendsFront}
 use Rattle.mc_imgtool.specs.Lines.{good_line, good_text, line_or_fault, verified}
 use Rattle.mc_imgtool.specs.declared.error.ToolError.{ToolError}
 use Rattle.mc_imgtool.specs.declared.error.ToolError.TheVariants.{Image as image_error, NotZeros, SlotTooSmall, NeedsSlotSize, InputTooLong, Read, Write, Memory}

@@ -6,6 +6,7 @@ use Rattle.mc_image.specs.Judging.{verdict}
 use Rattle.mc_image.specs.declared.judge.Judged.{Judged}
 use Rattle.mc_imgtool.specs.declared.error.ToolError.{ToolError}
 use Rattle.mc_imgtool.specs.declared.error.ToolError.TheVariants.{Image, NotZeros, SlotTooSmall, NeedsSlotSize, InputTooLong, Read, Write, Memory}
+use Rattle.mc_output.specs.Fronts.{AppendsFront}
 
 -- when a reader of at most `limit` bytes gives each refusal: the known input, the limit
 abbrev pub RefusesReading : Option (List ℕ) → ℕ → ToolError → Type 0
@@ -29,10 +30,6 @@ Judges known limit (Err NotZeros) = ⊥
 Judges known limit (Err SlotTooSmall) = ⊥
 Judges known limit (Err NeedsSlotSize) = ⊥
 Judges known limit (Err Write) = ⊥
-
--- some front of the text is out
-abbrev pub AppendsFront : Option (List ℕ) → Option (List ℕ) → List ℕ → Type 0
-AppendsFront old new text = (n : ℕ) × Appends old new (take n text)
 
 -- what is made, seen as bytes, is what is wanted, unless memory ran out
 abbrev pub Gives : {A : Type 0} → (A → List ℕ) → Result A ToolError → Result (List ℕ) ToolError → Type 0

@@ -1,9 +1,10 @@
 //! Output, written whole.
 ghost use Rattle.std.specs.Prelude.{◌≡◌, IfErr, OnOk};
 ghost use Rattle.std.specs.Io.KnownBytes.{Appends};
-ghost use Rattle.mc_imgtool.specs.Engines.{AppendsFront};
+ghost use Rattle.mc_output.specs.Fronts.{AppendsFront};
 
 use crate::ToolError;
+use mc_output::WriteFailed;
 use std::io::Write;
 
 /// Writes the whole text, or a prefix of it.
@@ -17,12 +18,8 @@ pub(crate) fn write_text<W: Write>(output: &mut W, text: &[u8]) -> Result<(), To
         (λ e. (e ≡ ToolError.Write)
         × AppendsFront (W.contents output.old) (W.contents output.new) text.now) }
 {
-    let mut done = 0;
-    while done < text.len() {
-        match output.write(&text[done..]) {
-            Ok(0) | Err(_) => return Err(ToolError::Write),
-            Ok(count) => done += count,
-        }
+    match mc_output::write_text(output, text) {
+        Ok(()) => Ok(()),
+        Err(WriteFailed) => Err(ToolError::Write),
     }
-    Ok(())
 }

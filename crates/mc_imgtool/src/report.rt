@@ -57,7 +57,11 @@ fn value_text(alloc: Global, value: &[u8]) -> Result<String, AllocError>
 #[tactic(auto, unfolding(crate::specs::Lines::entry_line))]
 fn entry_line(alloc: Global, tlv: &Tlv<'_>) -> Result<String, AllocError>
     ensures { IfOk result (λ text. string_bytes text
-        ≡ entry_line (record { area = tlv.now.area; entry = record { kind = tlv.now.kind; value = tlv.now.value.now } })) }
+        ≡ entry_line (record {
+          area = tlv.now.area;
+          entry = record
+              { kind = tlv.now.kind; value = tlv.now.value.now };
+        })) }
 {
     let area = match tlv.area {
         Area::Protected => "protected",

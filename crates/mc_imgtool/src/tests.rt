@@ -29,7 +29,8 @@ const MAGIC: &str = "77c295f360d2ef7f3552500f2cb67980";
 
 /// The options of the worked images: write units of 8 bytes and four sectors.
 fn options(pad_header: bool, counter: Option<u32>, slot_size: Option<u32>) -> CreateOptions
-    ensures { (result.header_size ≡ 32) × (result.slot_size ≡ slot_size) × (result.pad ≡ false) × (result.confirm ≡ false) }
+    ensures { (result.header_size ≡ 32) × (result.slot_size ≡ slot_size) × (result.pad ≡ false)
+        × (result.confirm ≡ false) }
 {
     CreateOptions {
         version: Version {

@@ -1,6 +1,7 @@
 -- What follows for the status entries. Proved here, so that the crates above can cite it.
-use Rattle.std.specs.Prelude.{◌≡◌, ◌≢◌, ◌⊎◌, ℕ, zero, suc, ◌+◌, ◌*◌, ◌<◌, ◌≤◌, Bool, true, false, not, if◌then◌else◌, List, length, slice_index, Option, Some, None, refl}
+use Rattle.std.specs.Prelude.{◌≡◌, ◌≢◌, ◌⊎◌, ℕ, zero, suc, ◌+◌, ◌-◌, ◌*◌, ◌<◌, ◌≤◌, Bool, true, false, not, if◌then◌else◌, List, length, slice_index, Option, Some, None, refl}
 use Rattle.std.proofs.Common.{arith, sym, ap, ◌∙◌, inl, inr, add-zero}
+use Rattle.std.proofs.Math.Nat.{mul-le-mul_right}
 use Rattle.std.proofs.lemmas.Bool.{cases_eq, cases_Bool, cases_order}
 use Rattle.std.proofs.lemmas.Grind.{same_number_lists}
 use Rattle.std.proofs.lemmas.List.Edits.{get_or-between, length-between}
@@ -13,7 +14,7 @@ use Rattle.mc_flash.specs.Apply.{apply}
 use Rattle.mc_flash.specs.declared.op.Op.TheVariants as ops
 use Rattle.mc_flash.specs.declared.op.Slot.TheVariants.{Primary, Secondary}
 use Rattle.mc_trailer.specs.Places.{entry_place}
-use Rattle.mc_trailer.specs.PlaceFacts.{entry_inside, entry_ends, entries_apart, one_unit_len}
+use Rattle.mc_trailer.specs.PlaceFacts.{entry_behind, entry_inside, group_inside, entry_ends, entries_apart, one_unit_len}
 use Rattle.mc_trailer.specs.Fields.{bytes_at, one_unit}
 use Rattle.mc_trailer.specs.Entries.{is_written, IsWritten, IsHighest, greatest, highest_entry}
 
@@ -68,6 +69,26 @@ greatest_same p q (suc n) agree = rw (agree n (omega arith)) (ap (λ o. if q n t
 
 not_written : (g : Geometry) (s : Content) (e : ℕ) → (is_written g s e ≡ true → ⊥) → is_written g s e ≡ false
 not_written g s e fails = elim (cases_Bool (is_written g s e)) [ inl is ↦ absurd (fails is) | inr is ↦ is ]
+
+-- Of entries that are blank together none is written.
+pub group_blank : (g : Geometry) (s : Content) (first count e : ℕ) → IsLayout g → length s.primary ≡ size_of g Primary → first + count ≤ 3 * g.max_sectors
+    → is_blank (bytes_at s Primary (entry_place g first) (count * g.unit)) ≡ true → first ≤ e → e < first + count → is_written g s e ≡ false
+group_blank g s first count e ok sized below blank from to =
+    let k : ℕ = e - first in
+    let is : first + k ≡ e = omega (arith, from) in
+    let inside = group_inside g first count ok (omega (arith, from, to)) below in
+    let behind = entry_behind g first k ok (omega (arith, is, to, below)) in
+    let row : (k + 1) * g.unit ≤ count * g.unit = mul-le-mul_right g.unit (omega (arith, is, to)) in
+    let one : (k + 1) * g.unit ≡ k * g.unit + g.unit = omega arith in
+    let fits : entry_place g first + count * g.unit ≤ length s.primary = omega (arith, inside, sized) in
+    let here : is_blank (bytes_at s Primary (entry_place g (first + k)) g.unit) ≡ true =
+    blank_range s.primary (entry_place g (first + k)) g.unit (omega (arith, behind, row, one, fits)) (λ i short.
+    ap (slice_index s.primary) (at_place (entry_place g (first + k)) (entry_place g first) (k * g.unit) i behind)
+    ∙ range_blank s.primary (entry_place g first) (count * g.unit) (k * g.unit + i) fits blank (omega (arith, short, row, one))) in
+    ap (λ n. is_written g s n) (sym is) ∙ ap not here
+  where
+    at_place : (p q m i : ℕ) → p ≡ q + m → p + i ≡ q + (m + i)
+    at_place p q m i e = omega (arith, e)
 
 -- A written entry with none above it is the highest.
 pub highest_at : (g : Geometry) (s : Content) (e : ℕ) → IsWritten g s e → ((d : ℕ) → e < d → d < 3 * g.max_sectors → is_written g s d ≡ false) → highest_entry g s ≡ Some e

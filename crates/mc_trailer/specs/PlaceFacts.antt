@@ -103,6 +103,19 @@ entry_ends g e ok below =
 pub entry_before_field : (g : Geometry) (e : ℕ) (f : Field) → IsLayout g → e < 3 * g.max_sectors → entry_place g e + g.unit ≤ place g Primary f
 entry_before_field g e f ok below = omega (arith, entry_ends g e ok below, place_inside g Primary f ok, most_before_end f)
 
+-- So many entries from one on lie in the slot, and each is a unit behind the one before.
+pub group_inside : (g : Geometry) (first count : ℕ) → IsLayout g → 0 < count → first + count ≤ 3 * g.max_sectors → entry_place g first + count * g.unit + 48 ≤ size_of g Primary
+group_inside g first count ok some below =
+    let inside = entry_inside g first ok (omega (arith, some, below)) in
+    let few : (first + count) * g.unit ≤ 3 * g.max_sectors * g.unit = mul-le-mul_right g.unit below in
+    let sum : (first + count) * g.unit ≡ first * g.unit + count * g.unit = omega arith in
+    omega (arith, inside, few, sum)
+
+pub entry_behind : (g : Geometry) (first k : ℕ) → IsLayout g → first + k < 3 * g.max_sectors → entry_place g (first + k) ≡ entry_place g first + k * g.unit
+entry_behind g first k ok below =
+    let sum : (first + k) * g.unit ≡ first * g.unit + k * g.unit = omega arith in
+    omega (arith, entry_inside g first ok (omega (arith, below)), entry_inside g (first + k) ok below, sum)
+
 pub entries_apart : (g : Geometry) (d e : ℕ) → IsLayout g → d < e → e < 3 * g.max_sectors → entry_place g d + g.unit ≤ entry_place g e
 entries_apart g d e ok before below =
     let row : (d + 1) * g.unit ≤ e * g.unit = mul-le-mul_right g.unit (omega arith) in

@@ -1,5 +1,5 @@
 //! The status entries of the primary: which steps of a swap were made.
-ghost use Rattle.std.specs.Prelude.{◌≡◌, ℕ, ◌+◌, ◌≤◌, ◌<◌, ◌*◌};
+ghost use Rattle.std.specs.Prelude.{◌≡◌, ℕ, ◌+◌, ◌≤◌, ◌<◌, ◌*◌, true, false};
 ghost use Rattle.mc_trailer.specs.Entries.{IsHighest, is_written, highest_entry};
 
 use crate::places::entry_place;
@@ -15,13 +15,41 @@ fn is_written<F: Flash>(flash: &F, entry: u32) -> bool
     !blank(&flash.read(Slot::Primary)[at..at + layout.unit() as usize])
 }
 
+// Whether eight status entries are blank together: none of them is written then.
+#[tactic(auto, using(crate::specs::EntryFacts::group_blank, crate::specs::PlaceFacts::group_inside))]
+fn none_written<F: Flash>(flash: &F, first: u32) -> bool
+    requires { first + 8 ≤ 3 * (F.seen flash.now).geometry.max_sectors }
+    ensures { result ≡ true → (e : ℕ) → first ≤ e → e < first + 8
+        → is_written (F.seen flash.now).geometry (F.seen flash.now).content e ≡ false }
+{
+    let layout = flash.layout();
+    let at = entry_place(layout, first) as usize;
+    blank(&flash.read(Slot::Primary)[at..at + 8 * layout.unit() as usize])
+}
+
+// How many entries are left when those are passed over from the end that are blank, eight at a time.
+fn without_blank_end<F: Flash>(flash: &F) -> u32
+    ensures few { result ≤ 3 * (F.seen flash.now).geometry.max_sectors }
+    ensures none { (e : ℕ) → result ≤ e → e < 3 * (F.seen flash.now).geometry.max_sectors
+        → is_written (F.seen flash.now).geometry (F.seen flash.now).content e ≡ false }
+{
+    let mut end = 3 * flash.layout().max_sectors();
+    while let Some(first) = end.checked_sub(8) {
+        if !none_written(flash, first) {
+            return end;
+        }
+        end = first;
+    }
+    end
+}
+
 /// The highest status entry of the primary that is written: one whose bytes are not all 0xff. It takes no memory.
 #[tactic(auto, using(crate::specs::EntryFacts::highest_is, crate::specs::EntryFacts::greatest_at, crate::specs::EntryFacts::none_passes))]
 pub fn highest_entry<F: Flash>(flash: &F) -> Option<u32>
     ensures value { result ≡ highest_entry (F.seen flash.now).geometry (F.seen flash.now).content }
     ensures highest { IsHighest (F.seen flash.now).geometry (F.seen flash.now).content result }
 {
-    for entry in (0..3 * flash.layout().max_sectors()).rev() {
+    for entry in (0..without_blank_end(flash)).rev() {
         if is_written(flash, entry) {
             return Some(entry);
         }

@@ -33,5 +33,6 @@ pub fn fields_read_back()
 #[tactic(auto, using(crate::specs::EntryFacts::highest_after, crate::specs::EntryFacts::highest_one))]
 pub fn highest_after_a_write()
     ensures after { WritesHighest }
-    ensures one { (g : Geometry) (s : Content) (highest : Option ℕ) → IsHighest g s highest → highest_entry g s ≡ highest }
+    ensures one { (g : Geometry) (s : Content) (highest : Option ℕ) → IsHighest g s highest
+        → highest_entry g s ≡ highest }
 {}

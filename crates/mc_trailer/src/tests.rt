@@ -8,7 +8,8 @@ use std::test::Fail;
 
 /// The worked layout: slots of 1024 and 768 bytes.
 fn worked_layout() -> Result<Layout, LayoutError>
-    ensures { IfOk result (λ l. (l.sector ≡ 256) × (l.max_sectors ≡ 4) × (l.primary ≡ 4) × (l.secondary ≡ 3)) }
+    ensures { IfOk result (λ l. (l.sector ≡ 256) × (l.max_sectors ≡ 4) × (l.primary ≡ 4)
+        × (l.secondary ≡ 3)) }
 {
     Layout::new(256, 8, 4, 128, 4, 3)
 }

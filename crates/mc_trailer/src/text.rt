@@ -49,7 +49,8 @@ impl fmt::Display for SwapType {
 impl Profile {
     /// The profile that a text names: `1` or `2`. It takes no memory.
     pub fn read(text: &str) -> Option<Profile>
-        ensures { MatchOption result ((p : Profile) → text.now ≡ profile_text p → ⊥) (λ p. text.now ≡ profile_text p) }
+        ensures { MatchOption result ((p : Profile) → text.now ≡ profile_text p → ⊥)
+            (λ p. text.now ≡ profile_text p) }
     {
         match text {
             "1" => Some(Profile::One),

@@ -77,7 +77,8 @@ fn flag_of(byte: u8) -> Flag
 // The first bytes of a field.
 fn field_bytes<F: Flash>(flash: &F, slot: Slot, field: Field, len: usize) -> &[u8]
     requires { len ≤ before_end field }
-    ensures value { result.now ≡ bytes_at (F.seen flash.now).content slot (place (F.seen flash.now).geometry slot field) len }
+    ensures value { result.now ≡ bytes_at (F.seen flash.now).content slot
+        (place (F.seen flash.now).geometry slot field) len }
     ensures len { length result.now ≡ len }
 {
     let at = place(flash.layout(), slot, field) as usize;
@@ -86,7 +87,8 @@ fn field_bytes<F: Flash>(flash: &F, slot: Slot, field: Field, len: usize) -> &[u
 
 // The first byte of a field.
 fn field_byte<F: Flash>(flash: &F, slot: Slot, field: Field) -> u8
-    ensures { result ≡ byte (F.seen flash.now).content slot (place (F.seen flash.now).geometry slot field) }
+    ensures { result ≡ byte (F.seen flash.now).content slot
+        (place (F.seen flash.now).geometry slot field) }
 {
     let at = place(flash.layout(), slot, field) as usize;
     flash.read(slot)[at]

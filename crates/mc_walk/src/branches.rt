@@ -26,14 +26,16 @@ pub trait Branches: Copy {
     /// Goes from a node, of which that is told, to its first child.
     fn first<F: Flash>(self, flash: &mut F, told: &Self::Told) -> Result<Self::At, FlashError>
         requires { CanReach (kind self) 0 told.now (F.seen flash.old) }
-        ensures reaches { Reaches (kind self) 0 told.now (F.seen flash.old) result (F.seen flash.new) }
+        ensures reaches { Reaches (kind self) 0 told.now (F.seen flash.old) result
+            (F.seen flash.new) }
         ensures keeps { OnOk result (Keeps (F.seen flash.old) (F.seen flash.new)) }
         ensures spends { Spends (kind self).step (F.seen flash.old) result (F.seen flash.new) };
 
     /// Goes from a child to the next.
     fn next<F: Flash>(self, flash: &mut F, at: &mut Self::At) -> Result<(), FlashError>
         requires { HasNext (kind self) at.old (F.seen flash.old) }
-        ensures goes_on { GoesOn (kind self) at.old (F.seen flash.old) result at.new (F.seen flash.new) }
+        ensures goes_on { GoesOn (kind self) at.old (F.seen flash.old) result at.new
+            (F.seen flash.new) }
         ensures keeps { OnOk result (Keeps (F.seen flash.old) (F.seen flash.new)) }
         ensures spends { Spends (kind self).step (F.seen flash.old) result (F.seen flash.new) };
 
@@ -43,7 +45,8 @@ pub trait Branches: Copy {
         requires room { HasRoom (kind self).most (F.seen flash.old) }
         ensures tells { IfOk result (TellsRoot (kind self) (F.seen flash.old)) }
         ensures stays { OnOk result (Stays (F.seen flash.old) (F.seen flash.new)) }
-        ensures spends { Spends (kind self).most.entries (F.seen flash.old) result (F.seen flash.new) };
+        ensures spends { Spends (kind self).most.entries (F.seen flash.old) result
+            (F.seen flash.new) };
 
     /// What is told of a child on its way, where that was told of its parent.
     fn child<F: Flash>(
@@ -56,5 +59,6 @@ pub trait Branches: Copy {
         requires room { HasRoom (kind self).most (F.seen flash.old) }
         ensures tells { IfOk result (TellsChild (kind self) at.now parent.now (F.seen flash.old)) }
         ensures stays { OnOk result (Stays (F.seen flash.old) (F.seen flash.new)) }
-        ensures spends { Spends (kind self).most.entries (F.seen flash.old) result (F.seen flash.new) };
+        ensures spends { Spends (kind self).most.entries (F.seen flash.old) result
+            (F.seen flash.new) };
 }

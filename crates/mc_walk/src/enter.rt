@@ -17,14 +17,17 @@ pub(crate) fn enter<F: Flash, B: Branches>(
     frames: &mut Vec<Frame<B::At, B::Told>>,
     frame: Frame<B::At, B::Told>,
 ) -> Result<B::Told, FlashError>
-    requires comes { Comes (B.kind branches) (start_of (F.seen flash.old)) (F.seen flash.old) frames.old.items frame }
+    requires comes { Comes (B.kind branches) (start_of (F.seen flash.old)) (F.seen flash.old)
+        frames.old.items frame }
     requires room { HasRoom (B.kind branches).most (marked (F.seen flash.old)) }
     requires mark { length (F.seen flash.old).marks < (F.seen flash.old).ledger.limits.marks }
     requires capacity { vec_len frames.old < vec_capacity frames.old }
-    ensures stands { IfOk result (Stands (B.kind branches) (start_of (F.seen flash.old)) (F.seen flash.new) frames.new.items) }
+    ensures stands { IfOk result (Stands (B.kind branches) (start_of (F.seen flash.old))
+        (F.seen flash.new) frames.new.items) }
     ensures frames { OnOk result (frames.new.items ≡ frames.old.items ++ frame ∷ []) }
     ensures capacity { vec_capacity frames.old ≤ vec_capacity frames.new }
-    ensures spends { Spends (B.kind branches).most.entries (F.seen flash.old) result (F.seen flash.new) }
+    ensures spends { Spends (B.kind branches).most.entries (F.seen flash.old) result
+        (F.seen flash.new) }
 {
     flash.mark()?;
     frames.push(frame)?;

@@ -15,9 +15,11 @@ pub(crate) fn reach<F: Flash, B: Branches>(
     number: u32,
 ) -> Result<B::At, FlashError>
     requires { CanReach (B.kind branches) number told.now (F.seen flash.old) }
-    ensures reaches { Reaches (B.kind branches) number told.now (F.seen flash.old) result (F.seen flash.new) }
+    ensures reaches { Reaches (B.kind branches) number told.now (F.seen flash.old) result
+        (F.seen flash.new) }
     ensures keeps { OnOk result (Keeps (F.seen flash.old) (F.seen flash.new)) }
-    ensures spends { Spends ((number + 1) * (B.kind branches).step) (F.seen flash.old) result (F.seen flash.new) }
+    ensures spends { Spends ((number + 1) * (B.kind branches).step) (F.seen flash.old) result
+        (F.seen flash.new) }
 {
     let mut at = branches.first(flash, told)?;
     for _i in 0..number {

@@ -34,7 +34,8 @@ impl<F: Flash, B: Branches> Model for Walk<F, B> {
 
     ghost view = { λ w. walked w.branches w.bound (F.seen w.flash) w.frames.items w.told };
 
-    ghost invariant = { λ w. IsSound (B.kind w.branches) w.bound (vec_capacity w.frames) (F.seen w.flash) w.frames.items w.told };
+    ghost invariant = { λ w. IsSound (B.kind w.branches) w.bound (vec_capacity w.frames)
+        (F.seen w.flash) w.frames.items w.told };
 }
 
 impl<F: Flash, B: Branches> Walk<F, B> {
@@ -72,8 +73,10 @@ impl<F: Flash, B: Branches> Walk<F, B> {
     /// `Memory` where the flash was refused memory.
     pub fn begin(&mut self) -> Result<B::Told, FlashError>
         requires { IsFresh (B.kind self.old.branches) self.old }
-        ensures begins { IfOk result (λ told. Begins (B.kind self.old.branches) self.old told self.new) }
-        ensures spends { Spends (B.kind self.old.branches).most.entries self.old.seen result self.new.seen }
+        ensures begins { IfOk result (λ told. Begins (B.kind self.old.branches) self.old told
+            self.new) }
+        ensures spends { Spends (B.kind self.old.branches).most.entries self.old.seen result
+            self.new.seen }
     {
         self.told = None;
         let told = self.branches.root(&mut self.flash)?;
@@ -123,8 +126,10 @@ impl<F: Flash, B: Branches> Walk<F, B> {
     /// `Memory` where the flash was refused memory; then the walk stands nowhere.
     pub fn go_down(&mut self, number: u32) -> Result<bool, FlashError>
         requires { self.old.stands ≡ true }
-        ensures step { IfOk result (λ went. GoesDown (B.kind self.old.branches) number self.old went self.new) }
-        ensures spends { Spends (child_cost (B.kind self.old.branches) number) self.old.seen result self.new.seen }
+        ensures step { IfOk result (λ went. GoesDown (B.kind self.old.branches) number self.old went
+            self.new) }
+        ensures spends { Spends (child_cost (B.kind self.old.branches) number) self.old.seen result
+            self.new.seen }
     {
         let Some(told) = self.told else {
             return Ok(false);
@@ -155,8 +160,10 @@ impl<F: Flash, B: Branches> Walk<F, B> {
     #[tactic(auto, using(mc_flash::specs::SpendsFacts::ran_out_later, mc_flash::specs::SpendsFacts::spent_back))]
     pub fn climb(&mut self) -> Result<bool, FlashError>
         requires { self.old.stands ≡ true }
-        ensures step { IfOk result (λ went. Climbs (B.kind self.old.branches) self.old went self.new) }
-        ensures spends { Spends (child_cost (B.kind self.old.branches) 0) self.old.seen result self.new.seen }
+        ensures step { IfOk result (λ went. Climbs (B.kind self.old.branches) self.old went
+            self.new) }
+        ensures spends { Spends (child_cost (B.kind self.old.branches) 0) self.old.seen result
+            self.new.seen }
     {
         self.told = None;
         let Some(mut frame) = take_last_open(self.branches, &mut self.frames) else {
@@ -179,9 +186,12 @@ impl<F: Flash, B: Branches> Walk<F, B> {
     #[tactic(auto, using(crate::proofs::Along::advanced_down))]
     pub fn advance(&mut self) -> Result<bool, FlashError>
         requires { self.old.stands ≡ true }
-        ensures step { IfOk result (λ went. Advances (B.kind self.old.branches) self.old went self.new) }
-        ensures spends { Spends (child_cost (B.kind self.old.branches) 0) self.old.seen result self.new.seen }
+        ensures step { IfOk result (λ went. Advances (B.kind self.old.branches) self.old went
+            self.new) }
+        ensures spends { Spends (child_cost (B.kind self.old.branches) 0) self.old.seen result
+            self.new.seen }
     {
+        // A field that is read tells what holds of all of them.
         let _bound = self.bound;
         if self.go_down(0)? {
             return Ok(true);
@@ -199,8 +209,10 @@ impl<F: Flash, B: Branches> Walk<F, B> {
     pub fn follow(&mut self, path: &[u32]) -> Result<bool, FlashError>
         requires stands { self.old.stands ≡ true }
         requires root { self.old.path ≡ [] }
-        ensures step { IfOk result (λ went. Follows (B.kind self.old.branches) path.now self.old went self.new) }
-        ensures spends { Spends (path_cost (B.kind self.old.branches) path.now) self.old.seen result self.new.seen }
+        ensures step { IfOk result (λ went. Follows (B.kind self.old.branches) path.now self.old
+            went self.new) }
+        ensures spends { Spends (path_cost (B.kind self.old.branches) path.now) self.old.seen result
+            self.new.seen }
     {
         for number in path {
             if !self.go_down(*number)? {

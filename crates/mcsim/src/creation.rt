@@ -30,8 +30,10 @@ impl<'a> Creation<'a> {
     pub fn read(arguments: &ArgMatches<'a>) -> Result<Creation<'a>, Refusal>
         ensures options { IfOk result (λ c. TellsCreate (found_of arguments.now) c.options) }
         ensures ready { IfOk result (λ c. IsReady c.options) }
-        ensures infile { IfOk result (λ c. first_value (found_of arguments.now) (codes "INFILE") ≡ Some c.infile.now) }
-        ensures outfile { IfOk result (λ c. first_value (found_of arguments.now) (codes "OUTFILE") ≡ Some c.outfile.now) }
+        ensures infile { IfOk result (λ c. first_value (found_of arguments.now) (codes "INFILE")
+            ≡ Some c.infile.now) }
+        ensures outfile { IfOk result (λ c. first_value (found_of arguments.now) (codes "OUTFILE")
+            ≡ Some c.outfile.now) }
     {
         Ok(Creation {
             options: create_options(arguments)?,

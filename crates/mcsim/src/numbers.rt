@@ -136,9 +136,10 @@ fn hexadecimal(digits: &str) -> Option<u32>
 /// The number that a text says, where it is below 2^32: decimal digits, which a plus sign may precede, or hexadecimal
 /// digits of either case after `0x` or `0X`.
 fn number_in(text: &str) -> Option<u32>
-    ensures { MatchOption result
-        (IsNumeral (radix_of text.now) (digits_of text.now) → 2 ^ 32 ≤ digits_value (radix_of text.now) (digits_of text.now))
-        (λ n. IsNumeral (radix_of text.now) (digits_of text.now) × (digits_value (radix_of text.now) (digits_of text.now) ≡ n)) }
+    ensures { MatchOption result (IsNumeral (radix_of text.now) (digits_of text.now)
+        → 2 ^ 32 ≤ digits_value (radix_of text.now) (digits_of text.now))
+        (λ n. IsNumeral (radix_of text.now) (digits_of text.now)
+        × (digits_value (radix_of text.now) (digits_of text.now) ≡ n)) }
 {
     if let Some(digits) = text.strip_prefix("0x") {
         return hexadecimal(digits);

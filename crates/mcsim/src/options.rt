@@ -35,7 +35,8 @@ pub fn required<'a>(arguments: &ArgMatches<'a>, name: &str) -> Result<&'a str, R
 ///
 /// `Number` where it is told, but not as 1, 2, 4 or 8; `Argument` where it is missing.
 fn align(arguments: &ArgMatches<'_>) -> Result<u8, Refusal>
-    ensures told { IfOk result (λ n. TellsNumber (found_of arguments.now) NumberOption.Align n × IsUnit n) }
+    ensures told { IfOk result (λ n. TellsNumber (found_of arguments.now) NumberOption.Align n
+        × IsUnit n) }
     ensures taken { (n : ℕ) → TellsNumber (found_of arguments.now) NumberOption.Align n → IsUnit n
         → IsOk result }
 {
@@ -77,7 +78,8 @@ pub fn create_options(arguments: &ArgMatches<'_>) -> Result<CreateOptions, Refus
 /// where one is missing.
 fn layout_options(arguments: &ArgMatches<'_>) -> Result<Layout, Refusal>
     ensures told { IfOk result (λ l. TellsLayout (found_of arguments.now) l) }
-    ensures judged { (g : Geometry) → TellsLayout (found_of arguments.now) g → Judges (refusal_of g) result }
+    ensures judged { (g : Geometry) → TellsLayout (found_of arguments.now) g
+        → Judges (refusal_of g) result }
 {
     let sector = NumberOption::Sector.read_required(arguments)?;
     let unit = NumberOption::Unit.read_required(arguments)?;
@@ -102,7 +104,8 @@ pub enum Source<'a> {
 
 /// The kind of a start that a text names.
 fn kind_of(text: &str) -> Option<Kind>
-    ensures { MatchOption result ((k : Kind) → text.now ≡ kind_text k → ⊥) (λ k. text.now ≡ kind_text k) }
+    ensures { MatchOption result ((k : Kind) → text.now ≡ kind_text k → ⊥)
+        (λ k. text.now ≡ kind_text k) }
 {
     match text {
         "none" => Some(Kind::None),

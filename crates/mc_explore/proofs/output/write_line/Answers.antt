@@ -1,7 +1,7 @@
 use Rattle.std.proofs.Common.{◌∙◌}
 use Rattle.std.specs.Io.KnownBytes.{Appends}
 use Rattle.arrayvec.specs.ArrayString.{ArrayString}
-use Rattle.mc_explore.specs.Page.{AppendsFront}
+use Rattle.mc_output.specs.Fronts.{AppendsFront}
 use Rattle.mc_explore.proofs.Lines.{line_made, whole_line, part_of_line}
 use Rattle.mc_explore.proofs.output.write_line.Goals as goal
 

@@ -3,9 +3,8 @@ use Rattle.std.proofs.lemmas.Result.{err_from_is_err_and}
 use Rattle.mc_explore.specs.CursorText.{cursor_text}
 use Rattle.mc_tree.specs.Paths.{Lost, After}
 use Rattle.mc_explore.specs.State.{State}
-use Rattle.mc_explore.specs.Page.{next_line}
 use Rattle.mc_explore.specs.declared.error.ExploreError.TheVariants as errors
-use Rattle.mc_explore.proofs.PageText.{row_paid, found_cost}
+use Rattle.mc_explore.proofs.PageText.{next_line, row_paid, found_cost}
 use Rattle.mc_explore.proofs.PageText.{began_before, began_in_row, out_at_end, began_at_end, out_when_full, began_when_full, page_on}
 use Rattle.mc_explore.proofs.Streams.{on_err, on_ok}
 use Rattle.mc_explore.proofs.pages.write_lines.Goals as goal

@@ -1,7 +1,7 @@
 use Rattle.std.proofs.Common.{arith}
 use Rattle.std.proofs.lemmas.List.{take_rest}
-use Rattle.mc_imgtool.proofs.Streams.{Appends_more}
-use Rattle.mc_imgtool.proofs.output.write_text.Goals as goal
+use Rattle.mc_output.proofs.Streams.{Appends_more}
+use Rattle.mc_output.proofs.write_text.Goals as goal
 
 pub loop-done-preserved : goal.loop-done-preserved
 loop-done-preserved g c =

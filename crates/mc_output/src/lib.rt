@@ -1,0 +1,32 @@
+//! A text written whole, or a beginning of it, without memory.
+#![tactic(auto)]
+
+ghost use Rattle.std.specs.Prelude.{◌≡◌, OnErr, OnOk};
+ghost use Rattle.std.specs.Io.KnownBytes.{Appends};
+ghost use Rattle.mc_output.specs.Fronts.{AppendsFront};
+
+use std::io::Write;
+
+/// A write failed or took no bytes.
+#[derive(Clone, Copy, Debug, PartialEq, Eq)]
+pub struct WriteFailed;
+
+/// Writes the whole text, or a beginning of it.
+///
+/// # Errors
+///
+/// `WriteFailed` where a write fails or takes no bytes.
+pub fn write_text<W: Write>(writer: &mut W, text: &[u8]) -> Result<(), WriteFailed>
+    ensures whole { OnOk result (Appends (W.contents writer.old) (W.contents writer.new) text.now) }
+    ensures front { OnErr result
+        (AppendsFront (W.contents writer.old) (W.contents writer.new) text.now) }
+{
+    let mut done = 0;
+    while done < text.len() {
+        match writer.write(&text[done..]) {
+            Ok(0) | Err(_) => return Err(WriteFailed),
+            Ok(count) => done += count,
+        }
+    }
+    Ok(())
+}
