@@ -15,6 +15,7 @@ use Rattle.mc_flash.specs.Seen.{Seen}
 use Rattle.mc_flash.specs.Spends.{Allows, LeaveRoom, Spent, room_of}
 use Rattle.mc_flash.specs.declared.op.Op.{Op}
 use Rattle.mc_trailer.specs.declared.tables.Rules.{Rules}
+use Rattle.mc_walk.specs.Kind.{telling}
 use Rattle.mc_walk.specs.Walks.{Walked, Begins, Follows, IsSame, IsThere, IsPath, path_cost, start_of}
 use Rattle.mc_boot.specs.Boot.{Progress, progress}
 use Rattle.mc_boot.specs.Bounds.{left_of, ops_few}
@@ -85,14 +86,14 @@ module _ (counted : Bool) (start : Begun) (bound : ℕ) (path : List ℕ) (zero_
       subst (λ n. tree.IsMember (boots start.rules start.geometry) start.content n path) one_bound (subst P one_start m)
 
   -- There.
-  pub followed : (went : Bool) → went ≡ true → Follows (once one.branches.rules one.branches.layout) path one went two → Spent (most_operations zero_walk.branches.rules.grain zero_walk.branches.layout) zero_walk.seen one.seen
+  pub followed : (went : Bool) → went ≡ true → Follows (once one.branches.rules one.branches.layout) path one went two → Spent (telling (once zero_walk.branches.rules zero_walk.branches.layout)) zero_walk.seen one.seen
       → Spent (path_cost (once one.branches.rules one.branches.layout) path) one.seen two.seen → Followed counted start bound path two
   followed false is f s t = absurd cc
   followed true is f s t =
       let allowed = at_start f.1 in
-      let P : Begun → Type 0 = λ x. Spent (most_operations x.rules.grain x.geometry) zero_walk.seen one.seen in
+      let P : Begun → Type 0 = λ x. Spent (telling (once x.rules x.geometry)) zero_walk.seen one.seen in
       let Q : Begun → Type 0 = λ x. Spent (path_cost (once x.rules x.geometry) path) one.seen two.seen in
-      let first : Spent (most_operations start.rules.grain start.geometry) zero_walk.seen one.seen = subst P l.start_is s in
+      let first : Spent (telling (once start.rules start.geometry)) zero_walk.seen one.seen = subst P l.start_is s in
       let along : Spent (path_cost (once start.rules start.geometry) path) one.seen two.seen = subst Q one_start t in
       let cost = cost_few start.rules start.geometry start.content path l.valid allowed.1 in
       let few : length path * (2 * most_operations start.rules.grain start.geometry) ≤ bound * (2 * most_operations start.rules.grain start.geometry) = mul-le-mul_right (2 * most_operations start.rules.grain start.geometry) allowed.0 in
@@ -107,7 +108,7 @@ module _ (counted : Bool) (start : Begun) (bound : ℕ) (path : List ℕ) (zero_
         applied = sum (most_operations start.rules.grain start.geometry) bound (path_cost (once start.rules start.geometry) path) (length path * (2 * most_operations start.rules.grain start.geometry)) zero_walk.seen.ledger.applied one.seen.ledger.applied two.seen.ledger.applied l.idle first.applied along.applied cost few;
       }
     where
-      sum : (most n cost many a b c : ℕ) → a ≡ 0 → b ≤ a + most → c ≤ b + cost → cost ≤ many → many ≤ n * (2 * most) → c ≤ 2 * (n + 1) * most
+      sum : (most n cost many a b c : ℕ) → a ≡ 0 → b ≤ a + 1 * most → c ≤ b + cost → cost ≤ many → many ≤ n * (2 * most) → c ≤ 2 * (n + 1) * most
       sum most n cost many a b c z first along few all = let e : 2 * (n + 1) * most ≡ n * (2 * most) + 2 * most = omega arith in omega (arith, z, first, along, few, all, e)
 
   -- Or the schedule is none of those.

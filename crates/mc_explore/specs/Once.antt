@@ -34,7 +34,7 @@ pub record IsTold (r : Rules) (g : Geometry) (s : Content) (told : Told) : Type 
   pub sized : IsSized g s
   pub outcome_is : outcome_of r g s ≡ Some (shown told.outcome)
 
--- A node is a content, and one goes from a child to the next by one operation.
+-- A node is a content. One goes from a child to the next by one operation, and one boot tells of a node.
 abbrev pub once : Rules → Geometry → Kind Content Boot Told
 once r g = record {
   tree = boots r g;
@@ -47,4 +47,5 @@ once r g = record {
   step = 1;
   left = λ b. left_of g (progress b);
   most = most_of r g;
+  spare = 1;
 }

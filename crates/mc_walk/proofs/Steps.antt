@@ -7,10 +7,10 @@ use Rattle.mc_tree.specs.facts.Order.{IsNextBeyond, allowed-last, none_beyond, n
 use Rattle.mc_flash.specs.Content.{Content}
 use Rattle.mc_flash.specs.Ledger.{Counts, Limits, Spot, no_counts}
 use Rattle.mc_flash.specs.Seen.{Seen, Keeps, no_spot, spot_of, went_back, marked}
-use Rattle.mc_flash.specs.Spends.{Spent, Stays, HasRoom, LeaveRoom, plus, times, room_of}
+use Rattle.mc_flash.specs.Spends.{Spent, Stays, LeaveRoom, plus, times, room_of}
 use Rattle.mc_flash.specs.SpendsFacts.{spent_back, spent_both, spent_more}
 use Rattle.mc_flash.specs.declared.flash.FlashError.{FlashError}
-use Rattle.mc_walk.specs.Kind.{Kind, IsAt, IsNode, HasNext, GoesOn, CanReach, Reaches}
+use Rattle.mc_walk.specs.Kind.{Kind, HasSpare, telling, IsAt, IsNode, HasNext, GoesOn, CanReach, Reaches}
 use Rattle.mc_walk.specs.Stack.{path_of, AreSpent, IsLastOpen, AreFrames, Stacked, node_of, Stands, Comes, IsRoomy}
 use Rattle.mc_walk.specs.Walks.{walked, start_of, IsFresh, Begins, IsThere, IsGoing, IsSound, GoesDown, Climbs}
 use Rattle.mc_walk.specs.declared.frame.Frame.{Frame}
@@ -28,22 +28,32 @@ module _ {N A T : Type 0} (k : Kind N A T) where
     marks = omega (arith, r.marks, ap (λ (l : Limits). l.marks) e);
   }
 
-  -- Room for what is counted at so many levels, and for one level more.
+  -- Room for what is counted at so many levels, and to tell of a node.
   level_room : (bound level : ℕ) (counts more : Counts) (seen : Seen) → IsRoomy k bound seen → level ≤ bound → LeaveRoom counts more (times level k.most)
-      → LeaveRoom (plus counts more) k.most (room_of seen.ledger.limits)
+      → LeaveRoom (plus counts more) (times k.spare k.most) (room_of seen.ledger.limits)
   level_room bound level counts more seen r le h =
       let entries : level * k.most.entries ≤ bound * k.most.entries = mul-le-mul_right k.most.entries le in
       let saved : level * k.most.saved ≤ bound * k.most.saved = mul-le-mul_right k.most.saved le in
+      let all : (bound + k.spare) * k.most.entries ≡ bound * k.most.entries + k.spare * k.most.entries = omega arith in
+      let all_saved : (bound + k.spare) * k.most.saved ≡ bound * k.most.saved + k.spare * k.most.saved = omega arith in
+      record { entries = omega (arith, entries, r.entries, h.entries, all); saved = omega (arith, saved, r.saved, h.saved, all_saved) }
+
+  -- And to go to a child, where the bound allows it.
+  child_room : (bound level : ℕ) (counts : Counts) (seen : Seen) → IsRoomy k bound seen → level < bound → LeaveRoom counts no_counts (times level k.most)
+      → LeaveRoom counts k.most (room_of seen.ledger.limits)
+  child_room bound level counts seen r le h =
+      let entries : (level + 1) * k.most.entries ≤ (bound + k.spare) * k.most.entries = mul-le-mul_right k.most.entries (omega (arith, le)) in
+      let saved : (level + 1) * k.most.saved ≤ (bound + k.spare) * k.most.saved = mul-le-mul_right k.most.saved (omega (arith, le)) in
       record { entries = omega (arith, entries, r.entries, h.entries); saved = omega (arith, saved, r.saved, h.saved) }
 
   pub enter_room : (bound : ℕ) (start : Content) (seen : Seen) (fs : List (Frame A T)) (f : Frame A T) → Comes k start seen fs f → IsRoomy k bound seen → length fs < bound
-      → HasRoom k.most (marked seen)
+      → HasSpare k (marked seen)
   enter_room bound start seen fs f c r few =
       let n = length-stack k start seen.marks fs c.stacked in
       let room = level_room bound (length seen.marks) seen.ledger.counts (k.left f.at) seen r (omega (arith, n, few)) c.frame.room in
       record {
         allows = record { entries = omega (arith, room.entries); saved = omega (arith, room.saved) };
-        mark = omega (arith, n, few, r.marks, length-append seen.marks (spot_of seen ∷ []));
+        marks = omega (arith, n, few, r.marks, length-append seen.marks (spot_of seen ∷ []));
       }
 
   pub mark_room : (bound : ℕ) (start : Content) (seen : Seen) (fs : List (Frame A T)) (f : Frame A T) → Comes k start seen fs f → IsRoomy k bound seen → length fs < bound
@@ -162,13 +172,12 @@ module _ {N A T : Type 0} (k : Kind N A T) where
   here_node : (old : Seen) (fs : List (Frame A T)) (told : T) → Stands k (start_of old) old fs told → IsNode k (node_of k (start_of old) fs) told old
   here_node old fs told s = record { told_is = s.told_is; content_is = s.content_is; layout_is = s.layout_is }
 
-  pub can_reach : (bound number width : ℕ) (old : Seen) (fs : List (Frame A T)) (told : T) → IsGoing k bound old fs told
+  pub can_reach : (bound number width : ℕ) (old : Seen) (fs : List (Frame A T)) (told : T) → IsGoing k bound old fs told → length fs < bound
       → ((n : N) → k.IsTold n told → width ≡ k.tree.width n) → number < width → CanReach k number told old
-  can_reach bound number width old fs told go has lt =
+  can_reach bound number width old fs told go few has lt =
       let s = go.stands in
       let n : N = node_of k (start_of old) fs in
-      let room = level_room bound (length fs) old.ledger.counts no_counts old go.roomy go.few s.counts in
-      (n, here_node old fs told s, omega (arith, lt, has n s.told_is), record { entries = omega (arith, room.entries); saved = omega (arith, room.saved) })
+      (n, here_node old fs told s, omega (arith, lt, has n s.told_is), child_room bound (length fs) old.ledger.counts old go.roomy few s.counts)
 
   pub ready_down : (bound number width cost : ℕ) (old mid : Seen) (fs : List (Frame A T)) (told : T) (at : A) → IsGoing k bound old fs told → length fs < bound
       → ((n : N) → k.IsTold n told → width ≡ k.tree.width n) → number < width → Keeps old mid → Reaches k {E = FlashError} number told old (Ok at) mid → Spent cost old mid
@@ -204,7 +213,7 @@ module _ {N A T : Type 0} (k : Kind N A T) where
     pub ready_here : Comes k (start_of mid) mid fs f
     ready_here = subst (λ z. Comes k z mid fs f) (sym (started k (start_of old) mid fs r.comes.stacked)) r.comes
 
-    pub ready_room : HasRoom k.most (marked mid)
+    pub ready_room : HasSpare k (marked mid)
     ready_room = enter_room bound (start_of old) mid fs f r.comes (roomy_stays bound old mid r.spent.limits r.roomy) r.few
 
     pub ready_mark : length mid.marks < mid.ledger.limits.marks
@@ -222,7 +231,7 @@ module _ {N A T : Type 0} (k : Kind N A T) where
         layout_is = s.layout_is;
         room = record {
           allows = record { entries = omega (arith, room.entries); saved = omega (arith, room.saved) };
-          mark = omega (arith, going.few, going.roomy.marks, length-stack k (start_of seen) seen.marks fs s.stacked);
+          marks = omega (arith, going.few, going.roomy.marks, length-stack k (start_of seen) seen.marks fs s.stacked);
         };
       }
 
@@ -235,10 +244,10 @@ module _ {N A T : Type 0} (k : Kind N A T) where
   pub record Arrives (bound cost : ℕ) (old new : Seen) (all : List (Frame A T)) (told : T) : Type 0 where
     pub going : IsGoing k bound new all told
     pub start : start_of new ≡ start_of old
-    pub spent : Spent (cost + k.most.entries) old new
+    pub spent : Spent (cost + telling k) old new
 
   pub arrives : (bound cost : ℕ) (old mid new : Seen) (fs all : List (Frame A T)) (f : Frame A T) (told : T) → Ready bound cost old mid fs f → Stands k (start_of mid) new all told
-      → all ≡ fs ++ f ∷ [] → Spent k.most.entries mid new → Arrives bound cost old new all told
+      → all ≡ fs ++ f ∷ [] → Spent (telling k) mid new → Arrives bound cost old new all told
   arrives bound cost old mid new fs all f told r s a spent =
       let here = started k (start_of mid) new all s.stacked in
       record {
@@ -248,7 +257,7 @@ module _ {N A T : Type 0} (k : Kind N A T) where
           roomy = roomy_stays bound old new (spent.limits ∙ r.spent.limits) r.roomy;
         };
         start = here ∙ started k (start_of old) mid fs r.comes.stacked;
-        spent = spent_both cost k.most.entries old mid new r.spent spent;
+        spent = spent_both cost (telling k) old mid new r.spent spent;
       }
 
   pub gone_down : {B : Type 0} (b : B) (bound cost number : ℕ) (old new : Seen) (fs all : List (Frame A T)) (f : Frame A T) (told : T) (stood : Option T)

@@ -1,11 +1,11 @@
 -- A kind of tree over the contents of a flash.
-use Rattle.std.specs.Prelude.{◌≡◌, ℕ, ◌+◌, ◌<◌, Result, Ok, Err}
+use Rattle.std.specs.Prelude.{◌≡◌, ℕ, ◌+◌, ◌*◌, ◌<◌, ◌≤◌, length, Result, Ok, Err}
 use Rattle.mc_tree.specs.Tree.{Tree}
 use Rattle.mc_flash.specs.Content.{Content}
 use Rattle.mc_flash.specs.Geometry.{Geometry}
 use Rattle.mc_flash.specs.Ledger.{Counts}
 use Rattle.mc_flash.specs.Seen.{Seen}
-use Rattle.mc_flash.specs.Spends.{Allows, LeaveRoom, plus}
+use Rattle.mc_flash.specs.Spends.{Allows, LeaveRoom, plus, times}
 
 pub record Kind (N A T : Type 0) : Type 1 where
   pub tree : Tree N
@@ -20,8 +20,9 @@ pub record Kind (N A T : Type 0) : Type 1 where
   -- the most operations from one child to the next, and the counts that one on its way has left
   pub step : ℕ
   pub left : A → Counts
-  -- the most from a node to its last child, and to tell of it
+  -- the most from a node to its last child; and to tell of a node so many times that at most
   pub most : Counts
+  pub spare : ℕ
 
 module _ {N A T : Type 0} (k : Kind N A T) where
   -- That child is on its way, and the flash contains what it does there.
@@ -35,6 +36,15 @@ module _ {N A T : Type 0} (k : Kind N A T) where
     pub told_is : k.IsTold n told
     pub content_is : seen.content ≡ k.content n
     pub layout_is : seen.geometry ≡ k.geometry
+
+  -- There is room to tell of the node at which the flash stands.
+  pub record HasSpare (seen : Seen) : Type 0 where
+    pub allows : Allows (times k.spare k.most) seen
+    pub marks : length seen.marks + k.spare ≤ seen.ledger.limits.marks
+
+  -- The most operations to tell of a node.
+  abbrev pub telling : ℕ
+  telling = k.spare * k.most.entries
 
   abbrev pub HasWidth : T → ℕ → Type 0
   HasWidth told width = (n : N) → k.IsTold n told → width ≡ k.tree.width n

@@ -83,6 +83,6 @@ module _ {N A T : Type 0} (k : Kind N A T) where
 
   -- There is room for so many levels, and to tell of the last.
   pub record IsRoomy (bound : ℕ) (seen : Seen) : Type 0 where
-    pub entries : (bound + 1) * k.most.entries ≤ seen.ledger.limits.entries
-    pub saved : (bound + 1) * k.most.saved ≤ seen.ledger.limits.saved
-    pub marks : bound + 2 ≤ seen.ledger.limits.marks
+    pub entries : (bound + k.spare) * k.most.entries ≤ seen.ledger.limits.entries
+    pub saved : (bound + k.spare) * k.most.saved ≤ seen.ledger.limits.saved
+    pub marks : bound + 1 + k.spare ≤ seen.ledger.limits.marks

@@ -6,8 +6,7 @@ use Rattle.mc_tree.specs.facts.Order.{IsNextBeyond, NoneBeyond}
 use Rattle.mc_flash.specs.Content.{Content}
 use Rattle.mc_flash.specs.Ledger.{no_counts}
 use Rattle.mc_flash.specs.Seen.{Seen, spot_at, spot_of}
-use Rattle.mc_flash.specs.Spends.{HasRoom}
-use Rattle.mc_walk.specs.Kind.{Kind}
+use Rattle.mc_walk.specs.Kind.{Kind, HasSpare, telling}
 use Rattle.mc_walk.specs.Stack.{Stands, IsRoomy, path_of}
 use Rattle.mc_walk.specs.declared.frame.Frame.{Frame}
 
@@ -47,7 +46,7 @@ module _ {N A T B : Type 0} (k : Kind N A T) where
     pub told_is : k.IsTold (node_at w) told
     pub content_is : w.seen.content ≡ k.content (node_at w)
     pub layout_is : w.seen.geometry ≡ k.geometry
-    pub room : HasRoom k.most w.seen
+    pub room : HasSpare k w.seen
 
   -- The paths that it can take.
   abbrev pub IsPath : Walked B → List ℕ → Type 0
@@ -92,7 +91,7 @@ module _ {N A T B : Type 0} (k : Kind N A T) where
 module _ {N A T : Type 0} (k : Kind N A T) where
   -- The most operations to go to a child, and to tell of it; and along a path.
   abbrev pub child_cost : ℕ → ℕ
-  child_cost number = (number + 1) * k.step + k.most.entries
+  child_cost number = (number + 1) * k.step + telling k
 
   abbrev pub path_cost : List ℕ → ℕ
   path_cost [] = 0

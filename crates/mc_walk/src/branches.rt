@@ -6,8 +6,8 @@ use mc_flash::{Flash, FlashError};
 pub trait Branches: Copy {
     ghost use Rattle.std.specs.Prelude.{IfOk, OnOk};
     ghost use Rattle.mc_flash.specs.Seen.{Keeps};
-    ghost use Rattle.mc_flash.specs.Spends.{Spends, Stays, HasRoom};
-    ghost use Rattle.mc_walk.specs.Kind.{Kind, CanReach, Reaches, HasNext, GoesOn, IsRoot, TellsRoot, IsChild, TellsChild, HasWidth};
+    ghost use Rattle.mc_flash.specs.Spends.{Spends, Stays};
+    ghost use Rattle.mc_walk.specs.Kind.{Kind, CanReach, Reaches, HasNext, GoesOn, IsRoot, TellsRoot, IsChild, TellsChild, HasWidth, HasSpare, telling};
 
     ghost Node: { Type 0 };
 
@@ -42,10 +42,10 @@ pub trait Branches: Copy {
     /// What is told of the root at which the flash stands.
     fn root<F: Flash>(self, flash: &mut F) -> Result<Self::Told, FlashError>
         requires root { IsRoot (kind self) (F.seen flash.old) }
-        requires room { HasRoom (kind self).most (F.seen flash.old) }
+        requires room { HasSpare (kind self) (F.seen flash.old) }
         ensures tells { IfOk result (TellsRoot (kind self) (F.seen flash.old)) }
         ensures stays { OnOk result (Stays (F.seen flash.old) (F.seen flash.new)) }
-        ensures spends { Spends (kind self).most.entries (F.seen flash.old) result
+        ensures spends { Spends (telling (kind self)) (F.seen flash.old) result
             (F.seen flash.new) };
 
     /// What is told of a child on its way, where that was told of its parent.
@@ -56,9 +56,9 @@ pub trait Branches: Copy {
         parent: &Self::Told,
     ) -> Result<Self::Told, FlashError>
         requires child { IsChild (kind self) at.now parent.now (F.seen flash.old) }
-        requires room { HasRoom (kind self).most (F.seen flash.old) }
+        requires room { HasSpare (kind self) (F.seen flash.old) }
         ensures tells { IfOk result (TellsChild (kind self) at.now parent.now (F.seen flash.old)) }
         ensures stays { OnOk result (Stays (F.seen flash.old) (F.seen flash.new)) }
-        ensures spends { Spends (kind self).most.entries (F.seen flash.old) result
+        ensures spends { Spends (telling (kind self)) (F.seen flash.old) result
             (F.seen flash.new) };
 }

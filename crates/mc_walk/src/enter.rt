@@ -2,7 +2,8 @@
 ghost use Rattle.std.specs.Prelude.{◌≡◌, ◌<◌, ◌≤◌, ◌++◌, [], ◌∷◌, IfOk, OnOk, length, vec_len};
 ghost use Rattle.std.specs.Vec.{vec_capacity};
 ghost use Rattle.mc_flash.specs.Seen.{marked};
-ghost use Rattle.mc_flash.specs.Spends.{Spends, HasRoom};
+ghost use Rattle.mc_flash.specs.Spends.{Spends};
+ghost use Rattle.mc_walk.specs.Kind.{HasSpare, telling};
 ghost use Rattle.mc_walk.specs.Stack.{Comes, Stands};
 ghost use Rattle.mc_walk.specs.Walks.{start_of};
 
@@ -19,14 +20,14 @@ pub(crate) fn enter<F: Flash, B: Branches>(
 ) -> Result<B::Told, FlashError>
     requires comes { Comes (B.kind branches) (start_of (F.seen flash.old)) (F.seen flash.old)
         frames.old.items frame }
-    requires room { HasRoom (B.kind branches).most (marked (F.seen flash.old)) }
+    requires room { HasSpare (B.kind branches) (marked (F.seen flash.old)) }
     requires mark { length (F.seen flash.old).marks < (F.seen flash.old).ledger.limits.marks }
     requires capacity { vec_len frames.old < vec_capacity frames.old }
     ensures stands { IfOk result (Stands (B.kind branches) (start_of (F.seen flash.old))
         (F.seen flash.new) frames.new.items) }
     ensures frames { OnOk result (frames.new.items ≡ frames.old.items ++ frame ∷ []) }
     ensures capacity { vec_capacity frames.old ≤ vec_capacity frames.new }
-    ensures spends { Spends (B.kind branches).most.entries (F.seen flash.old) result
+    ensures spends { Spends (telling (B.kind branches)) (F.seen flash.old) result
         (F.seen flash.new) }
 {
     flash.mark()?;

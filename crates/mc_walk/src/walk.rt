@@ -1,6 +1,7 @@
 //! A walk through a tree.
 ghost use Rattle.std.specs.Prelude.{◌≡◌, ◌≤◌, [], is_some, IfOk, IfSome, true, false};
 ghost use Rattle.mc_flash.specs.Spends.{Spends, Spent};
+ghost use Rattle.mc_walk.specs.Kind.{telling};
 ghost use Rattle.mc_walk.specs.Walks.{IsClear, IsFresh, IsOf, Begins, GoesDown, Climbs, Advances, Follows, IsThere, child_cost, path_cost};
 
 use crate::Branches;
@@ -75,7 +76,7 @@ impl<F: Flash, B: Branches> Walk<F, B> {
         requires { IsFresh (B.kind self.old.branches) self.old }
         ensures begins { IfOk result (λ told. Begins (B.kind self.old.branches) self.old told
             self.new) }
-        ensures spends { Spends (B.kind self.old.branches).most.entries self.old.seen result
+        ensures spends { Spends (telling (B.kind self.old.branches)) self.old.seen result
             self.new.seen }
     {
         self.told = None;

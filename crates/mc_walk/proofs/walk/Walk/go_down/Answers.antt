@@ -58,7 +58,7 @@ pub reach-requires : goal.reach-requires
 reach-requires g c =
     let w = c.self.inside in
     let s = (goal.at.reach-requires g c).In-Some in
-    can_reach (g.B.Branches.kind w.branches) w.bound c.args.number c.width.result _ w.frames.items c.in-Some.told (going g s) c.width.ensures c.if-number-width.false
+    can_reach (g.B.Branches.kind w.branches) w.bound c.args.number c.width.result _ w.frames.items c.in-Some.told (going g s) (omega (arith, c.len.ensures, w.frames.ok.0, c.if-len-self.false)) c.width.ensures c.if-number-width.false
 
 pub enter-requires : goal.enter-requires
 enter-requires g c =
