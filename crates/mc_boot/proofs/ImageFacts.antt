@@ -14,14 +14,6 @@ use Rattle.mc_boot.specs.declared.image.Images.{Images}
 use Rattle.mc_boot.specs.declared.image.ImageId.{ImageId}
 use Rattle.mc_boot.specs.Image.{image_size, images_of, identity_of}
 
--- an image is no longer than the bytes that begin with it
-pub front_within : (b : List ℕ) (v : Image) → Begins b v → length (image_text v) ≤ length b
-front_within b v begins = omega (arith, ap (λ (xs : List ℕ). length xs) begins.front.1, length-append (image_text v) begins.front.0)
-
-pub size_read : (b : List ℕ) → first_fault b ≡ None → length (image_text (image_in b)) ≡ image_size b
-unfolding image_size
-size_read b none = rw none refl
-
 pub size_refused : (b : List ℕ) (e : ImageError) → first_fault b ≡ Some e → 0 ≡ image_size b
 unfolding image_size
 size_refused b e some = rw some refl

@@ -19,6 +19,7 @@ use Rattle.mc_boot.specs.RunFacts.{left_defined}
 use Rattle.mc_boot.specs.Runs.{after, is_faulted, left_by, ops_of}
 use Rattle.mc_boot.specs.Start.{StartKind, image_bytes, named, no_swap, other, perm, perm_flash, placed, revert, start_flash, test, test_flash}
 use Rattle.mc_boot.specs.declared.outcome.BootResult.{BootResult}
+use Rattle.mc_flash.specs.Changes.{same_content}
 use Rattle.mc_flash.specs.Content.{Content}
 use Rattle.mc_flash.specs.Geometry.{Geometry, IsLayout}
 use Rattle.mc_flash.specs.Pieces.{in_pieces}
@@ -227,9 +228,6 @@ revert_law c p g a b s u size n cuts keeps from is =
     from.secondary from.primary is
 
 -- for every kind
-same_content : (s t : Content) → Some s ≡ Some t → s ≡ t
-same_content s t e = cc
-
 law_none : (r : Rules) (g : Geometry) (a b : List ℕ) (s u : Content) (cuts : List ℕ) → ImageLaws → IsLayout g → BeginsImage g a → BeginsImage g b → placed g (image_bytes a) (image_bytes b) ≡ s → after r g s cuts ≡ Some u → (z : Content) × EndsIn r g no_swap a b s u z
 law_none r g a b s u cuts laws ok at_a at_b start is =
     let h = placed_holds g a b laws ok at_a at_b in

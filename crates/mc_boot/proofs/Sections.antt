@@ -95,13 +95,6 @@ few_transfers g n first ok fits =
         let more : q * 1 ≤ q * g.chunk = mul-le-mul_left q (omega (arith, some)) in
         omega (arith, more, e, big)
 
-pub few_trailer_sectors : (g : Geometry) → IsLayout g → trailer_sectors g ≤ 262144
-few_trailer_sectors g ok =
-    let leaves = trailer_leaves_one g Primary ok in
-    let size = ok.size in
-    let rows : g.primary * 64 ≤ g.primary * g.sector = mul-le-mul_left g.primary ok.least_sector in
-    omega (arith, leaves, size, rows)
-
 pub length-swap_list : (c : Grain) (g : Geometry) (kind : SwapType) (size n : ℕ) → length (swap_list c g kind size n) ≡ trailer_sectors g + (length (opening_writes c g kind size) + length (resumed_list g n 0 true false))
 length-swap_list c g kind size n =
     length-erases g Primary (opening_writes c g kind size ++ resumed_list g n 0 true false)

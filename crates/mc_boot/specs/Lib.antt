@@ -1,4 +1,5 @@
 pub mod Image
+pub mod SizeFacts
 pub mod Transfers
 pub mod Writes
 pub mod Course

@@ -1,5 +1,5 @@
 //! What a boot asks of the images at the start of the slots.
-ghost use Rattle.std.specs.Prelude.{◌≡◌, ◌≤◌, ◌^◌, length, max, option_map};
+ghost use Rattle.std.specs.Prelude.{◌≡◌, ◌<◌, ◌≤◌, ◌^◌, length, max, option_map};
 ghost use Rattle.mc_flash.specs.Content.{bytes_of};
 ghost use Rattle.std.specs.Option.{is_some};
 ghost use Rattle.mc_image.specs.Image.{Begins, image_text};
@@ -53,7 +53,7 @@ fn view_size(bytes: &[u8], view: &ImageView<'_>) -> u32
 }
 
 /// The size of the image that the bytes begin with, by structure alone; 0 where they begin with none.
-#[tactic(auto, using(crate::proofs::ImageFacts::size_read, crate::proofs::ImageFacts::size_refused))]
+#[tactic(auto, using(crate::specs::SizeFacts::size_read, crate::proofs::ImageFacts::size_refused))]
 pub fn image_size(bytes: &[u8]) -> u32
     requires { length bytes.now ≤ 2 ^ 24 }
     ensures { result ≡ image_size bytes.now }
@@ -64,23 +64,25 @@ pub fn image_size(bytes: &[u8]) -> u32
     }
 }
 
-/// What tells an image apart, of that size.
-fn identity(view: &ImageView<'_>, size: u32) -> ImageId
-    requires { size ≡ length (image_text view.now) }
-    ensures { identity_of result ≡ identity view.now }
-{
-    let mut digest = [0; 32];
-    digest.copy_from_slice(view.digest());
-    ImageId {
-        version: view.version(),
-        size,
-        digest,
+impl ImageId {
+    /// What tells the image of a view apart.
+    pub fn of(view: &ImageView<'_>) -> ImageId
+        requires { length (image_text view.now) < 2 ^ 32 }
+        ensures { identity_of result ≡ identity view.now }
+    {
+        let mut digest = [0; 32];
+        digest.copy_from_slice(view.digest());
+        ImageId {
+            version: view.version(),
+            size: view.size() as u32,
+            digest,
+        }
     }
 }
 
 impl Held {
     /// The image that the bytes begin with, read and hashed once.
-    #[tactic(auto, using(crate::proofs::ImageFacts::size_read, crate::proofs::ImageFacts::size_refused, crate::proofs::ImageFacts::id_good, crate::proofs::ImageFacts::id_bad, crate::proofs::ImageFacts::id_refused))]
+    #[tactic(auto, using(crate::specs::SizeFacts::size_read, crate::proofs::ImageFacts::size_refused, crate::proofs::ImageFacts::id_good, crate::proofs::ImageFacts::id_bad, crate::proofs::ImageFacts::id_refused))]
     pub fn read(bytes: &[u8]) -> Held
         requires { length bytes.now ≤ 2 ^ 24 }
         ensures size { result.size ≡ image_size bytes.now }
@@ -93,7 +95,7 @@ impl Held {
         match view.check() {
             Ok(()) => Held {
                 size,
-                id: Some(identity(&view, size)),
+                id: Some(ImageId::of(&view)),
             },
             Err(_) => Held { size, id: None },
         }

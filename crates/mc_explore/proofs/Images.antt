@@ -6,7 +6,9 @@ use Rattle.mc_image.specs.Faults.{◌<+>◌, first_fault}
 use Rattle.mc_image.specs.Image.{Image, Begins, image_in, image_text}
 use Rattle.mc_image.specs.Valid.{Identity, id_of, image_fault}
 use Rattle.mc_image.specs.declared.error.ImageError.{ImageError}
+use Rattle.mc_image.specs.ValidFacts.{front_within}
 use Rattle.mc_boot.specs.Image.{image_size, identity_of}
+use Rattle.mc_boot.specs.SizeFacts.{size_read}
 use Rattle.mc_boot.specs.declared.image.ImageId.{ImageId}
 use Rattle.mc_explore.specs.Slots.{kind_of}
 use Rattle.mc_explore.specs.Start.{in_order, named_ids}
@@ -21,14 +23,6 @@ none_first (Some e) p is = absurd cc
 pub no_fault : (b : List ℕ) → image_fault b ≡ None → first_fault b ≡ None
 unfolding image_fault
 no_fault b is = none_first (first_fault b) _ is
-
-pub size_read : (b : List ℕ) → first_fault b ≡ None → length (image_text (image_in b)) ≡ image_size b
-unfolding image_size
-size_read b none = rw none refl
-
--- An image is no longer than the bytes that begin with it.
-front_within : (b : List ℕ) (v : Image) → Begins b v → length (image_text v) ≤ length b
-front_within b v begins = omega (arith, ap (λ (xs : List ℕ). length xs) begins.front.1, length-append (image_text v) begins.front.0)
 
 -- The image that was read has that size, and its bytes are the front of that size.
 pub read_size : (b : List ℕ) (v : Image) → image_fault b ≡ None → v ≡ image_in b → length (image_text v) ≡ image_size b

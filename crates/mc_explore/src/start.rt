@@ -158,13 +158,7 @@ impl<'a> ValidImage<'a> {
         requires { length (image_text self.now.view) ≤ 2 ^ 24 }
         ensures { identity_of result ≡ identity self.now.view }
     {
-        let mut digest = [0; 32];
-        digest.copy_from_slice(self.view.digest());
-        ImageId {
-            version: self.view.version(),
-            size: self.view.size() as u32,
-            digest,
-        }
+        ImageId::of(&self.view)
     }
 }
 

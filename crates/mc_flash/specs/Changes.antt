@@ -97,7 +97,7 @@ pub sized_is : (g : Geometry) (s : Content) (slot : Slot) → IsSized g s → le
 sized_is g s Primary sized = sized.primary
 sized_is g s Secondary sized = sized.secondary
 
-same_content : (s t : Content) → Some s ≡ Some t → s ≡ t
+pub same_content : (s t : Content) → Some s ≡ Some t → s ≡ t
 same_content s t e = cc
 
 -- Every erase of a sector of the slot is defined, and changes that sector alone.

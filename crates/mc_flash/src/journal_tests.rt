@@ -59,6 +59,7 @@ fn a_journal_has_room_for_boots(rt: HostRuntime) -> Result<(), Fail> {
 }
 
 #[test]
+#[tactic(auto, using(crate::specs::DoneFacts::does_keep), unfolding(crate::specs::Seen::went_back))]
 fn operations_are_counted_and_taken_back(rt: HostRuntime) -> Result<(), Fail> {
     let mut flash = loaded(rt.alloc(), 3)?;
     assert_eq!(rt; counts(&flash), [0, 0, 0, 0]);
@@ -86,6 +87,7 @@ fn operations_are_counted_and_taken_back(rt: HostRuntime) -> Result<(), Fail> {
 
 /// The most erases of a boot, and the place for one mark more.
 #[test]
+#[tactic(auto, using(crate::specs::DoneFacts::does_keep), unfolding(crate::specs::Seen::went_back))]
 fn a_full_journal_refuses(rt: HostRuntime) -> Result<(), Fail> {
     let mut flash = loaded(rt.alloc(), 1)?;
     for place in 0..2usize {

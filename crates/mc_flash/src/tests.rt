@@ -167,14 +167,15 @@ const UNIT: [u8; 8] = [1, 2, 3, 4, 5, 6, 7, 8];
 
 /// A flash of the worked layout: the primary is blank, and the secondary holds 0xaa.
 fn loaded<F: Flash>(alloc: Global) -> Result<F, Fail>
-    ensures geometry { IfOk result (λ flash. F.geometry flash ≡ worked) }
-    ensures marks { IfOk result (λ flash. F.marks flash ≡ []) }
+    ensures geometry { IfOk result (λ flash. (F.seen flash).geometry ≡ worked) }
+    ensures marks { IfOk result (λ flash. (F.seen flash).marks ≡ []) }
 {
     let layout = worked()?;
     let flash = F::load(alloc, &layout, Grain::Call, &[0xff; 1024], &[0xaa; 768], 1)?;
     Ok(flash)
 }
 
+#[tactic(auto, using(crate::specs::DoneFacts::does_keep), unfolding(crate::specs::Seen::went_back))]
 fn bytes_are_programmed<F: Flash>(rt: &impl Abort, alloc: Global) -> Result<(), Fail> {
     let mut flash = loaded::<F>(alloc)?;
     assert_eq!(rt; flash.layout().sector(), 256);
@@ -187,6 +188,7 @@ fn bytes_are_programmed<F: Flash>(rt: &impl Abort, alloc: Global) -> Result<(), 
     Ok(())
 }
 
+#[tactic(auto, using(crate::specs::DoneFacts::does_keep), unfolding(crate::specs::Seen::went_back))]
 fn bytes_are_copied<F: Flash>(rt: &impl Abort, alloc: Global) -> Result<(), Fail> {
     let mut flash = loaded::<F>(alloc)?;
     flash.copy(Slot::Secondary, 8, Slot::Primary, 256, 128)?;
@@ -201,6 +203,7 @@ fn bytes_are_copied<F: Flash>(rt: &impl Abort, alloc: Global) -> Result<(), Fail
     Ok(())
 }
 
+#[tactic(auto, using(crate::specs::DoneFacts::does_keep), unfolding(crate::specs::Seen::went_back))]
 fn marks_are_given_back<F: Flash>(rt: &impl Abort, alloc: Global) -> Result<(), Fail> {
     let mut flash = loaded::<F>(alloc)?;
     assert_eq!(rt; flash.mark()?, 0);

@@ -12,15 +12,9 @@ use Rattle.mc_image.specs.Faults.{fault_if, ◌<+>◌, first_fault}
 use Rattle.mc_image.specs.Valid.{IsValid, Identity, identity, is_good, is_valid, id_of, image_fault}
 use Rattle.mc_image.specs.declared.error.ImageError.{ImageError}
 use Rattle.mc_image.specs.declared.error.ImageError.TheVariants.{WrongDigest}
+use Rattle.mc_image.specs.ValidFacts.{test_good, good_true}
+use Rattle.mc_image.proofs.Sound.{none_both, both_none}
 use Rattle.mc_image.proofs.ImageLaws.{begins_is, begins_none, begins_one}
-
-pub good_true : (v : Image) → is_good v ≡ true → IsGood v
-unfolding is_good
-good_true v e = (bytes_eq-Decides (digest_of v) (sha256 (covered_text v))).0 e
-
-pub true_good : (v : Image) → IsGood v → is_good v ≡ true
-unfolding is_good
-true_good v g = (bytes_eq-Decides (digest_of v) (sha256 (covered_text v))).1 g
 
 none_true : {A : Type 0} (o : Option A) → is_none o ≡ true → o ≡ None
 none_true None e = refl
@@ -37,14 +31,14 @@ pub valid_true : (b : List ℕ) → IsBytes b → is_valid b ≡ true → IsVali
 unfolding is_valid
 valid_true b h e =
     let p = and_parts (is_none (first_fault b)) (is_good (image_in b)) e in
-    record { image = image_in b; begins = begins_is b h (none_true _ p.0); good = good_true _ p.1 }
+    record { image = image_in b; begins = begins_is b h (none_true _ p.0); good = test_good _ p.1 }
 
 -- the image of a valid front is the one that is read there
 image_is : (b : List ℕ) (h : IsValid b) → image_in b ≡ h.image
 image_is b h = begins_one b h.image h.begins
 
 good_in : (b : List ℕ) → IsValid b → is_good (image_in b) ≡ true
-good_in b h = ap is_good (image_is b h) ∙ true_good h.image h.good
+good_in b h = ap is_good (image_is b h) ∙ good_true h.image h.good
 
 pub true_valid : (b : List ℕ) → IsValid b → is_valid b ≡ true
 unfolding is_valid
@@ -62,13 +56,6 @@ id_none b h bytes =
       | false ↦ λ e. refl
     ] refl
 
-none_both : (o p : Option ImageError) → (o <+> p) ≡ None → (o ≡ None) × (p ≡ None)
-none_both None p e = (refl, e)
-none_both (Some x) p e = absurd cc
-
-both_none : (o p : Option ImageError) → o ≡ None → p ≡ None → (o <+> p) ≡ None
-both_none o p e f = rw e f
-
 not_faulty : (t : Bool) → fault_if (not t) WrongDigest ≡ None → t ≡ true
 not_faulty true e = refl
 not_faulty false e = absurd cc
@@ -77,7 +64,7 @@ pub fault_valid : (b : List ℕ) → IsBytes b → image_fault b ≡ None → Is
 unfolding image_fault
 fault_valid b h e =
     let p = none_both (first_fault b) _ e in
-    record { image = image_in b; begins = begins_is b h p.0; good = good_true _ (not_faulty _ p.1) }
+    record { image = image_in b; begins = begins_is b h p.0; good = test_good _ (not_faulty _ p.1) }
 
 pub valid_fault : (b : List ℕ) → IsValid b → image_fault b ≡ None
 unfolding image_fault

@@ -17,11 +17,11 @@ use Rattle.mc_image.specs.declared.error.ImageError.TheVariants.{WrongDigest, Ba
 use Rattle.mc_image.specs.declared.judge.Judged.{Judged}
 use Rattle.mc_image.specs.declared.judge.Sealed.{Sealed}
 use Rattle.mc_image.specs.declared.version.Version.{Version}
-use Rattle.mc_image.proofs.Checked.{good_false, from_parts}
+use Rattle.mc_image.proofs.Checked.{from_parts}
 use Rattle.mc_image.proofs.FrontLaws.{fault_verdict, fault_behind, after_is, body_whole, version_more, header_ends, protected_end_more}
 use Rattle.mc_image.proofs.ImageLaws.{cut_is, reading, size_is}
 use Rattle.mc_image.proofs.PlainLaws.{plain_entries, plain_short, digest_good}
-use Rattle.mc_image.proofs.ValidLaws.{true_good}
+use Rattle.mc_image.specs.ValidFacts.{good_false, good_true}
 use Rattle.mc_image.proofs.WalkLaws.{u16_more}
 
 -- a head stays without a fault, whatever follows
@@ -139,7 +139,7 @@ module _ (s : Sealed) (body : List ℕ) (is : IsSealed s body) (t : ℕ) (walk :
     digest_right n same is_size =
         let b : List ℕ = body ++ (area ++ more) in
         let good : IsGood (image_in b) = digest_is d one ∙ sym same ∙ is.digest ∙ sym (ap sha256 covered) in
-        ap (judged_or_fault (image_in b)) (from_parts b true (none_is d filled one len) (true_good (image_in b) good))
+        ap (judged_or_fault (image_in b)) (from_parts b true (none_is d filled one len) (good_true (image_in b) good))
         ∙ same_judged version_is (size ∙ sym is_size) (digest_is d one)
 
 -- the length of a body

@@ -5,6 +5,7 @@ pub mod Headers
 pub mod Faults
 pub mod Gathered
 pub mod Valid
+pub mod ValidFacts
 pub mod Judging
 pub mod Listing
 pub mod Walking

@@ -2,5 +2,4 @@ pub mod Streams
 pub mod Answering
 pub mod Wanted
 pub mod Judging
-pub mod FaultLaws
 pub mod CreatedLaws

@@ -1,4 +1,4 @@
-use Rattle.std.proofs.Common.{◌≡◌, ◌≤◌, arith, ap, sym, ◌∙◌, take, drop, length, refl}
+use Rattle.std.proofs.Common.{◌≤◌, arith, ap, sym, ◌∙◌, take, drop, length}
 use Rattle.std.proofs.lemmas.List.{take_rest}
 use Rattle.std.proofs.lemmas.Result.{err_from_is_err_and}
 use Rattle.mc_image.specs.Bytes.{u16_at}

@@ -1,4 +1,4 @@
-use Rattle.std.proofs.Common.{sym, ap}
+use Rattle.std.proofs.Common.{sym}
 use Rattle.mc_image.proofs.AreaLaws.{bad_short, bad_head, bad_entries}
 use Rattle.mc_image.proofs.areas.ProtectedArea.is_bad.Goals as goal
 

@@ -1,4 +1,4 @@
-use Rattle.std.proofs.Common.{◌≡◌, ◌-◌, arith, sym, ap, ◌∙◌, length, take, drop, [], subst, List, ℕ}
+use Rattle.std.proofs.Common.{arith, sym, ◌∙◌, length, subst, List, ℕ}
 use Rattle.std.proofs.lemmas.List.{take_rest, drop_all}
 use Rattle.mc_image.specs.Judging.{Judges}
 use Rattle.mc_image.specs.Walking.{Goes}

@@ -1,4 +1,4 @@
-use Rattle.std.proofs.Common.{◌≡◌, ◌≤◌, ◌+◌, arith, sym, ap, ◌∙◌, length, None, Some, subst, List, ℕ}
+use Rattle.std.proofs.Common.{arith, sym, ap, ◌∙◌, subst, List, ℕ}
 use Rattle.mc_image.specs.Faults.{header_fault}
 use Rattle.mc_image.specs.Judging.{HasHeader}
 use Rattle.mc_image.proofs.FrontLaws.{header_ends, header_error}

@@ -1,8 +1,8 @@
-use Rattle.std.proofs.Common.{◌≡◌, ◌++◌, arith, refl, sym, ap, ◌∙◌, length, subst, append_assoc, List, ℕ}
+use Rattle.std.proofs.Common.{◌++◌, arith, sym, ap, ◌∙◌, subst, append_assoc, List, ℕ}
 use Rattle.std.proofs.lemmas.List.{drop_all}
 use Rattle.mc_image.specs.Bytes.{u16_at}
 use Rattle.mc_image.specs.Headers.{head_fault}
-use Rattle.mc_image.specs.Judging.{verdict, IsPlain}
+use Rattle.mc_image.specs.Judging.{verdict}
 use Rattle.mc_image.specs.Walking.{Walks}
 use Rattle.mc_image.proofs.FrontLaws.{plain_error}
 use Rattle.mc_image.proofs.PlainLaws.{head_first}

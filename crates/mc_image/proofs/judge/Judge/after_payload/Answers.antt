@@ -1,4 +1,4 @@
-use Rattle.std.proofs.Common.{◌≡◌, arith, sym, ◌∙◌}
+use Rattle.std.proofs.Common.{arith, sym, ◌∙◌}
 use Rattle.mc_image.proofs.FrontLaws.{header_ends, protected_none}
 use Rattle.mc_image.proofs.judge.Judge.after_payload.Goals as goal
 

@@ -1,4 +1,4 @@
-use Rattle.std.proofs.Common.{rules, ◌≡◌, ◌++◌}
+use Rattle.std.proofs.Common.{rules, ◌++◌}
 use Rattle.mc_image.specs.Judging.{Judges}
 use Rattle.mc_image.proofs.WalkSteps.{gone_on, gone_all}
 use Rattle.mc_image.proofs.judge.Judge.feed.Goals as goal

@@ -1,4 +1,4 @@
-use Rattle.std.proofs.Common.{◌≡◌, ◌++◌, arith, refl, sym, ap, ◌∙◌, length, subst, append_assoc, List, ℕ}
+use Rattle.std.proofs.Common.{◌≡◌, arith, refl, ap, ◌∙◌, subst, append_assoc, List, ℕ}
 use Rattle.mc_image.specs.Bytes.{IsBytes}
 use Rattle.mc_image.specs.Judging.{verdict, IsPlain}
 use Rattle.mc_image.proofs.judge.Judge.go_on.Goals as goal

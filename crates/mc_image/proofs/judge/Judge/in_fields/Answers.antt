@@ -1,7 +1,6 @@
-use Rattle.std.proofs.Common.{◌≡◌, ◌<◌, ◌-◌, ◌++◌, arith, sym, ap, ◌∙◌, length, take, subst, List, ℕ, length-append}
+use Rattle.std.proofs.Common.{◌<◌, ◌-◌, ◌++◌, arith, sym, ap, ◌∙◌, length, take, subst, List, ℕ}
 use Rattle.std.proofs.lemmas.Bool.{eqb-true, eqb-false}
 use Rattle.sha2.specs.Hashers.{Holds256}
-use Rattle.mc_image.specs.Bytes.{IsBytes}
 use Rattle.mc_image.specs.Gathered.{held}
 use Rattle.mc_image.proofs.NumberLaws.{IsBytes-take}
 use Rattle.mc_image.proofs.JudgeSteps.{at_stage, takes_bytes, gather_takes, gather_more}

@@ -1,7 +1,4 @@
-use Rattle.std.proofs.Common.{◌≡◌, ◌<◌, ◌≤◌, ◌-◌, ◌++◌, arith, sym, ap, ◌∙◌, length, take, subst, List, ℕ, length-append}
-use Rattle.sha2.specs.Hashers.{Holds256}
-use Rattle.mc_image.specs.Bytes.{IsBytes}
-use Rattle.mc_image.specs.Image.{payload_end}
+use Rattle.std.proofs.Common.{◌++◌, arith}
 use Rattle.mc_image.proofs.FrontLaws.{has_header_more}
 use Rattle.mc_image.proofs.JudgeSteps.{at_stage, takes_bytes, split_bytes, payload_more}
 use Rattle.mc_image.proofs.judge.Judge.in_payload.Goals as goal

@@ -1,4 +1,4 @@
-use Rattle.std.proofs.Common.{◌≡◌, ◌<◌, ◌≤◌, ◌-◌, ◌++◌, arith, sym, ap, ◌∙◌, length, take, subst, List, ℕ, append_assoc}
+use Rattle.std.proofs.Common.{◌-◌, ◌++◌, arith, sym, ap, ◌∙◌, subst, List, ℕ, append_assoc}
 use Rattle.mc_image.specs.Bytes.{IsBytes}
 use Rattle.mc_image.specs.Judging.{IsPlain, Judges}
 use Rattle.mc_image.proofs.JudgeSteps.{at_stage, takes_bytes, split_bytes, plain_more}

@@ -1,4 +1,4 @@
-use Rattle.std.proofs.Common.{◌≡◌, ◌<◌, ◌≤◌, ◌-◌, ◌++◌, arith, sym, ap, ◌∙◌, length, take, subst, List, ℕ, append_assoc}
+use Rattle.std.proofs.Common.{◌<◌, ◌-◌, ◌++◌, arith, sym, ap, ◌∙◌, length, take, subst, List, ℕ, append_assoc}
 use Rattle.std.proofs.lemmas.Bool.{eqb-true, eqb-false}
 use Rattle.mc_image.specs.Bytes.{IsBytes}
 use Rattle.mc_image.specs.Gathered.{held}

@@ -1,7 +1,5 @@
-use Rattle.std.proofs.Common.{◌≡◌, ◌<◌, ◌≤◌, ◌-◌, ◌++◌, arith, sym, ap, ◌∙◌, length, take, subst, List, ℕ, length-append, true, false, []}
+use Rattle.std.proofs.Common.{◌≡◌, ◌-◌, ◌++◌, arith, sym, ap, ◌∙◌, length, subst, List, ℕ, false, []}
 use Rattle.std.proofs.lemmas.List.{append-nil}
-use Rattle.sha2.specs.Hashers.{Holds256}
-use Rattle.mc_image.specs.Bytes.{IsBytes}
 use Rattle.mc_image.specs.Image.{protected_end}
 use Rattle.mc_image.specs.Faults.{protected_fault}
 use Rattle.mc_image.specs.Judging.{verdict, HasHeader, IsProtected}
