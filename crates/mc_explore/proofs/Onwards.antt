@@ -1,5 +1,5 @@
 -- From one cut of a boot to the next, and what is told of the flash there.
-use Rattle.std.specs.Prelude.{◌≡◌, ℕ, ◌+◌, ◌<◌, ◌≤◌, List, [], ◌∷◌, length, Option, Some, None, Result, Ok, Err, IfOk, option_map, refl}
+use Rattle.std.specs.Prelude.{◌≡◌, ℕ, ◌+◌, ◌<◌, ◌≤◌, List, [], ◌∷◌, length, Option, Some, None, Result, Ok, Err, IfErr, IfOk, option_map, refl}
 use Rattle.std.proofs.Common.{arith, sym, ap, subst, ◌∙◌}
 use Rattle.mc_flash.specs.Content.{Content, IsSized}
 use Rattle.mc_flash.specs.Geometry.{Geometry}
@@ -159,6 +159,17 @@ module _ (r : Rules) (g : Geometry) where
   next_spends b b' old new (Err errors.Memory) has steps come =
       let P : Geometry → Type 0 = λ x. LeaveRoom old.ledger.counts (left_of x (progress b)) (room_of old.ledger.limits) in
       step_ran_out (progress b) (progress b') old new (Err errors.Memory) refl steps (subst P (sym has.2.layout_is) has.4)
+
+  -- A step that fails has wanted memory.
+  pub next_wants : (b b' : Boot) (old new : Seen) (result : Result (Unit {0}) FlashError) → HasNext (once r g) b old → Steps (progress b) old result (progress b') new
+      → ((x : Rules) (s : Content) → HasCome x old.geometry s (progress b) old.content → HasCome x old.geometry s (progress b') new.content)
+      → IfErr result (λ e. e ≡ errors.Memory)
+  next_wants b b' old new (Ok v) has steps come = tt
+  next_wants b b' old new (Err errors.Memory) has steps come = refl
+  next_wants b b' old new (Err errors.NotErased) has steps come =
+      let early : has.1 < length (ops_of r g has.0) = omega (arith, has.3) in
+      let came = come r has.0 (come_here has.0 has.1 b b' old new has.2 early) in
+      absurd (not_refused has.0 has.1 b b' old new has.2 early (Err errors.NotErased) steps came refl)
 
   -- ---- what is told of a flash
 

@@ -1,6 +1,6 @@
 //! The tree of boots that are cut: a node is what a flash contains, and its child of a number is what the boot from there
 //! leaves that is cut before its operation of that number.
-ghost use Rattle.std.specs.Prelude.{◌≡◌, length, IfOk, OnOk};
+ghost use Rattle.std.specs.Prelude.{◌≡◌, length, IfOk, IfErr, OnOk};
 ghost use Rattle.mc_flash.specs.Content.{Content};
 ghost use Rattle.mc_flash.specs.Spends.{Spends, Stays, HasRoom};
 ghost use Rattle.mc_boot.specs.Boot.{progress, to_come, IsBootOf};
@@ -36,6 +36,7 @@ fn tell<F: Flash>(flash: &mut F, boot: Boot) -> Result<Told, FlashError>
         told.outcome) }
     ensures stays { OnOk result (Stays (F.seen flash.old) (F.seen flash.new)) }
     ensures spends { Spends (length (to_come boot)) (F.seen flash.old) result (F.seen flash.new) }
+    ensures err { IfErr result (λ e. e ≡ FlashError.Memory) }
 {
     let here = flash.mark()?;
     let mut whole = boot;

@@ -4,7 +4,7 @@ use mc_flash::{Flash, FlashError};
 /// A kind of tree over the contents of a flash: how one goes from a node to its children, and what is told of a node. What is
 /// told may be derived from what was told of the parent.
 pub trait Branches: Copy {
-    ghost use Rattle.std.specs.Prelude.{IfOk, OnOk};
+    ghost use Rattle.std.specs.Prelude.{◌≡◌, IfOk, IfErr, OnOk};
     ghost use Rattle.mc_flash.specs.Seen.{Keeps};
     ghost use Rattle.mc_flash.specs.Spends.{Spends, Stays};
     ghost use Rattle.mc_walk.specs.Kind.{Kind, CanReach, Reaches, HasNext, GoesOn, IsRoot, TellsRoot, IsChild, TellsChild, HasWidth, HasSpare, telling};
@@ -29,7 +29,8 @@ pub trait Branches: Copy {
         ensures reaches { Reaches (kind self) 0 told.now (F.seen flash.old) result
             (F.seen flash.new) }
         ensures keeps { OnOk result (Keeps (F.seen flash.old) (F.seen flash.new)) }
-        ensures spends { Spends (kind self).step (F.seen flash.old) result (F.seen flash.new) };
+        ensures spends { Spends (kind self).step (F.seen flash.old) result (F.seen flash.new) }
+        ensures err { IfErr result (λ e. e ≡ FlashError.Memory) };
 
     /// Goes from a child to the next.
     fn next<F: Flash>(self, flash: &mut F, at: &mut Self::At) -> Result<(), FlashError>
@@ -37,7 +38,8 @@ pub trait Branches: Copy {
         ensures goes_on { GoesOn (kind self) at.old (F.seen flash.old) result at.new
             (F.seen flash.new) }
         ensures keeps { OnOk result (Keeps (F.seen flash.old) (F.seen flash.new)) }
-        ensures spends { Spends (kind self).step (F.seen flash.old) result (F.seen flash.new) };
+        ensures spends { Spends (kind self).step (F.seen flash.old) result (F.seen flash.new) }
+        ensures err { IfErr result (λ e. e ≡ FlashError.Memory) };
 
     /// What is told of the root at which the flash stands.
     fn root<F: Flash>(self, flash: &mut F) -> Result<Self::Told, FlashError>
@@ -46,7 +48,8 @@ pub trait Branches: Copy {
         ensures tells { IfOk result (TellsRoot (kind self) (F.seen flash.old)) }
         ensures stays { OnOk result (Stays (F.seen flash.old) (F.seen flash.new)) }
         ensures spends { Spends (telling (kind self)) (F.seen flash.old) result
-            (F.seen flash.new) };
+            (F.seen flash.new) }
+        ensures err { IfErr result (λ e. e ≡ FlashError.Memory) };
 
     /// What is told of a child on its way, where that was told of its parent.
     fn child<F: Flash>(
@@ -60,5 +63,6 @@ pub trait Branches: Copy {
         ensures tells { IfOk result (TellsChild (kind self) at.now parent.now (F.seen flash.old)) }
         ensures stays { OnOk result (Stays (F.seen flash.old) (F.seen flash.new)) }
         ensures spends { Spends (telling (kind self)) (F.seen flash.old) result
-            (F.seen flash.new) };
+            (F.seen flash.new) }
+        ensures err { IfErr result (λ e. e ≡ FlashError.Memory) };
 }

@@ -1,5 +1,5 @@
 //! One level down.
-ghost use Rattle.std.specs.Prelude.{◌≡◌, ◌<◌, ◌≤◌, ◌++◌, [], ◌∷◌, IfOk, OnOk, length, vec_len};
+ghost use Rattle.std.specs.Prelude.{◌≡◌, ◌<◌, ◌≤◌, ◌++◌, [], ◌∷◌, IfOk, IfErr, OnOk, length, vec_len};
 ghost use Rattle.std.specs.Vec.{vec_capacity};
 ghost use Rattle.mc_flash.specs.Seen.{marked};
 ghost use Rattle.mc_flash.specs.Spends.{Spends};
@@ -29,6 +29,7 @@ pub(crate) fn enter<F: Flash, B: Branches>(
     ensures capacity { vec_capacity frames.old ≤ vec_capacity frames.new }
     ensures spends { Spends (telling (B.kind branches)) (F.seen flash.old) result
         (F.seen flash.new) }
+    ensures err { IfErr result (λ e. e ≡ FlashError.Memory) }
 {
     flash.mark()?;
     frames.push(frame)?;

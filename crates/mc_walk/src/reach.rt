@@ -1,5 +1,5 @@
 //! From a node to one of its children.
-ghost use Rattle.std.specs.Prelude.{◌+◌, ◌*◌, OnOk};
+ghost use Rattle.std.specs.Prelude.{◌≡◌, ◌+◌, ◌*◌, OnOk, IfErr};
 ghost use Rattle.mc_flash.specs.Seen.{Keeps};
 ghost use Rattle.mc_flash.specs.Spends.{Spends};
 ghost use Rattle.mc_walk.specs.Kind.{CanReach, Reaches};
@@ -20,6 +20,7 @@ pub(crate) fn reach<F: Flash, B: Branches>(
     ensures keeps { OnOk result (Keeps (F.seen flash.old) (F.seen flash.new)) }
     ensures spends { Spends ((number + 1) * (B.kind branches).step) (F.seen flash.old) result
         (F.seen flash.new) }
+    ensures err { IfErr result (λ e. e ≡ FlashError.Memory) }
 {
     let mut at = branches.first(flash, told)?;
     for _i in 0..number {

@@ -1,5 +1,5 @@
 //! A walk through a tree.
-ghost use Rattle.std.specs.Prelude.{◌≡◌, ◌≤◌, [], is_some, IfOk, IfSome, true, false};
+ghost use Rattle.std.specs.Prelude.{◌≡◌, ◌≤◌, [], is_some, IfOk, IfErr, IfSome, true, false};
 ghost use Rattle.mc_flash.specs.Spends.{Spends, Spent};
 ghost use Rattle.mc_walk.specs.Kind.{telling};
 ghost use Rattle.mc_walk.specs.Walks.{IsClear, IsFresh, IsOf, Begins, GoesDown, Climbs, Advances, Follows, IsThere, child_cost, path_cost};
@@ -55,6 +55,7 @@ impl<F: Flash, B: Branches> Walk<F, B> {
         ensures of { IfOk result (IsOf branches bound (F.seen flash)) }
         ensures fresh { IfOk result (IsFresh (B.kind branches)) }
         ensures spent { IfOk result (λ walk. Spent 0 (F.seen flash) walk.seen) }
+        ensures err { IfErr result (λ e. e ≡ FlashError.Memory) }
     {
         let frames = Vec::with_capacity(alloc, bound)?;
         flash.mark()?;
@@ -78,6 +79,7 @@ impl<F: Flash, B: Branches> Walk<F, B> {
             self.new) }
         ensures spends { Spends (telling (B.kind self.old.branches)) self.old.seen result
             self.new.seen }
+        ensures err { IfErr result (λ e. e ≡ FlashError.Memory) }
     {
         self.told = None;
         let told = self.branches.root(&mut self.flash)?;
@@ -131,6 +133,7 @@ impl<F: Flash, B: Branches> Walk<F, B> {
             self.new) }
         ensures spends { Spends (child_cost (B.kind self.old.branches) number) self.old.seen result
             self.new.seen }
+        ensures err { IfErr result (λ e. e ≡ FlashError.Memory) }
     {
         let Some(told) = self.told else {
             return Ok(false);
@@ -165,6 +168,7 @@ impl<F: Flash, B: Branches> Walk<F, B> {
             self.new) }
         ensures spends { Spends (child_cost (B.kind self.old.branches) 0) self.old.seen result
             self.new.seen }
+        ensures err { IfErr result (λ e. e ≡ FlashError.Memory) }
     {
         self.told = None;
         let Some(mut frame) = take_last_open(self.branches, &mut self.frames) else {
@@ -191,6 +195,7 @@ impl<F: Flash, B: Branches> Walk<F, B> {
             self.new) }
         ensures spends { Spends (child_cost (B.kind self.old.branches) 0) self.old.seen result
             self.new.seen }
+        ensures err { IfErr result (λ e. e ≡ FlashError.Memory) }
     {
         // A field that is read tells what holds of all of them.
         let _bound = self.bound;
@@ -214,6 +219,7 @@ impl<F: Flash, B: Branches> Walk<F, B> {
             went self.new) }
         ensures spends { Spends (path_cost (B.kind self.old.branches) path.now) self.old.seen result
             self.new.seen }
+        ensures err { IfErr result (λ e. e ≡ FlashError.Memory) }
     {
         for number in path {
             if !self.go_down(*number)? {
