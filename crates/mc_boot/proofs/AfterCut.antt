@@ -28,7 +28,7 @@ pub begun_list : (r : Rules) (p : Plan) (b : Boot) → progress b ≡ begun r p 
 begun_list r p b is =
     rest_is b.faulted b.done (whole_list b.course) p.list (ap (λ (x : Progress). x.faulted) is) (ap (λ (x : Progress). x.count) is) (ap (λ (x : Progress). x.to_come) is)
 
-layout_is : (g : Geometry) (o : Option Course) (a : Course) → o ≡ Some a → IfSome o (λ c. c.layout ≡ in_pieces c.grain g) → a.layout ≡ in_pieces a.grain g
+pub layout_is : (g : Geometry) (o : Option Course) (a : Course) → o ≡ Some a → IfSome o (λ c. c.layout ≡ in_pieces c.grain g) → a.layout ≡ in_pieces a.grain g
 layout_is g o a is all = let P : Option Course → Type 0 = λ x. IfSome x (λ c. c.layout ≡ in_pieces c.grain g) in subst P is all
 
 -- After a cut the next boot ends as the one that was cut would have, where the test of their courses gives a number.

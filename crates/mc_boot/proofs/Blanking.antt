@@ -162,7 +162,7 @@ program_outside g es s t slot at new index listed fits from to is =
     subst P same (changed_outside g es s made.0 slot at new index made.2 listed from to)
 
 -- An operation changes nothing beside what it writes.
-op_outside : (g : Geometry) (es : List Sector) (op : Op) (s t : Content) → WritesIn g es op → Fit g es s → apply g op s ≡ Some t → SameOutside g es s t
+pub op_outside : (g : Geometry) (es : List Sector) (op : Op) (s t : Content) → WritesIn g es op → Fit g es s → apply g op s ≡ Some t → SameOutside g es s t
 unfolding apply
 op_outside g es (Erase slot sector) s t writes fits is =
     let wide = length-replicate {A = ℕ} g.sector 255 in

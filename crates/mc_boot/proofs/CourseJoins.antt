@@ -237,28 +237,28 @@ transfer_begins g n first image_ok t there here =
     }
 
 -- The pieces of a layout play no part in where its operations write.
-writes_pieces : (c : Grain) (g : Geometry) (es : List Sector) (op : Op) → WritesIn (in_pieces c g) es op → WritesIn g es op
+pub writes_pieces : (c : Grain) (g : Geometry) (es : List Sector) (op : Op) → WritesIn (in_pieces c g) es op → WritesIn g es op
 writes_pieces grains.Call g es op w = w
 writes_pieces grains.Unit g es (Erase slot sector) w = record { index = w.index; listed = w.listed; from = w.from; to = w.to }
 writes_pieces grains.Unit g es (Program slot at bytes) w = record { index = w.index; listed = w.listed; from = w.from; to = w.to }
 writes_pieces grains.Unit g es (Copy from at to offset len) w = record { index = w.index; listed = w.listed; from = w.from; to = w.to }
 
-sectors_pieces : (c : Grain) (g : Geometry) (slot : Slot) → sectors_of (in_pieces c g) slot ≡ sectors_of g slot
+pub sectors_pieces : (c : Grain) (g : Geometry) (slot : Slot) → sectors_of (in_pieces c g) slot ≡ sectors_of g slot
 sectors_pieces grains.Call g slot = refl
 sectors_pieces grains.Unit g Primary = refl
 sectors_pieces grains.Unit g Secondary = refl
 
+pub there_pieces : (c : Grain) (g : Geometry) (xs : List Sector) → AreThere (in_pieces c g) xs → AreThere g xs
+there_pieces c g [] all = tt
+there_pieces c g (x ∷ xs) all = (omega (arith, all.0, sectors_pieces c g x.slot), there_pieces c g xs all.1)
+
 pub begins_pieces : (c : Grain) (g : Geometry) (ops : List Op) (es : List Sector) (reach : ℕ) → BeginsIn (in_pieces c g) ops es reach → BeginsIn g ops es reach
 begins_pieces c g ops es reach b = record {
-  there = all_there es b.there;
+  there = there_pieces c g es b.there;
   erases = b.erases;
   inside = all_inside (take reach ops) b.inside;
 }
   where
-    all_there : (xs : List Sector) → AreThere (in_pieces c g) xs → AreThere g xs
-    all_there [] all = tt
-    all_there (x ∷ xs) all = (omega (arith, all.0, sectors_pieces c g x.slot), all_there xs all.1)
-
     all_inside : (xs : List Op) → AllByRecursion (WritesIn (in_pieces c g) es) xs → AllByRecursion (WritesIn g es) xs
     all_inside [] all = tt
     all_inside (x ∷ xs) all = (writes_pieces c g es x all.0, all_inside xs all.1)

@@ -1,12 +1,12 @@
 -- The image that a slot's bytes begin with, by what reading and judging answer.
-use Rattle.std.specs.Prelude.{◌≡◌, ℕ, ◌≤◌, Bool, true, false, max, if◌then◌else◌, List, length, Option, Some, None, option_map, refl}
+use Rattle.std.specs.Prelude.{◌≡◌, ℕ, Bool, true, false, max, if◌then◌else◌, List, Option, Some, None, option_map, refl}
 use Rattle.std.specs.Option.{is_some}
-use Rattle.std.proofs.Common.{arith, sym, ap, ◌∙◌, length-append}
+use Rattle.std.proofs.Common.{sym, ap, ◌∙◌}
 use Rattle.std.proofs.lemmas.Slice.Eq.{bytes_eq-Decides}
 use Rattle.sha2.specs.Sha256.{sha256}
 use Rattle.mc_flash.specs.Content.{Content}
 use Rattle.mc_image.specs.Faults.{first_fault}
-use Rattle.mc_image.specs.Image.{Begins, IsGood, image_in, image_text, covered_text, digest_of, Image}
+use Rattle.mc_image.specs.Image.{IsGood, image_in, covered_text, digest_of}
 use Rattle.mc_image.specs.Valid.{Identity, identity, is_good, is_valid, id_of}
 use Rattle.mc_image.specs.declared.error.ImageError.{ImageError}
 use Rattle.mc_boot.specs.declared.image.Held.{Held}
@@ -52,12 +52,25 @@ mapped (Some x) = refl
 pub valid_held : (b : List ℕ) (o : Option ImageId) → option_map identity_of o ≡ id_of b → is_some o ≡ is_valid b
 valid_held b o is = sym (mapped o) ∙ ap (λ (x : Option Identity). is_some x) is ∙ valid_id b
 
--- what a new swap asks of the slots, by what was read of them
+-- what a new swap asks of the slots, by its parts
+images_are : (s : Content) (valid : Bool) (size : ℕ) → valid ≡ is_valid s.secondary → size ≡ max (image_size s.primary) (image_size s.secondary) → record { valid = valid; size = size } ≡ images_of s
+unfolding images_of
+images_are s valid size valid_is size_is =
+    ap (λ (b : Bool). let x : Images = record { valid = b; size = size } in x) valid_is ∙ ap (λ (n : ℕ). let x : Images = record { valid = is_valid s.secondary; size = n } in x) size_is
+
+larger : (s : Content) (first second : List ℕ) (size size2 most : ℕ) → first ≡ s.primary → second ≡ s.secondary → size ≡ image_size first → size2 ≡ image_size second → most ≡ max size size2 → most ≡ max (image_size s.primary) (image_size s.secondary)
+larger s first second size size2 most at_first at_second size_is size2_is most_is =
+    most_is ∙ ap (λ n. max n size2) (size_is ∙ ap image_size at_first) ∙ ap (λ n. max (image_size s.primary) n) (size2_is ∙ ap image_size at_second)
+
+-- by what was read of them
 pub images_read : (s : Content) (first second : List ℕ) (size : ℕ) (held : Held) (images : Images) → first ≡ s.primary → second ≡ s.secondary → size ≡ image_size first → held.size ≡ image_size second → option_map identity_of held.id ≡ id_of second
     → images.valid ≡ is_some held.id → images.size ≡ max size held.size → images ≡ images_of s
-unfolding images_of
 images_read s first second size held images at_first at_second size_is held_is id_is valid_is max_is =
-    let valid : images.valid ≡ is_valid s.secondary = valid_is ∙ valid_held second held.id id_is ∙ ap is_valid at_second in
-    let larger : images.size ≡ max (image_size s.primary) (image_size s.secondary) =
-    max_is ∙ ap (λ n. max n held.size) (size_is ∙ ap image_size at_first) ∙ ap (λ n. max (image_size s.primary) n) (held_is ∙ ap image_size at_second) in
-    ap (λ (b : Bool). record { valid = b; size = images.size }) valid ∙ ap (λ (n : ℕ). record { valid = is_valid s.secondary; size = n }) larger
+    images_are s images.valid images.size (valid_is ∙ valid_held second held.id id_is ∙ ap is_valid at_second)
+    (larger s first second size held.size images.size at_first at_second size_is held_is max_is)
+
+-- and where the secondary's image is known to be valid
+pub images_known : (s : Content) (first second : List ℕ) (size size2 most : ℕ) → first ≡ s.primary → second ≡ s.secondary → size ≡ image_size first → size2 ≡ image_size second → is_valid s.secondary ≡ true → most ≡ max size size2
+    → record { valid = true; size = most } ≡ images_of s
+images_known s first second size size2 most at_first at_second size_is size2_is valid most_is =
+    images_are s true most (sym valid) (larger s first second size size2 most at_first at_second size_is size2_is most_is)

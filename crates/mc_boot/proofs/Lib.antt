@@ -41,3 +41,6 @@ pub mod CourseJoins
 pub mod OpeningJoins
 pub mod JoinsMeet
 pub mod AfterCut
+pub mod NewPlans
+pub mod SetupKeeps
+pub mod StillValid

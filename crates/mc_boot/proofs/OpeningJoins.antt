@@ -76,7 +76,7 @@ writes_pieces_of grains.Unit g slot f new ok short =
     let few : length (between (j * g.unit) (j * g.unit + g.unit) new) ≤ g.unit = omega (arith, length-take (j * g.unit + g.unit - j * g.unit) (drop (j * g.unit) new)) in
     writes_part g slot f (j * g.unit) (between (j * g.unit) (j * g.unit + g.unit) new) ok (omega (arith, row, parts, few, short)))
 
-all_both : {A : Type 0} (P : A → Type 0) (xs ys : List A) → AllByRecursion P xs → AllByRecursion P ys → AllByRecursion P (xs ++ ys)
+pub all_both : {A : Type 0} (P : A → Type 0) (xs ys : List A) → AllByRecursion P xs → AllByRecursion P ys → AllByRecursion P (xs ++ ys)
 all_both P [] ys one two = two
 all_both P (x ∷ xs) ys one two = (one.0, all_both P xs ys one.1 two)
 
@@ -86,10 +86,10 @@ writes_marking c g slot size ok =
     (writes_pieces_of c g slot field.SwapSize (size_bytes g size) ok (size_bytes_fit g size ok))
     (writes_pieces_of c g slot field.Magic magic_bytes ok (omega arith))
 
-writes_preparation : (c : Grain) (g : Geometry) (size : ℕ) → IsLayout g → AllByRecursion (WritesIn g (trailer_of_slot g Secondary)) (preparation_writes c g size)
+pub writes_preparation : (c : Grain) (g : Geometry) (size : ℕ) → IsLayout g → AllByRecursion (WritesIn g (trailer_of_slot g Secondary)) (preparation_writes c g size)
 writes_preparation c g size ok = (writes_field g Secondary field.ImageOk (one_unit g 1) ok (one_unit_fits g 1 field.ImageOk ok), writes_marking c g Secondary size ok)
 
-writes_opening : (c : Grain) (g : Geometry) (kind : SwapType) (size : ℕ) → IsLayout g → AllByRecursion (WritesIn g (trailer_of_slot g Primary)) (opening_writes c g kind size)
+pub writes_opening : (c : Grain) (g : Geometry) (kind : SwapType) (size : ℕ) → IsLayout g → AllByRecursion (WritesIn g (trailer_of_slot g Primary)) (opening_writes c g kind size)
 writes_opening c g kind size ok = (writes_field g Primary field.SwapInfo (one_unit g (number_of kind)) ok (one_unit_fits g (number_of kind) field.SwapInfo ok), by (is_test kind))
   where
     by : (b : Bool) → AllByRecursion (WritesIn g (trailer_of_slot g Primary)) (if b then marking c g Primary size else image_ok_write g Primary ∷ marking c g Primary size)

@@ -2,6 +2,7 @@
 use Rattle.std.specs.Prelude.{◌≡◌, ℕ, ◌<◌, ◌==◌, if◌then◌else◌, length, Option, Some, None, option_and_then}
 use Rattle.mc_flash.specs.Geometry.{Geometry}
 use Rattle.mc_flash.specs.Content.{Content, IsSized}
+use Rattle.mc_image.specs.Bytes.{IsBytes}
 use Rattle.mc_trailer.specs.declared.tables.Rules.{Rules}
 use Rattle.mc_boot.specs.declared.boot.Boot.{Boot}
 use Rattle.mc_boot.specs.declared.course.Course.{Course}
@@ -21,6 +22,15 @@ pub record IsCut (r : Rules) (g : Geometry) (s u : Content) (b : Boot) (whole : 
   pub come : HasCome r g s (progress b) u
   pub early : b.done < length (ops_of r g s)
   pub outcome : outcome_of r g s ≡ Some whole
+
+-- A boot from s has come to where its flash holds u, at its end or before. Of s no more is known than the length of its
+-- slots, and that bytes stand in the secondary.
+pub record IsStopped (g : Geometry) (s u : Content) (b : Boot) : Type 0 where
+  pub sized : IsSized g s
+  pub bytes : IsBytes s.secondary
+  pub layout : IsBootOf g b
+  pub list : all_of b ≡ (plan b.rules g s).list
+  pub come : HasCome b.rules g s (progress b) u
 
 -- How many operations of a course that was cut after so many the next one does not make again. Before the first operation
 -- the next boot is the same boot, and makes all again.

@@ -1,6 +1,6 @@
 -- The operations of a swap, from its start or from where it was cut. The chunk of the layout is what is copied at once.
-use Rattle.std.specs.Prelude.{ℕ, Bool, true, false, if◌then◌else◌, List, [], ◌∷◌, ◌++◌, drop, flat_map}
-use Rattle.mc_flash.specs.Geometry.{Geometry}
+use Rattle.std.specs.Prelude.{ℕ, ◌+◌, Bool, true, false, if◌then◌else◌, List, [], ◌∷◌, ◌++◌, length, drop, flat_map}
+use Rattle.mc_flash.specs.Geometry.{Geometry, trailer_sectors}
 use Rattle.mc_flash.specs.declared.flash.Grain.{Grain}
 use Rattle.mc_flash.specs.declared.op.Slot.TheVariants.{Primary, Secondary}
 use Rattle.mc_flash.specs.declared.op.Op.{Op}
@@ -33,3 +33,10 @@ abbrev pub new_list : Grain → Geometry → SwapType → ℕ → ℕ → List O
 new_list c g kind size n =
     if is_revert kind then trailer_erases g Secondary ++ (preparation_writes c g size ++ swap_list c g kind size n)
     else swap_list c g kind size n
+
+-- How many operations of a swap from its start come before those that it would go on with after a cut: the trailers are made
+-- anew, for a revert the secondary's first, and then the primary's.
+abbrev pub new_setup : Grain → Geometry → SwapType → ℕ → ℕ
+new_setup c g kind size =
+    let swap = trailer_sectors g + length (opening_writes c g kind size) in
+    if is_revert kind then trailer_sectors g + (length (preparation_writes c g size) + swap) else swap

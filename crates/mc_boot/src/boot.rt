@@ -21,6 +21,7 @@ use crate::outcome::Outcome;
 use crate::transfer::first_left;
 use crate::writes::is_test;
 use mc_flash::{Flash, FlashError, Layout, Op, Slot};
+use mc_image::{one_reading, same_front};
 use mc_trailer::{Flag, Rules, SwapType, Trailer, highest_entry, resumes, swap_type};
 
 /// A boot, by how many of its operations have happened. It is small and `Copy`: one that was kept beside a mark of the
@@ -56,6 +57,7 @@ fn confirms(kind: SwapType, image_ok: Flag) -> bool
 
 impl Boot {
     ghost use Rattle.mc_boot.specs.Boot.{all_of, to_come, progress, IsBootOf, Steps, begun};
+    ghost use Rattle.mc_boot.specs.After.{IsStopped};
     ghost use Rattle.mc_boot.specs.Run.{HasCome};
     ghost use Rattle.mc_boot.specs.Bounds.{all_saves, left_of};
     ghost use Rattle.mc_boot.specs.Outcome.{shown, report, outcome_of};
@@ -218,6 +220,39 @@ impl Boot {
         let _primary = flash.read(Slot::Primary);
         let _secondary = flash.read(Slot::Secondary);
         Boot::begin(flash, rules, None)
+    }
+
+    /// The boot at power-on after a power cut, by the rules of the boot that was cut: the flash stands where that one left it. It
+    /// hashes nothing where that one was a swap from its start and had not come to its transfers. The secondary's image was
+    /// valid then, and still is: only trailers have changed.
+    #[tactic(auto, using(crate::specs::Bounds::plan_few, crate::specs::Bounds::plan_saves, crate::proofs::AfterCut::begun_list))]
+    pub fn after_cut<F: Flash>(flash: &F, cut: &Boot) -> Boot
+        requires { (s : Content) × IsStopped (F.seen flash.now).geometry s
+            (F.seen flash.now).content cut.now }
+        ensures progress { let r = cut.now.rules in progress result
+            ≡ begun r (plan r (F.seen flash.now).geometry (F.seen flash.now).content) }
+        ensures layout { IsBootOf (F.seen flash.now).geometry result }
+        ensures whole { all_of result
+            ≡ (plan cut.now.rules (F.seen flash.now).geometry (F.seen flash.now).content).list }
+        ensures sized { IsSized (F.seen flash.now).geometry (F.seen flash.now).content }
+        // It has few operations, and what their erases save is little.
+        ensures few { length (progress result).to_come ≤ most_operations cut.now.rules.grain
+            (F.seen flash.now).geometry }
+        ensures few_saves { all_saves (F.seen flash.now).geometry
+            (progress result).to_come ≤ most_saved (F.seen flash.now).geometry }
+    {
+        // All that is used of images is what these laws say.
+        one_reading();
+        same_front();
+        // Each number of a layout tells that it is one, and each slot how long it is.
+        let _sector = flash.layout().sector();
+        let _primary = flash.read(Slot::Primary);
+        let _secondary = flash.read(Slot::Secondary);
+        let known = match &cut.course {
+            Some(course) if cut.done < course.setup_len() => Some(Images::read_valid(flash)),
+            _ => None,
+        };
+        Boot::begin(flash, cut.rules, known)
     }
 
     // The next operation. That there are not many keeps the count of those that happened from overflowing.

@@ -10,7 +10,8 @@ use Rattle.mc_flash.specs.declared.op.Op.{Op}
 use Rattle.mc_flash.specs.declared.flash.FlashError.{FlashError}
 use Rattle.mc_flash.specs.declared.flash.FlashError.TheVariants as errors
 use Rattle.mc_trailer.specs.declared.tables.Rules.{Rules}
-use Rattle.mc_boot.specs.After.{IsCut}
+use Rattle.mc_image.specs.Bytes.{IsBytes}
+use Rattle.mc_boot.specs.After.{IsCut, IsStopped}
 use Rattle.mc_boot.specs.Boot.{Progress, IsBootOf, StepsAlong, Steps, all_of, begun, progress}
 use Rattle.mc_boot.specs.Bounds.{IsBounded, all_saves, left_of}
 use Rattle.mc_boot.specs.Outcome.{Report, outcome_of, report, shown}
@@ -53,6 +54,16 @@ others_left p q old new v steps = at p.to_come refl steps
     at : (ops : List Op) → p.to_come ≡ ops → StepsAlong ops p old (Ok v) q new → length p.to_come ≤ length q.to_come + 1
     at [] is d = omega (arith, ap (λ (ops : List Op). length ops) is)
     at (op ∷ rest) is d = omega (arith, ap (λ (ops : List Op). length ops) is, ap (λ (x : Progress). length x.to_come) d.0)
+
+-- A boot at power-on from where a flash stands, with few operations.
+pub record IsBegun (r : Rules) (f : Seen) (b : Boot) : Type 0 where
+  pub boot : progress b ≡ begun r (plan r f.geometry f.content)
+  pub list : all_of b ≡ (plan r f.geometry f.content).list
+  pub layout : IsBootOf f.geometry b
+  pub few : length (progress b).to_come ≤ most_operations r.grain f.geometry
+  pub saves : all_saves f.geometry (progress b).to_come ≤ most_saved f.geometry
+  pub sized : IsSized f.geometry f.content
+  pub bytes : IsBytes f.content.secondary
 
 module _ (r : Rules) (g : Geometry) where
   -- Something is to come of a boot that has not made all its operations.
@@ -173,20 +184,21 @@ module _ (r : Rules) (g : Geometry) where
 
   -- ---- what is told of a flash
 
-  -- A boot at power-on, and that it was run.
-  pub told_of : (s : Content) (f : Seen) (b : Boot) (outcome : Outcome) → f.geometry ≡ g → f.content ≡ s → progress b ≡ begun r (plan r f.geometry f.content)
-      → all_of b ≡ (plan r f.geometry f.content).list → IsBootOf f.geometry b → IsBounded g (progress b).to_come (most_of r g).entries (most_of r g).saved → IsSized f.geometry f.content
-      → outcome_of r g s ≡ Some (shown outcome) → IsTold r g s (record { boot = b; outcome = outcome })
-  told_of s f b outcome layout content boot list of few sized is =
+  -- And that it was run.
+  told_of : (s : Content) (f : Seen) (b : Boot) (outcome : Outcome) → f.geometry ≡ g → f.content ≡ s → IsBegun r f b → outcome_of r g s ≡ Some (shown outcome)
+      → IsTold r g s (record { boot = b; outcome = outcome })
+  told_of s f b outcome layout content begins is =
       let plans : plan r f.geometry f.content ≡ plan r g s = ap (λ (x : Geometry). plan r x f.content) layout ∙ ap (plan r g) content in
       let P : List Op → Type 0 = λ ops. IsBounded g ops (most_of r g).entries (most_of r g).saved in
       let Q : Geometry → Type 0 = λ x. IsSized x f.content in
+      let R : Geometry → Type 0 = λ x. IsBounded x (progress b).to_come (most_operations r.grain x) (most_saved x) in
       record {
-        boot_is = boot ∙ ap (begun r) plans;
-        list_is = list ∙ ap (λ p. p.list) plans;
-        layout_is = subst (λ (x : Geometry). IsBootOf x b) layout of;
-        few = subst P (ap (λ (p : Progress). p.to_come) (boot ∙ ap (begun r) plans)) few;
-        sized = subst (IsSized g) content (subst Q layout sized);
+        boot_is = begins.boot ∙ ap (begun r) plans;
+        list_is = begins.list ∙ ap (λ p. p.list) plans;
+        layout_is = subst (λ (x : Geometry). IsBootOf x b) layout begins.layout;
+        few = subst P (ap (λ (p : Progress). p.to_come) (begins.boot ∙ ap (begun r) plans)) (subst R layout (record { few = begins.few; saves = begins.saves }));
+        sized = subst (IsSized g) content (subst Q layout begins.sized);
+        bytes = subst (λ (x : Content). IsBytes x.secondary) content begins.bytes;
         outcome_is = is;
       }
 
@@ -202,36 +214,44 @@ module _ (r : Rules) (g : Geometry) where
     outcome = t.outcome_is;
   }
 
+  pub stopped_here : (s : Content) (i : ℕ) (b : Boot) (f : Seen) (told : Told) → IsAt (once r g) s i b f → IsTold r g s told → IsStopped f.geometry s f.content b
+  stopped_here s i b f told at t =
+      let P : Geometry → Type 0 = λ x. IsStopped x s f.content b in
+      let Q : Rules → Type 0 = λ x. HasCome x g s (progress b) f.content in
+      let here : HasCome r g s (progress b) f.content = subst (HasCome r g s (progress b)) (sym at.content_is) at.on_is.come in
+      subst P (sym at.layout_is) (record {
+        sized = t.sized;
+        bytes = t.bytes;
+        layout = at.on_is.layout_is;
+        list = at.on_is.list_is ∙ ap (λ (x : Rules). (plan x g s).list) (sym here.rules);
+        come = subst Q (sym here.rules) here;
+      })
+
   -- Before the first operation.
   pub told_still : (s : Content) (i : ℕ) (told : Told) → i ≡ 0 → IsTold r g s told → IsTold r g (at_cut r g s i) told
   told_still s i told none t =
       subst (λ n. IsTold r g (at_cut r g s n) told) (sym none) (subst (λ x. IsTold r g x told) (at_zero r g s) t)
 
   -- The answer of what runs a boot, and of a boot that was cut.
-  module _ (f : Seen) (b : Boot) (layout : f.geometry ≡ g) (boot : progress b ≡ begun r (plan r f.geometry f.content)) (list : all_of b ≡ (plan r f.geometry f.content).list)
-      (of : IsBootOf f.geometry b) (few : IsBounded g (progress b).to_come (most_of r g).entries (most_of r g).saved) (sized : IsSized f.geometry f.content) where
+  module _ (f : Seen) (b : Boot) (layout : f.geometry ≡ g) (begins : IsBegun r f b) where
     pub told_run : (s : Content) → f.content ≡ s → (t : Told) → t.boot ≡ b → EndsWith f (progress b) t.outcome → IsTold r g s t
     told_run s content t same ends =
         let P : Progress → Type 0 = λ p. HasCome r f.geometry f.content p f.content in
-        let come : HasCome r f.geometry f.content (progress b) f.content = subst P (sym boot) (come_begun r f.geometry f.content) in
+        let come : HasCome r f.geometry f.content (progress b) f.content = subst P (sym begins.boot) (come_begun r f.geometry f.content) in
         let is : outcome_of r g s ≡ Some (shown t.outcome) =
         ap (λ (x : Content). outcome_of r g x) (sym content) ∙ ap (λ (x : Geometry). outcome_of r x f.content) (sym layout) ∙ ends r f.content come in
-        subst (λ (x : Boot). IsTold r g s (record { boot = x; outcome = t.outcome })) (sym same) (told_of s f b t.outcome layout content boot list of few sized is)
+        subst (λ (x : Boot). IsTold r g s (record { boot = x; outcome = t.outcome })) (sym same) (told_of s f b t.outcome layout content begins is)
 
     pub told_derived : (s : Content) (i : ℕ) (at : Boot) (parent : Told) (outcome : Outcome) → IsAt (once r g) s i at f → i < length (ops_of r g s) → IsTold r g s parent
         → ((x : Rules) (y : Geometry) (v u : Content) → IsCut x y v u at (shown parent.outcome) → IsBootOf y b → progress b ≡ begun x (plan x y u) → outcome_of x y u ≡ Some (shown outcome))
         → IsTold r g (at_cut r g s i) (record { boot = b; outcome = outcome })
     told_derived s i at parent outcome here early told after =
         let plans : plan r f.geometry f.content ≡ plan r g (at_cut r g s i) = ap (λ (x : Geometry). plan r x f.content) layout ∙ ap (plan r g) here.content_is in
-        let is = after r g s (at_cut r g s i) (cut_here s i at f parent here early told) (subst (λ (x : Geometry). IsBootOf x b) layout of) (boot ∙ ap (begun r) plans) in
-        told_of (at_cut r g s i) f b outcome layout here.content_is boot list of few sized is
+        let is = after r g s (at_cut r g s i) (cut_here s i at f parent here early told) (subst (λ (x : Geometry). IsBootOf x b) layout begins.layout) (begins.boot ∙ ap (begun r) plans) in
+        told_of (at_cut r g s i) f b outcome layout here.content_is begins is
 
 -- By its answer.
 pub tells : {A : Type 0} (told : Result Told A) (Is : Told → Type 0) (b : Boot) (f : Seen) → IfOk told (λ t. t.boot ≡ b) → IfOk told (λ t. EndsWith f (progress b) t.outcome)
     → ((t : Told) → t.boot ≡ b → EndsWith f (progress b) t.outcome → Is t) → IfOk told Is
 tells (Ok t) Is b f boot ends is = is t boot ends
 tells (Err e) Is b f boot ends is = tt
-
--- It has few operations.
-pub few_of : (r : Rules) (g h : Geometry) (ops : List Op) → h ≡ g → length ops ≤ most_operations r.grain h → all_saves h ops ≤ most_saved h → IsBounded g ops (most_of r g).entries (most_of r g).saved
-few_of r g h ops same few saves = subst (λ (x : Geometry). IsBounded x ops (most_operations r.grain x) (most_saved x)) same (record { few = few; saves = saves })

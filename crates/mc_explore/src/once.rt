@@ -3,12 +3,13 @@
 ghost use Rattle.std.specs.Prelude.{◌≡◌, length, IfOk, IfErr, OnOk};
 ghost use Rattle.mc_flash.specs.Content.{Content};
 ghost use Rattle.mc_flash.specs.Spends.{Spends, Stays, HasRoom};
+ghost use Rattle.mc_image.specs.Bytes.{IsBytes};
 ghost use Rattle.mc_boot.specs.Boot.{progress, to_come, IsBootOf};
 ghost use Rattle.mc_boot.specs.Bounds.{left_of};
 ghost use Rattle.mc_explore.specs.Replay.{EndsWith};
 
 use mc_boot::{Boot, Outcome, outcome_after};
-use mc_flash::{Flash, FlashError, Layout};
+use mc_flash::{Flash, FlashError, Layout, Slot};
 use mc_trailer::Rules;
 use mc_walk::Branches;
 
@@ -25,6 +26,11 @@ pub struct Once {
     pub rules: Rules,
     pub layout: Layout,
 }
+
+// What a slot holds are bytes.
+fn bytes_stand(bytes: &[u8])
+    ensures { IsBytes bytes.now }
+{}
 
 // Runs a boot to its end, and goes back.
 fn tell<F: Flash>(flash: &mut F, boot: Boot) -> Result<Told, FlashError>
@@ -71,6 +77,7 @@ impl Branches for Once {
     }
 
     fn root<F: Flash>(self, flash: &mut F) -> Result<Told, FlashError> {
+        bytes_stand(flash.read(Slot::Secondary));
         let boot = Boot::cold(flash, self.rules);
         tell(flash, boot)
     }
@@ -80,7 +87,8 @@ impl Branches for Once {
         if at.count() == 0 {
             return Ok(*parent);
         }
-        let boot = Boot::cold(flash, self.rules);
+        bytes_stand(flash.read(Slot::Secondary));
+        let boot = Boot::after_cut(flash, at);
         match outcome_after(at, &parent.outcome, &boot) {
             Some(outcome) => Ok(Told { boot, outcome }),
             None => tell(flash, boot),

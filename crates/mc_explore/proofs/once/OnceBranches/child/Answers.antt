@@ -1,17 +1,26 @@
+use Rattle.std.proofs.Common.{ℕ, List, subst}
+use Rattle.mc_image.specs.Bytes.{IsBytes}
+use Rattle.mc_trailer.specs.declared.tables.Rules.{Rules}
 use Rattle.mc_walk.specs.Kind.{TellsChild}
-use Rattle.mc_boot.specs.Boot.{progress}
 use Rattle.mc_explore.specs.Once.{once}
-use Rattle.mc_explore.proofs.Onwards.{few_of, tells, told_derived, told_run}
+use Rattle.mc_explore.proofs.Onwards.{IsBegun, stopped_here, tells, told_derived, told_run}
 use Rattle.mc_explore.proofs.once.OnceBranches.child.Goals as goal
+
+pub after_cut-boot-requires : goal.after_cut-boot-requires
+after_cut-boot-requires g c =
+    let child = c.requires.child in
+    (child.0, stopped_here c.args.self.rules c.args.self.layout child.0 child.1 c.args.at.now (g.F.Flash.seen c.args.flash.now) c.args.parent.now child.2 child.4)
 
 pub returns-in-Some-clause-tells : goal.returns-in-Some-clause-tells
 returns-in-Some-clause-tells g c =
     let r = c.args.self.rules in
     let layout = c.args.self.layout in
     let f = g.F.Flash.seen c.args.flash.now in
-    let b = c.cold-boot.ensures in
+    let b = c.after_cut-boot.ensures in
+    let bytes : IsBytes f.content.secondary = subst (λ (x : List ℕ). IsBytes x) c.read.ensures.value c.bytes_stand.ensures in
+    let begins : IsBegun c.args.at.now.rules f c.after_cut-boot.result = record { boot = b.progress; list = b.whole; layout = b.layout; few = b.few; saves = b.few_saves; sized = b.sized; bytes = bytes } in
     λ s i here early told.
-    told_derived r layout f c.cold-boot.result here.layout_is b.progress b.whole b.layout (few_of r layout f.geometry (progress c.cold-boot.result).to_come here.layout_is b.few b.few_saves) b.sized s i c.args.at.now c.args.parent.now c.in-Some.outcome here early told
+    told_derived r layout f c.after_cut-boot.result here.layout_is (subst (λ (x : Rules). IsBegun x f c.after_cut-boot.result) here.on_is.come.rules begins) s i c.args.at.now c.args.parent.now c.in-Some.outcome here early told
     c.in-Some.ensures.outcome
 
 pub returns-in-None-clause-tells : goal.returns-in-None-clause-tells
@@ -19,7 +28,9 @@ returns-in-None-clause-tells g c =
     let r = c.args.self.rules in
     let layout = c.args.self.layout in
     let f = g.F.Flash.seen c.args.flash.now in
-    let b = c.cold-boot.ensures in
-    tells c.tell.result (TellsChild (once r layout) c.args.at.now c.args.parent.now f) c.cold-boot.result f c.tell.ensures.boot c.tell.ensures.outcome
+    let b = c.after_cut-boot.ensures in
+    let bytes : IsBytes f.content.secondary = subst (λ (x : List ℕ). IsBytes x) c.read.ensures.value c.bytes_stand.ensures in
+    let begins : IsBegun c.args.at.now.rules f c.after_cut-boot.result = record { boot = b.progress; list = b.whole; layout = b.layout; few = b.few; saves = b.few_saves; sized = b.sized; bytes = bytes } in
+    tells c.tell.result (TellsChild (once r layout) c.args.at.now c.args.parent.now f) c.after_cut-boot.result f c.tell.ensures.boot c.tell.ensures.outcome
     (λ t same ends s i here early told.
-    told_run r layout f c.cold-boot.result here.layout_is b.progress b.whole b.layout (few_of r layout f.geometry (progress c.cold-boot.result).to_come here.layout_is b.few b.few_saves) b.sized _ here.content_is t same ends)
+    told_run r layout f c.after_cut-boot.result here.layout_is (subst (λ (x : Rules). IsBegun x f c.after_cut-boot.result) here.on_is.come.rules begins) _ here.content_is t same ends)
