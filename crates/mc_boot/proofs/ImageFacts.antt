@@ -58,19 +58,18 @@ unfolding images_of
 images_are s valid size valid_is size_is =
     ap (λ (b : Bool). let x : Images = record { valid = b; size = size } in x) valid_is ∙ ap (λ (n : ℕ). let x : Images = record { valid = is_valid s.secondary; size = n } in x) size_is
 
-larger : (s : Content) (first second : List ℕ) (size size2 most : ℕ) → first ≡ s.primary → second ≡ s.secondary → size ≡ image_size first → size2 ≡ image_size second → most ≡ max size size2 → most ≡ max (image_size s.primary) (image_size s.secondary)
-larger s first second size size2 most at_first at_second size_is size2_is most_is =
-    most_is ∙ ap (λ n. max n size2) (size_is ∙ ap image_size at_first) ∙ ap (λ n. max (image_size s.primary) n) (size2_is ∙ ap image_size at_second)
+module _ (s : Content) (first second : List ℕ) (at_first : first ≡ s.primary) (at_second : second ≡ s.secondary) where
+  larger : (size size2 most : ℕ) → size ≡ image_size first → size2 ≡ image_size second → most ≡ max size size2 → most ≡ max (image_size s.primary) (image_size s.secondary)
+  larger size size2 most size_is size2_is most_is =
+      most_is ∙ ap (λ n. max n size2) (size_is ∙ ap image_size at_first) ∙ ap (λ n. max (image_size s.primary) n) (size2_is ∙ ap image_size at_second)
 
--- by what was read of them
-pub images_read : (s : Content) (first second : List ℕ) (size : ℕ) (held : Held) (images : Images) → first ≡ s.primary → second ≡ s.secondary → size ≡ image_size first → held.size ≡ image_size second → option_map identity_of held.id ≡ id_of second
-    → images.valid ≡ is_some held.id → images.size ≡ max size held.size → images ≡ images_of s
-images_read s first second size held images at_first at_second size_is held_is id_is valid_is max_is =
-    images_are s images.valid images.size (valid_is ∙ valid_held second held.id id_is ∙ ap is_valid at_second)
-    (larger s first second size held.size images.size at_first at_second size_is held_is max_is)
+  -- by what was read of them
+  pub images_read : (size : ℕ) (held : Held) (images : Images) → size ≡ image_size first → held.size ≡ image_size second → option_map identity_of held.id ≡ id_of second
+      → images.valid ≡ is_some held.id → images.size ≡ max size held.size → images ≡ images_of s
+  images_read size held images size_is held_is id_is valid_is max_is =
+      images_are s images.valid images.size (valid_is ∙ valid_held second held.id id_is ∙ ap is_valid at_second) (larger size held.size images.size size_is held_is max_is)
 
--- and where the secondary's image is known to be valid
-pub images_known : (s : Content) (first second : List ℕ) (size size2 most : ℕ) → first ≡ s.primary → second ≡ s.secondary → size ≡ image_size first → size2 ≡ image_size second → is_valid s.secondary ≡ true → most ≡ max size size2
-    → record { valid = true; size = most } ≡ images_of s
-images_known s first second size size2 most at_first at_second size_is size2_is valid most_is =
-    images_are s true most (sym valid) (larger s first second size size2 most at_first at_second size_is size2_is most_is)
+  -- and where the secondary's image is known to be valid
+  pub images_known : (size size2 most : ℕ) → size ≡ image_size first → size2 ≡ image_size second → is_valid s.secondary ≡ true → most ≡ max size size2
+      → record { valid = true; size = most } ≡ images_of s
+  images_known size size2 most size_is size2_is valid most_is = images_are s true most (sym valid) (larger size size2 most size_is size2_is most_is)

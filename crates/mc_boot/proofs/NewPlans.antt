@@ -64,7 +64,8 @@ first_is g n first ok op layout few = from (drop first (transfers g n)) refl
     from : (ts : List Transfer) → drop first (transfers g n) ≡ ts → slice_get (flat_map (steps g) ts ++ closing g ok) 0 ≡ Some op → IsFirst g op
     from [] left is = finish ok is
     from (t ∷ ts) left is =
-        let at : slice_get (transfers g n) first ≡ Some t = ap (slice_get (transfers g n)) (omega arith) ∙ sym (get_dropped first (transfers g n) 0) ∙ ap (λ (xs : List Transfer). slice_get xs 0) left in
+        let at : slice_get (transfers g n) first ≡ Some t =
+        ap (slice_get (transfers g n)) (omega arith) ∙ sym (get_dropped first (transfers g n) 0) ∙ ap (λ (xs : List Transfer). slice_get xs 0) left in
         same_op g (Erase t.to t.to_sector) op (fits_at g n first t layout few at).to_data is
 
 some_trailer : (g : Geometry) → IsLayout g → 0 < trailer_sectors g
@@ -118,7 +119,9 @@ module _ (g : Geometry) (ok : IsLayout g) (c : Grain) (kind : SwapType) (size n 
       by false true is = erased Secondary _ is
       by false false is = erased Primary _ is
       by true false is =
-          other_slot _ _ (sym (erase_first l Secondary (from_transfer l m first image_ok) (pieces_layout d g ok)) ∙ ap (λ (xs : List Op). slice_get xs 0) is ∙ erase_first k Primary _ (pieces_layout c g ok))
+          other_slot _ _ (
+          sym (erase_first l Secondary (from_transfer l m first image_ok) (pieces_layout d g ok))
+          ∙ ap (λ (xs : List Op). slice_get xs 0) is ∙ erase_first k Primary _ (pieces_layout c g ok))
       by true true is =
           let both : slice_get (from_transfer l m first image_ok) 0 ≡ slice_get (preparation_writes c k size ++ swap_list c k kind size n) 0 =
           sym (erases_then l Secondary (from_transfer l m first image_ok))
@@ -131,12 +134,15 @@ module _ (g : Geometry) (ok : IsLayout g) (c : Grain) (kind : SwapType) (size n 
   not_idle : [] ≡ new_list c (in_pieces c g) kind size n → ⊥
   not_idle = by (is_revert kind)
     where
-      none_first : (slot : Slot) (rest : List Op) → [] ≡ trailer_erases (in_pieces c g) slot ++ rest → ⊥
+      k : Geometry
+      k = in_pieces c g
+
+      none_first : (slot : Slot) (rest : List Op) → [] ≡ trailer_erases k slot ++ rest → ⊥
       none_first slot rest is =
-          let e : None ≡ Some (trailer_erase (in_pieces c g) slot 0) = ap (λ (xs : List Op). slice_get xs 0) is ∙ erase_first (in_pieces c g) slot rest (pieces_layout c g ok) in
+          let e : None ≡ Some (trailer_erase k slot 0) = ap (λ (xs : List Op). slice_get xs 0) is ∙ erase_first k slot rest (pieces_layout c g ok) in
           absurd cc
 
-      by : (b : Bool) → [] ≡ (if b then trailer_erases (in_pieces c g) Secondary ++ (preparation_writes c (in_pieces c g) size ++ swap_list c (in_pieces c g) kind size n) else swap_list c (in_pieces c g) kind size n) → ⊥
+      by : (b : Bool) → [] ≡ (if b then trailer_erases k Secondary ++ (preparation_writes c k size ++ swap_list c k kind size n) else swap_list c k kind size n) → ⊥
       by true is = none_first Secondary _ is
       by false is = none_first Primary _ is
 
@@ -182,7 +188,8 @@ module _ (g : Geometry) (ok : IsLayout g) (c : Grain) (kind : SwapType) (size n 
   new_tells s d kinds.Fail = idle_tells s kinds.Fail
   new_tells s d kinds.Panic = idle_tells s kinds.Panic
 
-  from_tells : (s : Content) (d : Grain) (image_ok : Flag) (highest : Option ℕ) (k : SwapType) (m : ℕ) (first : Option ℕ) → m ≤ greatest_sectors g → Tells s (resumed_from d g image_ok highest k m first)
+  from_tells : (s : Content) (d : Grain) (image_ok : Flag) (highest : Option ℕ) (k : SwapType) (m : ℕ) (first : Option ℕ) → m ≤ greatest_sectors g
+      → Tells s (resumed_from d g image_ok highest k m first)
   from_tells s d image_ok highest k m None few = idle_tells s kinds.Panic
   from_tells s d image_ok highest k m (Some first) few = λ is. absurd (not_resumed d m first (is_none highest) (confirms k image_ok) few is)
 

@@ -66,28 +66,39 @@ module _ (g : Geometry) (ok : IsLayout g) where
       made : (o : Slot) (writes : List Op) → AllByRecursion (WritesIn g (trailer_of_slot g o)) writes → AllByRecursion (InTrailer g) (trailer_erases g o ++ writes)
       made o writes all = all_both (InTrailer g) (trailer_erases g o) writes (all_erases o) (all_writes o writes all)
 
+      asks : List Op
+      asks = preparation_writes c g size
+
+      opens : List Op
+      opens = opening_writes c g kind size
+
       prepared : List Op
-      prepared = trailer_erases g Secondary ++ preparation_writes c g size
+      prepared = trailer_erases g Secondary ++ asks
 
       opened : List Op
-      opened = trailer_erases g Primary ++ opening_writes c g kind size
+      opened = trailer_erases g Primary ++ opens
 
       rest : List Op
       rest = resumed_list g n 0 true false
 
-      front : (ops whole : List Op) → whole ≡ ops ++ rest → done ≤ length ops → AllByRecursion (InTrailer g) ops → AllByRecursion (InTrailer g) (take done whole)
-      front ops whole is few all =
+      prefix : (ops whole : List Op) → whole ≡ ops ++ rest → done ≤ length ops → AllByRecursion (InTrailer g) ops → AllByRecursion (InTrailer g) (take done whole)
+      prefix ops whole is few all =
           let P : List Op → Type 0 = λ xs. AllByRecursion (InTrailer g) (take done xs) in
           subst P (sym is) (all_front (InTrailer g) ops rest done few all)
 
-      by : (b : Bool) → done ≤ (if b then trailer_sectors g + (length (preparation_writes c g size) + (trailer_sectors g + length (opening_writes c g kind size))) else trailer_sectors g + length (opening_writes c g kind size))
-          → AllByRecursion (InTrailer g) (take done (if b then trailer_erases g Secondary ++ (preparation_writes c g size ++ swap_list c g kind size n) else swap_list c g kind size n))
-      by false few =
-          front opened (swap_list c g kind size n) (simp append_assoc) (omega (arith, few, length-erases g Primary (opening_writes c g kind size))) (made Primary (opening_writes c g kind size) (writes_opening c g kind size ok))
+      all_opened : AllByRecursion (InTrailer g) opened
+      all_opened = made Primary opens (writes_opening c g kind size ok)
+
+      all_prepared : AllByRecursion (InTrailer g) prepared
+      all_prepared = made Secondary asks (writes_preparation c g size ok)
+
+      by : (b : Bool) → done ≤ (if b then trailer_sectors g + (length asks + (trailer_sectors g + length opens)) else trailer_sectors g + length opens)
+          → AllByRecursion (InTrailer g) (take done (if b then trailer_erases g Secondary ++ (asks ++ swap_list c g kind size n) else swap_list c g kind size n))
+      by false few = prefix opened (swap_list c g kind size n) (simp append_assoc) (omega (arith, few, length-erases g Primary opens)) all_opened
       by true few =
-          front (prepared ++ opened) (trailer_erases g Secondary ++ (preparation_writes c g size ++ swap_list c g kind size n)) (simp append_assoc)
-          (omega (arith, few, length-append prepared opened, length-erases g Secondary (preparation_writes c g size), length-erases g Primary (opening_writes c g kind size)))
-          (all_both (InTrailer g) prepared opened (made Secondary (preparation_writes c g size) (writes_preparation c g size ok)) (made Primary (opening_writes c g kind size) (writes_opening c g kind size ok)))
+          prefix (prepared ++ opened) (trailer_erases g Secondary ++ (asks ++ swap_list c g kind size n)) (simp append_assoc)
+          (omega (arith, few, length-append prepared opened, length-erases g Secondary asks, length-erases g Primary opens))
+          (all_both (InTrailer g) prepared opened all_prepared all_opened)
 
 -- A layout in pieces has the same trailers.
 pub inside_pieces : (c : Grain) (g : Geometry) (ops : List Op) → AllByRecursion (InTrailer (in_pieces c g)) ops → AllByRecursion (InTrailer g) ops

@@ -37,7 +37,8 @@ valid_kept g s u laws ok bytes has len same =
     (image_front s.secondary u.secondary laws bytes has.valid front).valid
 
 -- A swap from its start had a valid image that fits, and before its transfers it changes trailers alone.
-pub still_valid : (g : Geometry) (s u : Content) (b : Boot) (a : Course) → ImageLaws → IsLayout g → IsStopped g s u b → b.course ≡ Some a → b.done < setup_of a.grain a.layout a.opening → is_valid u.secondary ≡ true
+pub still_valid : (g : Geometry) (s u : Content) (b : Boot) (a : Course) → ImageLaws → IsLayout g → IsStopped g s u b → b.course ≡ Some a
+    → b.done < setup_of a.grain a.layout a.opening → is_valid u.secondary ≡ true
 still_valid g s u b a laws ok is at early = by a.opening refl early
   where
     layout : a.layout ≡ in_pieces a.grain g

@@ -6,8 +6,8 @@ use Rattle.mc_boot.proofs.outcome.Outcome.read.Goals as goal
 
 pub begin-requires : goal.begin-requires
 begin-requires g c =
-    images_read (g.F.Flash.seen c.args.flash.now).content c.slot_bytes.result.now c.slot_bytes-2.result.now c.read-primary.result.size c.read-secondary.result c.new-images.result
-    c.slot_bytes.ensures.value c.slot_bytes-2.ensures.value c.read-primary.ensures.size c.read-secondary.ensures.size c.read-secondary.ensures.id c.new-images.ensures.valid c.new-images.ensures.size
+    images_read (g.F.Flash.seen c.args.flash.now).content c.slot_bytes.result.now c.slot_bytes-2.result.now c.slot_bytes.ensures.value c.slot_bytes-2.ensures.value
+    c.read-primary.result.size c.read-secondary.result c.new-images.result c.read-primary.ensures.size c.read-secondary.ensures.size c.read-secondary.ensures.id c.new-images.ensures.valid c.new-images.ensures.size
 
 pub returns : goal.returns
 returns g c =

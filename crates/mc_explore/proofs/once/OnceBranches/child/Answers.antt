@@ -17,10 +17,11 @@ returns-in-Some-clause-tells g c =
     let layout = c.args.self.layout in
     let f = g.F.Flash.seen c.args.flash.now in
     let b = c.after_cut-boot.ensures in
+    let boot = c.after_cut-boot.result in
     let bytes : IsBytes f.content.secondary = subst (λ (x : List ℕ). IsBytes x) c.read.ensures.value c.bytes_stand.ensures in
-    let begins : IsBegun c.args.at.now.rules f c.after_cut-boot.result = record { boot = b.progress; list = b.whole; layout = b.layout; few = b.few; saves = b.few_saves; sized = b.sized; bytes = bytes } in
+    let begins : IsBegun c.args.at.now.rules f boot = record { boot = b.progress; list = b.whole; layout = b.layout; few = b.few; saves = b.few_saves; sized = b.sized; bytes = bytes } in
     λ s i here early told.
-    told_derived r layout f c.after_cut-boot.result here.layout_is (subst (λ (x : Rules). IsBegun x f c.after_cut-boot.result) here.on_is.come.rules begins) s i c.args.at.now c.args.parent.now c.in-Some.outcome here early told
+    told_derived r layout f boot here.layout_is (subst (λ (x : Rules). IsBegun x f boot) here.on_is.come.rules begins) s i c.args.at.now c.args.parent.now c.in-Some.outcome here early told
     c.in-Some.ensures.outcome
 
 pub returns-in-None-clause-tells : goal.returns-in-None-clause-tells
@@ -29,8 +30,9 @@ returns-in-None-clause-tells g c =
     let layout = c.args.self.layout in
     let f = g.F.Flash.seen c.args.flash.now in
     let b = c.after_cut-boot.ensures in
+    let boot = c.after_cut-boot.result in
     let bytes : IsBytes f.content.secondary = subst (λ (x : List ℕ). IsBytes x) c.read.ensures.value c.bytes_stand.ensures in
-    let begins : IsBegun c.args.at.now.rules f c.after_cut-boot.result = record { boot = b.progress; list = b.whole; layout = b.layout; few = b.few; saves = b.few_saves; sized = b.sized; bytes = bytes } in
-    tells c.tell.result (TellsChild (once r layout) c.args.at.now c.args.parent.now f) c.after_cut-boot.result f c.tell.ensures.boot c.tell.ensures.outcome
+    let begins : IsBegun c.args.at.now.rules f boot = record { boot = b.progress; list = b.whole; layout = b.layout; few = b.few; saves = b.few_saves; sized = b.sized; bytes = bytes } in
+    tells c.tell.result (TellsChild (once r layout) c.args.at.now c.args.parent.now f) boot f c.tell.ensures.boot c.tell.ensures.outcome
     (λ t same ends s i here early told.
-    told_run r layout f c.after_cut-boot.result here.layout_is (subst (λ (x : Rules). IsBegun x f c.after_cut-boot.result) here.on_is.come.rules begins) _ here.content_is t same ends)
+    told_run r layout f boot here.layout_is (subst (λ (x : Rules). IsBegun x f boot) here.on_is.come.rules begins) _ here.content_is t same ends)
