@@ -1,6 +1,8 @@
 mod Images
 mod Room
 mod Parting
+mod Bytes
+mod TornPages
 mod Reading
 mod Occurring
 mod Onwards

@@ -20,6 +20,7 @@ mod rows;
 mod schedule;
 mod slots;
 mod start;
+mod torn;
 
 pub use cursor::{Cursor, CursorError};
 pub use error::ExploreError;
@@ -31,6 +32,7 @@ pub use replaying::{ReplayError, replay};
 pub use row::Row;
 pub use schedule::{MOST_CUTS, Schedule, ScheduleError};
 pub use start::{Start, StartError};
+pub use torn::last_row;
 
 #[cfg(test)]
 mod tests;

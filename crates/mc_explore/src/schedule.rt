@@ -1,5 +1,5 @@
 //! Schedules of power cuts.
-ghost use Rattle.std.specs.Prelude.{◌≡◌, ℕ, ◌<◌, ◌≤◌, ◌^◌, ◌++◌, List, [], ◌∷◌, length, decimal, Some, Ok, MatchResult, OnOk, OnErr};
+ghost use Rattle.std.specs.Prelude.{◌≡◌, ℕ, ◌<◌, ◌≤◌, ◌^◌, ◌++◌, List, [], ◌∷◌, length, decimal, Some, Ok, IfOk, MatchResult, OnOk, OnErr};
 ghost use Rattle.mc_explore.specs.Texts.{schedule_text, IsSchedule, IsAdded, ReadsSchedule};
 
 use std::fmt;
@@ -59,6 +59,7 @@ impl Schedule {
         ensures exact { ReadsSchedule text.now result }
         // The text of each schedule is read as that schedule.
         ensures only { (l : List ℕ) → IsSchedule l → text.now ≡ schedule_text l → result ≡ Ok l }
+        ensures valid { IfOk result IsSchedule }
     {
         let mut schedule = Schedule::new();
         if text == "-" {
