@@ -12,6 +12,7 @@ mod Moving
 mod Going
 mod Restarts
 mod Streams
+mod Preceding
 mod PageText
 mod Lines
 mod Cursors

@@ -15,6 +15,7 @@ pub mod Bounds
 pub mod CursorText
 pub mod Page
 pub mod Torn
+pub mod Until
 pub mod Resume
 pub mod Restarts
 pub mod Chain

@@ -1,5 +1,6 @@
 //! Schedules of power cuts.
-ghost use Rattle.std.specs.Prelude.{◌≡◌, ℕ, ◌<◌, ◌≤◌, ◌^◌, ◌++◌, List, [], ◌∷◌, length, decimal, Some, Ok, IfOk, MatchResult, OnOk, OnErr};
+ghost use Rattle.std.specs.Prelude.{◌≡◌, ◌↔◌, true, ℕ, ◌<◌, ◌≤◌, ◌^◌, ◌++◌, List, [], ◌∷◌, length, decimal, Some, Ok, IfOk, MatchResult, OnOk, OnErr};
+ghost use Rattle.mc_tree.specs.Paths.{Precedes};
 ghost use Rattle.mc_explore.specs.Texts.{schedule_text, IsSchedule, IsAdded, ReadsSchedule};
 
 use std::fmt;
@@ -116,6 +117,13 @@ impl Schedule {
         ensures few { length result.now ≤ 16 }
     {
         &self.cuts[..self.len]
+    }
+
+    /// Whether it comes before another in the order of rows: a prefix comes first, else the first cut that differs decides.
+    pub(crate) fn is_before(&self, other: &Schedule) -> bool
+        ensures { (result ≡ true) ↔ Precedes self.now other.now }
+    {
+        self.cuts() < other.cuts()
     }
 
     /// Adds a cut at the end.

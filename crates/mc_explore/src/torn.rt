@@ -1,11 +1,12 @@
 //! Where to go on after a page of which only a beginning is out.
-ghost use Rattle.std.specs.Prelude.{◌≡◌, ℕ, ◌≤◌, List, ◌∷◌, ◌++◌, Some, take, IfSome, IfNone};
+ghost use Rattle.std.specs.Prelude.{◌≡◌, ℕ, ◌≤◌, List, ◌∷◌, ◌++◌, Option, Some, take, IfSome, IfNone};
 ghost use Rattle.std.specs.Str.Iter.{LacksByte};
 ghost use Rattle.mc_flash.specs.Geometry.{IsLayout};
 ghost use Rattle.mc_explore.specs.Page.{page_at, page_text};
 ghost use Rattle.mc_explore.specs.Rest.{IsRest};
 ghost use Rattle.mc_explore.specs.State.{State, Told};
 ghost use Rattle.mc_explore.specs.Torn.{IsRowLine, IsLastRow, Continues};
+ghost use Rattle.mc_explore.specs.Until.{Shown};
 
 use crate::schedule::Schedule;
 use std::str;
@@ -45,6 +46,11 @@ pub fn last_row(torn: &[u8]) -> Option<Schedule>
         → IsLayout state.start.geometry → state.bound ≤ 16 → IsRest state rows
         → torn.now ≡ take n (page_text (page_at state limit rows))
         → Continues state rows (take limit rows) torn.now result }
+    // And so it is of a page of the rows before a schedule.
+    ensures until { (until : Option (List ℕ)) (state : State) (limit n : ℕ) (of : Shown until state)
+        → IsLayout state.start.geometry → state.bound ≤ 16
+        → torn.now ≡ take n (page_text (page_at state limit of.shown))
+        → Continues state of.rows (take limit of.shown) torn.now result }
 {
     let mut last = None;
     let mut rest = torn;
