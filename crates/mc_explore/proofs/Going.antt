@@ -41,7 +41,7 @@ use Rattle.mc_explore.proofs.Occurring.{allowed_after, occurs_allowed, member_of
 
 -- ---- what a path costs
 
-few_ops : (r : Rules) (g : Geometry) (s : Content) → IsLayout g → length (ops_of r g s) ≤ most_operations r.grain g
+pub few_ops : (r : Rules) (g : Geometry) (s : Content) → IsLayout g → length (ops_of r g s) ≤ most_operations r.grain g
 few_ops r g s valid =
     let few = ops_few r g s (length (ops_of r g s)) valid in
     omega (arith, few, ap (λ (ops : List Op). length ops) (take_all (length (ops_of r g s)) (ops_of r g s) (omega arith)))

@@ -1,6 +1,6 @@
 -- The size of the valid image that some bytes begin with.
-use Rattle.std.specs.Prelude.{◌≡◌, ◌≤◌, List, ℕ, length, take, Option, Some, None, refl}
-use Rattle.std.proofs.Common.{arith, ap, ◌∙◌, length-append}
+use Rattle.std.specs.Prelude.{◌≡◌, List, ℕ, length, take, Option, Some, None, refl}
+use Rattle.std.proofs.Common.{arith, ap, ◌∙◌}
 use Rattle.std.proofs.lemmas.List.{length-take-le}
 use Rattle.mc_image.specs.Faults.{◌<+>◌, first_fault}
 use Rattle.mc_image.specs.Image.{Image, Begins, image_in, image_text}

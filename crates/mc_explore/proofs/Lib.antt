@@ -1,6 +1,8 @@
 mod Images
 mod Room
 mod Parting
+mod Bytes
+mod TornPages
 mod Reading
 mod Occurring
 mod Onwards
@@ -10,6 +12,7 @@ mod Moving
 mod Going
 mod Restarts
 mod Streams
+mod Preceding
 mod PageText
 mod Lines
 mod Cursors

@@ -4,7 +4,7 @@ use Rattle.std.specs.Str.Parse.{AllDigits, ParsesUnsigned}
 use Rattle.std.proofs.Common.{arith, sym, ap, subst, ◌∙◌, append_assoc, append-nil, length-append}
 use Rattle.std.proofs.lemmas.Fmt.{parse-decimal, decimal_injective, decimal_is_IsNumeral}
 use Rattle.std.proofs.Math.Seq.{drop-append_seam}
-use Rattle.std.proofs.lemmas.List.Elements.{All-head, All-drop}
+use Rattle.std.proofs.lemmas.List.Elements.{All-head, All-drop, All-push, All-same}
 use Rattle.std.proofs.lemmas.Str.Parse.{digit_from_value}
 use Rattle.mc_explore.specs.Texts.{schedule_text, IsSchedule, IsAdded}
 use Rattle.mc_explore.proofs.Parting.{Lacks, one_part, no_part, lacks_decimal}
@@ -26,7 +26,7 @@ behind_push (x ∷ l) c rest =
     ∙ ap (λ (z : List ℕ). decimal x ++ (46 ∷ z)) (behind_push l c rest)
     ∙ sym (append_assoc (decimal x) (46 ∷ behind l) (decimal c ++ (46 ∷ rest)))
 
-abbrev points : List ℕ → List ℕ
+abbrev pub points : List ℕ → List ℕ
 points cs = flat_map (λ d. codes "." ++ decimal d) cs
 
 points_push : (l : List ℕ) (x c : ℕ) → decimal x ++ points (l ++ c ∷ []) ≡ behind (x ∷ l) ++ decimal c
@@ -38,7 +38,7 @@ pub whole_text : (l : List ℕ) (c : ℕ) → behind l ++ decimal c ≡ schedule
 whole_text [] c = sym (append-nil (decimal c))
 whole_text (x ∷ l) c = sym (points_push l x c)
 
-point_no_digit : (c : ℕ) → c ≡ 46 → 48 ≤ c → c ≤ 57 → ⊥
+pub point_no_digit : (c : ℕ) → c ≡ 46 → 48 ≤ c → c ≤ 57 → ⊥
 point_no_digit c is low high = omega (arith, is, low)
 
 -- Of the cuts m those of l were read, and the text of the others is left.
@@ -54,6 +54,12 @@ none_read (c ∷ cs) text is other = record { others = c ∷ cs; some = omega ar
 
 small_cut : (l n m : List ℕ) (c : ℕ) → IsSchedule m → m ≡ l ++ c ∷ n → c < 2 ^ 32
 small_cut l n m c ok is = All-head (λ d. d < 2 ^ 32) c n (subst (All (λ d. d < 2 ^ 32)) (drop-append_seam l (c ∷ n)) (All-drop (λ d. d < 2 ^ 32) (length l) (l ++ c ∷ n) (subst (All (λ d. d < 2 ^ 32)) is ok.small)))
+
+pub added_valid : (old text new : List ℕ) → IsSchedule old → IsAdded old text new → IsSchedule new
+added_valid old text new ok added = record {
+  few = omega (arith, added.room, ap (λ (xs : List ℕ). length xs) added.new_is, length-append old (added.cut ∷ []));
+  small = All-same (λ c. c < 2 ^ 32) new (old ++ added.cut ∷ []) added.new_is (All-push (λ c. c < 2 ^ 32) old added.cut ok.small added.small);
+}
 
 -- The next cut, of a text that has a point.
 pub record IsNextCut (l m first after : List ℕ) : Type 0 where

@@ -14,6 +14,8 @@ pub mod Want
 pub mod Bounds
 pub mod CursorText
 pub mod Page
+pub mod Torn
+pub mod Until
 pub mod Resume
 pub mod Restarts
 pub mod Chain

@@ -24,8 +24,9 @@ abbrev pub ReadsSchedule : List ℕ → Result (List ℕ) ScheduleError → Type
 ReadsSchedule text (Ok l) = text ≡ schedule_text l
 ReadsSchedule text (Err _) = (l : List ℕ) → IsSchedule l → text ≡ schedule_text l → ⊥
 
--- The cut that a text writes stands behind others.
+-- The cut that a text writes stands behind others, of which there are fewer than 16.
 pub record IsAdded (old text new : List ℕ) : Type 0 where
+  pub room : length old < 16
   pub cut : ℕ
   pub small : cut < 2 ^ 32
   pub text_is : text ≡ decimal cut

@@ -62,15 +62,9 @@ impl<F: Flash + Drop> Explorer<F> {
         ensures err { IfErr result (λ e. e ≡ ExploreError.Memory) }
     {
         let walk = load(alloc, start, bound)?;
-        let cursor = Cursor {
-            rules: start.rules(),
-            digest: start.digest(),
-            bound,
-            schedule: Schedule::new(),
-        };
         Ok(Explorer {
             walk,
-            cursor,
+            cursor: Cursor::of(start, bound, &Schedule::new()),
             phase: Phase::Fresh,
         })
     }

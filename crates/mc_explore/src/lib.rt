@@ -20,17 +20,19 @@ mod rows;
 mod schedule;
 mod slots;
 mod start;
+mod torn;
 
 pub use cursor::{Cursor, CursorError};
 pub use error::ExploreError;
 pub use explorer::Explorer;
 pub use kind::Kind;
 pub use laws::{one_list_of_rows, pages_join_up};
-pub use pages::write_page;
+pub use pages::{write_page, write_page_until};
 pub use replaying::{ReplayError, replay};
 pub use row::Row;
 pub use schedule::{MOST_CUTS, Schedule, ScheduleError};
 pub use start::{Start, StartError};
+pub use torn::last_row;
 
 #[cfg(test)]
 mod tests;

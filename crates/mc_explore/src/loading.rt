@@ -1,14 +1,15 @@
-//! The walk from a start, and whether a cursor is of that start.
+//! The walk from a start, the cursors of that start, and whether a cursor is one of them.
 ghost use Rattle.std.specs.Prelude.{◌≡◌, ◌+◌, ◌≤◌, true, IfOk, IfErr, OnOk};
 ghost use Rattle.mc_flash.specs.Ledger.{limits_for};
+ghost use Rattle.mc_explore.specs.Page.{cursor_of};
 ghost use Rattle.mc_explore.specs.Resume.{Names, Refuses};
 ghost use Rattle.mc_explore.specs.Start.{begun};
 ghost use Rattle.mc_explore.specs.View.{IsLoaded};
 
-use crate::Start;
 use crate::cursor::Cursor;
 use crate::error::ExploreError;
 use crate::once::Once;
+use crate::{Schedule, Start};
 use mc_flash::{Flash, FlashError};
 use mc_walk::Walk;
 use std::alloc::Global;
@@ -35,6 +36,22 @@ pub fn load<F: Flash>(alloc: Global, start: &Start, bound: u8) -> Result<Walk<F,
         u32::from(bound) + 1,
     )?;
     Walk::start(alloc, Once { rules, layout }, usize::from(bound), flash)
+}
+
+impl Cursor {
+    /// The cursor that goes on after a schedule, of a start and at most so many cuts: the one that a page which ends with
+    /// the row of that schedule names. It takes no memory.
+    pub fn of(start: &Start, bound: u8, schedule: &Schedule) -> Cursor
+        requires { bound ≤ 16 }
+        ensures { result ≡ cursor_of (begun start.now) bound schedule.now }
+    {
+        Cursor {
+            rules: start.rules(),
+            digest: start.digest(),
+            bound,
+            schedule: *schedule,
+        }
+    }
 }
 
 /// Whether a cursor is one of this start and this bound.

@@ -1,5 +1,6 @@
 //! Schedules of power cuts.
-ghost use Rattle.std.specs.Prelude.{◌≡◌, ℕ, ◌<◌, ◌≤◌, ◌^◌, ◌++◌, List, [], ◌∷◌, length, decimal, Some, Ok, MatchResult, OnOk, OnErr};
+ghost use Rattle.std.specs.Prelude.{◌≡◌, ◌↔◌, true, ℕ, ◌<◌, ◌≤◌, ◌^◌, ◌++◌, List, [], ◌∷◌, length, decimal, Some, Ok, IfOk, MatchResult, OnOk, OnErr};
+ghost use Rattle.mc_tree.specs.Paths.{Precedes};
 ghost use Rattle.mc_explore.specs.Texts.{schedule_text, IsSchedule, IsAdded, ReadsSchedule};
 
 use std::fmt;
@@ -59,6 +60,7 @@ impl Schedule {
         ensures exact { ReadsSchedule text.now result }
         // The text of each schedule is read as that schedule.
         ensures only { (l : List ℕ) → IsSchedule l → text.now ≡ schedule_text l → result ≡ Ok l }
+        ensures valid { IfOk result IsSchedule }
     {
         let mut schedule = Schedule::new();
         if text == "-" {
@@ -115,6 +117,13 @@ impl Schedule {
         ensures few { length result.now ≤ 16 }
     {
         &self.cuts[..self.len]
+    }
+
+    /// Whether it comes before another in the order of rows: a prefix comes first, else the first cut that differs decides.
+    pub(crate) fn is_before(&self, other: &Schedule) -> bool
+        ensures { (result ≡ true) ↔ Precedes self.now other.now }
+    {
+        self.cuts() < other.cuts()
     }
 
     /// Adds a cut at the end.

@@ -8,6 +8,7 @@ mod exploring;
 mod paging;
 mod replays;
 mod resuming;
+mod tearing;
 mod vectors;
 
 use super::*;

@@ -1,6 +1,6 @@
 //! What explorations take of a flash with a journal.
 use super::{FIRST, SECOND, worked};
-use crate::{Explorer, Kind, Schedule, Start};
+use crate::{Cursor, Explorer, Kind, Schedule, Start};
 use mc_flash::JournalFlash;
 use std::alloc::Global;
 use std::process::Abort;
@@ -41,8 +41,7 @@ fn a_walk_keeps_its_bounds(rt: HostRuntime) -> Result<(), Fail> {
 #[test]
 fn a_resume_goes_straight_down(rt: HostRuntime) -> Result<(), Fail> {
     let start = start(rt.alloc())?;
-    let begun = Explorer::<JournalFlash>::start(rt.alloc(), &start, 2)?;
-    let cursor = begun.cursor(&Schedule::read("17.0")?);
+    let cursor = Cursor::of(&start, 2, &Schedule::read("17.0")?);
     let mut explorer = Explorer::<JournalFlash>::resume(rt.alloc(), &start, 2, &cursor)?;
     assert_bounds(&rt, explorer.flash());
     assert!(rt; explorer.next_row()?.is_none());

@@ -2,7 +2,7 @@
 ghost use Rattle.std.specs.Prelude.{◌≤◌};
 
 use super::{FIRST, SECOND, worked};
-use crate::{ExploreError, Explorer, Kind, Start, write_page};
+use crate::{ExploreError, Explorer, Kind, Schedule, Start, write_page, write_page_until};
 use mc_flash::SnapFlash;
 use std::alloc::Global;
 use std::io::{self, Write};
@@ -43,6 +43,48 @@ fn a_page_with_room_left_ends(rt: HostRuntime) -> Result<(), Fail> {
         page.as_str()
             .ends_with("\n17 boot test 1 2.0.0+0/80 1.0.0+0/80 revert\nend\n")
     );
+    Ok(())
+}
+
+/// The schedules of the rows of a page up to one, and the first word after them.
+fn words_until(alloc: Global, until: &str, limit: u32) -> Result<String, Fail>
+    requires { 1 ≤ limit }
+{
+    let mut explorer = explorer(alloc, 1)?;
+    let mut page = Vec::new(alloc);
+    write_page_until(
+        &mut explorer,
+        Some(Schedule::read(until)?),
+        limit,
+        &mut page,
+    )?;
+    let mut words = String::new(alloc);
+    for line in String::from_utf8(page)?.as_str().lines() {
+        words.push_str(line.split_whitespace().next().unwrap_or(""))?;
+        words.push_str(" ")?;
+    }
+    Ok(words)
+}
+
+#[test]
+fn a_page_stops_before_a_schedule(rt: HostRuntime) -> Result<(), Fail> {
+    for (until, limit, want) in [
+        ("-", 20, "end "),
+        ("0", 20, "- end "),
+        ("0.5", 20, "- 0 end "),
+        ("3", 20, "- 0 1 2 end "),
+        ("3", 5, "- 0 1 2 end "),
+        ("3", 4, "- 0 1 2 next "),
+        ("3", 2, "- 0 next "),
+        (
+            "18",
+            20,
+            "- 0 1 2 3 4 5 6 7 8 9 10 11 12 13 14 15 16 17 end ",
+        ),
+    ] {
+        let words = words_until(rt.alloc(), until, limit)?;
+        assert_eq!(rt; words.as_str(), want, "{until} {limit}");
+    }
     Ok(())
 }
 

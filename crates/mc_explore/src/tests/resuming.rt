@@ -15,18 +15,16 @@ fn start(alloc: Global, kind: Kind) -> Result<Start, Fail> {
 }
 
 /// The cursor of a schedule, of at most so many cuts.
-fn cursor(alloc: Global, start: &Start, bound: u8, cuts: &str) -> Result<Cursor, Fail>
+fn cursor(start: &Start, bound: u8, cuts: &str) -> Result<Cursor, Fail>
     requires { bound ≤ 16 }
 {
-    let explorer = Explorer::<SnapFlash>::start(alloc, start, bound)?;
-    let schedule = Schedule::read(cuts)?;
-    Ok(explorer.cursor(&schedule))
+    Ok(Cursor::of(start, bound, &Schedule::read(cuts)?))
 }
 
 /// The page of one row after a schedule.
 fn page_behind(alloc: Global, cuts: &str) -> Result<String, Fail> {
     let start = start(alloc, Kind::Test)?;
-    let cursor = cursor(alloc, &start, 2, cuts)?;
+    let cursor = cursor(&start, 2, cuts)?;
     let mut explorer = Explorer::<SnapFlash>::resume(alloc, &start, 2, &cursor)?;
     let mut page = Vec::new(alloc);
     write_page(&mut explorer, 1, &mut page)?;
@@ -54,7 +52,7 @@ fn refusal(alloc: Global, start: &Start, bound: u8, cursor: &Cursor) -> Option<E
 fn cursors_are_refused(rt: HostRuntime) -> Result<(), Fail> {
     let alloc = rt.alloc();
     let start_test = start(alloc, Kind::Test)?;
-    let behind = cursor(alloc, &start_test, 1, "18")?;
+    let behind = cursor(&start_test, 1, "18")?;
     let perm = start(alloc, Kind::Perm)?;
     assert_eq!(rt;
         refusal(alloc, &perm, 2, &behind),
@@ -76,12 +74,12 @@ fn cursors_are_refused(rt: HostRuntime) -> Result<(), Fail> {
         refusal(alloc, &start_test, 1, &behind),
         Some(ExploreError::CannotOccur)
     );
-    let longer = cursor(alloc, &start_test, 1, "0.0")?;
+    let longer = cursor(&start_test, 1, "0.0")?;
     assert_eq!(rt;
         refusal(alloc, &start_test, 1, &longer),
         Some(ExploreError::CannotOccur)
     );
-    let last = cursor(alloc, &start_test, 1, "17")?;
+    let last = cursor(&start_test, 1, "17")?;
     assert_eq!(rt; refusal(alloc, &start_test, 1, &last), None);
     Ok(())
 }

@@ -7,7 +7,7 @@ use Rattle.mc_explore.proofs.pages.write_lines.Given as goal
 abbrev pub invariant-fill : goal.invariant-fill
 invariant-fill g l =
     record {
-      page : AreInPage l.fn.explorer.state l.explorer.state l.limit l.room l.last (g.W.Write.contents l.fn.writer) (g.W.Write.contents l.writer);
+      page : AreInPage l.until l.fn.explorer.state l.explorer.state l.limit l.room l.last (g.W.Write.contents l.fn.writer) (g.W.Write.contents l.writer);
       not_lost : l.explorer.state.position ≡ Lost → l.fn.explorer.state.position ≡ Lost;
       stuck : l.fn.explorer.state.position ≡ Lost → (l.explorer.state.position ≡ Lost) × (0 < l.room);
       unwritten : l.explorer.state.position ≡ Lost → (l.explorer ≡ l.fn.explorer) × (l.writer ≡ l.fn.writer);

@@ -1,8 +1,11 @@
-use Rattle.std.proofs.Common.{refl}
+use Rattle.std.proofs.Common.{ap}
 use Rattle.mc_explore.specs.Start.{begun}
+use Rattle.mc_explore.specs.declared.cursor.Cursor.{Cursor}
 use Rattle.mc_explore.proofs.Going.{started}
 use Rattle.mc_explore.proofs.explorer.Explorer.start.Goals as goal
 
 pub invariant_of-result : goal.invariant_of-result
 invariant_of-result g c =
-    started g.F.Flash.counted (begun c.args.start.now) c.args.bound _ c.in_ok-walk.walk c.in_ok-walk.ensures.loaded (record { digest_is = c.digest.ensures; rules_are = c.rules.ensures; bound_is = refl }) c.requires
+    started g.F.Flash.counted (begun c.args.start.now) c.args.bound _ c.in_ok-walk.walk c.in_ok-walk.ensures.loaded
+    (record { digest_is = ap (λ (k : Cursor). k.digest) c.of.ensures; rules_are = ap (λ (k : Cursor). k.rules) c.of.ensures; bound_is = ap (λ (k : Cursor). k.bound) c.of.ensures })
+    c.requires

@@ -2,7 +2,7 @@ use Rattle.std.specs.Prelude.{Ok, codes, List, ℕ}
 use Rattle.std.proofs.Common.{rules, arith, sym, ap, ◌∙◌}
 use Rattle.std.proofs.lemmas.Result.{err_from_is_err_and}
 use Rattle.std.proofs.lemmas.Slice.Eq.{bytes_eq-Decides}
-use Rattle.mc_explore.proofs.Reading.{dash, not_next, not_last, left_next, text_next, text_last, all_read}
+use Rattle.mc_explore.proofs.Reading.{dash, not_next, not_last, left_next, text_next, text_last, all_read, added_valid}
 use Rattle.mc_explore.proofs.Parting.{parted, one_piece}
 use Rattle.mc_explore.proofs.schedule.Schedule.read.Goals as goal
 
@@ -27,6 +27,7 @@ cuts-preserved c =
     let p = parted 46 (omega arith) c.cuts.rest.now c.split_once.result c.split_once.ensures.cases c.in-Some.first c.in-Some.after c.in-Some.is in
     record {
       utf8 = search rules;
+      valid = added_valid c.cuts.schedule c.in-Some.first.now c.add.new.self c.cuts.invariant.valid c.in_ok-add.ensures.added;
       text = text_next c.cuts.schedule c.add.new.self c.args.text.now c.cuts.rest.now c.in-Some.first.now c.in-Some.after.now c.cuts.invariant.text p.parts c.in_ok-add.ensures.added;
       left = λ m ok told. left_next c.cuts.schedule m c.add.new.self c.cuts.rest.now c.in-Some.first.now c.in-Some.after.now ok (c.cuts.invariant.left m ok told) p.parts p.lacks c.in_ok-add.ensures.added;
     }
@@ -49,3 +50,6 @@ pub returns-clause-only : goal.returns-clause-only
 returns-clause-only c = λ l ok told.
     let lacks = one_piece 46 (omega arith) c.cuts.rest.now c.split_once.result c.split_once.ensures.cases c.in_default.is in
     ap (λ (xs : List ℕ). Ok xs) (all_read c.cuts.schedule l c.add-2.new.self c.cuts.rest.now ok (c.cuts.invariant.left l ok told) lacks c.in_ok-add-2.ensures.added)
+
+pub returns-clause-valid : goal.returns-clause-valid
+returns-clause-valid c = added_valid c.cuts.schedule c.cuts.rest.now c.add-2.new.self c.cuts.invariant.valid c.in_ok-add-2.ensures.added
