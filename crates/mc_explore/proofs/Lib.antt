@@ -13,7 +13,9 @@ mod Going
 mod Restarts
 mod Streams
 mod Preceding
+mod PageRows
 mod PageText
+mod Counted
 mod Lines
 mod Cursors
 mod Continued

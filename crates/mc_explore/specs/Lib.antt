@@ -16,6 +16,7 @@ pub mod CursorText
 pub mod Page
 pub mod Torn
 pub mod Until
+pub mod Survey
 pub mod Resume
 pub mod Restarts
 pub mod Chain

@@ -3,7 +3,7 @@ use Rattle.std.specs.Prelude.{◌≡◌, ◌⊎◌, ℕ, suc, nat_le, if◌then�
 use Rattle.std.specs.Io.KnownBytes.{Appends}
 use Rattle.mc_output.specs.Fronts.{AppendsFront}
 use Rattle.mc_tree.specs.Paths.{Precedes}
-use Rattle.mc_explore.specs.Page.{page_at, page_text, state_past}
+use Rattle.mc_explore.specs.Page.{Page, page_at, page_text, state_past}
 use Rattle.mc_explore.specs.Rest.{IsRest}
 use Rattle.mc_explore.specs.State.{State, Told, IsOver, Finds, moved_to}
 use Rattle.mc_explore.specs.declared.row.Row.{Row}
@@ -32,14 +32,20 @@ pub record Shown (until : Option (List ℕ)) (state : State) : Type 0 where
 abbrev pub rows_taken : ℕ → List Told → ℕ
 rows_taken limit shown = if nat_le limit (length shown) then limit else suc (length shown)
 
--- That page is out, and the explorer is past the rows that were taken.
-pub record ShownIsOut (until : Option (List ℕ)) (old new : State) (limit : ℕ) (before after : Option (List ℕ)) : Type 0 where
+-- The rows of that page are taken: the explorer is past them, and the others stay to come.
+pub record TakesPage (until : Option (List ℕ)) (old new : State) (limit : ℕ) (page : Page) : Type 0 where
   pub of : Shown until old
-  pub out : Appends before after (page_text (page_at old limit of.shown))
+  pub page_is : page ≡ page_at old limit of.shown
   pub left : IsRest new (drop (rows_taken limit of.shown) of.rows)
   pub past : new ≡ state_past old (rows_taken limit of.shown) of.rows
 
--- A beginning of it is out.
+-- And the page is out.
+pub record ShownIsOut (until : Option (List ℕ)) (old new : State) (limit : ℕ) (before after : Option (List ℕ)) : Type 0 where
+  pub page : Page
+  pub taken : TakesPage until old new limit page
+  pub out : Appends before after (page_text page)
+
+-- A beginning of that page is out.
 pub record ShownBegan (until : Option (List ℕ)) (old : State) (limit : ℕ) (before after : Option (List ℕ)) : Type 0 where
   pub of : Shown until old
   pub out : AppendsFront before after (page_text (page_at old limit of.shown))

@@ -20,6 +20,7 @@ mod rows;
 mod schedule;
 mod slots;
 mod start;
+mod surveying;
 mod torn;
 
 pub use cursor::{Cursor, CursorError};
@@ -32,6 +33,7 @@ pub use replaying::{ReplayError, replay};
 pub use row::Row;
 pub use schedule::{MOST_CUTS, Schedule, ScheduleError};
 pub use start::{Start, StartError};
+pub use surveying::{Tally, survey, survey_until};
 pub use torn::last_row;
 
 #[cfg(test)]

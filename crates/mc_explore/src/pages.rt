@@ -32,6 +32,7 @@ impl<F: Flash + Drop> Explorer<F> {
         ensures limits { self.new.ledger.limits ≡ self.old.ledger.limits }
         ensures cause { IsErrOf result ExploreError.Memory
             → RanOut F.counted self.new.ledger.failed }
+        ensures lost { OnErr result (self.new.state.position ≡ Lost) }
         ensures stays_lost { self.old.state.position ≡ Lost → IsErrOf result ExploreError.Failed }
         ensures not_lost { IsErrOf result ExploreError.Failed → self.old.state.position ≡ Lost }
         ensures still { IsErrOf result ExploreError.Failed → self.new ≡ self.old }

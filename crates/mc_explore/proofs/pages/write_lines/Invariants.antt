@@ -1,13 +1,13 @@
 use Rattle.std.proofs.Common.{◌≡◌, ◌+◌, ◌*◌, ◌<◌, ◌≤◌, ◌⊎◌}
 use Rattle.mc_explore.specs.Bounds.{most_for_row}
 use Rattle.mc_tree.specs.Paths.{Lost}
-use Rattle.mc_explore.proofs.PageText.{AreInPage}
+use Rattle.mc_explore.proofs.PageText.{AreOut}
 use Rattle.mc_explore.proofs.pages.write_lines.Given as goal
 
 abbrev pub invariant-fill : goal.invariant-fill
 invariant-fill g l =
     record {
-      page : AreInPage l.until l.fn.explorer.state l.explorer.state l.limit l.room l.last (g.W.Write.contents l.fn.writer) (g.W.Write.contents l.writer);
+      page : AreOut l.until l.fn.explorer.state l.limit (g.W.Write.contents l.fn.writer) l.explorer.state l.room l.last (g.W.Write.contents l.writer);
       not_lost : l.explorer.state.position ≡ Lost → l.fn.explorer.state.position ≡ Lost;
       stuck : l.fn.explorer.state.position ≡ Lost → (l.explorer.state.position ≡ Lost) × (0 < l.room);
       unwritten : l.explorer.state.position ≡ Lost → (l.explorer ≡ l.fn.explorer) × (l.writer ≡ l.fn.writer);

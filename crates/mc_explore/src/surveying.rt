@@ -1,0 +1,138 @@
+//! What the rows of an exploration come to.
+ghost use Rattle.std.specs.Prelude.{◌≡◌, ◌+◌, ◌-◌, ◌*◌, ◌^◌, ◌<◌, ◌≤◌, ◌⊎◌, List, ◌∷◌, ◌++◌, [], None, IfOk, IfErr, OnOk, OnErr, IsErrOf, length};
+ghost use Rattle.mc_tree.specs.Paths.{Lost};
+ghost use Rattle.mc_explore.specs.Bounds.{most_for_row};
+ghost use Rattle.mc_explore.specs.State.{Told, told};
+ghost use Rattle.mc_explore.specs.Survey.{Surveys, SurveysUntil, tally_of};
+ghost use Rattle.mc_explore.specs.Want.{RanOut};
+
+use crate::cursor::Cursor;
+use crate::error::ExploreError;
+use crate::explorer::Explorer;
+use crate::row::Row;
+use crate::schedule::Schedule;
+use mc_boot::BootResult;
+use mc_flash::Flash;
+
+/// How many rows a page would have, how many of them with each result, and where it would go on.
+#[derive(Clone, Copy, Debug)]
+pub struct Tally {
+    pub rows: u32,
+    /// How many end in a boot.
+    pub boot: u32,
+    /// How many leave a primary without a valid image.
+    pub none: u32,
+    /// How many end in a panic.
+    pub panic: u32,
+    /// How many end in a refused operation.
+    pub fault: u32,
+    /// The greatest number of operations of a last boot, 0 where there are no rows.
+    pub most_ops: u32,
+    /// The cursor of the last row, where the page would be full.
+    pub next: Option<Cursor>,
+}
+
+impl Tally {
+    // Of no rows.
+    fn new() -> Tally
+        ensures { result ≡ tally_of (record { rows = []; goes_on = None }) }
+    {
+        Tally {
+            rows: 0,
+            boot: 0,
+            none: 0,
+            panic: 0,
+            fault: 0,
+            most_ops: 0,
+            next: None,
+        }
+    }
+
+    // Counts one row more.
+    fn add(&mut self, row: &Row)
+        requires { (rows : List Told) × (self.old ≡ tally_of (record { rows = rows; goes_on = None }))
+            × (length rows < 2 ^ 32 - 1) }
+        ensures { (rows : List Told) → self.old ≡ tally_of (record { rows = rows; goes_on = None })
+            → self.new ≡ tally_of (record { rows = rows ++ told row.now ∷ []; goes_on = None }) }
+    {
+        self.rows += 1;
+        match row.outcome.result {
+            BootResult::Boot => self.boot += 1,
+            BootResult::None => self.none += 1,
+            BootResult::Panic => self.panic += 1,
+            BootResult::Fault => self.fault += 1,
+        }
+        self.most_ops = self.most_ops.max(row.outcome.ops);
+    }
+}
+
+/// Counts the next rows that come before that schedule, if one is told, at most so many: the rows of the page that
+/// `write_page_until` would write. The explorer is where that page would have left it. It takes no memory but through the
+/// flash.
+///
+/// # Errors
+///
+/// `Memory`, `Failed`: those of `next_row`.
+pub fn survey_until<F: Flash + Drop>(
+    explorer: &mut Explorer<F>,
+    until: Option<Schedule>,
+    limit: u32,
+) -> Result<Tally, ExploreError>
+    requires { 1 ≤ limit }
+    ensures surveys { IfOk result (SurveysUntil until explorer.old.state explorer.new.state limit) }
+    // Each row takes as much as one by itself. The limits never change.
+    ensures applied { OnOk result (explorer.new.ledger.applied ≤ explorer.old.ledger.applied + limit
+        * most_for_row explorer.old.state.start.rules explorer.old.state.start.geometry) }
+    ensures limits { explorer.new.ledger.limits ≡ explorer.old.ledger.limits }
+    ensures cause { IsErrOf result ExploreError.Memory
+        → RanOut F.counted explorer.new.ledger.failed }
+    ensures lost { OnErr result (explorer.new.state.position ≡ Lost) }
+    ensures stays_lost { explorer.old.state.position ≡ Lost → IsErrOf result ExploreError.Failed }
+    ensures not_lost { IsErrOf result ExploreError.Failed → explorer.old.state.position ≡ Lost }
+    ensures still { IsErrOf result ExploreError.Failed → explorer.new ≡ explorer.old }
+    ensures err { IfErr result (λ e. (e ≡ ExploreError.Memory) ⊎ (e ≡ ExploreError.Failed)) }
+{
+    let mut tally = Tally::new();
+    let mut last = Schedule::new();
+    'rows: while tally.rows < limit {
+        match explorer.next_before(&until)? {
+            Some(row) => {
+                last = row.schedule;
+                tally.add(&row);
+            }
+            None => {
+                return Ok(tally);
+            }
+        }
+    }
+    tally.next = Some(explorer.cursor(&last));
+    Ok(tally)
+}
+
+/// Counts the next rows, at most so many: the rows of the page that `write_page` would write. The explorer is where that page
+/// would have left it. It takes no memory but through the flash.
+///
+/// # Errors
+///
+/// `Memory`, `Failed`: those of `next_row`.
+pub fn survey<F: Flash + Drop>(
+    explorer: &mut Explorer<F>,
+    limit: u32,
+) -> Result<Tally, ExploreError>
+    requires { 1 ≤ limit }
+    // It is the stated function of the page's rows, and what is to come afterwards is the rest of the rows.
+    ensures surveys { IfOk result (Surveys explorer.old.state explorer.new.state limit) }
+    // Each row takes as much as one by itself. The limits never change.
+    ensures applied { OnOk result (explorer.new.ledger.applied ≤ explorer.old.ledger.applied + limit
+        * most_for_row explorer.old.state.start.rules explorer.old.state.start.geometry) }
+    ensures limits { explorer.new.ledger.limits ≡ explorer.old.ledger.limits }
+    ensures cause { IsErrOf result ExploreError.Memory
+        → RanOut F.counted explorer.new.ledger.failed }
+    ensures lost { OnErr result (explorer.new.state.position ≡ Lost) }
+    ensures stays_lost { explorer.old.state.position ≡ Lost → IsErrOf result ExploreError.Failed }
+    ensures not_lost { IsErrOf result ExploreError.Failed → explorer.old.state.position ≡ Lost }
+    ensures still { IsErrOf result ExploreError.Failed → explorer.new ≡ explorer.old }
+    ensures err { IfErr result (λ e. (e ≡ ExploreError.Memory) ⊎ (e ≡ ExploreError.Failed)) }
+{
+    survey_until(explorer, None, limit)
+}
