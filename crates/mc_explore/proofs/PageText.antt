@@ -55,7 +55,8 @@ module _ (start : Begun) (bound : ℕ) where
   abbrev left_on : List ℕ → ℕ → List Told → Bool → Option Cursor
   left_on last room rows full = if full then Some (cursor_of start bound (last_schedule last (take room rows))) else None
 
-  page_left : (last : List ℕ) (room : ℕ) (rows : List Told) → flat_map row_line (take room rows) ++ last_line (left_on last room rows (nat_le room (length rows))) ≡ page_from start bound last room rows
+  page_left : (last : List ℕ) (room : ℕ) (rows : List Told) → flat_map row_line (take room rows) ++ last_line (left_on last room rows (nat_le room (length rows)))
+      ≡ page_from start bound last room rows
   unfolding page_from
   page_left last zero rows = ap (λ b. last_line (left_on last zero rows b)) (none_first (length rows))
   page_left last (suc room) [] = ap (λ b. last_line (left_on last (suc room) [] b)) (not_full room)
@@ -126,7 +127,8 @@ module _ (until : Option (List ℕ)) where
           record { others = q.1.others; parted = ap (λ z. x ∷ z) q.1.parted; before = All-cons (λ row. IsBefore until row.schedule) x q.0 before q.1.before; none = q.1.none },
         )
     | inr not ↦
-        let later : (y : Told) → Contains rows y → IsBefore until y.schedule → ⊥ = λ y c before. not (before_back x.schedule y.schedule (pairs_front (λ a b. Precedes (schedule_of a) (schedule_of b)) x y rows up c) before) in (
+        let later : (y : Told) → Contains rows y → IsBefore until y.schedule → ⊥ =
+        λ y c before. not (before_back x.schedule y.schedule (pairs_front (λ a b. Precedes (schedule_of a) (schedule_of b)) x y rows up c) before) in (
           [],
           record {
             others = x ∷ rows;
@@ -165,7 +167,16 @@ Appends_none None = tt
 Appends_none (Some xs) = sym (append-nil xs)
 
 pub page_begin : (until : Option (List ℕ)) (old : State) (limit : ℕ) (out : Option (List ℕ)) → AreInPage until old old limit limit [] out out
-page_begin until old limit out of = record { text = []; left = of; out = Appends_none out; page = page_left old.start old.bound [] limit of.shown; past = refl; dropped = refl; start_is = refl; bound_is = refl }
+page_begin until old limit out of = record {
+  text = [];
+  left = of;
+  out = Appends_none out;
+  page = page_left old.start old.bound [] limit of.shown;
+  past = refl;
+  dropped = refl;
+  start_is = refl;
+  bound_is = refl;
+}
 
 -- A line of the page is out in part, and what stood before it is out.
 front_of : (a b c : Option (List ℕ)) (page text line more : List ℕ) → page ≡ text ++ (line ++ more) → Appends a b text → AppendsFront b c line → AppendsFront a c page
@@ -196,7 +207,8 @@ module _ (until : Option (List ℕ)) (old now : State) (limit room : ℕ) (last 
       record { others = record { rows = n.0; rest = n.2; shown = s.0; are = s.2 }; rows_are = n.1; shown_are = s.1 }
 
   module _ (k : ℕ) (some : room ≡ suc k) where
-    row_first : (row : Row) (p : Shown until now) (n : Next row p) → page_from old.start old.bound last room p.shown ≡ row_line (told row) ++ page_from old.start old.bound row.schedule k n.others.shown
+    row_first : (row : Row) (p : Shown until now) (n : Next row p) → page_from old.start old.bound last room p.shown ≡ row_line (told row)
+        ++ page_from old.start old.bound row.schedule k n.others.shown
     unfolding page_from
     row_first row p n = ap (λ z. page_from old.start old.bound last z p.shown) some ∙ ap (λ z. page_from old.start old.bound last (suc k) z) n.shown_are
 
@@ -204,7 +216,8 @@ module _ (until : Option (List ℕ)) (old now : State) (limit room : ℕ) (last 
     row_taken row p n = ap (λ z. rows_taken z p.shown) some ∙ ap (λ z. rows_taken (suc k) z) n.shown_are ∙ taken_on k (told row) n.others.shown
 
     -- One row more.
-    pub page_on : (new : State) (more : Option (List ℕ)) (row : Row) → FindsBefore until now (Some row) new → Appends after more (row_line (told row)) → AreInPage until old new limit k row.schedule before more
+    pub page_on : (new : State) (more : Option (List ℕ)) (row : Row) → FindsBefore until now (Some row) new → Appends after more (row_line (told row))
+        → AreInPage until old new limit k row.schedule before more
     unfolding state_past
     page_on new more row (found, shows, moved) a of =
         let p = so_far of in
@@ -222,12 +235,14 @@ module _ (until : Option (List ℕ)) (old now : State) (limit room : ℕ) (last 
           bound_is = p.bound_is;
         })
 
-    pub began_in_row : (new : State) (more : Option (List ℕ)) (row : Row) → FindsBefore until now (Some row) new → AppendsFront after more (row_line (told row)) → ShownBegan until old limit before more
+    pub began_in_row : (new : State) (more : Option (List ℕ)) (row : Row) → FindsBefore until now (Some row) new → AppendsFront after more (row_line (told row))
+        → ShownBegan until old limit before more
     began_in_row new more row (found, shows, moved) a =
         let of = some_shown until old in
         let p = so_far of in
         let n = next_of row p.left found shows in
-        record { of = of; out = front_of before after more (page_of old limit of.shown) p.text (row_line (told row)) (page_from old.start old.bound row.schedule k n.others.shown) (p.page ∙ ap (λ z. p.text ++ z) (row_first row p.left n)) p.out a }
+        record { of = of; out = front_of before after more (page_of old limit of.shown) p.text (row_line (told row)) (page_from old.start old.bound row.schedule k n.others.shown)
+        (p.page ∙ ap (λ z. p.text ++ z) (row_first row p.left n)) p.out a }
 
     -- Where no further row is shown: the row that is taken then, or that there is none.
     record Ended (new : State) (left : Shown until now) : Type 0 where

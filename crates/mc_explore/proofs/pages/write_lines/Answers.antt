@@ -21,19 +21,22 @@ returns-in_err-write_line-in-Some-clause-began g c =
     let p = err_from_is_err_and c.from_residual-in_err-write_line-in-Some.result c.from_residual-in_err-write_line-in-Some.ensures.1 in
     let found = rw c.in-Some.is at c.in_ok-row.ensures.found in
     let room : c.fill.room ≡ suc (c.fill.room - 1) = omega arith in
-    rw p.1 (began_in_row c.args.until.now c.args.explorer.now.state c.fill.explorer.state c.args.limit c.fill.room c.fill.last _ (g.W.Write.contents c.fill.writer) c.fill.invariant.page (c.fill.room - 1) room _ _ c.in-Some.row found c.in_err-write_line-in-Some.ensures.front)
+    rw p.1 (began_in_row c.args.until.now c.args.explorer.now.state c.fill.explorer.state c.args.limit c.fill.room c.fill.last _ (g.W.Write.contents c.fill.writer)
+    c.fill.invariant.page (c.fill.room - 1) room _ _ c.in-Some.row found c.in_err-write_line-in-Some.ensures.front)
 
 pub returns-in-None-clause-page : goal.returns-in-None-clause-page
 returns-in-None-clause-page g c =
     let found = rw c.in-None.is at c.in_ok-row.ensures.found in
     let room : c.fill.room ≡ suc (c.fill.room - 1) = omega arith in
-    on_ok c.write_text.result _ _ (out_at_end c.args.until.now c.args.explorer.now.state c.fill.explorer.state c.args.limit c.fill.room c.fill.last _ (g.W.Write.contents c.fill.writer) c.fill.invariant.page (c.fill.room - 1) room c.next_before.new.self.state (g.W.Write.contents c.write_text.new.writer) found) c.write_text.ensures.whole
+    on_ok c.write_text.result _ _ (out_at_end c.args.until.now c.args.explorer.now.state c.fill.explorer.state c.args.limit c.fill.room c.fill.last _
+    (g.W.Write.contents c.fill.writer) c.fill.invariant.page (c.fill.room - 1) room c.next_before.new.self.state (g.W.Write.contents c.write_text.new.writer) found) c.write_text.ensures.whole
 
 pub returns-in-None-clause-began : goal.returns-in-None-clause-began
 returns-in-None-clause-began g c =
     let found = rw c.in-None.is at c.in_ok-row.ensures.found in
     let room : c.fill.room ≡ suc (c.fill.room - 1) = omega arith in
-    on_err c.write_text.result _ _ (began_at_end c.args.until.now c.args.explorer.now.state c.fill.explorer.state c.args.limit c.fill.room c.fill.last _ (g.W.Write.contents c.fill.writer) c.fill.invariant.page (c.fill.room - 1) room c.next_before.new.self.state (g.W.Write.contents c.write_text.new.writer) found) c.write_text.ensures.front
+    on_err c.write_text.result _ _ (began_at_end c.args.until.now c.args.explorer.now.state c.fill.explorer.state c.args.limit c.fill.room c.fill.last _
+    (g.W.Write.contents c.fill.writer) c.fill.invariant.page (c.fill.room - 1) room c.next_before.new.self.state (g.W.Write.contents c.write_text.new.writer) found) c.write_text.ensures.front
 
 pub fill-preserved : goal.fill-preserved
 fill-preserved g c =
@@ -42,13 +45,15 @@ fill-preserved g c =
     let room : c.fill.room ≡ suc (c.fill.room - 1) = omega arith in
     let cost = ap (λ (s : Begun). most_for_row s.rules s.geometry) c.fill.invariant.start in
     record {
-      page = page_on c.args.until.now c.args.explorer.now.state c.fill.explorer.state c.args.limit c.fill.room c.fill.last _ (g.W.Write.contents c.fill.writer) c.fill.invariant.page (c.fill.room - 1) room c.next_before.new.self.state _ c.in-Some.row found c.in_ok-write_line-in-Some.ensures.whole;
+      page = page_on c.args.until.now c.args.explorer.now.state c.fill.explorer.state c.args.limit c.fill.room c.fill.last _ (g.W.Write.contents c.fill.writer)
+      c.fill.invariant.page (c.fill.room - 1) room c.next_before.new.self.state _ c.in-Some.row found c.in_ok-write_line-in-Some.ensures.whole;
       not_lost = λ e. let q : Lost ≡ After c.in-Some.row.schedule = sym e ∙ ap (λ (s : State). s.position) moved in absurd cc;
       stuck = λ e. let q : Ok c.in_ok-row.field-0 ≡ Err errors.Failed = rw c.in_ok-row.was at (c.next_before.ensures.stays_lost (c.fill.invariant.stuck e).0) in absurd cc;
       unwritten = λ e. let q : Lost ≡ After c.in-Some.row.schedule = sym e ∙ ap (λ (s : State). s.position) moved in absurd cc;
       start = ap (λ (s : State). s.start) moved ∙ c.fill.invariant.start;
       limits = c.next_before.ensures.limits ∙ c.fill.invariant.limits;
-      applied = row_paid c.fill.explorer.ledger.applied c.next_before.new.self.ledger.applied c.fill.room (c.fill.room - 1) _ _ room (omega (arith, c.in_ok-row.ensures.applied, cost)) c.fill.invariant.applied;
+      applied = row_paid c.fill.explorer.ledger.applied c.next_before.new.self.ledger.applied c.fill.room (c.fill.room - 1) _ _ room
+      (omega (arith, c.in_ok-row.ensures.applied, cost)) c.fill.invariant.applied;
       full = inr (λ e. let q : Lost ≡ After c.in-Some.row.schedule = sym e ∙ ap (λ (s : State). s.position) moved in absurd cc);
     }
 
@@ -57,13 +62,17 @@ returns-clause-page g c =
     let none : c.fill.room ≡ 0 = omega arith in
     let going : c.fill.explorer.state.position ≡ Lost → ⊥ = elim c.fill.invariant.full [ inl some ↦ absurd (omega arith) | inr h ↦ h ] in
     let cursor = c.cursor-cursor.ensures going in
-    let line : (codes "next " ++ cursor_text c.cursor-cursor.result) ++ 10 ∷ [] ≡ next_line c.fill.explorer.state.start c.fill.explorer.state.bound c.fill.last = ap (λ k. (codes "next " ++ cursor_text k) ++ 10 ∷ []) cursor in
-    on_ok c.write_line-2.result _ _ (out_when_full c.args.until.now c.args.explorer.now.state c.fill.explorer.state c.args.limit c.fill.room c.fill.last _ (g.W.Write.contents c.fill.writer) c.fill.invariant.page none _ line (g.W.Write.contents c.write_line-2.new.writer)) c.write_line-2.ensures.whole
+    let line : (codes "next " ++ cursor_text c.cursor-cursor.result) ++ 10 ∷ [] ≡ next_line c.fill.explorer.state.start c.fill.explorer.state.bound c.fill.last =
+    ap (λ k. (codes "next " ++ cursor_text k) ++ 10 ∷ []) cursor in
+    on_ok c.write_line-2.result _ _ (out_when_full c.args.until.now c.args.explorer.now.state c.fill.explorer.state c.args.limit c.fill.room c.fill.last _
+    (g.W.Write.contents c.fill.writer) c.fill.invariant.page none _ line (g.W.Write.contents c.write_line-2.new.writer)) c.write_line-2.ensures.whole
 
 pub returns-clause-began : goal.returns-clause-began
 returns-clause-began g c =
     let none : c.fill.room ≡ 0 = omega arith in
     let going : c.fill.explorer.state.position ≡ Lost → ⊥ = elim c.fill.invariant.full [ inl some ↦ absurd (omega arith) | inr h ↦ h ] in
     let cursor = c.cursor-cursor.ensures going in
-    let line : (codes "next " ++ cursor_text c.cursor-cursor.result) ++ 10 ∷ [] ≡ next_line c.fill.explorer.state.start c.fill.explorer.state.bound c.fill.last = ap (λ k. (codes "next " ++ cursor_text k) ++ 10 ∷ []) cursor in
-    on_err c.write_line-2.result _ _ (began_when_full c.args.until.now c.args.explorer.now.state c.fill.explorer.state c.args.limit c.fill.room c.fill.last _ (g.W.Write.contents c.fill.writer) c.fill.invariant.page none _ line (g.W.Write.contents c.write_line-2.new.writer)) c.write_line-2.ensures.front
+    let line : (codes "next " ++ cursor_text c.cursor-cursor.result) ++ 10 ∷ [] ≡ next_line c.fill.explorer.state.start c.fill.explorer.state.bound c.fill.last =
+    ap (λ k. (codes "next " ++ cursor_text k) ++ 10 ∷ []) cursor in
+    on_err c.write_line-2.result _ _ (began_when_full c.args.until.now c.args.explorer.now.state c.fill.explorer.state c.args.limit c.fill.room c.fill.last _
+    (g.W.Write.contents c.fill.writer) c.fill.invariant.page none _ line (g.W.Write.contents c.write_line-2.new.writer)) c.write_line-2.ensures.front
