@@ -65,7 +65,9 @@ schedule_between (c ∷ cs) = All-append (IsBetween 45 57) (decimal c) (flat_map
 
     points : (ds : List ℕ) → All (IsBetween 45 57) (flat_map (λ d. codes "." ++ decimal d) ds)
     points [] = All-nil (IsBetween 45 57)
-    points (d ∷ ds) = All-append (IsBetween 45 57) (codes "." ++ decimal d) (flat_map (λ e. codes "." ++ decimal e) ds) (All-cons (IsBetween 45 57) 46 (decimal d) (omega arith, omega arith) (number d)) (points ds)
+    points (d ∷ ds) =
+        let first = All-cons (IsBetween 45 57) 46 (decimal d) (omega arith, omega arith) (number d) in
+        All-append (IsBetween 45 57) (codes "." ++ decimal d) (flat_map (λ e. codes "." ++ decimal e) ds) first (points ds)
 
 -- ---- no line feed
 
@@ -162,4 +164,6 @@ no_space l k lt = (All-weaker (IsBetween 45 57) (λ c. c ≢ 32) (λ c is e. ome
 
 -- And it is one that Rust reads as text.
 pub schedule_utf8 : (l : List ℕ) → IsUtf8 (schedule_text l)
-schedule_utf8 l = IsUtf8-from_ascii (schedule_text l) (IsAscii-from_all (schedule_text l) (All-weaker (IsBetween 45 57) (λ c. c < 128) (λ c is. omega (arith, is.1)) (schedule_text l) (schedule_between l)))
+schedule_utf8 l =
+    let low = All-weaker (IsBetween 45 57) (λ c. c < 128) (λ c is. omega (arith, is.1)) (schedule_text l) (schedule_between l) in
+    IsUtf8-from_ascii (schedule_text l) (IsAscii-from_all (schedule_text l) low)

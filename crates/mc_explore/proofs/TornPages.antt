@@ -250,7 +250,8 @@ closing_no_row None l row = spaceless (codes "end") l (lacks_literal 32 (codes "
 torn_page : (page : List Told) (o : Option Cursor) (n : ℕ) → AreTold page → IsTorn page (take n (flat_map row_line page ++ (closing o ++ 10 ∷ [])))
 torn_page [] o n told = elim (torn_line (closing o) [] n) [
   | inl e ↦ none (take n (closing o ++ 10 ∷ [])) (subst (λ t. HasRows t []) (sym e) (within_line (closing o) n (closing_feedless o)))
-  | inr (m, e) ↦ none (take n (closing o ++ 10 ∷ [])) (subst (λ t. HasRows t []) (sym e) (other_on (closing o) (take m []) [] (closing_feedless o) (closing_no_row o) (within_line [] m (literal [] refl))))
+  | inr (m, e) ↦ none (take n (closing o ++ 10 ∷ [])) (subst (λ t. HasRows t []) (sym e) (other_on (closing o) (take m []) [] (closing_feedless o) (closing_no_row o)
+      (within_line [] m (literal [] refl))))
 ]
   where
     none : (torn : List ℕ) → HasRows torn [] → IsTorn [] torn
@@ -311,10 +312,13 @@ module _ (state : State) (rows page others : List Told) (joined : rows ≡ page 
       nothing : (whole : List Told) → map row_text whole ≡ [] → whole ≡ []
       nothing [] e = refl
       nothing (x ∷ xs) e = absurd cc
-  goes_on torn found (Some l) has (front, line, is, row_is) t =
-      let q = last_whole t.whole front line (same_rows torn (map row_text t.whole) found t.rows has ∙ is) in
+  goes_on torn found (Some l) has (before, line, is, row_is) t =
+      let q = last_whole t.whole before line (same_rows torn (map row_text t.whole) found t.rows has ∙ is) in
       let row = q.1 in
-      let in_rows : Contains rows row = subst (λ z. Contains z row) (sym (joined ∙ ap (λ z. z ++ others) (t.parted ∙ ap (λ z. z ++ t.left) q.2))) (Contains-append_left ((q.0 ++ row ∷ []) ++ t.left) others row (Contains-append_left (q.0 ++ row ∷ []) t.left row (Contains-append_right q.0 (row ∷ []) row (at_front row [])))) in
+      let front : List Told = q.0 ++ row ∷ [] in
+      let rows_are : rows ≡ (front ++ t.left) ++ others = joined ∙ ap (λ z. z ++ others) (t.parted ∙ ap (λ z. z ++ t.left) q.2) in
+      let in_page = Contains-append_left front t.left row (Contains-append_right q.0 (row ∷ []) row (at_front row [])) in
+      let in_rows : Contains rows row = subst (λ z. Contains z row) (sym rows_are) (Contains-append_left (front ++ t.left) others row in_page) in
       let same : row.schedule ≡ l = same_row line row.schedule l (subst (IsRowLine row.schedule) q.3 (row_line_is row (told row in_rows))) row_is in
       let later : List Told = t.left ++ others in
       let whole_is : t.whole ++ later ≡ rows = sym (joined ∙ ap (λ z. z ++ others) t.parted ∙ append_assoc t.whole t.left others) in
@@ -327,7 +331,8 @@ module _ (state : State) (rows page others : List Told) (joined : rows ≡ page 
         joined = whole_is;
       }
 
-  pub continues : (torn : List ℕ) (n : ℕ) (o : Option Cursor) (last : Option (List ℕ)) → torn ≡ take n (flat_map row_line page ++ last_line o) → IsLastRow torn last → Continues state rows page torn last
+  pub continues : (torn : List ℕ) (n : ℕ) (o : Option Cursor) (last : Option (List ℕ)) → torn ≡ take n (flat_map row_line page ++ last_line o) → IsLastRow torn last
+      → Continues state rows page torn last
   continues torn n o last is exact =
       let told_page : AreTold page = λ row c. told row (subst (λ z. Contains z row) (sym joined) (Contains-append_left page others row c)) in
       let text : torn ≡ take n (flat_map row_line page ++ (closing o ++ 10 ∷ [])) = is ∙ ap (λ z. take n (flat_map row_line page ++ z)) (closing_line o) in

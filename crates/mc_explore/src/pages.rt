@@ -108,7 +108,8 @@ pub fn write_page_until<F: Flash + Drop, W: Write>(
     writer: &mut W,
 ) -> Result<(), ExploreError>
     requires { 1 ≤ limit }
-    // The page of the rows to come before the schedule is out, and what is to come afterwards are the rows not taken for it.
+    // The page of the rows to come before the schedule is out, and what is to come afterwards are the rows that were not
+    // taken for it.
     ensures page { OnOk result (ShownIsOut until explorer.old.state explorer.new.state limit
         (W.contents writer.old) (W.contents writer.new)) }
     ensures began { OnErr result (ShownBegan until explorer.old.state limit

@@ -1,5 +1,5 @@
 -- What the words of an argument say.
-use Rattle.std.specs.Prelude.{◌≡◌, ◌≤◌, ℕ, Bool, true, false, List, Option, Some, None, unwrap_or, codes, Result, Err, IsOk}
+use Rattle.std.specs.Prelude.{◌≡◌, ◌≤◌, ℕ, Bool, true, false, List, Option, Some, None, unwrap_or, option_map, is_some, ◌&&◌, codes, Result, Err, IsOk}
 use Rattle.clap.specs.Words.{first_value, one_text}
 use Rattle.clap.specs.declared.parser.matches.Found.{Found}
 use Rattle.mc_image.specs.VersionText.{Names}
@@ -8,6 +8,8 @@ use Rattle.mcsim.specs.Numbers.{TellsNumber, MayTellNumber, IsUnit}
 use Rattle.mcsim.specs.declared.numbers.NumberOption.TheVariants as numbers
 use Rattle.mc_flash.specs.Geometry.{Geometry}
 use Rattle.mc_flash.specs.declared.layout.LayoutError.{LayoutError}
+use Rattle.mc_explore.specs.CursorText.{cursor_text}
+use Rattle.mc_explore.specs.Texts.{schedule_text}
 use Rattle.mc_explore.specs.declared.kind.Kind.{Kind}
 use Rattle.mc_explore.specs.declared.kind.Kind.TheVariants as kinds
 use Rattle.mc_flash.specs.declared.flash.Grain.{Grain}
@@ -16,6 +18,7 @@ use Rattle.mc_trailer.specs.declared.tables.Profile.{Profile}
 use Rattle.mc_trailer.specs.declared.tables.Rules.{Rules}
 use Rattle.mc_trailer.specs.Texts.{profile_text}
 use Rattle.mcsim.specs.declared.options.FlashOptions.{FlashOptions}
+use Rattle.mcsim.specs.declared.options.RangeOptions.{RangeOptions}
 use Rattle.mcsim.specs.declared.options.Source.{Source}
 use Rattle.mcsim.specs.declared.options.Source.TheVariants as sources
 use Rattle.mcsim.specs.declared.refusal.Refusal.{Refusal}
@@ -106,3 +109,18 @@ pub record TellsFlash (found : Found) (o : FlashOptions) : Type 0 where
   pub source : TellsSource found o.source
   pub layout : TellsLayout found o.layout
   pub rules : TellsRules found o.rules
+
+-- the text of an option is that of a schedule, or the option is left out
+abbrev pub MayTellSchedule : Found → List ℕ → Option (List ℕ) → Type 0
+MayTellSchedule found name schedule = first_value found name ≡ option_map schedule_text schedule
+
+-- two options tell where to go on
+abbrev pub tells_both : Found → Bool
+tells_both found = is_some (first_value found (codes "cursor")) && is_some (first_value found (codes "after"))
+
+-- the arguments tell where an exploration goes on, in one way or not at all, and where it stops
+pub record TellsRange (found : Found) (o : RangeOptions) : Type 0 where
+  pub cursor : first_value found (codes "cursor") ≡ option_map cursor_text o.cursor
+  pub after : MayTellSchedule found (codes "after") o.after
+  pub until : MayTellSchedule found (codes "until") o.until
+  pub one : tells_both found ≡ false

@@ -213,6 +213,8 @@ Power fails after 9 operations of the first boot and after 4 of the second; the 
 whole. It boots, finishing a test swap in 5 operations. Each slot is VERSION/SIZE; the boot after
 it would revert. RESULT: boot, none (no valid image), panic (the trailer contradicts itself),
 fault (a write met bytes that are not erased).
+Rows come in this order: -, 0, 0.0, 0.1, .., 1, 1.0, 1.1, .. So --after 0 --until 1 gives those that
+begin with 0 and have more cuts.
 How many rows? --cuts 1 has OPS+1; --cuts 2 has 1 more than the sum of OPS over the rows of
 --cuts 1.";
 
@@ -244,7 +246,17 @@ fn explore_command<'a>(alloc: Global) -> Result<Command<'a>, AllocError> {
                 .long("cursor")
                 .value_name("C")
                 .help("Go on after an earlier page: the text after its `next`"),
-        )
+        )?
+        .arg(schedule(
+            alloc,
+            "after",
+            "Go on after this schedule, as 9.4 (- is the first), in place of --cursor",
+        ))?
+        .arg(schedule(alloc, "until", "Stop before this schedule"))
+}
+
+fn schedule<'a>(alloc: Global, name: &'static str, help: &'static str) -> Arg<'a> {
+    Arg::new(alloc, name).long(name).value_name("S").help(help)
 }
 
 /// `explain`: what a refusal means.

@@ -20,7 +20,7 @@ pub fn explanation_of(number: u8) -> Option<&'static Explanation>
 }
 
 /// All refusals, by their numbers. `docs/FORMAT.md` has the same table.
-static EXPLANATIONS: [Explanation; 45] = [
+static EXPLANATIONS: [Explanation; 46] = [
     Explanation {
         number: 1,
         name: "Truncated",
@@ -291,8 +291,8 @@ static EXPLANATIONS: [Explanation; 45] = [
         number: 58,
         name: "CannotOccur",
         status: Some(1),
-        when: "The cursor's schedule has too many cuts, or cannot occur here.",
-        remedy: "Copy the cursor from the page of this very start.",
+        when: "The schedule of --cursor or --after has too many cuts, or cannot occur here.",
+        remedy: "Copy it from a page of this very start.",
     },
     Explanation {
         number: 59,
@@ -328,6 +328,13 @@ static EXPLANATIONS: [Explanation; 45] = [
         status: Some(3),
         when: "A file cannot be opened or made.",
         remedy: "Check the path and your rights to it.",
+    },
+    Explanation {
+        number: 73,
+        name: "CursorOptions",
+        status: Some(2),
+        when: "--after and --cursor both tell where to go on.",
+        remedy: "Give one of them.",
     },
     Explanation {
         number: 75,

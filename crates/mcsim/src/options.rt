@@ -1,16 +1,16 @@
 //! What the words of a command line say.
-ghost use Rattle.std.specs.Prelude.{◌≡◌, ◌≤◌, ℕ, codes, false, Some, None, Err, IfOk, IsOk, MatchResult, MatchOption};
+ghost use Rattle.std.specs.Prelude.{◌≡◌, ◌≤◌, ℕ, codes, true, false, Some, None, Err, IfOk, IsOk, MatchResult, MatchOption};
 ghost use Rattle.clap.specs.Matches.{found_of};
 ghost use Rattle.clap.specs.Words.{first_value};
 ghost use Rattle.mcsim.specs.Numbers.{TellsNumber, IsUnit};
 ghost use Rattle.mc_flash.specs.Geometry.{Geometry, refusal_of};
 ghost use Rattle.mcsim.specs.Arguments.{TellsCreate, TellsLayout, Judges, TellsSource, RefusesSource, is_source, kind_text};
-ghost use Rattle.mcsim.specs.Arguments.{TellsRules, TellsFlash};
+ghost use Rattle.mcsim.specs.Arguments.{TellsRules, TellsFlash, TellsRange, MayTellSchedule, tells_both};
 
 use crate::numbers::NumberOption;
 use crate::refusal::Refusal;
 use clap::ArgMatches;
-use mc_explore::Kind;
+use mc_explore::{Cursor, Kind, Schedule};
 use mc_flash::{Grain, Layout};
 use mc_image::Version;
 use mc_imgtool::CreateOptions;
@@ -210,5 +210,56 @@ pub fn explore_options(arguments: &ArgMatches<'_>) -> Result<ExploreOptions, Ref
     Ok(ExploreOptions {
         cuts: NumberOption::Cuts.read_required(arguments)? as u8,
         limit: NumberOption::Limit.read_required(arguments)?,
+    })
+}
+
+/// Which of the rows an exploration gives.
+#[derive(Clone, Copy, Debug)]
+pub struct RangeOptions {
+    /// The cursor of an earlier page, after which it goes on.
+    pub cursor: Option<Cursor>,
+    /// Or the schedule after which it goes on.
+    pub after: Option<Schedule>,
+    /// The schedule before which it stops.
+    pub until: Option<Schedule>,
+}
+
+/// The schedule that an option tells, if it is given.
+///
+/// # Errors
+///
+/// `Schedule` where its text is no schedule's.
+fn schedule_option(arguments: &ArgMatches<'_>, name: &str) -> Result<Option<Schedule>, Refusal>
+    ensures { IfOk result (MayTellSchedule (found_of arguments.now) name.now) }
+{
+    match arguments.get_str(name) {
+        Some(text) => Ok(Some(Schedule::read(text)?)),
+        None => Ok(None),
+    }
+}
+
+/// Where an exploration goes on, and where it stops. That only one option tells where it goes on is checked first.
+///
+/// # Errors
+///
+/// `CursorOptions` where `--after` and `--cursor` are both given; `Cursor` and `Schedule` where a text is no cursor's or no
+/// schedule's.
+pub fn range_options(arguments: &ArgMatches<'_>) -> Result<RangeOptions, Refusal>
+    ensures told { IfOk result (TellsRange (found_of arguments.now)) }
+    ensures both { tells_both (found_of arguments.now) ≡ true → result
+        ≡ Err Refusal.CursorOptions }
+{
+    let cursor = arguments.get_str("cursor");
+    if cursor.is_some() && arguments.get_str("after").is_some() {
+        return Err(Refusal::CursorOptions);
+    }
+    let cursor = match cursor {
+        Some(text) => Some(Cursor::read(text)?),
+        None => None,
+    };
+    Ok(RangeOptions {
+        cursor,
+        after: schedule_option(arguments, "after")?,
+        until: schedule_option(arguments, "until")?,
     })
 }

@@ -55,6 +55,9 @@ pub enum Refusal {
     /// No refusal has the number that is to be explained.
     #[error("no refusal has this number")]
     Unexplained,
+    /// `--after` and `--cursor` are both given.
+    #[error("E73 CursorOptions")]
+    CursorOptions,
     /// The file that is to be written is one that is read.
     #[error("E75 SameFile")]
     SameFile,
@@ -83,6 +86,7 @@ impl Refusal {
             | Refusal::Version(_)
             | Refusal::Source
             | Refusal::Unexplained
+            | Refusal::CursorOptions
             | Refusal::SameFile
             | Refusal::Layout(_)
             | Refusal::Schedule(_)

@@ -505,6 +505,71 @@ fn refuses_cursors(rt: HostRuntime) -> Result<(), Fail> {
 }
 
 #[test]
+fn goes_on_after_a_schedule(rt: HostRuntime) -> Result<(), Fail> {
+    let alloc = rt.alloc();
+    for (words, row, next) in [
+        ("--after 17", "", ""),
+        ("--after 16", "17 boot test 1", ""),
+        ("--after 1 --until 3", "2 boot test 18", ""),
+        ("--after 1 --until 3 --limit 1", "2 boot test 18", "2"),
+        ("--after 1 --until 2", "", ""),
+        ("--until -", "", ""),
+    ] {
+        let options = format!(in alloc; "--cuts 1 {words}")?;
+        let page = page_of(alloc, 1, row, next)?;
+        let case = Case {
+            out: page.as_str(),
+            ..explore_images(options.as_str())
+        };
+        ends(&rt, alloc, &case)?;
+    }
+    let source = "--kind test --image-a in --image-b second --cuts 1";
+    let whole = prints(alloc, source, "")?;
+    let rest = prints(alloc, source, "--after=-")?;
+    assert_eq!(rt; rest.as_str().lines().count(), 19);
+    assert!(rt; whole.as_str().ends_with(rest.as_str()));
+    let begun = prints(alloc, source, "--until 5")?;
+    assert_eq!(rt; begun.as_str().lines().count(), 7);
+    Ok(())
+}
+
+#[test]
+fn refuses_schedules(rt: HostRuntime) -> Result<(), Fail> {
+    let alloc = rt.alloc();
+    for (words, status, error) in [
+        ("--after 18", 1, "E58 CannotOccur"),
+        ("--after 0.0", 1, "E58 CannotOccur"),
+    ] {
+        let options = format!(in alloc; "--cuts 1 {words}")?;
+        let err = format!(in alloc; "mcsim: {error}\n")?;
+        let case = Case {
+            status,
+            err: err.as_str(),
+            ..explore_images(options.as_str())
+        };
+        ends(&rt, alloc, &case)?;
+    }
+    // The texts are checked before a file is opened, and before them that only one of the two is given.
+    for (words, error) in [
+        ("--after 01", "E60 ScheduleSyntax"),
+        ("--until 1.", "E60 ScheduleSyntax"),
+        ("--cursor - --until 1.", "E55 Syntax"),
+        ("--after 01 --cursor -", "E73 CursorOptions"),
+    ] {
+        let options = format!(in alloc; "--cuts 1 {words}")?;
+        let err = format!(in alloc; "mcsim: {error}\n")?;
+        let case = Case {
+            status: 2,
+            err: err.as_str(),
+            options: "--flash missing",
+            ..explore_of(&[], options.as_str(), "")
+        };
+        ends(&rt, alloc, &case)?;
+    }
+    Ok(())
+}
+
+#[test]
 fn pages_join_up(rt: HostRuntime) -> Result<(), Fail> {
     let alloc = rt.alloc();
     let source = "--kind test --image-a in --image-b second";
