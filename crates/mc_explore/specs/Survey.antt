@@ -1,8 +1,8 @@
 -- What is counted of the rows of a page in place of their text.
-use Rattle.std.specs.Prelude.{◌≡◌, ℕ, Bool, true, false, max, List, length, drop, fold, count_by, Option}
+use Rattle.std.specs.Prelude.{◌≡◌, ℕ, Bool, true, false, max, List, ◌++◌, length, drop, fold, count_by, codes, decimal, Option}
 use Rattle.mc_boot.specs.declared.outcome.BootResult.{BootResult}
 use Rattle.mc_boot.specs.declared.outcome.BootResult.TheVariants as results
-use Rattle.mc_explore.specs.Page.{Page, page_at, state_past}
+use Rattle.mc_explore.specs.Page.{Page, last_line, page_at, state_past}
 use Rattle.mc_explore.specs.Rest.{IsRest}
 use Rattle.mc_explore.specs.State.{State, Told}
 use Rattle.mc_explore.specs.Until.{TakesPage}
@@ -52,6 +52,13 @@ tally_of page = record {
   most_ops = most_ops_of page.rows;
   next = page.goes_on;
 }
+
+-- Six lines of numbers, and the last line of the page.
+abbrev pub tally_text : Tally → List ℕ
+tally_text t =
+    (codes "rows " ++ (decimal t.rows ++ (codes "\nboot " ++ (decimal t.boot ++ (codes "\nnone " ++ (decimal t.none ++ codes "\n"))))))
+    ++ ((codes "panic " ++ (decimal t.panic ++ (codes "\nfault " ++ (decimal t.fault ++ (codes "\nmost-ops " ++ (decimal t.most_ops ++ codes "\n"))))))
+    ++ last_line t.next)
 
 -- That is the tally of the page of the rows to come before the schedule, and its rows are taken.
 abbrev pub SurveysUntil : Option (List ℕ) → State → State → ℕ → Tally → Type 0

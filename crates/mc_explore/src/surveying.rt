@@ -1,9 +1,9 @@
 //! What the rows of an exploration come to.
-ghost use Rattle.std.specs.Prelude.{◌≡◌, ◌+◌, ◌-◌, ◌*◌, ◌^◌, ◌<◌, ◌≤◌, ◌⊎◌, List, ◌∷◌, ◌++◌, [], None, IfOk, IfErr, OnOk, OnErr, IsErrOf, length};
+ghost use Rattle.std.specs.Prelude.{◌≡◌, ◌+◌, ◌-◌, ◌*◌, ◌^◌, ◌<◌, ◌≤◌, ◌⊎◌, List, ◌∷◌, ◌++◌, [], None, Some, IfOk, IfErr, OnOk, OnErr, IsErrOf, length};
 ghost use Rattle.mc_tree.specs.Paths.{Lost};
 ghost use Rattle.mc_explore.specs.Bounds.{most_for_row};
 ghost use Rattle.mc_explore.specs.State.{Told, told};
-ghost use Rattle.mc_explore.specs.Survey.{Surveys, SurveysUntil, tally_of};
+ghost use Rattle.mc_explore.specs.Survey.{Surveys, SurveysUntil, tally_of, tally_text};
 ghost use Rattle.mc_explore.specs.Want.{RanOut};
 
 use crate::cursor::Cursor;
@@ -13,6 +13,7 @@ use crate::row::Row;
 use crate::schedule::Schedule;
 use mc_boot::BootResult;
 use mc_flash::Flash;
+use std::fmt;
 
 /// How many rows a page would have, how many of them with each result, and where it would go on.
 #[derive(Clone, Copy, Debug)]
@@ -63,6 +64,27 @@ impl Tally {
             BootResult::Fault => self.fault += 1,
         }
         self.most_ops = self.most_ops.max(row.outcome.ops);
+    }
+}
+
+/// Seven lines: how many rows, how many of them with each result, the greatest number of operations; then where to go on, or
+/// `end`.
+impl fmt::Display for Tally {
+    ghost output = { λ tally. Some (tally_text tally) };
+
+    fn fmt<W: fmt::Write>(&self, f: &mut fmt::Formatter<W>) -> fmt::Result {
+        let rows = self.rows;
+        let boot = self.boot;
+        let none = self.none;
+        write!(f, "rows {rows}\nboot {boot}\nnone {none}\n")?;
+        let panic = self.panic;
+        let fault = self.fault;
+        let most_ops = self.most_ops;
+        write!(f, "panic {panic}\nfault {fault}\nmost-ops {most_ops}\n")?;
+        let Some(cursor) = self.next else {
+            return f.write_str("end\n");
+        };
+        write!(f, "next {cursor}\n")
     }
 }
 

@@ -8,6 +8,7 @@ mod exploring;
 mod paging;
 mod replays;
 mod resuming;
+mod surveys;
 mod tearing;
 mod vectors;
 

@@ -51,6 +51,7 @@ status_of (refusals.Number _) = 2
 status_of refusals.SameFile = 2
 status_of refusals.Unexplained = 2
 status_of refusals.CursorOptions = 2
+status_of refusals.NotAllBoot = 1
 status_of (refusals.Version _) = 2
 status_of refusals.Source = 2
 status_of (refusals.Layout _) = 2

@@ -36,6 +36,7 @@ pub fn parse<'a>(alloc: Global, words: &'a [String]) -> Result<ArgMatches<'a>, E
         .subcommand(boot_command(alloc)?)?
         .subcommand(replay_command(alloc)?)?
         .subcommand(explore_command(alloc)?)?
+        .subcommand(survey_command(alloc)?)?
         .subcommand(explain_command(alloc)?)?;
     command.try_get_matches_from(words)
 }
@@ -218,12 +219,8 @@ begin with 0 and have more cuts.
 How many rows? --cuts 1 has OPS+1; --cuts 2 has 1 more than the sum of OPS over the rows of
 --cuts 1.";
 
-/// `explore`: what the boots after all schedules do.
-fn explore_command<'a>(alloc: Global) -> Result<Command<'a>, AllocError> {
-    let command = Command::new(alloc, "explore")
-        .override_usage("mcsim explore <LAYOUT> <SOURCE> --cuts <K> [OPTIONS]")
-        .about("List every schedule of at most K power cuts with its outcome")
-        .after_help(AFTER_EXPLORE);
+/// What tells an exploration: a flash, rules, the most cuts, and which of the rows.
+fn with_exploration<'a>(alloc: Global, command: Command<'a>) -> Result<Command<'a>, AllocError> {
     with_rules(alloc, with_flash(alloc, command)?)?
         .next_help_heading("Exploration")
         .arg(
@@ -253,6 +250,32 @@ fn explore_command<'a>(alloc: Global) -> Result<Command<'a>, AllocError> {
             "Go on after this schedule, as 9.4 (- is the first), in place of --cursor",
         ))?
         .arg(schedule(alloc, "until", "Stop before this schedule"))
+}
+
+/// `explore`: what the boots after all schedules do.
+fn explore_command<'a>(alloc: Global) -> Result<Command<'a>, AllocError> {
+    let command = Command::new(alloc, "explore")
+        .override_usage("mcsim explore <LAYOUT> <SOURCE> --cuts <K> [OPTIONS]")
+        .about("List every schedule of at most K power cuts with its outcome")
+        .after_help(AFTER_EXPLORE);
+    with_exploration(alloc, command)
+}
+
+static AFTER_SURVEY: &str = "\
+Seven lines: how many rows the page of explore would have, how many of them with each RESULT (boot,
+none, panic, fault), the most operations of a last boot, and next CURSOR or end, as the page.";
+
+/// `survey`: how many boots after all schedules do what.
+fn survey_command<'a>(alloc: Global) -> Result<Command<'a>, AllocError> {
+    let command = Command::new(alloc, "survey")
+        .override_usage("mcsim survey <LAYOUT> <SOURCE> --cuts <K> [OPTIONS]")
+        .about("Count the rows of an exploration by their results")
+        .after_help(AFTER_SURVEY);
+    with_exploration(alloc, command)?.arg(flag(
+        alloc,
+        "all-boot",
+        "Refuse, after the counts, where a row's result is not boot",
+    ))
 }
 
 fn schedule<'a>(alloc: Global, name: &'static str, help: &'static str) -> Arg<'a> {

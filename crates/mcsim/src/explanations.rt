@@ -20,7 +20,7 @@ pub fn explanation_of(number: u8) -> Option<&'static Explanation>
 }
 
 /// All refusals, by their numbers. `docs/FORMAT.md` has the same table.
-static EXPLANATIONS: [Explanation; 46] = [
+static EXPLANATIONS: [Explanation; 47] = [
     Explanation {
         number: 1,
         name: "Truncated",
@@ -335,6 +335,13 @@ static EXPLANATIONS: [Explanation; 46] = [
         status: Some(2),
         when: "--after and --cursor both tell where to go on.",
         remedy: "Give one of them.",
+    },
+    Explanation {
+        number: 74,
+        name: "NotAllBoot",
+        status: Some(1),
+        when: "With --all-boot: after a schedule of the survey the last boot ends otherwise than in a boot.",
+        remedy: "Look for its row with explore.",
     },
     Explanation {
         number: 75,

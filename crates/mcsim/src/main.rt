@@ -85,6 +85,7 @@ fn run_command<F: Files, R: Read, O: Write>(
         }
         Some(("explain", arguments)) => commands::explain::run(arguments, out),
         Some(("explore", arguments)) => commands::explore::run(files, alloc, arguments, out),
+        Some(("survey", arguments)) => commands::explore::survey(files, alloc, arguments, out),
         _ => Err(Refusal::Argument),
     }
 }

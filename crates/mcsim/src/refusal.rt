@@ -58,6 +58,9 @@ pub enum Refusal {
     /// `--after` and `--cursor` are both given.
     #[error("E73 CursorOptions")]
     CursorOptions,
+    /// A row of the survey does not end in a boot.
+    #[error("E74 NotAllBoot")]
+    NotAllBoot,
     /// The file that is to be written is one that is read.
     #[error("E75 SameFile")]
     SameFile,
@@ -91,6 +94,7 @@ impl Refusal {
             | Refusal::Layout(_)
             | Refusal::Schedule(_)
             | Refusal::Cursor(_) => 2,
+            Refusal::NotAllBoot => 1,
             Refusal::Start(error) => match error {
                 StartError::Memory
                 | StartError::ImageA(ImageError::Memory)

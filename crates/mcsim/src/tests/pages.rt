@@ -589,3 +589,52 @@ fn pages_join_up(rt: HostRuntime) -> Result<(), Fail> {
     }
     Ok(())
 }
+
+#[test]
+fn surveys_images(rt: HostRuntime) -> Result<(), Fail> {
+    let alloc = rt.alloc();
+    let next = format!(in alloc; "next mc1:{START}:1:17")?;
+    for (words, rows, most, last) in [
+        ("--cuts 2", 222, 18, "end"),
+        ("--cuts 1 --limit 19", 19, 18, next.as_str()),
+        ("--cuts 1 --limit 20 --all-boot", 19, 18, "end"),
+        ("--cuts 1 --after 16 --until 18", 1, 1, "end"),
+    ] {
+        let text = format!(in alloc;
+            "rows {rows}\nboot {rows}\nnone 0\npanic 0\nfault 0\nmost-ops {most}\n{last}\n"
+        )?;
+        let case = Case {
+            command: "survey",
+            out: text.as_str(),
+            ..explore_images(words)
+        };
+        ends(&rt, alloc, &case)?;
+    }
+    Ok(())
+}
+
+#[test]
+fn surveys_a_flash(rt: HostRuntime) -> Result<(), Fail> {
+    let stuck = begun(&[
+        (976, 0x50),
+        (977, 0),
+        (978, 0),
+        (979, 0),
+        (984, 2),
+        (993, 0),
+    ]);
+    let text = "rows 127\nboot 0\nnone 0\npanic 0\nfault 127\nmost-ops 13\nend\n";
+    for (words, status, err) in [
+        ("--cuts 2", 0, ""),
+        ("--cuts 2 --all-boot", 1, "mcsim: E74 NotAllBoot\n"),
+    ] {
+        let case = Case {
+            command: "survey",
+            status,
+            err,
+            ..explore_of(&stuck, words, text)
+        };
+        ends(&rt, rt.alloc(), &case)?;
+    }
+    Ok(())
+}

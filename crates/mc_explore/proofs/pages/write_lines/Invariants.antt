@@ -14,7 +14,7 @@ invariant-fill g l =
       start : l.explorer.state.start ≡ l.fn.explorer.state.start;
       limits : l.explorer.ledger.limits ≡ l.fn.explorer.ledger.limits;
       applied : l.explorer.ledger.applied + l.room * most_for_row l.fn.explorer.state.start.rules l.fn.explorer.state.start.geometry ≤ l.fn.explorer.ledger.applied + l.limit
-      * most_for_row l.fn.explorer.state.start.rules l.fn.explorer.state.start.geometry;
+          * most_for_row l.fn.explorer.state.start.rules l.fn.explorer.state.start.geometry;
       full : (0 < l.room) ⊎ (l.explorer.state.position ≡ Lost → ⊥);
     }
 

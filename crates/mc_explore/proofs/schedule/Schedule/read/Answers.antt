@@ -30,7 +30,7 @@ cuts-preserved c =
       valid = added_valid c.cuts.schedule c.in-Some.first.now c.add.new.self c.cuts.invariant.valid c.in_ok-add.ensures.added;
       text = text_next c.cuts.schedule c.add.new.self c.args.text.now c.cuts.rest.now c.in-Some.first.now c.in-Some.after.now c.cuts.invariant.text p.parts c.in_ok-add.ensures.added;
       left = λ m ok told. left_next c.cuts.schedule m c.add.new.self c.cuts.rest.now c.in-Some.first.now c.in-Some.after.now ok (c.cuts.invariant.left m ok told)
-      p.parts p.lacks c.in_ok-add.ensures.added;
+          p.parts p.lacks c.in_ok-add.ensures.added;
     }
 
 pub returns-in_err-add-2-clause-exact : goal.returns-in_err-add-2-clause-exact
