@@ -8,8 +8,10 @@ mod exploring;
 mod paging;
 mod replays;
 mod resuming;
+mod sizes;
 mod tearing;
 mod vectors;
+mod writers;
 
 use super::*;
 use mc_flash::{Layout, LayoutError};
