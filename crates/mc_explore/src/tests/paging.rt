@@ -19,13 +19,13 @@ pub fn explorer(alloc: Global, bound: u8) -> Result<Explorer<SnapFlash>, Fail>
 #[test]
 fn a_full_page_ends_with_a_cursor(rt: HostRuntime) -> Result<(), Fail> {
     let mut explorer = explorer(rt.alloc(), 0)?;
-    let mut page = Vec::new(rt.alloc());
+    let mut page = Vec::with_capacity(rt.alloc(), 2048)?;
     write_page(&mut explorer, 1, &mut page)?;
     let page = String::from_utf8(page)?;
     let row = "- boot test 18 2.0.0+0/80 1.0.0+0/80 revert\nnext mc1:";
     assert!(rt; page.as_str().starts_with(row));
     assert!(rt; page.as_str().ends_with(":0:-\n"));
-    let mut last = Vec::new(rt.alloc());
+    let mut last = Vec::with_capacity(rt.alloc(), 2048)?;
     write_page(&mut explorer, 1, &mut last)?;
     assert_eq!(rt; last.as_slice(), b"end\n".as_slice());
     Ok(())
@@ -34,7 +34,7 @@ fn a_full_page_ends_with_a_cursor(rt: HostRuntime) -> Result<(), Fail> {
 #[test]
 fn a_page_with_room_left_ends(rt: HostRuntime) -> Result<(), Fail> {
     let mut explorer = explorer(rt.alloc(), 1)?;
-    let mut page = Vec::new(rt.alloc());
+    let mut page = Vec::with_capacity(rt.alloc(), 2048)?;
     write_page(&mut explorer, 20, &mut page)?;
     let page = String::from_utf8(page)?;
     assert_eq!(rt; page.as_str().lines().count(), 20);
@@ -50,7 +50,7 @@ fn words_until(alloc: Global, until: &str, limit: u32) -> Result<String, Fail>
     requires { 1 ≤ limit }
 {
     let mut explorer = explorer(alloc, 1)?;
-    let mut page = Vec::new(alloc);
+    let mut page = Vec::with_capacity(alloc, 2048)?;
     write_page_until(
         &mut explorer,
         Some(Schedule::read(until)?),

@@ -1,6 +1,7 @@
 //! Pages over writers that take one byte a call, and fail at each call in turn.
 ghost use Rattle.std.specs.Prelude.{◌≡◌, ◌≤◌, IfOk};
 
+use super::ended;
 use super::paging::explorer;
 use super::tearing::PAGE;
 use crate::{ExploreError, Explorer, write_page};
@@ -71,14 +72,6 @@ fn page_of(alloc: Global, rows: usize, last: &[u8]) -> Result<Vec<u8>, Fail> {
     let mut page = PAGE.get(..rows).unwrap_or_default().to_vec(alloc)?;
     page.extend_from_slice(last)?;
     Ok(page)
-}
-
-/// What writing a page returned. The test ends where an allocation failed (`scripts/refuse-tests`).
-fn ended(told: Result<(), ExploreError>) -> Result<Result<(), ExploreError>, Fail> {
-    if told == Err(ExploreError::Memory) {
-        told?;
-    }
-    Ok(told)
 }
 
 /// Writes a page over a writer that fails after so many bytes of it: a prefix of it is out, and nothing comes after it.
