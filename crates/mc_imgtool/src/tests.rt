@@ -124,7 +124,7 @@ fn verifies_with_or_without_bytes_behind(rt: HostRuntime) -> Result<(), Fail> {
     let alloc = rt.alloc();
     let mut bytes = image(alloc)?;
     for _ in 0..2u8 {
-        let mut out = Vec::new(alloc);
+        let mut out = room(alloc)?;
         verify(&mut bytes.as_slice(), &mut out)?;
         assert_eq!(rt; out.as_slice(), GOOD_LINE.as_bytes());
         bytes.push(0)?;
