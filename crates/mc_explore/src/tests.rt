@@ -8,9 +8,11 @@ mod exploring;
 mod paging;
 mod replays;
 mod resuming;
+mod sizes;
 mod surveys;
 mod tearing;
 mod vectors;
+mod writers;
 
 use super::*;
 use mc_flash::{Layout, LayoutError};
@@ -71,12 +73,22 @@ fn images_are_placed(rt: HostRuntime) -> Result<(), Fail> {
     Ok(())
 }
 
-/// What is refused of two images.
-fn refusal(alloc: Global, a: &[u8], b: &[u8]) -> Option<StartError> {
-    match worked() {
-        Ok(layout) => Start::from_images(alloc, &layout, Kind::Test, a, b).err(),
-        Err(_) => None,
+/// What a call returned. The test ends where an allocation failed (`scripts/refuse-tests`).
+fn ended(told: Result<(), ExploreError>) -> Result<Result<(), ExploreError>, Fail> {
+    if told == Err(ExploreError::Memory) {
+        told?;
     }
+    Ok(told)
+}
+
+/// What is refused of two images. The test ends where an allocation failed.
+fn refusal(alloc: Global, a: &[u8], b: &[u8]) -> Result<Option<StartError>, Fail> {
+    let layout = worked()?;
+    let told = Start::from_images(alloc, &layout, Kind::Test, a, b).map(|_| ());
+    if told == Err(StartError::Memory) {
+        told?;
+    }
+    Ok(told.err())
 }
 
 #[test]
@@ -85,9 +97,9 @@ fn images_are_refused(rt: HostRuntime) -> Result<(), Fail> {
     let mut wrong = SECOND;
     wrong[32] = 9;
     let short = &FIRST[..31];
-    let first = refusal(alloc, short, &wrong);
+    let first = refusal(alloc, short, &wrong)?;
     assert_eq!(rt; first, Some(StartError::ImageA(ImageError::Truncated)));
-    let second = refusal(alloc, &FIRST, &wrong);
+    let second = refusal(alloc, &FIRST, &wrong)?;
     assert_eq!(rt; second, Some(StartError::ImageB(ImageError::WrongDigest)));
     let text = format!(in alloc; "{}", StartError::ImageB(ImageError::WrongDigest))?;
     assert_eq!(rt; text.as_str(), "E12 WrongDigest in image B");
@@ -122,12 +134,12 @@ fn an_image_of_two_sectors_fits(rt: HostRuntime) -> Result<(), Fail> {
     let larger = image_of(alloc, &[7; 441])?;
     assert_eq!(rt; (greatest.len(), larger.len()), (512, 513));
     assert_eq!(rt;
-        refusal(alloc, greatest.as_slice(), greatest.as_slice()),
+        refusal(alloc, greatest.as_slice(), greatest.as_slice())?,
         None
     );
-    let second = refusal(alloc, &FIRST, larger.as_slice());
+    let second = refusal(alloc, &FIRST, larger.as_slice())?;
     assert_eq!(rt; second, Some(StartError::DoesNotFit));
-    let first = refusal(alloc, larger.as_slice(), &SECOND);
+    let first = refusal(alloc, larger.as_slice(), &SECOND)?;
     assert_eq!(rt; first, Some(StartError::DoesNotFit));
     Ok(())
 }

@@ -1,11 +1,14 @@
-//! The worked images through the engines, and readers and writers that fail.
+//! The worked images through the engines.
 ghost use Rattle.std.specs.Prelude.{◌≡◌, false};
+
+mod faults;
+mod sizes;
 
 use super::*;
 use mc_image::{ImageError, ImageParts, Version, write_image};
 use std::alloc::Global;
 use std::io;
-use std::io::{Read, Write};
+use std::io::Read;
 use std::test::Fail;
 
 const PAYLOAD: [u8; 8] = [1, 2, 3, 4, 5, 6, 7, 8];
@@ -54,11 +57,24 @@ fn image(alloc: Global) -> Result<Vec<u8>, Fail> {
     Ok(hex::decode(alloc, IMAGE)?)
 }
 
+/// Room for what an engine writes, so that no write wants memory.
+fn room(alloc: Global) -> Result<Vec<u8>, Fail> {
+    Ok(Vec::with_capacity(alloc, 1024)?)
+}
+
+/// What an engine returned. The test ends where an allocation failed (`scripts/refuse-tests`).
+fn ended(told: Result<(), ToolError>) -> Result<Result<(), ToolError>, Fail> {
+    if told == Err(ToolError::Memory) {
+        told?;
+    }
+    Ok(told)
+}
+
 #[test]
 fn creates_from_a_payload(rt: HostRuntime) -> Result<(), Fail> {
     let alloc = rt.alloc();
     let wanted = image(alloc)?;
-    let mut out = Vec::new(alloc);
+    let mut out = room(alloc)?;
     create(
         alloc,
         &options(true, None, None),
@@ -68,7 +84,7 @@ fn creates_from_a_payload(rt: HostRuntime) -> Result<(), Fail> {
     assert_eq!(rt; out.as_slice(), wanted.as_slice());
     let mut padded = vec![in alloc; 0u8; 32]?;
     padded.extend_from_slice(&PAYLOAD)?;
-    let mut out = Vec::new(alloc);
+    let mut out = room(alloc)?;
     create(
         alloc,
         &options(false, None, None),
@@ -90,7 +106,7 @@ fn wants_zeros_in_the_place_of_the_header(rt: HostRuntime) -> Result<(), Fail> {
         &mut one.as_slice(),
         &mut out,
     );
-    assert_eq!(rt; short, Err(ToolError::NotZeros));
+    assert_eq!(rt; ended(short)?, Err(ToolError::NotZeros));
     one.push(1)?;
     let other = create(
         alloc,
@@ -98,7 +114,7 @@ fn wants_zeros_in_the_place_of_the_header(rt: HostRuntime) -> Result<(), Fail> {
         &mut one.as_slice(),
         &mut out,
     );
-    assert_eq!(rt; other, Err(ToolError::NotZeros));
+    assert_eq!(rt; ended(other)?, Err(ToolError::NotZeros));
     assert_eq!(rt; out.len(), 0);
     Ok(())
 }
@@ -108,13 +124,13 @@ fn verifies_with_or_without_bytes_behind(rt: HostRuntime) -> Result<(), Fail> {
     let alloc = rt.alloc();
     let mut bytes = image(alloc)?;
     for _ in 0..2u8 {
-        let mut out = Vec::new(alloc);
+        let mut out = room(alloc)?;
         verify(&mut bytes.as_slice(), &mut out)?;
         assert_eq!(rt; out.as_slice(), GOOD_LINE.as_bytes());
         bytes.push(0)?;
     }
     bytes.truncate(79);
-    let mut out = Vec::new(alloc);
+    let mut out = room(alloc)?;
     assert_eq!(rt;
         verify(&mut bytes.as_slice(), &mut out),
         Err(ToolError::Image(ImageError::BadTlvLength))
@@ -130,10 +146,8 @@ fn reads_up_to_the_limit(rt: HostRuntime) -> Result<(), Fail> {
     let whole = read_bounded(alloc, &mut bytes.as_slice(), 5000)?;
     assert_eq!(rt; whole.as_slice(), bytes.as_slice());
     let mut rest = bytes.as_slice();
-    assert_eq!(rt;
-        read_bounded(alloc, &mut rest, 4000).err(),
-        Some(ToolError::InputTooLong)
-    );
+    let longer = read_bounded(alloc, &mut rest, 4000).map(|_| ());
+    assert_eq!(rt; ended(longer)?, Err(ToolError::InputTooLong));
     // One byte more than the limit was taken.
     assert_eq!(rt; rest.len(), 999);
     Ok(())
@@ -143,7 +157,7 @@ fn reads_up_to_the_limit(rt: HostRuntime) -> Result<(), Fail> {
 fn a_security_counter_is_protected(rt: HostRuntime) -> Result<(), Fail> {
     let alloc = rt.alloc();
     let wanted = hex::decode(alloc, COUNTED_IMAGE)?;
-    let mut out = Vec::new(alloc);
+    let mut out = room(alloc)?;
     let counted = options(true, Some(7), None);
     create(alloc, &counted, &mut PAYLOAD.as_slice(), &mut out)?;
     assert_eq!(rt; out.as_slice(), wanted.as_slice());
@@ -159,7 +173,7 @@ fn an_image_and_a_trailer_fit_the_slot(rt: HostRuntime) -> Result<(), Fail> {
         (Some(7), 235, false),
         (Some(7), 236, true),
     ] {
-        let mut out = Vec::new(alloc);
+        let mut out = room(alloc)?;
         let slot = options(true, counter, Some(size));
         let made = create(alloc, &slot, &mut PAYLOAD.as_slice(), &mut out);
         let wanted = if fits {
@@ -167,7 +181,7 @@ fn an_image_and_a_trailer_fit_the_slot(rt: HostRuntime) -> Result<(), Fail> {
         } else {
             Err(ToolError::SlotTooSmall)
         };
-        assert_eq!(rt; made, wanted, "{size}");
+        assert_eq!(rt; ended(made)?, wanted, "{size}");
         assert_eq!(rt; out.is_empty(), !fits);
     }
     Ok(())
@@ -181,7 +195,7 @@ fn a_slot_is_filled_and_confirmed(rt: HostRuntime) -> Result<(), Fail> {
         let mut slot = options(true, None, Some(768));
         slot.pad = !confirm;
         slot.confirm = confirm;
-        let mut out = Vec::new(alloc);
+        let mut out = room(alloc)?;
         create(alloc, &slot, &mut PAYLOAD.as_slice(), &mut out)?;
         let mut wanted = image(alloc)?;
         wanted.resize(744, 0xff)?;
@@ -189,7 +203,7 @@ fn a_slot_is_filled_and_confirmed(rt: HostRuntime) -> Result<(), Fail> {
         wanted.resize(752, 0xff)?;
         wanted.extend_from_slice(magic.as_slice())?;
         assert_eq!(rt; out.as_slice(), wanted.as_slice());
-        let mut line = Vec::new(alloc);
+        let mut line = room(alloc)?;
         verify(&mut out.as_slice(), &mut line)?;
         assert_eq!(rt; line.as_slice(), GOOD_LINE.as_bytes());
     }
@@ -215,7 +229,7 @@ fn filling_needs_the_size_of_the_slot(rt: HostRuntime) -> Result<(), Fail> {
 /// The report of some bytes.
 fn report(alloc: Global, bytes: &[u8]) -> Result<String, Fail> {
     let mut rest = bytes;
-    let mut out = Vec::new(alloc);
+    let mut out = room(alloc)?;
     dumpinfo(alloc, &mut rest, &mut out)?;
     Ok(String::from_utf8(out).map_err(|_| "a text")?)
 }
@@ -240,7 +254,7 @@ fn reports_the_fields_and_entries(rt: HostRuntime) -> Result<(), Fail> {
     }
     let mut out = Vec::new(alloc);
     assert_eq!(rt;
-        dumpinfo(alloc, &mut bytes.as_slice(), &mut out),
+        ended(dumpinfo(alloc, &mut bytes.as_slice(), &mut out))?,
         Err(ToolError::Image(ImageError::BadMagic))
     );
     assert_eq!(rt; out.len(), 0);
@@ -287,82 +301,6 @@ fn reports_odd_fields_and_entries(rt: HostRuntime) -> Result<(), Fail> {
     Ok(())
 }
 
-/// A reader that gives one byte a call, and fails after some calls.
-#[derive(Drop)]
-struct FailingReader<'a> {
-    left: &'a [u8],
-    calls: usize,
-}
-
-impl Read for FailingReader<'_> {
-    fn read(&mut self, buffer: &mut [u8]) -> io::Result<usize> {
-        if self.calls == 0 {
-            return Err(io::Error::from(io::ErrorKind::Other));
-        }
-        self.calls -= 1;
-        let room = buffer.len().min(1);
-        self.left.read(&mut buffer[..room])
-    }
-}
-
-/// A writer that takes one byte a call, and after some calls takes nothing, or fails.
-#[derive(Drop)]
-struct FailingWriter {
-    taken: Vec<u8>,
-    calls: usize,
-    takes_nothing: bool,
-}
-
-impl Write for FailingWriter {
-    fn write(&mut self, buffer: &[u8]) -> io::Result<usize> {
-        if self.calls == 0 {
-            if self.takes_nothing {
-                return Ok(0);
-            }
-            return Err(io::Error::from(io::ErrorKind::Other));
-        }
-        self.calls -= 1;
-        let room = buffer.len().min(1);
-        self.taken.extend_from_slice(&buffer[..room])?;
-        Ok(room)
-    }
-
-    fn flush(&mut self) -> io::Result<()> {
-        Ok(())
-    }
-}
-
-#[test]
-fn a_failed_read_writes_nothing(rt: HostRuntime) -> Result<(), Fail> {
-    let alloc = rt.alloc();
-    let image = image(alloc)?;
-    // The last call finds the end.
-    for calls in 0..=80usize {
-        let mut out = Vec::new(alloc);
-        let mut input = FailingReader {
-            left: image.as_slice(),
-            calls,
-        };
-        let verified = verify(&mut input, &mut out);
-        assert_eq!(rt; verified, Err(ToolError::Read), "{calls}");
-        let mut input = FailingReader {
-            left: image.as_slice(),
-            calls,
-        };
-        let created = create(alloc, &options(true, None, None), &mut input, &mut out);
-        assert_eq!(rt; created, Err(ToolError::Read), "{calls}");
-        assert_eq!(rt; out.len(), 0);
-    }
-    let mut out = Vec::new(alloc);
-    let mut input = FailingReader {
-        left: image.as_slice(),
-        calls: 81,
-    };
-    verify(&mut input, &mut out)?;
-    assert_eq!(rt; out.as_slice(), GOOD_LINE.as_bytes());
-    Ok(())
-}
-
 /// A reader that makes so many zero bytes.
 #[derive(Drop)]
 struct Zeros {
@@ -403,49 +341,6 @@ fn verify_reads_on_after_a_fault(rt: HostRuntime) -> Result<(), Fail> {
         assert_eq!(rt; verified, Err(ToolError::Image(wanted)), "{length}");
     }
     assert_eq!(rt; out.len(), 0);
-    Ok(())
-}
-
-#[test]
-fn a_failed_write_leaves_a_front(rt: HostRuntime) -> Result<(), Fail> {
-    let alloc = rt.alloc();
-    let image = image(alloc)?;
-    let line = GOOD_LINE.as_bytes();
-    for calls in 0..=line.len() {
-        for takes_nothing in [false, true] {
-            let mut out = FailingWriter {
-                taken: Vec::new(alloc),
-                calls,
-                takes_nothing,
-            };
-            let verified = verify(&mut image.as_slice(), &mut out);
-            let wanted = if calls < line.len() {
-                Err(ToolError::Write)
-            } else {
-                Ok(())
-            };
-            assert_eq!(rt; verified, wanted, "{calls}");
-            let FailingWriter { taken, .. } = &out;
-            assert_eq!(rt; taken.as_slice(), &line[..calls]);
-        }
-    }
-    for calls in 0..=80usize {
-        let mut out = FailingWriter {
-            taken: Vec::new(alloc),
-            calls,
-            takes_nothing: false,
-        };
-        let created = create(
-            alloc,
-            &options(true, None, None),
-            &mut PAYLOAD.as_slice(),
-            &mut out,
-        );
-        assert_eq!(rt; created.is_ok(), calls == 80, "{calls}");
-        let FailingWriter { taken, .. } = &out;
-        assert!(rt; image.as_slice().starts_with(taken.as_slice()));
-        assert_eq!(rt; taken.len(), calls);
-    }
     Ok(())
 }
 

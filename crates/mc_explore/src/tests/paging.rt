@@ -2,14 +2,13 @@
 ghost use Rattle.std.specs.Prelude.{◌≤◌};
 
 use super::{FIRST, SECOND, worked};
-use crate::{ExploreError, Explorer, Kind, Schedule, Start, write_page, write_page_until};
+use crate::{Explorer, Kind, Schedule, Start, write_page, write_page_until};
 use mc_flash::SnapFlash;
 use std::alloc::Global;
-use std::io::{self, Write};
 use std::test::Fail;
 
-/// An explorer of at most so many cuts.
-fn explorer(alloc: Global, bound: u8) -> Result<Explorer<SnapFlash>, Fail>
+/// An explorer of a test swap with at most so many cuts.
+pub fn explorer(alloc: Global, bound: u8) -> Result<Explorer<SnapFlash>, Fail>
     requires { bound ≤ 16 }
 {
     let layout = worked()?;
@@ -20,13 +19,13 @@ fn explorer(alloc: Global, bound: u8) -> Result<Explorer<SnapFlash>, Fail>
 #[test]
 fn a_full_page_ends_with_a_cursor(rt: HostRuntime) -> Result<(), Fail> {
     let mut explorer = explorer(rt.alloc(), 0)?;
-    let mut page = Vec::new(rt.alloc());
+    let mut page = Vec::with_capacity(rt.alloc(), 2048)?;
     write_page(&mut explorer, 1, &mut page)?;
     let page = String::from_utf8(page)?;
     let row = "- boot test 18 2.0.0+0/80 1.0.0+0/80 revert\nnext mc1:";
     assert!(rt; page.as_str().starts_with(row));
     assert!(rt; page.as_str().ends_with(":0:-\n"));
-    let mut last = Vec::new(rt.alloc());
+    let mut last = Vec::with_capacity(rt.alloc(), 2048)?;
     write_page(&mut explorer, 1, &mut last)?;
     assert_eq!(rt; last.as_slice(), b"end\n".as_slice());
     Ok(())
@@ -35,7 +34,7 @@ fn a_full_page_ends_with_a_cursor(rt: HostRuntime) -> Result<(), Fail> {
 #[test]
 fn a_page_with_room_left_ends(rt: HostRuntime) -> Result<(), Fail> {
     let mut explorer = explorer(rt.alloc(), 1)?;
-    let mut page = Vec::new(rt.alloc());
+    let mut page = Vec::with_capacity(rt.alloc(), 2048)?;
     write_page(&mut explorer, 20, &mut page)?;
     let page = String::from_utf8(page)?;
     assert_eq!(rt; page.as_str().lines().count(), 20);
@@ -51,7 +50,7 @@ fn words_until(alloc: Global, until: &str, limit: u32) -> Result<String, Fail>
     requires { 1 ≤ limit }
 {
     let mut explorer = explorer(alloc, 1)?;
-    let mut page = Vec::new(alloc);
+    let mut page = Vec::with_capacity(alloc, 2048)?;
     write_page_until(
         &mut explorer,
         Some(Schedule::read(until)?),
@@ -84,54 +83,6 @@ fn a_page_stops_before_a_schedule(rt: HostRuntime) -> Result<(), Fail> {
     ] {
         let words = words_until(rt.alloc(), until, limit)?;
         assert_eq!(rt; words.as_str(), want, "{until} {limit}");
-    }
-    Ok(())
-}
-
-/// Takes so many bytes, one at a time, and then fails.
-#[derive(Drop)]
-struct Narrow {
-    room: usize,
-    taken: Vec<u8>,
-}
-
-impl Write for Narrow {
-    fn write(&mut self, bytes: &[u8]) -> io::Result<usize> {
-        if self.room == 0 {
-            return Err(io::Error::from(io::ErrorKind::Other));
-        }
-        self.room -= 1;
-        let count = bytes.len().min(1);
-        self.taken.extend_from_slice(&bytes[..count])?;
-        Ok(count)
-    }
-
-    fn flush(&mut self) -> io::Result<()> {
-        Ok(())
-    }
-}
-
-#[test]
-fn a_failed_write_ends_the_exploration(rt: HostRuntime) -> Result<(), Fail> {
-    let alloc = rt.alloc();
-    let mut page = Vec::new(alloc);
-    write_page(&mut explorer(alloc, 1)?, 3, &mut page)?;
-    for room in 0..page.len() {
-        let mut explorer = explorer(alloc, 1)?;
-        let mut narrow = Narrow {
-            room,
-            taken: Vec::new(alloc),
-        };
-        let refused = write_page(&mut explorer, 3, &mut narrow);
-        assert_eq!(rt; refused, Err(ExploreError::Write), "{room}");
-        assert_eq!(rt; narrow.taken.len(), room);
-        assert!(rt;
-            page.as_slice().starts_with(narrow.taken.as_slice()),
-            "{room}"
-        );
-        let again = write_page(&mut explorer, 3, &mut narrow);
-        assert_eq!(rt; again, Err(ExploreError::Failed), "{room}");
-        assert!(rt; explorer.next_row().is_err());
     }
     Ok(())
 }

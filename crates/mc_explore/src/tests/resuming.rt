@@ -1,7 +1,7 @@
 //! Explorations that go on after a schedule.
 ghost use Rattle.std.specs.Prelude.{◌≤◌};
 
-use super::{FIRST, SECOND, worked};
+use super::{FIRST, SECOND, ended, worked};
 use crate::{Cursor, ExploreError, Explorer, Kind, Schedule, Start, write_page};
 use mc_flash::{Grain, SnapFlash};
 use mc_trailer::{Profile, Rules};
@@ -26,7 +26,7 @@ fn page_behind(alloc: Global, cuts: &str) -> Result<String, Fail> {
     let start = start(alloc, Kind::Test)?;
     let cursor = cursor(&start, 2, cuts)?;
     let mut explorer = Explorer::<SnapFlash>::resume(alloc, &start, 2, &cursor)?;
-    let mut page = Vec::new(alloc);
+    let mut page = Vec::with_capacity(alloc, 1024)?;
     write_page(&mut explorer, 1, &mut page)?;
     Ok(String::from_utf8(page)?)
 }
@@ -42,10 +42,16 @@ fn the_row_behind_a_cursor(rt: HostRuntime) -> Result<(), Fail> {
 }
 
 /// Why a cursor is refused.
-fn refusal(alloc: Global, start: &Start, bound: u8, cursor: &Cursor) -> Option<ExploreError>
+fn refusal(
+    alloc: Global,
+    start: &Start,
+    bound: u8,
+    cursor: &Cursor,
+) -> Result<Option<ExploreError>, Fail>
     requires { bound ≤ 16 }
 {
-    Explorer::<SnapFlash>::resume(alloc, start, bound, cursor).err()
+    let told = Explorer::<SnapFlash>::resume(alloc, start, bound, cursor).map(|_| ());
+    Ok(ended(told)?.err())
 }
 
 #[test]
@@ -55,7 +61,7 @@ fn cursors_are_refused(rt: HostRuntime) -> Result<(), Fail> {
     let behind = cursor(&start_test, 1, "18")?;
     let perm = start(alloc, Kind::Perm)?;
     assert_eq!(rt;
-        refusal(alloc, &perm, 2, &behind),
+        refusal(alloc, &perm, 2, &behind)?,
         Some(ExploreError::OtherStart)
     );
     let units = start(alloc, Kind::Test)?.with_rules(Rules {
@@ -63,23 +69,23 @@ fn cursors_are_refused(rt: HostRuntime) -> Result<(), Fail> {
         profile: Profile::One,
     });
     assert_eq!(rt;
-        refusal(alloc, &units, 2, &behind),
+        refusal(alloc, &units, 2, &behind)?,
         Some(ExploreError::OtherRules)
     );
     assert_eq!(rt;
-        refusal(alloc, &start_test, 2, &behind),
+        refusal(alloc, &start_test, 2, &behind)?,
         Some(ExploreError::OtherBound)
     );
     assert_eq!(rt;
-        refusal(alloc, &start_test, 1, &behind),
+        refusal(alloc, &start_test, 1, &behind)?,
         Some(ExploreError::CannotOccur)
     );
     let longer = cursor(&start_test, 1, "0.0")?;
     assert_eq!(rt;
-        refusal(alloc, &start_test, 1, &longer),
+        refusal(alloc, &start_test, 1, &longer)?,
         Some(ExploreError::CannotOccur)
     );
     let last = cursor(&start_test, 1, "17")?;
-    assert_eq!(rt; refusal(alloc, &start_test, 1, &last), None);
+    assert_eq!(rt; refusal(alloc, &start_test, 1, &last)?, None);
     Ok(())
 }

@@ -4,7 +4,7 @@ use std::alloc::Global;
 use std::test::Fail;
 
 /// How the page of a test swap of two small images begins.
-static PAGE: &[u8] = b"- boot test 18 2.0.0+0/80 1.0.0+0/80 revert
+pub static PAGE: &[u8] = b"- boot test 18 2.0.0+0/80 1.0.0+0/80 revert
 0 boot test 18 2.0.0+0/80 1.0.0+0/80 revert
 1 boot test 18 2.0.0+0/80 1.0.0+0/80 revert
 ";

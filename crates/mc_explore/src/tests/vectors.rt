@@ -53,7 +53,7 @@ fn page_is(
     requires { cuts ≤ 16 }
 {
     let mut explorer = Explorer::<SnapFlash>::start(alloc, start, cuts)?;
-    let mut page = Vec::new(alloc);
+    let mut page = Vec::with_capacity(alloc, 1 << 16)?;
     write_page(&mut explorer, 100_000, &mut page)?;
     let digest = hex::encode(alloc, Sha256::digest(page.as_slice()))?;
     assert_eq!(rt; digest.as_str(), want);
