@@ -4,17 +4,13 @@ use Rattle.std.proofs.lemmas.List.{length-append}
 use Rattle.mc_explore.specs.Chain.{last_schedule}
 use Rattle.mc_explore.specs.Page.{cursor_of}
 use Rattle.mc_explore.specs.State.{State, Told, told}
-use Rattle.mc_explore.specs.Survey.{Surveys, SurveysUntil, tally_of}
+use Rattle.mc_explore.specs.Survey.{Surveys, SurveysUntil, tally_of, tally_so_far}
 use Rattle.mc_explore.specs.Until.{FindsBefore}
 use Rattle.mc_explore.specs.declared.cursor.Cursor.{Cursor}
 use Rattle.mc_explore.specs.declared.row.Row.{Row}
 use Rattle.mc_explore.specs.declared.surveying.Tally.{Tally}
 use Rattle.mc_explore.proofs.PageRows.{AreSoFar, cursor_is, none_so_far, one_more, page_short, page_full, page_with, whole_taken}
 use Rattle.mc_explore.proofs.PageText.{last_on}
-
--- The tally of some rows that do not fill a page.
-abbrev pub tally_so_far : List Told → Tally
-tally_so_far rows = tally_of (record { rows = rows; goes_on = None })
 
 module _ (until : Option (List ℕ)) (old : State) (limit : ℕ) where
   -- These rows were taken and counted, of which that schedule's is the last.

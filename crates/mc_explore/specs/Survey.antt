@@ -1,5 +1,5 @@
 -- What is counted of the rows of a page in place of their text.
-use Rattle.std.specs.Prelude.{◌≡◌, ℕ, Bool, true, false, max, List, ◌++◌, length, drop, fold, count_by, codes, decimal, Option}
+use Rattle.std.specs.Prelude.{◌≡◌, ℕ, Bool, true, false, max, List, ◌++◌, length, drop, fold, count_by, codes, decimal, Option, None}
 use Rattle.mc_boot.specs.declared.outcome.BootResult.{BootResult}
 use Rattle.mc_boot.specs.declared.outcome.BootResult.TheVariants as results
 use Rattle.mc_explore.specs.Page.{Page, last_line, page_at, state_past}
@@ -52,6 +52,10 @@ tally_of page = record {
   most_ops = most_ops_of page.rows;
   next = page.goes_on;
 }
+
+-- The tally of rows that do not fill a page.
+abbrev pub tally_so_far : List Told → Tally
+tally_so_far rows = tally_of (record { rows = rows; goes_on = None })
 
 -- Six lines of numbers, and the last line of the page.
 abbrev pub tally_text : Tally → List ℕ

@@ -1,9 +1,9 @@
 //! What the rows of an exploration come to.
-ghost use Rattle.std.specs.Prelude.{◌≡◌, ◌+◌, ◌-◌, ◌*◌, ◌^◌, ◌<◌, ◌≤◌, ◌⊎◌, List, ◌∷◌, ◌++◌, [], None, Some, IfOk, IfErr, OnOk, OnErr, IsErrOf, length};
+ghost use Rattle.std.specs.Prelude.{◌≡◌, ◌+◌, ◌-◌, ◌*◌, ◌^◌, ◌<◌, ◌≤◌, ◌⊎◌, List, ◌∷◌, ◌++◌, [], Some, IfOk, IfErr, OnOk, OnErr, IsErrOf, length};
 ghost use Rattle.mc_tree.specs.Paths.{Lost};
 ghost use Rattle.mc_explore.specs.Bounds.{most_for_row};
 ghost use Rattle.mc_explore.specs.State.{Told, told};
-ghost use Rattle.mc_explore.specs.Survey.{Surveys, SurveysUntil, tally_of, tally_text};
+ghost use Rattle.mc_explore.specs.Survey.{Surveys, SurveysUntil, tally_so_far, tally_text};
 ghost use Rattle.mc_explore.specs.Want.{RanOut};
 
 use crate::cursor::Cursor;
@@ -36,7 +36,7 @@ pub struct Tally {
 impl Tally {
     // Of no rows.
     fn new() -> Tally
-        ensures { result ≡ tally_of (record { rows = []; goes_on = None }) }
+        ensures { result ≡ tally_so_far [] }
     {
         Tally {
             rows: 0,
@@ -51,10 +51,10 @@ impl Tally {
 
     // Counts one row more.
     fn add(&mut self, row: &Row)
-        requires { (rows : List Told) × (self.old ≡ tally_of (record { rows = rows; goes_on = None }))
+        requires { (rows : List Told) × (self.old ≡ tally_so_far rows)
             × (length rows < 2 ^ 32 - 1) }
-        ensures { (rows : List Told) → self.old ≡ tally_of (record { rows = rows; goes_on = None })
-            → self.new ≡ tally_of (record { rows = rows ++ told row.now ∷ []; goes_on = None }) }
+        ensures { (rows : List Told) → self.old ≡ tally_so_far rows → self.new
+            ≡ tally_so_far (rows ++ told row.now ∷ []) }
     {
         self.rows += 1;
         match row.outcome.result {

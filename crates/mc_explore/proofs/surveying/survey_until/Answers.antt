@@ -5,7 +5,7 @@ use Rattle.mc_explore.specs.Start.{Begun}
 use Rattle.mc_explore.specs.State.{State}
 use Rattle.mc_explore.specs.declared.error.ExploreError.TheVariants as errors
 use Rattle.mc_explore.specs.declared.surveying.Tally.{Tally}
-use Rattle.mc_explore.proofs.Counted.{AreCounted, count_begin, count_on, counted_full, counted_short, one_counted, tally_so_far}
+use Rattle.mc_explore.proofs.Counted.{AreCounted, count_begin, count_on, counted_full, counted_short, one_counted}
 use Rattle.mc_explore.proofs.PageRows.{row_paid}
 use Rattle.mc_explore.proofs.surveying.survey_until.Given.{Over}
 use Rattle.mc_explore.proofs.surveying.survey_until.Goals as goal
