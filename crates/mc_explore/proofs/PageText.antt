@@ -1,13 +1,13 @@
 -- A page, as its lines are written one after another.
-use Rattle.std.specs.Prelude.{zero, nat_le, flat_map, Bool, true, false, ◌∷◌}
+use Rattle.std.specs.Prelude.{flat_map, Bool, true, false, ◌∷◌}
 use Rattle.std.proofs.Common.{◌≡◌, ℕ, suc, ◌+◌, List, [], ◌++◌, length, take, drop, Some, None, Option, refl, sym, ap, subst, ◌∙◌, append_assoc, append-nil, arith}
 use Rattle.std.proofs.lemmas.List.{take_at, take-append-drop}
 use Rattle.std.proofs.lemmas.List.Concat.{flat_map-append}
 use Rattle.std.specs.Io.KnownBytes.{Appends}
 use Rattle.mc_explore.specs.Chain.{last_schedule}
 use Rattle.mc_explore.specs.State.{State, Told, told}
-use Rattle.mc_explore.specs.Until.{Shown, TakesPage, ShownIsOut, ShownBegan, FindsBefore}
-use Rattle.mc_explore.specs.Page.{Page, page_at, page_text, cursor_of, last_line, row_line, PageIsOut, PageBegan}
+use Rattle.mc_explore.specs.Until.{TakesPage, ShownIsOut, ShownBegan, FindsBefore}
+use Rattle.mc_explore.specs.Page.{page_at, page_text, cursor_of, last_line, row_line, PageIsOut, PageBegan}
 use Rattle.mc_explore.specs.declared.cursor.Cursor.{Cursor}
 use Rattle.mc_explore.specs.declared.row.Row.{Row}
 use Rattle.mc_explore.proofs.PageRows.{AreSoFar, all_shown, cursor_is, next_of, none_so_far, one_more, page_short, page_full, page_with, some_shown, whole_taken}
