@@ -38,12 +38,12 @@ impl<F: Flash + Drop> Explorer<F> {
         ensures still { IsErrOf result ExploreError.Failed → self.new ≡ self.old }
         ensures err { IfErr result (λ e. (e ≡ ExploreError.Memory) ⊎ (e ≡ ExploreError.Failed)) }
     {
-        let Some(row) = self.next_row()? else {
-            return Ok(None);
+        let Some(until) = until else {
+            return self.next_row();
         };
-        match until {
-            Some(until) if !row.schedule.is_before(until) => Ok(None),
-            _ => Ok(Some(row)),
+        match self.next_row()? {
+            Some(row) if !row.schedule.is_before(until) => Ok(None),
+            found => Ok(found),
         }
     }
 }
