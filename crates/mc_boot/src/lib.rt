@@ -15,6 +15,3 @@ pub use boot::{Boot, outcome_after};
 pub use image::ImageId;
 pub use outcome::{BootResult, Outcome};
 pub use restart::restart_law;
-
-#[cfg(test)]
-mod tests;
