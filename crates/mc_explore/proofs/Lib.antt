@@ -16,6 +16,5 @@ mod Preceding
 mod PageRows
 mod PageText
 mod Counted
-mod Lines
 mod Cursors
 mod Continued

@@ -4,13 +4,9 @@ ghost use Rattle.std.specs.Io.KnownBytes.{Appends};
 ghost use Rattle.mc_output.specs.Fronts.{AppendsFront};
 
 use crate::error::ExploreError;
-use arrayvec::ArrayString;
 use mc_output::WriteFailed;
-use std::fmt::{Display, Write as _};
+use std::fmt::Display;
 use std::io::Write;
-
-/// The most bytes of a line. The longest row has some 300.
-const MOST_BYTES: usize = 512;
 
 /// Writes the whole text, or a prefix of it.
 ///
@@ -42,9 +38,8 @@ pub fn write_line<D: Display + Drop, W: Write>(writer: &mut W, text: D) -> Resul
         (bytes ++ 10 ∷ []))) }
     ensures err { IfErr result (λ e. e ≡ ExploreError.Write) }
 {
-    let mut line = ArrayString::<MOST_BYTES>::new();
-    if write!(line, "{text}\n").is_err() {
-        return Err(ExploreError::Write);
+    match mc_output::write_line(writer, text) {
+        Ok(()) => Ok(()),
+        Err(WriteFailed) => Err(ExploreError::Write),
     }
-    write_text(writer, line.as_str().as_bytes())
 }

@@ -1,9 +1,10 @@
-//! Grains as text.
+//! Grains and slots as text.
 ghost use Rattle.std.specs.Prelude.{◌≡◌, Some, MatchOption};
 ghost use Rattle.mc_flash.specs.declared.flash.Grain.{Grain};
-ghost use Rattle.mc_flash.specs.Texts.{grain_text};
+ghost use Rattle.mc_flash.specs.Texts.{grain_text, slot_text};
 
 use crate::flash::Grain;
+use crate::op::Slot;
 use std::fmt;
 
 impl Grain {
@@ -27,6 +28,17 @@ impl fmt::Display for Grain {
         match self {
             Grain::Call => f.write_str("call"),
             Grain::Unit => f.write_str("unit"),
+        }
+    }
+}
+
+impl fmt::Display for Slot {
+    ghost output = { λ slot. Some (slot_text slot) };
+
+    fn fmt<W: fmt::Write>(&self, f: &mut fmt::Formatter<W>) -> fmt::Result {
+        match self {
+            Slot::Primary => f.write_str("primary"),
+            Slot::Secondary => f.write_str("secondary"),
         }
     }
 }

@@ -1,0 +1,77 @@
+-- The lines of a boot's operations, one step after another.
+use Rattle.std.specs.Prelude.{◌≡◌, ℕ, zero, suc, ◌+◌, ◌-◌, ◌<◌, List, [], ◌∷◌, ◌++◌, take, slice_get, codes, Option, Some, None, IfSome, Result, Ok, Err, is_some, true, refl}
+use Rattle.std.proofs.Common.{arith, sym, ap, subst, append-nil, ◌∙◌}
+use Rattle.mc_flash.specs.Apply.{apply}
+use Rattle.mc_flash.specs.Content.{Content}
+use Rattle.mc_flash.specs.DoneFacts.{did, undefined}
+use Rattle.mc_flash.specs.Geometry.{Geometry}
+use Rattle.mc_flash.specs.Seen.{Seen}
+use Rattle.mc_flash.specs.declared.flash.FlashError.{FlashError}
+use Rattle.mc_flash.specs.declared.flash.FlashError.TheVariants as errors
+use Rattle.mc_flash.specs.declared.op.Op.{Op}
+use Rattle.mc_boot.specs.Boot.{Progress, StepsAlong, Steps}
+use Rattle.mc_trace.specs.Operations.{numbered_text}
+use Rattle.mc_trace.specs.Trace.{told, told_first, up_to}
+
+-- What is still to be told of a boot that has come to p.
+abbrev pub left_to_tell : Option ℕ → Seen → Progress → List ℕ
+left_to_tell until f p = told f.geometry p.count (up_to until p.count p.to_come) f.content
+
+taken : (until : Option ℕ) (n : ℕ) (op : Op) (rest : List Op) → IfSome until (λ m. n < m) → up_to until n (op ∷ rest) ≡ op ∷ up_to until (n + 1) rest
+taken None n op rest going = refl
+taken (Some m) n op rest going = let e : m - n ≡ suc (m - (n + 1)) = omega (arith, going) in ap (λ k. take k (op ∷ rest)) e
+
+none_of_none : (k : ℕ) → take {A = Op} k [] ≡ []
+none_of_none zero = refl
+none_of_none (suc k) = refl
+
+pub none_left : (until : Option ℕ) (n : ℕ) → up_to until n [] ≡ []
+none_left None n = refl
+none_left (Some m) n = none_of_none (m - n)
+
+module _ (old new : Seen) (p q : Progress) (op : Op) (until : Option ℕ) (first : slice_get p.to_come 0 ≡ Some op) (going : IfSome until (λ m. p.count < m)) where
+  -- The next operation happened.
+  pub happened : (result : Result (Unit {0}) FlashError) → result ≡ Ok tt → Steps p old result q new → left_to_tell until old p ≡ (numbered_text old.geometry p.count op ++ 10 ∷ []) ++ left_to_tell until new q
+  happened (Err e) is steps = absurd cc
+  happened (Ok v) is steps = at p.to_come refl first steps
+    where
+      at : (ops : List Op) → p.to_come ≡ ops → slice_get ops 0 ≡ Some op → StepsAlong ops p old (Ok v) q new → left_to_tell until old p ≡ (numbered_text old.geometry p.count op ++ 10 ∷ []) ++ left_to_tell until new q
+      at [] to one d = absurd cc
+      at (x ∷ rest) to one d =
+          let same : x ≡ op = cc in
+          let does = did x old new d.1.0 in
+          let behind : List Op = up_to until (p.count + 1) rest in
+          let line : List ℕ = numbered_text old.geometry p.count op ++ 10 ∷ [] in
+          ap (λ os. told old.geometry p.count os old.content) (ap (up_to until p.count) to ∙ taken until p.count x rest going)
+          ∙ ap (told_first old.geometry p.count x (λ t. told old.geometry (p.count + 1) behind t)) does.applied
+          ∙ ap (λ o. (numbered_text old.geometry p.count o ++ 10 ∷ []) ++ told old.geometry (p.count + 1) behind new.content) same
+          ∙ ap (λ (g : Geometry). line ++ told g (p.count + 1) behind new.content) (sym (ap (λ (f : Seen). f.geometry) does.is))
+          ∙ ap (λ (z : Progress). line ++ left_to_tell until new z) (sym d.0)
+
+  -- It was refused, and none is to come.
+  pub refused : (result : Result (Unit {0}) FlashError) → result ≡ Err errors.NotErased → Steps p old result q new → left_to_tell until old p ≡ ((numbered_text old.geometry p.count op ++ codes " refused") ++ 10 ∷ []) ++ left_to_tell until new q
+  refused (Ok v) is steps = absurd cc
+  refused (Err errors.Memory) is steps = absurd cc
+  refused (Err errors.NotErased) is steps = at p.to_come refl first steps
+    where
+      at : (ops : List Op) → p.to_come ≡ ops → slice_get ops 0 ≡ Some op → StepsAlong ops p old (Err errors.NotErased) q new
+          → left_to_tell until old p ≡ ((numbered_text old.geometry p.count op ++ codes " refused") ++ 10 ∷ []) ++ left_to_tell until new q
+      at [] to one d = absurd d
+      at (x ∷ rest) to one d =
+          let same : x ≡ op = cc in
+          let line : List ℕ = (numbered_text old.geometry p.count op ++ codes " refused") ++ 10 ∷ [] in
+          let over : left_to_tell until new q ≡ [] =
+              ap (λ (z : Progress). left_to_tell until new z) d.0 ∙ ap (λ os. told new.geometry p.count os new.content) (none_left until p.count) in
+          ap (λ os. told old.geometry p.count os old.content) (ap (up_to until p.count) to ∙ taken until p.count x rest going)
+          ∙ ap (told_first old.geometry p.count x (λ t. told old.geometry (p.count + 1) (up_to until (p.count + 1) rest) t)) (undefined x old d.1.0)
+          ∙ ap (λ o. (numbered_text old.geometry p.count o ++ codes " refused") ++ 10 ∷ []) same
+          ∙ sym (append-nil line)
+          ∙ ap (λ z. line ++ z) (sym over)
+
+-- None is left where there is no next one, and where the number is reached.
+pub over : (until : Option ℕ) (f : Seen) (p : Progress) → p.to_come ≡ [] → left_to_tell until f p ≡ []
+over until f p end = ap (λ os. told f.geometry p.count (up_to until p.count os) f.content) end ∙ ap (λ os. told f.geometry p.count os f.content) (none_left until p.count)
+
+pub reached : (until : Option ℕ) (f : Seen) (p : Progress) → IfSome until (λ n. p.count ≡ n) → is_some until ≡ true → left_to_tell until f p ≡ []
+reached None f p at some = absurd cc
+reached (Some n) f p at some = let e : n - p.count ≡ 0 = omega (arith, at) in ap (λ k. told f.geometry p.count (take k p.to_come) f.content) e

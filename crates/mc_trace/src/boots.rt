@@ -1,0 +1,65 @@
+//! One boot, told operation by operation.
+ghost use Rattle.std.specs.Prelude.{◌≡◌, ◌+◌, ◌<◌, ◌≤◌, ◌⊎◌, [], length, IfErr, IfSome, OnOk, OnErr, Some};
+ghost use Rattle.std.specs.Io.KnownBytes.{Appends};
+ghost use Rattle.mc_flash.specs.Content.{Content};
+ghost use Rattle.mc_flash.specs.Seen.{Keeps};
+ghost use Rattle.mc_output.specs.Fronts.{AppendsFront};
+ghost use Rattle.mc_trailer.specs.declared.tables.Rules.{Rules};
+ghost use Rattle.mc_boot.specs.Boot.{progress, to_come, IsBootOf};
+ghost use Rattle.mc_boot.specs.Run.{HasCome};
+ghost use Rattle.mc_boot.specs.Runs.{ops_of};
+ghost use Rattle.mc_explore.specs.Boots.{at_cut};
+ghost use Rattle.mc_trace.specs.Trace.{told, up_to, cut_text, last_text};
+
+use crate::error::TraceError;
+use crate::operation::Numbered;
+use mc_boot::Boot;
+use mc_flash::{Flash, FlashError};
+use mc_output::write_line;
+use mc_trailer::Rules;
+use std::io::Write;
+
+// Makes the operations of a boot up to a number, or all that are left, and writes a line for each.
+fn write_operations<F: Flash, W: Write>(
+    flash: &mut F,
+    boot: &mut Boot,
+    until: Option<u32>,
+    writer: &mut W,
+) -> Result<(), TraceError>
+    requires layout { IsBootOf (F.seen flash.old).geometry boot.old }
+    requires before { IfSome until (λ n. (progress boot.old).count ≤ n) }
+    ensures whole { let p = progress boot.old in OnOk result
+        (Appends (W.contents writer.old) (W.contents writer.new)
+        (told (F.seen flash.old).geometry p.count (up_to until p.count p.to_come)
+        (F.seen flash.old).content)) }
+    ensures front { let p = progress boot.old in OnErr result
+        (AppendsFront (W.contents writer.old) (W.contents writer.new)
+        (told (F.seen flash.old).geometry p.count (up_to until p.count p.to_come)
+        (F.seen flash.old).content)) }
+    ensures come { (r : Rules) (s : Content)
+        → HasCome r (F.seen flash.old).geometry s (progress boot.old) (F.seen flash.old).content
+        → HasCome r (F.seen flash.old).geometry s (progress boot.new) (F.seen flash.new).content }
+    ensures end { OnOk result ((to_come boot.new ≡ [])
+        ⊎ IfSome until (λ n. (progress boot.new).count ≡ n)) }
+    ensures before { IfSome until (λ n. (progress boot.new).count ≤ n) }
+    ensures layout { IsBootOf (F.seen flash.new).geometry boot.new }
+    ensures keeps { Keeps (F.seen flash.old) (F.seen flash.new) }
+{
+    let layout = *flash.layout();
+    'operations: while until.is_none_or(|until| boot.count() < until) {
+        let Some(op) = boot.peek() else {
+            return Ok(());
+        };
+        let told = Numbered {
+            layout: &layout,
+            number: boot.count(),
+            op,
+        };
+        match boot.step(flash) {
+            Ok(()) => write_line(writer, told)?,
+            Err(FlashError::NotErased) => write_line(writer, format_args!("{told} refused"))?,
+            Err(FlashError::Memory) => return Err(TraceError::Memory),
+        }
+    }
+    Ok(())
+}
