@@ -360,7 +360,7 @@ impl Boot {
     }
 
     /// The type that the boot chose at power-on.
-    pub(crate) fn kind(&self) -> SwapType
+    pub fn kind(&self) -> SwapType
         ensures { result ≡ (progress self.now).kind }
     {
         self.kind

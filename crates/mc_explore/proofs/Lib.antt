@@ -11,7 +11,6 @@ mod Loaded
 mod Moving
 mod Going
 mod Restarts
-mod Streams
 mod Preceding
 mod PageRows
 mod PageText

@@ -1,5 +1,6 @@
 -- The lines of a boot's operations, one step after another.
-use Rattle.std.specs.Prelude.{◌≡◌, ℕ, zero, suc, ◌+◌, ◌-◌, ◌<◌, List, [], ◌∷◌, ◌++◌, take, slice_get, codes, Option, Some, None, IfSome, Result, Ok, Err, is_some, true, refl}
+use Rattle.std.specs.Prelude.{◌≡◌, ℕ, zero, suc, ◌+◌, ◌-◌, ◌<◌, ◌≤◌, List, [], ◌∷◌, ◌++◌, take, slice_get, codes, Option, Some, None, IfSome, Result, Ok, Err, is_some, true, refl}
+use Rattle.std.specs.Io.KnownBytes.{Appends}
 use Rattle.std.proofs.Common.{arith, sym, ap, subst, append-nil, ◌∙◌}
 use Rattle.mc_flash.specs.Apply.{apply}
 use Rattle.mc_flash.specs.Content.{Content}
@@ -10,6 +11,8 @@ use Rattle.mc_flash.specs.declared.flash.FlashError.{FlashError}
 use Rattle.mc_flash.specs.declared.flash.FlashError.TheVariants as errors
 use Rattle.mc_flash.specs.declared.op.Op.{Op}
 use Rattle.mc_boot.specs.Boot.{Progress, StepsAlong, Steps}
+use Rattle.mc_output.specs.FrontFacts.{IsOut, out_front, out_more}
+use Rattle.mc_output.specs.Fronts.{AppendsFront}
 use Rattle.mc_trace.specs.Operations.{numbered_text}
 use Rattle.mc_trace.specs.Trace.{told, told_first, up_to}
 
@@ -75,3 +78,54 @@ over until f p end = ap (λ os. told f.geometry p.count (up_to until p.count os)
 pub reached : (until : Option ℕ) (f : Seen) (p : Progress) → IfSome until (λ n. p.count ≡ n) → is_some until ≡ true → left_to_tell until f p ≡ []
 reached None f p at some = absurd cc
 reached (Some n) f p at some = let e : n - p.count ≡ 0 = omega (arith, at) in ap (λ k. told f.geometry p.count (take k p.to_come) f.content) e
+
+-- ---- what is out by then
+
+module _ (before mid new : Option (List ℕ)) (text all rest : List ℕ) (g here : Geometry) (n count : ℕ) (op : Op) (place : g ≡ here) (at : n ≡ count) (out : IsOut before mid text all) where
+  abbrev line : Geometry → ℕ → List ℕ
+  line x k = numbered_text x k op ++ 10 ∷ []
+
+  abbrev refusal : Geometry → ℕ → List ℕ
+  refusal x k = (numbered_text x k op ++ codes " refused") ++ 10 ∷ []
+
+  there : (P : Geometry → ℕ → Type 0) → P g n → P here count
+  there P p = subst (λ x. P x count) place (subst (P g) at p)
+
+  pub line_out : all ≡ line here count ++ rest → Appends mid new (line g n) → IsOut before new text rest
+  line_out e p = out_more before mid new text (line here count) rest (subst (IsOut before mid text) e out) (there (λ x k. Appends mid new (line x k)) p)
+
+  pub line_begun : all ≡ line here count ++ rest → AppendsFront mid new (line g n) → AppendsFront before new text
+  line_begun e p = out_front before mid new text (line here count) rest (subst (IsOut before mid text) e out) (there (λ x k. AppendsFront mid new (line x k)) p)
+
+  pub refusal_out : all ≡ refusal here count ++ rest → Appends mid new (refusal g n) → IsOut before new text rest
+  refusal_out e p = out_more before mid new text (refusal here count) rest (subst (IsOut before mid text) e out) (there (λ x k. Appends mid new (refusal x k)) p)
+
+  pub refusal_begun : all ≡ refusal here count ++ rest → AppendsFront mid new (refusal g n) → AppendsFront before new text
+  refusal_begun e p = out_front before mid new text (refusal here count) rest (subst (IsOut before mid text) e out) (there (λ x k. AppendsFront mid new (refusal x k)) p)
+
+-- ---- how many operations happened
+
+pub one_more : (p q : Progress) (old new : Seen) (until : Option ℕ) (result : Result (Unit {0}) FlashError) → result ≡ Ok tt → Steps p old result q new → IfSome until (λ m. p.count < m)
+    → IfSome until (λ m. q.count ≤ m)
+one_more p q old new None result is steps going = tt
+one_more p q old new (Some m) (Err e) is steps going = absurd cc
+one_more p q old new (Some m) (Ok v) is steps going = at p.to_come steps
+  where
+    at : (ops : List Op) → StepsAlong ops p old (Ok v) q new → q.count ≤ m
+    at [] d = omega (arith, going, ap (λ (z : Progress). z.count) d.0)
+    at (x ∷ rest) d = omega (arith, going, ap (λ (z : Progress). z.count) d.0)
+
+pub none_more : (p q : Progress) (old new : Seen) (until : Option ℕ) (result : Result (Unit {0}) FlashError) → result ≡ Err errors.NotErased → Steps p old result q new → IfSome until (λ m. p.count < m)
+    → IfSome until (λ m. q.count ≤ m)
+none_more p q old new None result is steps going = tt
+none_more p q old new (Some m) (Ok v) is steps going = absurd cc
+none_more p q old new (Some m) (Err errors.Memory) is steps going = absurd cc
+none_more p q old new (Some m) (Err errors.NotErased) is steps going = at p.to_come steps
+  where
+    at : (ops : List Op) → StepsAlong ops p old (Err errors.NotErased) q new → q.count ≤ m
+    at [] d = absurd d
+    at (x ∷ rest) d = omega (arith, going, ap (λ (z : Progress). z.count) d.0)
+
+pub none_to_come : (ops : List Op) (first : Option Op) → first ≡ slice_get ops 0 → ((op : Op) → first ≡ Some op → ⊥) → ops ≡ []
+none_to_come [] first is none = refl
+none_to_come (op ∷ rest) first is none = absurd (none op is)

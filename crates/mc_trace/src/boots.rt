@@ -63,3 +63,66 @@ fn write_operations<F: Flash, W: Write>(
     }
     Ok(())
 }
+
+/// Tells a boot that is cut before its operation of that number.
+///
+/// # Errors
+///
+/// `Memory` where the flash was refused memory; `Write`.
+pub fn write_cut_boot<F: Flash, W: Write>(
+    flash: &mut F,
+    rules: Rules,
+    boot: u32,
+    cut: u32,
+    writer: &mut W,
+) -> Result<(), TraceError>
+    requires { let f = F.seen flash.old in cut < length (ops_of rules f.geometry f.content) }
+    ensures whole { let f = F.seen flash.old in OnOk result
+        (Appends (W.contents writer.old) (W.contents writer.new)
+        (cut_text rules f.geometry boot f.content cut)) }
+    ensures front { let f = F.seen flash.old in OnErr result
+        (AppendsFront (W.contents writer.old) (W.contents writer.new)
+        (cut_text rules f.geometry boot f.content cut)) }
+    ensures left { let f = F.seen flash.old in OnOk result ((F.seen flash.new).content
+        ≡ at_cut rules f.geometry f.content cut) }
+    ensures layout { (F.seen flash.new).geometry ≡ (F.seen flash.old).geometry }
+{
+    let layout = *flash.layout();
+    let mut machine = Boot::cold(flash, rules);
+    let kind = machine.kind();
+    write_line(writer, format_args!("boot {boot} {kind}"))?;
+    write_operations(flash, &mut machine, Some(cut), writer)?;
+    if let Some(op) = machine.peek() {
+        let told = Numbered {
+            layout: &layout,
+            number: cut,
+            op,
+        };
+        write_line(writer, format_args!("cut before {told}"))?;
+    }
+    Ok(())
+}
+
+/// Tells a boot that is not cut.
+///
+/// # Errors
+///
+/// `Memory` where the flash was refused memory; `Write`.
+pub fn write_last_boot<F: Flash, W: Write>(
+    flash: &mut F,
+    rules: Rules,
+    boot: u32,
+    writer: &mut W,
+) -> Result<(), TraceError>
+    ensures whole { let f = F.seen flash.old in OnOk result
+        (Appends (W.contents writer.old) (W.contents writer.new)
+        (last_text rules f.geometry boot f.content)) }
+    ensures front { let f = F.seen flash.old in OnErr result
+        (AppendsFront (W.contents writer.old) (W.contents writer.new)
+        (last_text rules f.geometry boot f.content)) }
+{
+    let mut machine = Boot::cold(flash, rules);
+    let kind = machine.kind();
+    write_line(writer, format_args!("boot {boot} {kind}"))?;
+    write_operations(flash, &mut machine, None, writer)
+}

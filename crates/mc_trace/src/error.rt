@@ -29,6 +29,19 @@ impl From<FlashError> for TraceError {
     }
 }
 
+impl From<ReplayError> for TraceError {
+    ghost use Rattle.mc_trace.specs.Refused.{of_replay};
+
+    ghost from_gives = { λ error e. e ≡ of_replay error };
+
+    fn from(error: ReplayError) -> Self {
+        match error {
+            ReplayError::CannotOccur(place) => TraceError::CannotOccur(place),
+            ReplayError::Memory => TraceError::Memory,
+        }
+    }
+}
+
 impl From<WriteFailed> for TraceError {
     ghost from_gives = { λ _ e. e ≡ Write };
 

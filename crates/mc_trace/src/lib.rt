@@ -1,9 +1,10 @@
 //! What power cuts do to a boot, told operation by operation.
 #![tactic(auto)]
 
+mod boots;
 mod error;
 mod operation;
-mod boots;
+mod trace;
 
 pub use error::TraceError;
-
+pub use trace::write_trace;

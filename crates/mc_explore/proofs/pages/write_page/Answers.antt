@@ -1,5 +1,5 @@
 use Rattle.mc_explore.proofs.PageText.{whole_page, whole_began}
-use Rattle.mc_explore.proofs.Streams.{on_err, on_ok}
+use Rattle.mc_output.specs.ResultFacts.{on_err, on_ok}
 use Rattle.mc_explore.proofs.pages.write_page.Goals as goal
 
 pub returns-clause-page : goal.returns-clause-page

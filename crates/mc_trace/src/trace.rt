@@ -1,0 +1,61 @@
+//! A schedule of power cuts, told boot by boot.
+ghost use Rattle.std.specs.Prelude.{◌≡◌, IfErr, OnOk, OnErr};
+ghost use Rattle.std.specs.Io.KnownBytes.{Appends};
+ghost use Rattle.mc_output.specs.Fronts.{AppendsFront};
+ghost use Rattle.mc_explore.specs.Schedules.{CanOccur};
+ghost use Rattle.mc_explore.specs.Start.{begun};
+ghost use Rattle.mc_trace.specs.Trace.{trace_text, outcome_lines, boots_text};
+ghost use Rattle.mc_trace.specs.Refused.{RefusesTrace};
+
+use crate::boots::{write_cut_boot, write_last_boot};
+use crate::error::TraceError;
+use mc_explore::{Schedule, Start, replay};
+use mc_flash::Flash;
+use mc_output::write_display;
+use std::alloc::Global;
+use std::io::Write;
+
+/// Writes what happens of a schedule: a line for each boot with its number, counted from 0, and its type; its operations, a line
+/// each, with the number that a cut counts; at a cut the operation that did not happen; and at the end the outcome of the last
+/// boot.
+///
+/// # Errors
+///
+/// `CannotOccur` with the place of the first cut that can't occur: nothing is written then. `Memory`, `Write`: a beginning of the
+/// text is out.
+pub fn write_trace<F: Flash + Drop, W: Write>(
+    alloc: Global,
+    start: &Start,
+    schedule: &Schedule,
+    writer: &mut W,
+) -> Result<(), TraceError>
+    ensures told { OnOk result (Appends (W.contents writer.old) (W.contents writer.new)
+        (trace_text (begun start.now) schedule.now)) }
+    ensures front { OnErr result (AppendsFront (W.contents writer.old) (W.contents writer.new)
+        (trace_text (begun start.now) schedule.now)) }
+    ensures refused { IfErr result (RefusesTrace (begun start.now) schedule.now writer.old
+        writer.new) }
+    ensures occurs { let s = begun start.now in OnOk result (CanOccur s.rules s.geometry s.content
+        schedule.now) }
+{
+    // Nothing is written of a schedule that can't occur.
+    let (outcome, _) = replay::<F>(alloc, start, schedule)?;
+    let cuts = schedule.cuts();
+    let rules = start.rules();
+    let mut flash = F::load(
+        alloc,
+        start.layout(),
+        rules.grain,
+        start.primary(),
+        start.secondary(),
+        cuts.len() as u32 + 1,
+    )?;
+    let mut boot = 0;
+    'boots: for cut in cuts {
+        write_cut_boot(&mut flash, rules, boot, *cut, writer)?;
+        boot += 1;
+    }
+    write_last_boot(&mut flash, rules, boot, writer)?;
+    write_display(writer, outcome)?;
+    Ok(())
+}
