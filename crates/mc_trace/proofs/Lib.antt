@@ -1,2 +1,3 @@
 mod Telling
 mod CutBoots
+mod Tracing

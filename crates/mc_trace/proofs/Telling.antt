@@ -2,8 +2,6 @@
 use Rattle.std.specs.Prelude.{◌≡◌, ℕ, zero, suc, ◌+◌, ◌-◌, ◌<◌, ◌≤◌, List, [], ◌∷◌, ◌++◌, take, slice_get, codes, Option, Some, None, IfSome, Result, Ok, Err, is_some, true, refl}
 use Rattle.std.specs.Io.KnownBytes.{Appends}
 use Rattle.std.proofs.Common.{arith, sym, ap, subst, append-nil, ◌∙◌}
-use Rattle.mc_flash.specs.Apply.{apply}
-use Rattle.mc_flash.specs.Content.{Content}
 use Rattle.mc_flash.specs.DoneFacts.{did, undefined}
 use Rattle.mc_flash.specs.Geometry.{Geometry}
 use Rattle.mc_flash.specs.Seen.{Seen}
@@ -64,7 +62,7 @@ module _ (old new : Seen) (p q : Progress) (op : Op) (until : Option ℕ) (first
           let same : x ≡ op = cc in
           let line : List ℕ = (numbered_text old.geometry p.count op ++ codes " refused") ++ 10 ∷ [] in
           let over : left_to_tell until new q ≡ [] =
-              ap (λ (z : Progress). left_to_tell until new z) d.0 ∙ ap (λ os. told new.geometry p.count os new.content) (none_left until p.count) in
+          ap (λ (z : Progress). left_to_tell until new z) d.0 ∙ ap (λ os. told new.geometry p.count os new.content) (none_left until p.count) in
           ap (λ os. told old.geometry p.count os old.content) (ap (up_to until p.count) to ∙ taken until p.count x rest going)
           ∙ ap (told_first old.geometry p.count x (λ t. told old.geometry (p.count + 1) (up_to until (p.count + 1) rest) t)) (undefined x old d.1.0)
           ∙ ap (λ o. (numbered_text old.geometry p.count o ++ codes " refused") ++ 10 ∷ []) same

@@ -44,6 +44,7 @@ fn write_operations<F: Flash, W: Write>(
     ensures before { IfSome until (λ n. (progress boot.new).count ≤ n) }
     ensures layout { IsBootOf (F.seen flash.new).geometry boot.new }
     ensures keeps { Keeps (F.seen flash.old) (F.seen flash.new) }
+    ensures err { IfErr result (λ e. (e ≡ TraceError.Memory) ⊎ (e ≡ TraceError.Write)) }
 {
     let layout = *flash.layout();
     'operations: while until.is_none_or(|until| boot.count() < until) {
@@ -86,6 +87,7 @@ pub fn write_cut_boot<F: Flash, W: Write>(
     ensures left { let f = F.seen flash.old in OnOk result ((F.seen flash.new).content
         ≡ at_cut rules f.geometry f.content cut) }
     ensures layout { (F.seen flash.new).geometry ≡ (F.seen flash.old).geometry }
+    ensures err { IfErr result (λ e. (e ≡ TraceError.Memory) ⊎ (e ≡ TraceError.Write)) }
 {
     let layout = *flash.layout();
     let mut machine = Boot::cold(flash, rules);
@@ -120,6 +122,7 @@ pub fn write_last_boot<F: Flash, W: Write>(
     ensures front { let f = F.seen flash.old in OnErr result
         (AppendsFront (W.contents writer.old) (W.contents writer.new)
         (last_text rules f.geometry boot f.content)) }
+    ensures err { IfErr result (λ e. (e ≡ TraceError.Memory) ⊎ (e ≡ TraceError.Write)) }
 {
     let mut machine = Boot::cold(flash, rules);
     let kind = machine.kind();

@@ -1,12 +1,11 @@
-use Rattle.std.proofs.Common.{rules, ◌≡◌, ◌<◌, sym, subst, ap, ◌∙◌, inl, IfSome, refl}
+use Rattle.std.proofs.Common.{rules, ◌<◌, sym, subst, ◌∙◌, inl, IfSome}
 use Rattle.std.proofs.lemmas.Result.{err_from_is_err_and}
 use Rattle.mc_flash.specs.Geometry.{Geometry}
 use Rattle.mc_flash.specs.SpendsFacts.{keeps_both}
 use Rattle.mc_output.specs.FrontFacts.{out_all, out_stops}
 use Rattle.mc_boot.specs.Boot.{progress, to_come}
 use Rattle.mc_boot.specs.Run.{HasCome}
-
-use Rattle.mc_trace.proofs.Telling.{none_to_come, happened, refused, over, left_to_tell, line_out, line_begun, refusal_out, refusal_begun, one_more, none_more}
+use Rattle.mc_trace.proofs.Telling.{none_to_come, happened, refused, over, line_out, line_begun, refusal_out, refusal_begun, one_more, none_more}
 use Rattle.mc_trace.proofs.boots.write_operations.Goals as goal
 
 pub returns-in_default-clause-whole : goal.returns-in_default-clause-whole
