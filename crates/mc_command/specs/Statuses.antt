@@ -9,6 +9,8 @@ use Rattle.mc_explore.specs.declared.replaying.ReplayError.{ReplayError}
 use Rattle.mc_explore.specs.declared.replaying.ReplayError.TheVariants as replay_errors
 use Rattle.mc_explore.specs.declared.error.ExploreError.{ExploreError}
 use Rattle.mc_explore.specs.declared.error.ExploreError.TheVariants as explore_errors
+use Rattle.mc_trace.specs.declared.error.TraceError.{TraceError}
+use Rattle.mc_trace.specs.declared.error.TraceError.TheVariants as trace_errors
 use Rattle.mc_command.specs.declared.refusal.Refusal.{Refusal}
 use Rattle.mc_command.specs.declared.refusal.Refusal.TheVariants as refusals
 
@@ -32,6 +34,12 @@ status_of_start _ = 1
 abbrev pub status_of_replay : ReplayError → ℕ
 status_of_replay (replay_errors.CannotOccur _) = 1
 status_of_replay replay_errors.Memory = 3
+
+-- the status for a schedule that is not told: 3 where memory or a write failed
+abbrev pub status_of_trace : TraceError → ℕ
+status_of_trace (trace_errors.CannotOccur _) = 1
+status_of_trace trace_errors.Memory = 3
+status_of_trace trace_errors.Write = 3
 
 -- the status for an exploration that ends early: 1 where a cursor does not serve, 3 where memory or a write failed
 abbrev pub status_of_exploration : ExploreError → ℕ
@@ -58,6 +66,7 @@ status_of (refusals.Layout _) = 2
 status_of (refusals.Schedule _) = 2
 status_of (refusals.Start e) = status_of_start e
 status_of (refusals.Replay e) = status_of_replay e
+status_of (refusals.Trace e) = status_of_trace e
 status_of (refusals.Cursor _) = 2
 status_of (refusals.Explore e) = status_of_exploration e
 status_of (refusals.Flash _) = 3

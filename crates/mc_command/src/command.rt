@@ -35,6 +35,7 @@ pub fn parse<'a>(alloc: Global, words: &'a [String]) -> Result<ArgMatches<'a>, E
         .subcommand(type_command(alloc)?)?
         .subcommand(boot_command(alloc)?)?
         .subcommand(replay_command(alloc)?)?
+        .subcommand(trace_command(alloc)?)?
         .subcommand(explore_command(alloc)?)?
         .subcommand(survey_command(alloc)?)?
         .subcommand(explain_command(alloc)?)?;
@@ -205,6 +206,32 @@ fn replay_command<'a>(alloc: Global) -> Result<Command<'a>, AllocError> {
                 .help("Cuts joined by points, as 9.4; - for none"),
         )?
         .arg(out_file(alloc))
+}
+
+static AFTER_TRACE: &str = "\
+Each boot begins with a line `boot` with its number, counted from 0, and its type. Each operation that
+happens has a line, with the number that a cut counts:
+  0 erase primary 3
+  1 write primary 984 swap-info 02ffffffffffffff
+  6 copy primary 0 to primary 256 length 128
+`cut before` shows the operation at which power fails, and ` refused` one that meets bytes that are not
+erased. Six lines with the outcome of the last boot come at the end.";
+
+/// `trace`: the operations of the boots of a schedule.
+fn trace_command<'a>(alloc: Global) -> Result<Command<'a>, AllocError> {
+    let command = Command::new(alloc, "trace")
+        .override_usage("mcsim trace <LAYOUT> <SOURCE> [OPTIONS]")
+        .about("Print the operations of boots cut as a schedule says, and of one whole boot")
+        .after_help(AFTER_TRACE);
+    with_rules(alloc, with_flash(alloc, command)?)?
+        .next_help_heading("Trace")
+        .arg(
+            Arg::new(alloc, "schedule")
+                .long("schedule")
+                .value_name("S")
+                .default_value("-")
+                .help("Cuts joined by points, as 9.4; - for none"),
+        )
 }
 
 static AFTER_EXPLORE: &str = "\

@@ -5,5 +5,6 @@ pub mod explain;
 pub mod explore;
 mod infile;
 pub mod replay;
+pub mod trace;
 pub mod trailers;
 pub mod verify;

@@ -81,6 +81,7 @@ fn run_command<F: Files, R: Read, O: Write>(
             let schedule = options::required(arguments, "schedule")?;
             commands::replay::run(files, alloc, arguments, schedule, out)
         }
+        Some(("trace", arguments)) => commands::trace::run(files, alloc, arguments, out),
         Some(("explain", arguments)) => commands::explain::run(arguments, out),
         Some(("explore", arguments)) => commands::explore::run(files, alloc, arguments, out),
         Some(("survey", arguments)) => commands::explore::survey(files, alloc, arguments, out),

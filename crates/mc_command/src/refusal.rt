@@ -7,6 +7,7 @@ use mc_explore::{CursorError, ExploreError, ReplayError, ScheduleError, StartErr
 use mc_flash::{FlashError, LayoutError};
 use mc_image::{ImageError, VersionError};
 use mc_imgtool::ToolError;
+use mc_trace::TraceError;
 use std::io::Write;
 use thiserror::Error;
 
@@ -43,6 +44,9 @@ pub enum Refusal {
     /// The schedule is not replayed.
     #[error(transparent)]
     Replay(#[from] ReplayError),
+    /// The schedule is not told.
+    #[error(transparent)]
+    Trace(#[from] TraceError),
     /// The exploration ends early.
     #[error(transparent)]
     Explore(#[from] ExploreError),
@@ -107,6 +111,10 @@ impl Refusal {
             Refusal::Replay(error) => match error {
                 ReplayError::CannotOccur(_) => 1,
                 ReplayError::Memory => 3,
+            },
+            Refusal::Trace(error) => match error {
+                TraceError::CannotOccur(_) => 1,
+                TraceError::Memory | TraceError::Write => 3,
             },
             Refusal::Tool(error) => match error {
                 ToolError::Image(ImageError::Memory)

@@ -6,6 +6,7 @@ mod faulty;
 mod pages;
 mod slots;
 mod support;
+mod tracing;
 mod trailers;
 mod verification;
 mod words;
