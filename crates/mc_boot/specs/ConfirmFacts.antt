@@ -52,7 +52,8 @@ module _ (old new : Seen) (ok : IsLayout old.geometry) where
 
   pub confirms_content : (result : Result Bool FlashError) → Confirms old result new → OnOk result (new.content ≡ confirmed old.geometry old.content)
   confirms_content (Ok true) c =
-      let made : Some new.content ≡ Some (confirmed old.geometry old.content) = sym (did (image_ok_write old.geometry Primary) old new c.1.0).applied ∙ confirm_defined old.geometry old.content ok c.0 in
+      let made : Some new.content ≡ Some (confirmed old.geometry old.content) =
+      sym (did (image_ok_write old.geometry Primary) old new c.1.0).applied ∙ confirm_defined old.geometry old.content ok c.0 in
       cc
   confirms_content (Ok false) c = ap (λ (f : Seen). f.content) c.1 ∙ sym (confirm_stays old.geometry old.content c.0)
   confirms_content (Err e) c = tt

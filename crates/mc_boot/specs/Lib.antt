@@ -21,3 +21,4 @@ pub mod Start
 pub mod Restart
 pub mod Confirm
 pub mod ConfirmFacts
+pub mod Rounds
