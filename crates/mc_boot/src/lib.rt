@@ -17,6 +17,3 @@ pub use confirmation::confirm;
 pub use image::ImageId;
 pub use outcome::{BootResult, Outcome};
 pub use restart::restart_law;
-
-#[cfg(test)]
-mod tests;

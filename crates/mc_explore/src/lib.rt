@@ -35,6 +35,3 @@ pub use schedule::{MOST_CUTS, Schedule, ScheduleError};
 pub use start::{Start, StartError};
 pub use surveying::{Tally, survey, survey_until};
 pub use torn::last_row;
-
-#[cfg(test)]
-mod tests;

@@ -19,8 +19,3 @@ pub use journal::JournalFlash;
 pub use layout::{Layout, LayoutError};
 pub use op::{Bytes16, Op, Slot};
 pub use snap::SnapFlash;
-
-#[cfg(test)]
-mod journal_tests;
-#[cfg(test)]
-mod tests;

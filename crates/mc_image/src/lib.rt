@@ -23,6 +23,3 @@ pub use tlvs::{Tlv, Tlvs};
 pub use version::Version;
 pub use view::ImageView;
 pub use writing::{ImageParts, write_image};
-
-#[cfg(test)]
-mod tests;

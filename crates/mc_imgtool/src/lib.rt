@@ -13,6 +13,3 @@ pub use error::ToolError;
 pub use input::read_bounded;
 pub use report::dumpinfo;
 pub use verification::verify;
-
-#[cfg(test)]
-mod tests;

@@ -13,6 +13,3 @@ pub use law::{fields_read_back, highest_after_a_write, magic_of_a_trailer, one_r
 pub use places::{Field, entry_place, place};
 pub use tables::{Profile, Rules, SwapType, resumes, swap_type};
 pub use trailer::{Flag, MAGIC, Magic, Trailer};
-
-#[cfg(test)]
-mod tests;

@@ -1,94 +1,10 @@
-//! The program `mcsim`: the command line over the image tool, the flashes and the boots.
+//! The program `mcsim`: its words, streams and exit status, given to `mc_command`.
 #![tactic(auto)]
 
-ghost use Rattle.std.specs.Prelude.{◌≤◌};
-
-mod command;
-mod commands;
-mod creation;
-mod explanations;
-mod numbers;
-mod options;
-mod refusal;
-mod same_file;
-mod source;
-
-use clap::error::ErrorKind;
-use clap::{ArgMatches, Error};
-use refusal::Refusal;
-use std::alloc::{AllocError, Global};
+use mc_command::{Refusal, run};
+use std::alloc::AllocError;
 use std::io;
-use std::io::{Read, Write};
 use std::process::ExitCode;
-use std::rt::Files;
-
-/// Runs one command line, whose first word is the program's name, and returns the exit status: 0 where it is done, 1
-/// where a content is refused, 2 where the command line is refused, 3 where a file, a write or memory fails.
-///
-/// A refusal is one line on `err`, or clap's own text. A failed write to `err` changes no status.
-pub fn run<F: Files, R: Read, O: Write, E: Write>(
-    files: &F,
-    alloc: Global,
-    words: &[String],
-    input: &mut R,
-    out: &mut O,
-    err: &mut E,
-) -> u8
-    ensures { result ≤ 3 }
-{
-    let matches = match command::parse(alloc, words) {
-        Ok(matches) => matches,
-        Err(error) => return answer_of_clap(&error, out, err),
-    };
-    match run_command(files, alloc, &matches, input, out) {
-        Ok(()) => 0,
-        Err(refusal) => refusal.report(err),
-    }
-}
-
-/// Prints clap's help, or its refusal of a command line, and returns the status.
-fn answer_of_clap<O: Write, E: Write>(error: &Error, out: &mut O, err: &mut E) -> u8
-    ensures { result ≤ 3 }
-{
-    if error.kind() == ErrorKind::OutOfMemory {
-        return Refusal::Memory.report(err);
-    }
-    if error.use_stderr() {
-        let _ = write!(err, "{error}");
-        return 2;
-    }
-    match write!(out, "{error}") {
-        Ok(()) => 0,
-        Err(_) => Refusal::Write.report(err),
-    }
-}
-
-/// Runs the command that was named.
-fn run_command<F: Files, R: Read, O: Write>(
-    files: &F,
-    alloc: Global,
-    matches: &ArgMatches<'_>,
-    input: &mut R,
-    out: &mut O,
-) -> Result<(), Refusal> {
-    match matches.subcommand() {
-        Some(("create", arguments)) => commands::create::run(files, alloc, arguments),
-        Some(("verify", arguments)) => commands::verify::run(files, arguments, input, out),
-        Some(("dumpinfo", arguments)) => {
-            commands::dumpinfo::run(files, alloc, arguments, input, out)
-        }
-        Some(("type", arguments)) => commands::trailers::run(files, alloc, arguments, out),
-        Some(("boot", arguments)) => commands::replay::run(files, alloc, arguments, "-", out),
-        Some(("replay", arguments)) => {
-            let schedule = options::required(arguments, "schedule")?;
-            commands::replay::run(files, alloc, arguments, schedule, out)
-        }
-        Some(("explain", arguments)) => commands::explain::run(arguments, out),
-        Some(("explore", arguments)) => commands::explore::run(files, alloc, arguments, out),
-        Some(("survey", arguments)) => commands::explore::survey(files, alloc, arguments, out),
-        _ => Err(Refusal::Argument),
-    }
-}
 
 fn main(rt: HostRuntime) -> ExitCode {
     let alloc = rt.alloc();

@@ -7,6 +7,5 @@ mod pages;
 mod slots;
 mod support;
 mod trailers;
-mod vectors;
 mod verification;
 mod words;

@@ -1,7 +1,7 @@
 //! `boot` and `replay` at the worked layout. The file `in` has what a test puts there, and `second` the second image.
 use super::support::{Case, ends, writes};
 use super::trailers::{WORKED, begun, flash_of};
-use super::vectors::{FIRST_IMAGE, FIRST_TOLD, SECOND_IMAGE, SECOND_TOLD};
+use mc_fixtures::{FIRST_IMAGE, FIRST_TOLD, SECOND_IMAGE, SECOND_TOLD};
 use std::alloc::{AllocError, Global};
 use std::process::Abort;
 use std::test::Fail;

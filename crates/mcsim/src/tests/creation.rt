@@ -1,6 +1,8 @@
 //! `create`: the images that it makes, and what it refuses.
 use super::support::{Case, create_words, ends, outcome_of, scratch_path};
-use super::vectors::{COUNTER_IMAGE, EMPTY_IMAGE, FIRST_IMAGE, GOOD, IMAGE, PADDED, PAYLOAD};
+use mc_fixtures::{
+    COUNTED_IMAGE, EMPTY_IMAGE, FIRST_IMAGE, GOOD_LINE, PADDED, PAYLOAD, PLAIN_IMAGE,
+};
 use std::alloc::Global;
 use std::fs;
 use std::os::unix::fs::symlink;
@@ -15,9 +17,9 @@ fn makes_and_verifies_an_image(rt: HostRuntime) -> Result<(), Fail> {
     let words = create_words("1.2.3+4", payload.as_str(), image.as_str());
     assert_eq!(rt; outcome_of(&rt, &words, &[])?.parts(), (0, "", ""));
     let bytes = fs::read(&rt, image.as_str())?;
-    assert_eq!(rt; bytes.as_slice(), IMAGE.as_slice());
+    assert_eq!(rt; bytes.as_slice(), PLAIN_IMAGE.as_slice());
     let words = ["mcsim", "verify", image.as_str()];
-    assert_eq!(rt; outcome_of(&rt, &words, &[])?.parts(), (0, GOOD, ""));
+    assert_eq!(rt; outcome_of(&rt, &words, &[])?.parts(), (0, GOOD_LINE, ""));
     fs::remove_file(&rt, payload.as_str())?;
     fs::remove_file(&rt, image.as_str())?;
     Ok(())
@@ -81,19 +83,19 @@ fn makes_images(rt: HostRuntime) -> Result<(), Fail> {
     // imgtool's short options, and its way to write numbers.
     let short = "-v 1.2.3+4 --pad-header -H 0x20";
     let cases: [(&str, &str, &[u8], &[u8]); 8] = [
-        (PADDING, "", &PAYLOAD, &IMAGE),
-        (short, "", &PAYLOAD, &IMAGE),
-        (short, "-s 0X7 -S 0xeC -M 4", &PAYLOAD, &COUNTER_IMAGE),
+        (PADDING, "", &PAYLOAD, &PLAIN_IMAGE),
+        (short, "", &PAYLOAD, &PLAIN_IMAGE),
+        (short, "-s 0X7 -S 0xeC -M 4", &PAYLOAD, &COUNTED_IMAGE),
         (
             PADDING,
             "--slot-size +224 --align 0x8 --max-sectors 4",
             &PAYLOAD,
-            &IMAGE,
+            &PLAIN_IMAGE,
         ),
-        (unpadded, "", &PADDED, &IMAGE),
+        (unpadded, "", &PADDED, &PLAIN_IMAGE),
         (PADDING, "", &[], &EMPTY_IMAGE),
         (version, "", &[0, 1, 2, 3, 4, 5, 6, 7], &FIRST_IMAGE),
-        (PADDING, "--security-counter 7", &PAYLOAD, &COUNTER_IMAGE),
+        (PADDING, "--security-counter 7", &PAYLOAD, &COUNTED_IMAGE),
     ];
     make(&rt, rt.alloc(), &cases)?;
     let case = Case {
@@ -105,7 +107,7 @@ fn makes_images(rt: HostRuntime) -> Result<(), Fail> {
         status: 0,
         out: "",
         err: "",
-        written: &IMAGE,
+        written: &PLAIN_IMAGE,
     };
     ends(&rt, rt.alloc(), &case)
 }
@@ -115,16 +117,16 @@ fn leaves_room_for_a_trailer(rt: HostRuntime) -> Result<(), Fail> {
     let room = "--align 8 --max-sectors 4 --slot-size 224";
     let counted = "--security-counter 7 --align 8 --max-sectors 4 --slot-size 236";
     let cases: [(&str, &str, &[u8], &[u8]); 9] = [
-        (PADDING, room, &PAYLOAD, &IMAGE),
-        (PADDING, "--slot-size 3200", &PAYLOAD, &IMAGE),
-        (PADDING, counted, &PAYLOAD, &COUNTER_IMAGE),
+        (PADDING, room, &PAYLOAD, &PLAIN_IMAGE),
+        (PADDING, "--slot-size 3200", &PAYLOAD, &PLAIN_IMAGE),
+        (PADDING, counted, &PAYLOAD, &COUNTED_IMAGE),
         // The ends of the ranges.
-        (PADDING, "--slot-size 16777216", &PAYLOAD, &IMAGE),
-        (PADDING, "--align 1", &PAYLOAD, &IMAGE),
-        (PADDING, "--align 2", &PAYLOAD, &IMAGE),
-        (PADDING, "--align 4", &PAYLOAD, &IMAGE),
-        (PADDING, "--max-sectors 1", &PAYLOAD, &IMAGE),
-        (PADDING, "--max-sectors 1024", &PAYLOAD, &IMAGE),
+        (PADDING, "--slot-size 16777216", &PAYLOAD, &PLAIN_IMAGE),
+        (PADDING, "--align 1", &PAYLOAD, &PLAIN_IMAGE),
+        (PADDING, "--align 2", &PAYLOAD, &PLAIN_IMAGE),
+        (PADDING, "--align 4", &PAYLOAD, &PLAIN_IMAGE),
+        (PADDING, "--max-sectors 1", &PAYLOAD, &PLAIN_IMAGE),
+        (PADDING, "--max-sectors 1024", &PAYLOAD, &PLAIN_IMAGE),
     ];
     make(&rt, rt.alloc(), &cases)
 }

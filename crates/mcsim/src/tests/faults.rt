@@ -1,8 +1,8 @@
 //! Command lines whose reads and writes fail, each at each call.
 use super::faulty::{Fault, FaultyFile, FaultyFiles};
 use super::support::{create_words, outcome_over, owned};
-use super::vectors::{IMAGE, PAYLOAD};
-use crate::run;
+use mc_command::run;
+use mc_fixtures::{PAYLOAD, PLAIN_IMAGE};
 use std::alloc::Global;
 use std::cell::RefCell;
 use std::test::Fail;
@@ -52,12 +52,15 @@ fn create_meets_failing_writes(rt: HostRuntime) -> Result<(), Fail> {
             assert_eq!(rt; status, 3, "{place} {fault:?}");
             assert_eq!(rt; err.as_str(), "mcsim: E25 Write\n");
             assert_eq!(rt; out.len(), place as usize, "{fault:?}");
-            assert!(rt; IMAGE.starts_with(out.as_slice()), "{place} {fault:?}");
+            assert!(rt;
+                PLAIN_IMAGE.starts_with(out.as_slice()),
+                "{place} {fault:?}"
+            );
         }
     }
     let (status, out, err) = create_over(rt.alloc(), 1000, 1000, Fault::Error)?;
     assert_eq!(rt; status, 0);
-    assert_eq!(rt; out.as_slice(), IMAGE.as_slice());
+    assert_eq!(rt; out.as_slice(), PLAIN_IMAGE.as_slice());
     assert_eq!(rt; err.as_str(), "");
     Ok(())
 }

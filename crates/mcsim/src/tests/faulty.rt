@@ -1,7 +1,7 @@
 //! Files and streams that fail once.
 ghost use Rattle.std.specs.Prelude.{◌≡◌, IfOk};
 
-use super::vectors::SECOND_IMAGE;
+use mc_fixtures::SECOND_IMAGE;
 use std::alloc::Allocator;
 use std::cell::RefCell;
 use std::fs::{Metadata, OpenFile, OpenOptions};

@@ -3,7 +3,7 @@
 use super::faulty::{Fault, FaultyFiles};
 use super::support::{Case, ends, outcome_over};
 use super::trailers::{WORKED, begun, flash_of};
-use super::vectors::FIRST_IMAGE;
+use mc_fixtures::FIRST_IMAGE;
 use sha2::{Digest, Sha256};
 use std::alloc::{AllocError, Global};
 use std::cell::RefCell;
@@ -21,257 +21,44 @@ fn layout_words(name: &str) -> &'static str {
     }
 }
 
-/// A page: the layout, the kind of the start and the rules, the most cuts and the most rows; how many lines there are, and the
-/// SHA-256 of the whole text.
-type Page<'a> = (&'a str, &'a str, u32, u32, usize, &'a str);
+/// Pages of whole calls, in the first profile. A line has the layout, the most cuts and the most rows; how many lines there are,
+/// and the SHA-256 of the whole text; and the kind of the start and the rules.
+static PAGES: &str = "\
+worked 0 1000 2 eaf7f46f80686a31573b868b1ff258b3ecd9cd759dbe45c605cb87e15bf1dd76 none
+worked 1 1000 2 eaf7f46f80686a31573b868b1ff258b3ecd9cd759dbe45c605cb87e15bf1dd76 none
+worked 2 1000 2 eaf7f46f80686a31573b868b1ff258b3ecd9cd759dbe45c605cb87e15bf1dd76 none
+worked 0 1000 2 5985f74d9148e8a889b656b1c6cc8a40cbb05e08f0f764f7bed382636480df5f test
+worked 1 1000 20 5351f1776370a163f104fd101d91ff525f16dc6c73307f6efb6a96b56657a842 test
+worked 2 1000 223 6da2093ccc59a6a6cffe7abb3f50387701995290a861e85dc53174e182632a8d test
+worked 0 1000 2 df46cc25f931a2250a2a0df7761412a06b0488935e07c342d73116d9f7bd8170 perm
+worked 1 1000 21 879f87e19c22a28e136af3f4f41181bd981285b8be8b56d8d44aba65f3eed9e6 perm
+worked 2 1000 248 5a7ce0a348b168bbbc156bbf895fc3cfb0ced8c632684bf6631c10023cb33414 perm
+worked 0 1000 2 427004488f5a3670994f49ec38178adaa05b009b0855632efa9f1c8023c5a952 revert
+worked 1 1000 25 b3903f94b622f70b2c38d8100521ba312dbfcfae4483571da6db6fbd4846cf75 revert
+worked 2 1000 344 38eb48c4fbcef3d3eaa2f9fd0ff406703c3ede671d330804618242d4a9e0b995 revert
+worked 3 1000 1001 cbbc159fd1c120d4589e67526f09163220dcd3188b290b1be2b46e8a3e04cfeb test
+worked 3 1029 1030 38bb39d6af1cc2f6b9e8b850b5bb1ec9898ed0f53ac01fe3682e7646d305cc10 test
+worked 3 100000 2059 04273fb0967639449da89aeda4132aa01defa5bc44d96713b3fbacd293944327 test
+three 2 1000 223 6da2093ccc59a6a6cffe7abb3f50387701995290a861e85dc53174e182632a8d test
+small 2 1000 547 b82383337f19d7cf22480a3c449c34cb669727b279e1d527a2fe7e428ea95a28 test
+two 2 1000 203 721e5f4d55d96c91f80cb9f91f85c274c023cd6ce55e8f890cbc53ccd1909994 test
+";
 
-/// Pages of whole calls, in the first profile.
-static PAGES: [Page<'static>; 18] = [
-    (
-        "worked",
-        "none",
-        0,
-        1000,
-        2,
-        "eaf7f46f80686a31573b868b1ff258b3ecd9cd759dbe45c605cb87e15bf1dd76",
-    ),
-    (
-        "worked",
-        "none",
-        1,
-        1000,
-        2,
-        "eaf7f46f80686a31573b868b1ff258b3ecd9cd759dbe45c605cb87e15bf1dd76",
-    ),
-    (
-        "worked",
-        "none",
-        2,
-        1000,
-        2,
-        "eaf7f46f80686a31573b868b1ff258b3ecd9cd759dbe45c605cb87e15bf1dd76",
-    ),
-    (
-        "worked",
-        "test",
-        0,
-        1000,
-        2,
-        "5985f74d9148e8a889b656b1c6cc8a40cbb05e08f0f764f7bed382636480df5f",
-    ),
-    (
-        "worked",
-        "test",
-        1,
-        1000,
-        20,
-        "5351f1776370a163f104fd101d91ff525f16dc6c73307f6efb6a96b56657a842",
-    ),
-    (
-        "worked",
-        "test",
-        2,
-        1000,
-        223,
-        "6da2093ccc59a6a6cffe7abb3f50387701995290a861e85dc53174e182632a8d",
-    ),
-    (
-        "worked",
-        "perm",
-        0,
-        1000,
-        2,
-        "df46cc25f931a2250a2a0df7761412a06b0488935e07c342d73116d9f7bd8170",
-    ),
-    (
-        "worked",
-        "perm",
-        1,
-        1000,
-        21,
-        "879f87e19c22a28e136af3f4f41181bd981285b8be8b56d8d44aba65f3eed9e6",
-    ),
-    (
-        "worked",
-        "perm",
-        2,
-        1000,
-        248,
-        "5a7ce0a348b168bbbc156bbf895fc3cfb0ced8c632684bf6631c10023cb33414",
-    ),
-    (
-        "worked",
-        "revert",
-        0,
-        1000,
-        2,
-        "427004488f5a3670994f49ec38178adaa05b009b0855632efa9f1c8023c5a952",
-    ),
-    (
-        "worked",
-        "revert",
-        1,
-        1000,
-        25,
-        "b3903f94b622f70b2c38d8100521ba312dbfcfae4483571da6db6fbd4846cf75",
-    ),
-    (
-        "worked",
-        "revert",
-        2,
-        1000,
-        344,
-        "38eb48c4fbcef3d3eaa2f9fd0ff406703c3ede671d330804618242d4a9e0b995",
-    ),
-    (
-        "worked",
-        "test",
-        3,
-        1000,
-        1001,
-        "cbbc159fd1c120d4589e67526f09163220dcd3188b290b1be2b46e8a3e04cfeb",
-    ),
-    (
-        "worked",
-        "test",
-        3,
-        1029,
-        1030,
-        "38bb39d6af1cc2f6b9e8b850b5bb1ec9898ed0f53ac01fe3682e7646d305cc10",
-    ),
-    (
-        "worked",
-        "test",
-        3,
-        100000,
-        2059,
-        "04273fb0967639449da89aeda4132aa01defa5bc44d96713b3fbacd293944327",
-    ),
-    (
-        "three",
-        "test",
-        2,
-        1000,
-        223,
-        "6da2093ccc59a6a6cffe7abb3f50387701995290a861e85dc53174e182632a8d",
-    ),
-    (
-        "small",
-        "test",
-        2,
-        1000,
-        547,
-        "b82383337f19d7cf22480a3c449c34cb669727b279e1d527a2fe7e428ea95a28",
-    ),
-    (
-        "two",
-        "test",
-        2,
-        1000,
-        203,
-        "721e5f4d55d96c91f80cb9f91f85c274c023cd6ce55e8f890cbc53ccd1909994",
-    ),
-];
-
-/// Pages of cuts between write units.
-static UNIT_PAGES: [Page<'static>; 12] = [
-    (
-        "worked",
-        "test --grain unit --profile 1",
-        1,
-        1000,
-        111,
-        "741fe452e0061a1afc9de69b49afe5b6b9a04fbba9b8a4ac97cde553a74c5b2e",
-    ),
-    (
-        "worked",
-        "test --grain unit --profile 1",
-        2,
-        100000,
-        7838,
-        "a110c6b68c6d7a1a8febef3eaa3841d3a12c75163c870f95e8589bf040e1db84",
-    ),
-    (
-        "worked",
-        "test --grain unit --profile 2",
-        1,
-        1000,
-        111,
-        "741fe452e0061a1afc9de69b49afe5b6b9a04fbba9b8a4ac97cde553a74c5b2e",
-    ),
-    (
-        "worked",
-        "test --grain unit --profile 2",
-        2,
-        100000,
-        7838,
-        "a110c6b68c6d7a1a8febef3eaa3841d3a12c75163c870f95e8589bf040e1db84",
-    ),
-    (
-        "worked",
-        "perm --grain unit --profile 1",
-        1,
-        1000,
-        112,
-        "ff40396a4b43df9c42591ac68387797f46bc1a8dd119142a44697a0a2a59359a",
-    ),
-    (
-        "worked",
-        "perm --grain unit --profile 1",
-        2,
-        100000,
-        7955,
-        "0f1b8b0488927c50a8fdcc62143b968539eab663d06aab5dc1ee6a8912128967",
-    ),
-    (
-        "worked",
-        "perm --grain unit --profile 2",
-        1,
-        1000,
-        112,
-        "ff40396a4b43df9c42591ac68387797f46bc1a8dd119142a44697a0a2a59359a",
-    ),
-    (
-        "worked",
-        "perm --grain unit --profile 2",
-        2,
-        100000,
-        7955,
-        "0f1b8b0488927c50a8fdcc62143b968539eab663d06aab5dc1ee6a8912128967",
-    ),
-    (
-        "worked",
-        "revert --grain unit --profile 1",
-        1,
-        1000,
-        117,
-        "dd41bcc4988457c2a68dfb49cf4cb7dde40aeb0055aa1e9f2cc18e589fa066c5",
-    ),
-    (
-        "worked",
-        "revert --grain unit --profile 1",
-        2,
-        100000,
-        8420,
-        "95c4baa6b32f4a7c2d90a80d2b943a074fff8a421f7521c7d0d1c83a0da4a0ce",
-    ),
-    (
-        "worked",
-        "revert --grain unit --profile 2",
-        1,
-        1000,
-        117,
-        "8d927f6b93714a3d2d24456dd20981c391e9d9ab53efbb6fa115741afde0d27e",
-    ),
-    (
-        "worked",
-        "revert --grain unit --profile 2",
-        2,
-        100000,
-        8535,
-        "45be426b5ff6d7ec8cc25b702934f4f548237d0dc55da7bd6ec560878bea233b",
-    ),
-];
+/// Pages of cuts between write units, in the same form.
+static UNIT_PAGES: &str = "\
+worked 1 1000 111 741fe452e0061a1afc9de69b49afe5b6b9a04fbba9b8a4ac97cde553a74c5b2e test --grain unit --profile 1
+worked 2 100000 7838 a110c6b68c6d7a1a8febef3eaa3841d3a12c75163c870f95e8589bf040e1db84 test --grain unit --profile 1
+worked 1 1000 111 741fe452e0061a1afc9de69b49afe5b6b9a04fbba9b8a4ac97cde553a74c5b2e test --grain unit --profile 2
+worked 2 100000 7838 a110c6b68c6d7a1a8febef3eaa3841d3a12c75163c870f95e8589bf040e1db84 test --grain unit --profile 2
+worked 1 1000 112 ff40396a4b43df9c42591ac68387797f46bc1a8dd119142a44697a0a2a59359a perm --grain unit --profile 1
+worked 2 100000 7955 0f1b8b0488927c50a8fdcc62143b968539eab663d06aab5dc1ee6a8912128967 perm --grain unit --profile 1
+worked 1 1000 112 ff40396a4b43df9c42591ac68387797f46bc1a8dd119142a44697a0a2a59359a perm --grain unit --profile 2
+worked 2 100000 7955 0f1b8b0488927c50a8fdcc62143b968539eab663d06aab5dc1ee6a8912128967 perm --grain unit --profile 2
+worked 1 1000 117 dd41bcc4988457c2a68dfb49cf4cb7dde40aeb0055aa1e9f2cc18e589fa066c5 revert --grain unit --profile 1
+worked 2 100000 8420 95c4baa6b32f4a7c2d90a80d2b943a074fff8a421f7521c7d0d1c83a0da4a0ce revert --grain unit --profile 1
+worked 1 1000 117 8d927f6b93714a3d2d24456dd20981c391e9d9ab53efbb6fa115741afde0d27e revert --grain unit --profile 2
+worked 2 100000 8535 45be426b5ff6d7ec8cc25b702934f4f548237d0dc55da7bd6ec560878bea233b revert --grain unit --profile 2
+";
 
 /// What an exploration with these options prints.
 fn prints_at(alloc: Global, layout: &str, options: &str, more: &str) -> Result<String, Fail> {
@@ -302,26 +89,34 @@ fn prints(alloc: Global, options: &str, more: &str) -> Result<String, Fail> {
 }
 
 /// Looks at the number of lines and the digest of each page.
-fn pages_are(rt: &impl Abort, alloc: Global, pages: &[Page<'_>]) -> Result<(), Fail> {
-    let images = "--image-a in --image-b second";
-    for (layout, kind, cuts, limit, lines, digest) in pages {
+fn pages_are(rt: &impl Abort, alloc: Global, pages: &str) -> Result<(), Fail> {
+    for row in pages.lines() {
+        let fields: Vec<&str> = row.splitn(6, ' ').collect(alloc)?;
+        let [layout, cuts, limit, lines, digest, kind] = fields.as_slice() else {
+            return Err(Fail::from("a line has six fields"));
+        };
         let options = format!(in alloc; "--kind {kind} --cuts {cuts} --limit {limit}")?;
-        let page = prints_at(alloc, layout_words(layout), options.as_str(), images)?;
-        assert_eq!(rt; page.as_str().lines().count(), *lines, "{kind} {cuts}");
+        let page = prints_at(alloc, layout_words(layout), options.as_str(), IMAGES)?;
+        let count = page.as_str().lines().count();
         let sum = hex::encode(alloc, Sha256::digest(page.as_str().as_bytes()))?;
-        assert_eq!(rt; sum.as_str(), *digest, "{kind} {cuts}");
+        let told = format!(in alloc; "{count} {sum}")?;
+        let want = format!(in alloc; "{lines} {digest}")?;
+        assert_eq!(rt; told.as_str(), want.as_str(), "{row}");
     }
     Ok(())
 }
 
+/// Both images.
+static IMAGES: &str = "--image-a in --image-b second";
+
 #[test]
 fn prints_the_pages_of_images(rt: HostRuntime) -> Result<(), Fail> {
-    pages_are(&rt, rt.alloc(), &PAGES)
+    pages_are(&rt, rt.alloc(), PAGES)
 }
 
 #[test]
 fn prints_the_pages_of_cuts_between_units(rt: HostRuntime) -> Result<(), Fail> {
-    pages_are(&rt, rt.alloc(), &UNIT_PAGES)
+    pages_are(&rt, rt.alloc(), UNIT_PAGES)
 }
 
 /// An exploration of the flash in `in`.
@@ -461,47 +256,31 @@ fn goes_on_behind_cursors_of_other_rules(rt: HostRuntime) -> Result<(), Fail> {
 #[test]
 fn refuses_cursors(rt: HostRuntime) -> Result<(), Fail> {
     let alloc = rt.alloc();
-    let other = "0cf2f5a1b9a451dc9bb060b1858a94da9927942d58635a051bee1bff2fd4356b";
-    for (cuts, head, digest, tail, status, error) in [
-        (2, "mc1", START, "2:18", 1, "E58 CannotOccur"),
-        (1, "mc1", START, "1:0.0", 1, "E58 CannotOccur"),
-        (2, "mc1", START, "1:0", 1, "E57 OtherBound"),
-        // The first reason is reported.
-        (2, "mc1", other, "1:18", 1, "E56 OtherStart"),
-        (2, "mc2:unit:1", other, "1:18", 1, "E56 OtherStart"),
-        (2, "mc2:unit:1", START, "1:18", 1, "E61 OtherRules"),
-        (2, "mc2:call:2", START, "2:-", 1, "E61 OtherRules"),
-        (2, "mc2:call:1", START, "2:-", 2, "E55 Syntax"),
-        (2, "mc1", START, "02:-", 2, "E55 Syntax"),
-        (2, "mc1", START, "17:-", 2, "E55 Syntax"),
-        (2, "mc1", START, "2:00", 2, "E55 Syntax"),
-        (2, "MC1", START, "2:-", 2, "E55 Syntax"),
+    for (source, tail, status, error) in [
+        ("second --kind test", "2:18", 1, "E58 CannotOccur"),
+        ("second --kind test", "1:0", 1, "E57 OtherBound"),
+        ("second --kind perm", "1:18", 1, "E56 OtherStart"),
+        // A cursor of whole calls does not serve where the power is cut between units.
+        (
+            "second --kind test --grain unit",
+            "2:-",
+            1,
+            "E61 OtherRules",
+        ),
+        // The text is checked before a file is opened.
+        ("missing --kind test", "02:-", 2, "E55 Syntax"),
     ] {
-        let options = format!(in alloc; "--cuts {cuts} --cursor {head}:{digest}:{tail}")?;
+        let options = format!(in alloc; "{source} --cuts 2 --cursor mc1:{START}:{tail}")?;
         let err = format!(in alloc; "mcsim: {error}\n")?;
         let case = Case {
             status,
             err: err.as_str(),
+            options: "--image-a in --image-b",
             ..explore_images(options.as_str())
         };
         ends(&rt, alloc, &case)?;
     }
-    // A cursor of whole calls does not serve where the power is cut between units.
-    let options = format!(in alloc; "--cuts 1 --grain unit --cursor mc1:{START}:1:-")?;
-    let case = Case {
-        status: 1,
-        err: "mcsim: E61 OtherRules\n",
-        ..explore_images(options.as_str())
-    };
-    ends(&rt, alloc, &case)?;
-    // The text is checked before a file is opened.
-    let case = Case {
-        status: 2,
-        err: "mcsim: E55 Syntax\n",
-        options: "--flash missing",
-        ..explore_of(&[], "--cuts 0 --cursor -", "")
-    };
-    ends(&rt, alloc, &case)
+    Ok(())
 }
 
 #[test]

@@ -1,6 +1,6 @@
 //! `create` for a slot that it fills.
 use super::support::{Case, ends};
-use super::vectors::{COUNTER_IMAGE, GOOD, IMAGE, PAYLOAD, REPORT};
+use mc_fixtures::{COUNTED_IMAGE, GOOD_LINE, PAYLOAD, PLAIN_IMAGE, REPORT};
 use std::alloc::{AllocError, Global};
 use std::test::Fail;
 
@@ -22,9 +22,9 @@ fn slot_of(alloc: Global, image: &[u8], flag: u8) -> Result<Vec<u8>, AllocError>
 #[test]
 fn fills_a_slot(rt: HostRuntime) -> Result<(), Fail> {
     let alloc = rt.alloc();
-    let padded = slot_of(alloc, &IMAGE, 0xff)?;
-    let confirmed = slot_of(alloc, &IMAGE, 0x01)?;
-    let counted = slot_of(alloc, &COUNTER_IMAGE, 0x01)?;
+    let padded = slot_of(alloc, &PLAIN_IMAGE, 0xff)?;
+    let confirmed = slot_of(alloc, &PLAIN_IMAGE, 0x01)?;
+    let counted = slot_of(alloc, &COUNTED_IMAGE, 0x01)?;
     let cases = [
         ("--pad", padded.as_slice()),
         ("--confirm", confirmed.as_slice()),
@@ -47,8 +47,8 @@ fn fills_a_slot(rt: HostRuntime) -> Result<(), Fail> {
     }
     let report = REPORT.replace(alloc, "\nrest 0\n", "\nrest 676\n")?;
     let cases = [
-        ("verify", padded.as_slice(), GOOD),
-        ("verify", confirmed.as_slice(), GOOD),
+        ("verify", padded.as_slice(), GOOD_LINE),
+        ("verify", confirmed.as_slice(), GOOD_LINE),
         ("dumpinfo", counted.as_slice(), report.as_str()),
     ];
     for (command, input, out) in cases {

@@ -1,6 +1,6 @@
 //! What the tests of command lines share.
 use super::faulty::{Fault, FaultyFiles};
-use crate::run;
+use mc_command::run;
 use std::alloc::{AllocError, Global};
 use std::cell::RefCell;
 use std::io::Read;

@@ -1,6 +1,6 @@
 //! `type`, of a flash and of two images. The file `in` has what a test puts there, and `out` is empty.
 use super::support::{Case, ends};
-use super::vectors::FIRST_IMAGE;
+use mc_fixtures::FIRST_IMAGE;
 use std::alloc::Global;
 use std::process::Abort;
 use std::test::Fail;

@@ -1,6 +1,6 @@
 //! `verify` and `dumpinfo`, of standard input and of files.
 use super::support::{Case, ends, outcome_of, outcome_over};
-use super::vectors::{COUNTER_IMAGE, GOOD, IMAGE, REPORT};
+use mc_fixtures::{COUNTED_IMAGE, GOOD_LINE, PLAIN_IMAGE, REPORT};
 use std::io;
 use std::io::Read;
 use std::test::Fail;
@@ -23,10 +23,10 @@ fn reading<'a>(command: &'a str, words: &'a str, input: &'a [u8]) -> Case<'a> {
 #[test]
 fn reads_images(rt: HostRuntime) -> Result<(), Fail> {
     for (command, words, input, out) in [
-        ("verify", "", IMAGE.as_slice(), GOOD),
-        ("verify", "in", &IMAGE, GOOD),
-        ("dumpinfo", "", &COUNTER_IMAGE, REPORT),
-        ("dumpinfo", "in", &COUNTER_IMAGE, REPORT),
+        ("verify", "", PLAIN_IMAGE.as_slice(), GOOD_LINE),
+        ("verify", "in", &PLAIN_IMAGE, GOOD_LINE),
+        ("dumpinfo", "", &COUNTED_IMAGE, REPORT),
+        ("dumpinfo", "in", &COUNTED_IMAGE, REPORT),
     ] {
         let case = Case {
             out,
@@ -36,9 +36,9 @@ fn reads_images(rt: HostRuntime) -> Result<(), Fail> {
     }
     // Another byte follows.
     let mut longer = [0x69; 81];
-    longer[..80].copy_from_slice(&IMAGE);
+    longer[..80].copy_from_slice(&PLAIN_IMAGE);
     let case = Case {
-        out: GOOD,
+        out: GOOD_LINE,
         ..reading("verify", "", &longer)
     };
     ends(&rt, rt.alloc(), &case)
@@ -56,7 +56,7 @@ fn refuses_each_front_of_an_image(rt: HostRuntime) -> Result<(), Fail> {
         let case = Case {
             status: 1,
             err,
-            ..reading("verify", "", &IMAGE[..length])
+            ..reading("verify", "", &PLAIN_IMAGE[..length])
         };
         ends(&rt, rt.alloc(), &case)?;
     }
@@ -68,7 +68,7 @@ fn finds_each_changed_bit_of_a_payload(rt: HostRuntime) -> Result<(), Fail> {
     let report = REPORT.replace(rt.alloc(), "\ndigest good\n", "\ndigest wrong\n")?;
     for place in 32..40 {
         for bit in [1u8, 2, 4, 8, 16, 32, 64, 128] {
-            let mut image = IMAGE;
+            let mut image = PLAIN_IMAGE;
             image[place] ^= bit;
             let case = Case {
                 status: 1,
@@ -76,7 +76,7 @@ fn finds_each_changed_bit_of_a_payload(rt: HostRuntime) -> Result<(), Fail> {
                 ..reading("verify", "", &image)
             };
             ends(&rt, rt.alloc(), &case)?;
-            let mut counted = COUNTER_IMAGE;
+            let mut counted = COUNTED_IMAGE;
             counted[place] ^= bit;
             let case = Case {
                 out: report.as_str(),
@@ -95,7 +95,7 @@ fn refuses_files_that_cannot_be_read(rt: HostRuntime) -> Result<(), Fail> {
         ("", "mcsim: E71 Open\n"),
         (folder.as_str(), "mcsim: E24 Read\n"),
     ] {
-        let ended = outcome_of(&rt, &["mcsim", "verify", infile], &IMAGE)?;
+        let ended = outcome_of(&rt, &["mcsim", "verify", infile], &PLAIN_IMAGE)?;
         assert_eq!(rt; ended.parts(), (3, "", want), "{infile}");
     }
     Ok(())

@@ -1,0 +1,88 @@
+-- What arguments tell is told in one way.
+use Rattle.std.specs.Prelude.{◌≡◌, ℕ, List, true, false, Option, Some, None, Result, Ok, Err, codes}
+use Rattle.std.proofs.Common.{sym, ap, ◌∙◌, refl}
+use Rattle.clap.specs.declared.parser.matches.Found.{Found}
+use Rattle.mc_flash.specs.Geometry.{Geometry}
+use Rattle.mc_flash.specs.declared.layout.LayoutError.{LayoutError}
+use Rattle.clap.specs.Words.{first_value}
+use Rattle.mc_image.specs.declared.error.VersionError.{VersionError}
+use Rattle.mc_image.specs.declared.version.Version.{Version}
+use Rattle.mc_image.specs.VersionText.{Names}
+use Rattle.mc_command.specs.Numbers.{TellsNumber, MayTellNumber, SaysNumber, IsTaken, option_name}
+use Rattle.mc_command.specs.declared.numbers.NumberOption.{NumberOption}
+use Rattle.mc_command.specs.declared.numbers.NumberOption.TheVariants as options
+use Rattle.mc_command.specs.Arguments.{TellsLayout, TellsSource, RefusesSource, is_source, Judges}
+use Rattle.mc_command.specs.declared.options.Source.{Source}
+use Rattle.mc_command.specs.declared.options.Source.TheVariants as sources
+use Rattle.mc_command.specs.declared.refusal.Refusal.{Refusal}
+use Rattle.mc_command.specs.declared.refusal.Refusal.TheVariants as refusals
+
+pub not_ok : false ≡ true → ⊥
+not_ok e = cc
+
+-- An option tells one number.
+pub one_number : (found : Found) (option : NumberOption) (m n : ℕ) → TellsNumber found option m → TellsNumber found option n → m ≡ n
+one_number found option m n (a, at_a, says_a, taken_a) (b, at_b, says_b, taken_b) =
+    let same : a ≡ b = let both = sym at_a ∙ at_b in cc in
+    sym says_a.1 ∙ rw same says_b.1
+
+-- And six options one layout.
+abbrev numbers : ℕ → ℕ → ℕ → ℕ → ℕ → ℕ → Geometry
+numbers sector unit max_sectors chunk primary secondary =
+    record { sector = sector; unit = unit; max_sectors = max_sectors; chunk = chunk; primary = primary; secondary = secondary }
+
+layout_is : (a b c d e f a' b' c' d' e' f' : ℕ) → a ≡ a' → b ≡ b' → c ≡ c' → d ≡ d' → e ≡ e' → f ≡ f' → numbers a b c d e f ≡ numbers a' b' c' d' e' f'
+layout_is a b c d e f a' b' c' d' e' f' p q r s t u = cc
+
+pub one_layout : (found : Found) (g h : Geometry) → TellsLayout found g → TellsLayout found h → g ≡ h
+one_layout found g h a b = layout_is _ _ _ _ _ _ _ _ _ _ _ _
+    (one_number found options.Sector _ _ a.sector b.sector) (one_number found options.Unit _ _ a.unit b.unit)
+    (one_number found options.MaxSectors _ _ a.max_sectors b.max_sectors) (one_number found options.Chunk _ _ a.chunk b.chunk)
+    (one_number found options.Primary _ _ a.primary b.primary) (one_number found options.Secondary _ _ a.secondary b.secondary)
+
+-- A text that says no number which the option takes tells none, and the option is not left out.
+pub none_told : (found : Found) (option : NumberOption) (text : List ℕ) → first_value found (option_name option) ≡ Some text
+    → ((n : ℕ) → SaysNumber text n → IsTaken option n → ⊥) → (told : Option ℕ) → MayTellNumber found option told → ⊥
+none_told found option text at none None left_out = let both : Some text ≡ None = sym at ∙ left_out in absurd (cc)
+none_told found option text at none (Some n) (other, at_other, says, taken) =
+    let same : other ≡ text = let both = sym at_other ∙ at in cc in
+    none n (rw (← same) says) taken
+
+abbrev refused : VersionError → Result Version VersionError
+refused e = Err e
+
+pub no_version : {P : Type 0} (found : Found) (a b : List ℕ) (v : Version) (e : VersionError) → first_value found (codes "version") ≡ Some a
+    → first_value found (codes "version") ≡ Some b → Names b v → ((w : Version) → Names a w → refused e ≡ Ok w) → P
+no_version found a b v e at_a at_b names only =
+    let same : a ≡ b = let both = sym at_a ∙ at_b in cc in
+    let read : refused e ≡ Ok v = only v (rw same names) in
+    absurd (cc)
+
+-- Where a source is told, none is refused.
+pub source_told : (found : Found) (s : Source) → TellsSource found s → is_source found ≡ true
+source_told found (sources.Flash path) told = rw (told.0, told.1, told.2, told.3) refl
+source_told found (sources.Images kind a b) told = rw (told.0, told.1, told.2, told.3) refl
+
+pub not_refused : {P : Type 0} (found : Found) (s : Source) (r : Refusal) → TellsSource found s → RefusesSource found r → P
+not_refused found s refusals.Source told refused = let both : true ≡ false = sym (source_told found s told) ∙ refused in absurd (cc)
+not_refused found (sources.Flash path) refusals.Argument told refused = let both : None ≡ Some path.now = sym refused.1 ∙ told.0 in absurd (cc)
+not_refused found (sources.Images kind a b) refusals.Argument told refused = absurd (refused.2 kind told.1)
+not_refused found s _ told refused = absurd refused
+
+-- A source that does not go together is refused as that alone.
+pub refused_source : (found : Found) (r : Refusal) → RefusesSource found r → is_source found ≡ false → r ≡ refusals.Source
+refused_source found refusals.Source refused none = refl
+refused_source found refusals.Argument refused none = let both : true ≡ false = sym refused.0 ∙ none in absurd (cc)
+refused_source found _ refused none = absurd refused
+
+pub not_told : {P : Type 0} (found : Found) (s : Source) → TellsSource found s → is_source found ≡ false → P
+not_told found s told none = let both : true ≡ false = sym (source_told found s told) ∙ none in absurd (cc)
+
+-- What is judged of a layout is judged of the options that have it.
+pub judges_err : (A B : Type 0) (o : Option LayoutError) (e : Refusal) → Judges {A = A} o (Err e) → Judges {A = B} o (Err e)
+judges_err A B None e judged = absurd (cc)
+judges_err A B (Some l) e judged = let same : e ≡ refusals.Layout l = cc in ap (λ (x : Refusal). Err x) same
+
+pub judges_ok : {A B : Type 0} (o : Option LayoutError) (a : A) (b : B) → Judges o (Ok a) → Judges o (Ok b)
+judges_ok None a b judged = refl
+judges_ok (Some l) a b judged = absurd (cc)

@@ -1,0 +1,126 @@
+-- What the words of an argument say.
+use Rattle.std.specs.Prelude.{◌≡◌, ◌≤◌, ℕ, Bool, true, false, List, Option, Some, None, unwrap_or, option_map, is_some, ◌&&◌, codes, Result, Err, IsOk}
+use Rattle.clap.specs.Words.{first_value, one_text}
+use Rattle.clap.specs.declared.parser.matches.Found.{Found}
+use Rattle.mc_image.specs.VersionText.{Names}
+use Rattle.mc_imgtool.specs.declared.creation.CreateOptions.{CreateOptions}
+use Rattle.mc_command.specs.Numbers.{TellsNumber, MayTellNumber, IsUnit}
+use Rattle.mc_command.specs.declared.numbers.NumberOption.TheVariants as numbers
+use Rattle.mc_flash.specs.Geometry.{Geometry}
+use Rattle.mc_flash.specs.declared.layout.LayoutError.{LayoutError}
+use Rattle.mc_explore.specs.CursorText.{cursor_text}
+use Rattle.mc_explore.specs.Texts.{schedule_text}
+use Rattle.mc_explore.specs.declared.kind.Kind.{Kind}
+use Rattle.mc_explore.specs.declared.kind.Kind.TheVariants as kinds
+use Rattle.mc_flash.specs.declared.flash.Grain.{Grain}
+use Rattle.mc_flash.specs.Texts.{grain_text}
+use Rattle.mc_trailer.specs.declared.tables.Profile.{Profile}
+use Rattle.mc_trailer.specs.declared.tables.Rules.{Rules}
+use Rattle.mc_trailer.specs.Texts.{profile_text}
+use Rattle.mc_command.specs.declared.options.FlashOptions.{FlashOptions}
+use Rattle.mc_command.specs.declared.options.RangeOptions.{RangeOptions}
+use Rattle.mc_command.specs.declared.options.Source.{Source}
+use Rattle.mc_command.specs.declared.options.Source.TheVariants as sources
+use Rattle.mc_command.specs.declared.refusal.Refusal.{Refusal}
+use Rattle.mc_command.specs.declared.refusal.Refusal.TheVariants as refusals
+
+-- the value of a flag: clap gives it the text `true` where it stands on the command line, and otherwise `false`
+abbrev pub IsFlag : Found → List ℕ → Bool → Type 0
+IsFlag found name value =
+    (one_text found name ≡ Some (codes "true") → value ≡ true)
+    × (one_text found name ≡ Some (codes "false") → value ≡ false)
+    × (one_text found name ≡ None → value ≡ false)
+
+-- the arguments tell what `create` is to make, each number in its range
+pub record TellsCreate (found : Found) (o : CreateOptions) : Type 0 where
+  pub version_text : List ℕ
+  pub version_told : first_value found (codes "version") ≡ Some version_text
+  pub version : Names version_text o.version
+  pub header_size : TellsNumber found numbers.HeaderSize o.header_size
+  pub pad_header : IsFlag found (codes "pad-header") o.pad_header
+  pub slot_size : MayTellNumber found numbers.SlotSize o.slot_size
+  pub align : TellsNumber found numbers.Align o.align
+  pub unit : IsUnit o.align
+  pub max_sectors : TellsNumber found numbers.SlotSectors o.max_sectors
+  pub pad : IsFlag found (codes "pad") o.pad
+  pub confirm : IsFlag found (codes "confirm") o.confirm
+  pub security_counter : MayTellNumber found numbers.SecurityCounter o.security_counter
+
+-- what the image tool asks of options
+abbrev pub IsReady : CreateOptions → Type 0
+IsReady o = 32 ≤ o.header_size
+
+-- the arguments tell the six numbers of a layout
+pub record TellsLayout (found : Found) (g : Geometry) : Type 0 where
+  pub sector : TellsNumber found numbers.Sector g.sector
+  pub unit : TellsNumber found numbers.Unit g.unit
+  pub max_sectors : TellsNumber found numbers.MaxSectors g.max_sectors
+  pub chunk : TellsNumber found numbers.Chunk g.chunk
+  pub primary : TellsNumber found numbers.Primary g.primary
+  pub secondary : TellsNumber found numbers.Secondary g.secondary
+
+-- a layout is taken, or refused with the first judgement that its numbers fail
+abbrev pub Judges : {A : Type 0} → Option LayoutError → Result A Refusal → Type 0
+Judges None r = IsOk r
+Judges (Some e) r = r ≡ Err (refusals.Layout e)
+
+-- the text of a kind of start
+abbrev pub kind_text : Kind → List ℕ
+kind_text kinds.None = codes "none"
+kind_text kinds.Test = codes "test"
+kind_text kinds.Perm = codes "perm"
+kind_text kinds.Revert = codes "revert"
+
+-- the arguments tell a flash alone, or two images and a kind
+abbrev pub TellsSource : Found → Source → Type 0
+TellsSource found (sources.Flash path) =
+    (first_value found (codes "flash") ≡ Some path.now) × (first_value found (codes "kind") ≡ None)
+    × (first_value found (codes "image-a") ≡ None) × (first_value found (codes "image-b") ≡ None)
+TellsSource found (sources.Images kind a b) =
+    (first_value found (codes "flash") ≡ None) × (first_value found (codes "kind") ≡ Some (kind_text kind))
+    × (first_value found (codes "image-a") ≡ Some a.now) × (first_value found (codes "image-b") ≡ Some b.now)
+
+-- four options that may be left out go together as a source
+abbrev pub are_source : Option (List ℕ) → Option (List ℕ) → Option (List ℕ) → Option (List ℕ) → Bool
+are_source (Some flash) None None None = true
+are_source None (Some kind) (Some a) (Some b) = true
+are_source _ _ _ _ = false
+
+abbrev pub is_source : Found → Bool
+is_source found =
+    are_source (first_value found (codes "flash")) (first_value found (codes "kind"))
+    (first_value found (codes "image-a")) (first_value found (codes "image-b"))
+
+-- when a source is refused: the options do not go together, or images are told of a kind that is none
+abbrev pub RefusesSource : Found → Refusal → Type 0
+RefusesSource found refusals.Source = is_source found ≡ false
+RefusesSource found refusals.Argument =
+    (is_source found ≡ true) × (first_value found (codes "flash") ≡ None)
+    × ((kind : Kind) → first_value found (codes "kind") ≡ Some (kind_text kind) → ⊥)
+RefusesSource found _ = ⊥
+
+-- the arguments tell the rules of boots; where nothing is told, they are whole calls and the first profile
+pub record TellsRules (found : Found) (rules : Rules) : Type 0 where
+  pub grain : unwrap_or (first_value found (codes "grain")) (codes "call") ≡ grain_text rules.grain
+  pub profile : unwrap_or (first_value found (codes "profile")) (codes "1") ≡ profile_text rules.profile
+
+-- the arguments tell a source, a layout and rules
+pub record TellsFlash (found : Found) (o : FlashOptions) : Type 0 where
+  pub source : TellsSource found o.source
+  pub layout : TellsLayout found o.layout
+  pub rules : TellsRules found o.rules
+
+-- the text of an option is that of a schedule, or the option is left out
+abbrev pub MayTellSchedule : Found → List ℕ → Option (List ℕ) → Type 0
+MayTellSchedule found name schedule = first_value found name ≡ option_map schedule_text schedule
+
+-- two options tell where to go on
+abbrev pub tells_both : Found → Bool
+tells_both found = is_some (first_value found (codes "cursor")) && is_some (first_value found (codes "after"))
+
+-- the arguments tell where an exploration goes on, in one way or not at all, and where it stops
+pub record TellsRange (found : Found) (o : RangeOptions) : Type 0 where
+  pub cursor : first_value found (codes "cursor") ≡ option_map cursor_text o.cursor
+  pub after : MayTellSchedule found (codes "after") o.after
+  pub until : MayTellSchedule found (codes "until") o.until
+  pub one : tells_both found ≡ false

@@ -1,0 +1,67 @@
+-- Exit statuses.
+use Rattle.std.specs.Prelude.{ℕ}
+use Rattle.mc_image.specs.declared.error.ImageError.TheVariants as image_errors
+use Rattle.mc_imgtool.specs.declared.error.ToolError.{ToolError}
+use Rattle.mc_imgtool.specs.declared.error.ToolError.TheVariants as tool_errors
+use Rattle.mc_explore.specs.declared.start.StartError.{StartError}
+use Rattle.mc_explore.specs.declared.start.StartError.TheVariants as start_errors
+use Rattle.mc_explore.specs.declared.replaying.ReplayError.{ReplayError}
+use Rattle.mc_explore.specs.declared.replaying.ReplayError.TheVariants as replay_errors
+use Rattle.mc_explore.specs.declared.error.ExploreError.{ExploreError}
+use Rattle.mc_explore.specs.declared.error.ExploreError.TheVariants as explore_errors
+use Rattle.mc_command.specs.declared.refusal.Refusal.{Refusal}
+use Rattle.mc_command.specs.declared.refusal.Refusal.TheVariants as refusals
+
+-- the status for a refusal of the image tool: 2 where the options do not go together, 3 where a read, a write or memory failed, 1 where the content is refused
+abbrev pub status_of_tool : ToolError → ℕ
+status_of_tool tool_errors.NeedsSlotSize = 2
+status_of_tool tool_errors.Read = 3
+status_of_tool tool_errors.Write = 3
+status_of_tool tool_errors.Memory = 3
+status_of_tool (tool_errors.Image image_errors.Memory) = 3
+status_of_tool _ = 1
+
+-- the status for a refusal of a start: 3 where memory failed
+abbrev pub status_of_start : StartError → ℕ
+status_of_start start_errors.Memory = 3
+status_of_start (start_errors.ImageA image_errors.Memory) = 3
+status_of_start (start_errors.ImageB image_errors.Memory) = 3
+status_of_start _ = 1
+
+-- the status for a refused replay: 3 where memory failed
+abbrev pub status_of_replay : ReplayError → ℕ
+status_of_replay (replay_errors.CannotOccur _) = 1
+status_of_replay replay_errors.Memory = 3
+
+-- the status for an exploration that ends early: 1 where a cursor does not serve, 3 where memory or a write failed
+abbrev pub status_of_exploration : ExploreError → ℕ
+status_of_exploration explore_errors.OtherStart = 1
+status_of_exploration explore_errors.OtherRules = 1
+status_of_exploration explore_errors.OtherBound = 1
+status_of_exploration explore_errors.CannotOccur = 1
+status_of_exploration explore_errors.Memory = 3
+status_of_exploration explore_errors.Failed = 3
+status_of_exploration explore_errors.Write = 3
+
+-- the status for a refusal: 2 where the command line is refused
+abbrev pub status_of : Refusal → ℕ
+status_of refusals.NotText = 2
+status_of refusals.Argument = 2
+status_of (refusals.Number _) = 2
+status_of refusals.SameFile = 2
+status_of refusals.Unexplained = 2
+status_of refusals.CursorOptions = 2
+status_of refusals.NotAllBoot = 1
+status_of (refusals.Version _) = 2
+status_of refusals.Source = 2
+status_of (refusals.Layout _) = 2
+status_of (refusals.Schedule _) = 2
+status_of (refusals.Start e) = status_of_start e
+status_of (refusals.Replay e) = status_of_replay e
+status_of (refusals.Cursor _) = 2
+status_of (refusals.Explore e) = status_of_exploration e
+status_of (refusals.Flash _) = 3
+status_of (refusals.Tool e) = status_of_tool e
+status_of refusals.Open = 3
+status_of refusals.Write = 3
+status_of refusals.Memory = 3

@@ -1,0 +1,76 @@
+//! What `create` is told, and the image that is made of it.
+ghost use Rattle.std.specs.Prelude.{◌≡◌, codes, Some, IfOk};
+ghost use Rattle.clap.specs.Matches.{found_of};
+ghost use Rattle.clap.specs.Words.{first_value};
+ghost use Rattle.mc_imgtool.specs.Created.{created};
+ghost use Rattle.mc_imgtool.specs.Engines.{Answers};
+ghost use Rattle.mc_command.specs.Arguments.{TellsCreate, IsReady};
+
+use crate::options::{create_options, required};
+use crate::refusal::Refusal;
+use clap::ArgMatches;
+use mc_imgtool::{CreateOptions, ToolError};
+use std::alloc::Global;
+use std::io::{Read, Write};
+
+/// What `create` is told: options, and the paths of two files.
+#[derive(Debug, Drop)]
+pub struct Creation<'a> {
+    options: CreateOptions,
+    infile: &'a str,
+    outfile: &'a str,
+}
+
+impl<'a> Creation<'a> {
+    /// What the arguments tell. No file is touched.
+    ///
+    /// # Errors
+    ///
+    /// What `create_options` refuses, and `Argument` where a path is missing.
+    pub fn read(arguments: &ArgMatches<'a>) -> Result<Creation<'a>, Refusal>
+        ensures options { IfOk result (λ c. TellsCreate (found_of arguments.now) c.options) }
+        ensures ready { IfOk result (λ c. IsReady c.options) }
+        ensures infile { IfOk result (λ c. first_value (found_of arguments.now) (codes "INFILE")
+            ≡ Some c.infile.now) }
+        ensures outfile { IfOk result (λ c. first_value (found_of arguments.now) (codes "OUTFILE")
+            ≡ Some c.outfile.now) }
+    {
+        Ok(Creation {
+            options: create_options(arguments)?,
+            infile: required(arguments, "INFILE")?,
+            outfile: required(arguments, "OUTFILE")?,
+        })
+    }
+
+    /// The path of the payload.
+    pub fn infile(&self) -> &'a str
+        ensures { result.now ≡ self.now.infile.now }
+    {
+        self.infile
+    }
+
+    /// The path of the image.
+    pub fn outfile(&self) -> &'a str
+        ensures { result.now ≡ self.now.outfile.now }
+    {
+        self.outfile
+    }
+
+    /// Makes the image of these options and no others.
+    ///
+    /// # Errors
+    ///
+    /// What the image tool refuses.
+    pub fn make<R: Read, W: Write>(
+        &self,
+        alloc: Global,
+        input: &mut R,
+        output: &mut W,
+    ) -> Result<(), ToolError>
+        requires { IsReady self.now.options }
+        ensures { Answers (created self.now.options) (R.remaining input.old) (W.contents output.old)
+            (W.contents output.new) result }
+    {
+        mc_imgtool::create(alloc, &self.options, input, output)
+    }
+}

@@ -1,0 +1,265 @@
+//! What the words of a command line say.
+ghost use Rattle.std.specs.Prelude.{◌≡◌, ◌≤◌, ℕ, codes, true, false, Some, None, Err, IfOk, IsOk, MatchResult, MatchOption};
+ghost use Rattle.clap.specs.Matches.{found_of};
+ghost use Rattle.clap.specs.Words.{first_value};
+ghost use Rattle.mc_command.specs.Numbers.{TellsNumber, IsUnit};
+ghost use Rattle.mc_flash.specs.Geometry.{Geometry, refusal_of};
+ghost use Rattle.mc_command.specs.Arguments.{TellsCreate, TellsLayout, Judges, TellsSource, RefusesSource, is_source, kind_text};
+ghost use Rattle.mc_command.specs.Arguments.{TellsRules, TellsFlash, TellsRange, MayTellSchedule, tells_both};
+
+use crate::numbers::NumberOption;
+use crate::refusal::Refusal;
+use clap::ArgMatches;
+use mc_explore::{Cursor, Kind, Schedule};
+use mc_flash::{Grain, Layout};
+use mc_image::Version;
+use mc_imgtool::CreateOptions;
+use mc_trailer::{Profile, Rules};
+
+/// The text of an argument that a command cannot do without.
+///
+/// # Errors
+///
+/// `Argument` where it is missing.
+pub fn required<'a>(arguments: &ArgMatches<'a>, name: &str) -> Result<&'a str, Refusal>
+    ensures { MatchResult result
+        (λ text. first_value (found_of arguments.now) name.now ≡ Some text.now)
+        (λ e. (e ≡ Refusal.Argument) × (first_value (found_of arguments.now) name.now ≡ None)) }
+{
+    arguments.get_str(name).ok_or(Refusal::Argument)
+}
+
+/// The write unit of the flash.
+///
+/// # Errors
+///
+/// `Number` where it is told, but not as 1, 2, 4 or 8; `Argument` where it is missing.
+fn align(arguments: &ArgMatches<'_>) -> Result<u8, Refusal>
+    ensures told { IfOk result (λ n. TellsNumber (found_of arguments.now) NumberOption.Align n
+        × IsUnit n) }
+    ensures taken { (n : ℕ) → TellsNumber (found_of arguments.now) NumberOption.Align n → IsUnit n
+        → IsOk result }
+{
+    match NumberOption::Align.read_required(arguments)? {
+        unit @ (1 | 2 | 4 | 8) => Ok(unit as u8),
+        _ => Err(Refusal::Number(NumberOption::Align)),
+    }
+}
+
+/// What `create` is told. The version is checked first.
+///
+/// # Errors
+///
+/// `Version` where its text names none; `Number` where a text says no number that its option takes; `Argument` where a
+/// required value, or one with a default, is missing.
+pub fn create_options(arguments: &ArgMatches<'_>) -> Result<CreateOptions, Refusal>
+    ensures told { IfOk result (TellsCreate (found_of arguments.now)) }
+    ensures taken { (o : CreateOptions) → TellsCreate (found_of arguments.now) o → IsOk result }
+{
+    let version = Version::read(required(arguments, "version")?)?;
+    Ok(CreateOptions {
+        version,
+        header_size: NumberOption::HeaderSize.read_required(arguments)? as u16,
+        pad_header: arguments.get_flag("pad-header"),
+        slot_size: NumberOption::SlotSize.read(arguments)?,
+        align: align(arguments)?,
+        max_sectors: NumberOption::SlotSectors.read_required(arguments)?,
+        pad: arguments.get_flag("pad"),
+        confirm: arguments.get_flag("confirm"),
+        security_counter: NumberOption::SecurityCounter.read(arguments)?,
+    })
+}
+
+/// The layout that six numbers tell.
+///
+/// # Errors
+///
+/// `Layout` with the first check that the numbers fail; `Number` where a text says no number below 2^32; `Argument`
+/// where one is missing.
+fn layout_options(arguments: &ArgMatches<'_>) -> Result<Layout, Refusal>
+    ensures told { IfOk result (λ l. TellsLayout (found_of arguments.now) l) }
+    ensures judged { (g : Geometry) → TellsLayout (found_of arguments.now) g
+        → Judges (refusal_of g) result }
+{
+    let sector = NumberOption::Sector.read_required(arguments)?;
+    let unit = NumberOption::Unit.read_required(arguments)?;
+    let max_sectors = NumberOption::MaxSectors.read_required(arguments)?;
+    let chunk = NumberOption::Chunk.read_required(arguments)?;
+    let primary = NumberOption::Primary.read_required(arguments)?;
+    let secondary = NumberOption::Secondary.read_required(arguments)?;
+    match Layout::new(sector, unit, max_sectors, chunk, primary, secondary) {
+        Ok(layout) => Ok(layout),
+        Err(error) => Err(Refusal::Layout(error)),
+    }
+}
+
+/// Where a flash comes from.
+#[derive(Debug, Drop)]
+pub enum Source<'a> {
+    /// A file of the bytes of both slots.
+    Flash(&'a str),
+    /// Two files of images, and what the flash asks a boot for.
+    Images { kind: Kind, a: &'a str, b: &'a str },
+}
+
+/// The kind of a start that a text names.
+fn kind_of(text: &str) -> Option<Kind>
+    ensures { MatchOption result ((k : Kind) → text.now ≡ kind_text k → ⊥)
+        (λ k. text.now ≡ kind_text k) }
+{
+    match text {
+        "none" => Some(Kind::None),
+        "test" => Some(Kind::Test),
+        "perm" => Some(Kind::Perm),
+        "revert" => Some(Kind::Revert),
+        _ => None,
+    }
+}
+
+/// The source that the options tell: a flash alone, or a kind and both images.
+///
+/// # Errors
+///
+/// `Source` where they tell anything else; `Argument` where the kind is none.
+fn source_options<'a>(arguments: &ArgMatches<'a>) -> Result<Source<'a>, Refusal>
+    ensures { MatchResult result (λ s. TellsSource (found_of arguments.now) s)
+        (λ r. RefusesSource (found_of arguments.now) r) }
+{
+    let flash = arguments.get_str("flash");
+    let kind_name = arguments.get_str("kind");
+    let a = arguments.get_str("image-a");
+    let b = arguments.get_str("image-b");
+    match (flash, kind_name, a, b) {
+        (Some(path), None, None, None) => Ok(Source::Flash(path)),
+        (None, Some(name), Some(a), Some(b)) => match kind_of(name) {
+            Some(kind) => Ok(Source::Images { kind, a, b }),
+            None => Err(Refusal::Argument),
+        },
+        _ => Err(Refusal::Source),
+    }
+}
+
+/// What the arguments tell by `--grain` and `--profile`. Where one of them is left out, whole calls and the first profile.
+///
+/// # Errors
+///
+/// `Argument` where one of the texts names nothing.
+fn rules_options(arguments: &ArgMatches<'_>) -> Result<Rules, Refusal>
+    ensures told { IfOk result (TellsRules (found_of arguments.now)) }
+    ensures taken { (rules : Rules) → TellsRules (found_of arguments.now) rules → IsOk result }
+{
+    let mut rules = Rules::PLAIN;
+    if let Some(text) = arguments.get_str("grain") {
+        rules.grain = Grain::read(text).ok_or(Refusal::Argument)?;
+    }
+    if let Some(text) = arguments.get_str("profile") {
+        rules.profile = Profile::read(text).ok_or(Refusal::Argument)?;
+    }
+    Ok(rules)
+}
+
+/// What each command on a flash is told: where the flash comes from, its layout, and the rules of its boots.
+#[derive(Debug, Drop)]
+pub struct FlashOptions<'a> {
+    pub source: Source<'a>,
+    pub layout: Layout,
+    pub rules: Rules,
+}
+
+/// The source, the layout and the rules that the options tell. They are checked in this order.
+///
+/// # Errors
+///
+/// What `source_options`, `layout_options` and `rules_options` refuse.
+pub fn flash_options<'a>(arguments: &ArgMatches<'a>) -> Result<FlashOptions<'a>, Refusal>
+    ensures told { IfOk result (TellsFlash (found_of arguments.now)) }
+    ensures source { is_source (found_of arguments.now) ≡ false → result ≡ Err Refusal.Source }
+    ensures judged { (s : Source) (g : Geometry) (rules : Rules)
+        → TellsSource (found_of arguments.now) s → TellsLayout (found_of arguments.now) g
+        → TellsRules (found_of arguments.now) rules → Judges (refusal_of g) result }
+{
+    let source = source_options(arguments)?;
+    let layout = layout_options(arguments)?;
+    let rules = rules_options(arguments)?;
+    Ok(FlashOptions {
+        source,
+        layout,
+        rules,
+    })
+}
+
+/// How far an exploration goes.
+#[derive(Clone, Copy, Debug)]
+pub struct ExploreOptions {
+    /// The most cuts of a schedule, at most 16.
+    pub cuts: u8,
+    /// The most rows of a page, at least 1.
+    pub limit: u32,
+}
+
+/// The most cuts and the most rows.
+///
+/// # Errors
+///
+/// `Argument` where one is missing, or out of its range.
+pub fn explore_options(arguments: &ArgMatches<'_>) -> Result<ExploreOptions, Refusal>
+    ensures told { IfOk result (λ o. TellsNumber (found_of arguments.now) NumberOption.Cuts o.cuts
+        × TellsNumber (found_of arguments.now) NumberOption.Limit o.limit) }
+    ensures range { IfOk result (λ o. (o.cuts ≤ 16) × (1 ≤ o.limit)) }
+{
+    Ok(ExploreOptions {
+        cuts: NumberOption::Cuts.read_required(arguments)? as u8,
+        limit: NumberOption::Limit.read_required(arguments)?,
+    })
+}
+
+/// Which of the rows an exploration gives.
+#[derive(Clone, Copy, Debug)]
+pub struct RangeOptions {
+    /// The cursor of an earlier page, after which it goes on.
+    pub cursor: Option<Cursor>,
+    /// Or the schedule after which it goes on.
+    pub after: Option<Schedule>,
+    /// The schedule before which it stops.
+    pub until: Option<Schedule>,
+}
+
+/// The schedule that an option tells, if it is given.
+///
+/// # Errors
+///
+/// `Schedule` where its text is no schedule's.
+fn schedule_option(arguments: &ArgMatches<'_>, name: &str) -> Result<Option<Schedule>, Refusal>
+    ensures { IfOk result (MayTellSchedule (found_of arguments.now) name.now) }
+{
+    match arguments.get_str(name) {
+        Some(text) => Ok(Some(Schedule::read(text)?)),
+        None => Ok(None),
+    }
+}
+
+/// Where an exploration goes on, and where it stops. That only one option tells where it goes on is checked first.
+///
+/// # Errors
+///
+/// `CursorOptions` where `--after` and `--cursor` are both given; `Cursor` and `Schedule` where a text is no cursor's or no
+/// schedule's.
+pub fn range_options(arguments: &ArgMatches<'_>) -> Result<RangeOptions, Refusal>
+    ensures told { IfOk result (TellsRange (found_of arguments.now)) }
+    ensures both { tells_both (found_of arguments.now) ≡ true → result
+        ≡ Err Refusal.CursorOptions }
+{
+    let cursor = arguments.get_str("cursor");
+    if cursor.is_some() && arguments.get_str("after").is_some() {
+        return Err(Refusal::CursorOptions);
+    }
+    let cursor = match cursor {
+        Some(text) => Some(Cursor::read(text)?),
+        None => None,
+    };
+    Ok(RangeOptions {
+        cursor,
+        after: schedule_option(arguments, "after")?,
+        until: schedule_option(arguments, "until")?,
+    })
+}

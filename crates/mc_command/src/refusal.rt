@@ -1,0 +1,141 @@
+//! Why a command ended without a result, and the status for it.
+ghost use Rattle.std.specs.Prelude.{◌≡◌, ◌≤◌};
+ghost use Rattle.mc_command.specs.Statuses.{status_of};
+
+use crate::numbers::NumberOption;
+use mc_explore::{CursorError, ExploreError, ReplayError, ScheduleError, StartError};
+use mc_flash::{FlashError, LayoutError};
+use mc_image::{ImageError, VersionError};
+use mc_imgtool::ToolError;
+use std::io::Write;
+use thiserror::Error;
+
+/// Why a command ended without a result. Its text is the number and the name of the refusal, where it has them.
+#[derive(Clone, Copy, Debug, PartialEq, Eq, Error)]
+pub enum Refusal {
+    /// A word of the command line is not UTF-8 text.
+    #[error("an argument is not UTF-8 text")]
+    NotText,
+    /// A required argument is missing, or a word is not one that its option takes, where clap did not refuse it.
+    #[error("an argument is missing or out of its range")]
+    Argument,
+    /// The text of an option says no number that it takes.
+    #[error("{0}")]
+    Number(NumberOption),
+    /// The text of a version is refused.
+    #[error(transparent)]
+    Version(#[from] VersionError),
+    /// The options of a source do not go together.
+    #[error("E70 SourceOptions")]
+    Source,
+    /// The numbers of a layout are refused.
+    #[error(transparent)]
+    Layout(#[from] LayoutError),
+    /// The text of a schedule is refused.
+    #[error(transparent)]
+    Schedule(#[from] ScheduleError),
+    /// The text of a cursor is refused.
+    #[error(transparent)]
+    Cursor(#[from] CursorError),
+    /// The images or the bytes of a source are refused.
+    #[error(transparent)]
+    Start(#[from] StartError),
+    /// The schedule is not replayed.
+    #[error(transparent)]
+    Replay(#[from] ReplayError),
+    /// The exploration ends early.
+    #[error(transparent)]
+    Explore(#[from] ExploreError),
+    /// The flash refuses.
+    #[error(transparent)]
+    Flash(#[from] FlashError),
+    /// The image tool refuses.
+    #[error(transparent)]
+    Tool(#[from] ToolError),
+    /// No refusal has the number that is to be explained.
+    #[error("no refusal has this number")]
+    Unexplained,
+    /// `--after` and `--cursor` are both given.
+    #[error("E73 CursorOptions")]
+    CursorOptions,
+    /// A row of the survey does not end in a boot.
+    #[error("E74 NotAllBoot")]
+    NotAllBoot,
+    /// The file that is to be written is one that is read.
+    #[error("E75 SameFile")]
+    SameFile,
+    /// A file cannot be opened or made.
+    #[error("E71 Open")]
+    Open,
+    /// The help, or the output of a command, cannot be written.
+    #[error("E25 Write")]
+    Write,
+    /// There is no memory to read the command line.
+    #[error("E26 Memory")]
+    Memory,
+}
+
+impl Refusal {
+    /// The exit status: 1 where a content is refused, 2 where the command line is, 3 where a file, a write or memory
+    /// fails.
+    pub fn status(&self) -> u8
+        ensures exact { result ≡ status_of self.now }
+        ensures range { (1 ≤ result) × (result ≤ 3) }
+    {
+        match self {
+            Refusal::NotText
+            | Refusal::Argument
+            | Refusal::Number(_)
+            | Refusal::Version(_)
+            | Refusal::Source
+            | Refusal::Unexplained
+            | Refusal::CursorOptions
+            | Refusal::SameFile
+            | Refusal::Layout(_)
+            | Refusal::Schedule(_)
+            | Refusal::Cursor(_) => 2,
+            Refusal::NotAllBoot => 1,
+            Refusal::Start(error) => match error {
+                StartError::Memory
+                | StartError::ImageA(ImageError::Memory)
+                | StartError::ImageB(ImageError::Memory) => 3,
+                StartError::ImageA(_)
+                | StartError::ImageB(_)
+                | StartError::DoesNotFit
+                | StartError::FlashSize => 1,
+            },
+            Refusal::Replay(error) => match error {
+                ReplayError::CannotOccur(_) => 1,
+                ReplayError::Memory => 3,
+            },
+            Refusal::Tool(error) => match error {
+                ToolError::Image(ImageError::Memory)
+                | ToolError::Read
+                | ToolError::Write
+                | ToolError::Memory => 3,
+                ToolError::NeedsSlotSize => 2,
+                ToolError::Image(_)
+                | ToolError::NotZeros
+                | ToolError::SlotTooSmall
+                | ToolError::InputTooLong => 1,
+            },
+            Refusal::Explore(error) => match error {
+                ExploreError::OtherStart
+                | ExploreError::OtherRules
+                | ExploreError::OtherBound
+                | ExploreError::CannotOccur => 1,
+                ExploreError::Memory | ExploreError::Failed | ExploreError::Write => 3,
+            },
+            Refusal::Flash(_) | Refusal::Open | Refusal::Write | Refusal::Memory => 3,
+        }
+    }
+
+    /// Prints the line of the refusal, and returns the status, also where the line cannot be written.
+    pub fn report<E: Write>(&self, err: &mut E) -> u8
+        ensures exact { result ≡ status_of self.now }
+        ensures range { (1 ≤ result) × (result ≤ 3) }
+    {
+        let _ = writeln!(err, "mcsim: {self}");
+        self.status()
+    }
+}

@@ -1,0 +1,110 @@
+//! Flashes that no swap left, explored. The pages are those of a model that shares no code with this repository.
+use mc_explore::{Explorer, Start, write_page};
+use mc_fixtures::worked;
+use mc_flash::{Grain, JournalFlash};
+use mc_trailer::{MAGIC, Profile, Rules};
+use sha2::{Digest, Sha256};
+use std::alloc::Global;
+use std::test::Fail;
+
+/// A line has the bytes of the worked flash that are not 0xff, by their places, beside the primary's magic and a swap-size of 80;
+/// the grain, the profile and the most cuts; how many lines the page has, and the SHA-256 of its text.
+static PAGES: &str = "\
+984=02 call 1 0 2 ba9b78a7f0eeca7850929afce484c299275c2a77061d5b571cf22c272e568903
+984=02 call 1 1 16 5c6efe2210dbc6b3425669b0df2c9d5b9f906b18224adc740c84b571ac6fb209
+984=02 call 1 2 143 a98b227ffc74fffdb4a1cc9d97c9f8606d665c4d2167253c38663066c6b6bce5
+984=02 unit 2 1 106 b388c63d6d864ba676e31b943bd7d5dbbd1da4b5dda6cde6634e205129b0b744
+984=03 call 1 0 2 81d23ddb73e7c1dba5edf2a6a5cfd8f428ddd9e8cff8f3e03f4a09a1369b3592
+984=03 call 1 1 17 67d47e74be2033a680a15330b81d434e86fa4797a497adac9f67045573c46ca1
+984=03 call 1 2 159 755c4e4815edc23c45655da9a8832c7feb28ffda35af074dbb68884ac76f4cb1
+984=03 unit 2 1 107 0ff677d0f71b18ea866bc152ef0e57a771562c78839fd90b5bc53c8e578d90fa
+984=13 call 1 0 2 861d81574151324cacd0fccd28d363570bd17a872e05b37b1ef62384f76d4ba4
+984=13 call 1 1 2 861d81574151324cacd0fccd28d363570bd17a872e05b37b1ef62384f76d4ba4
+984=13 call 1 2 2 861d81574151324cacd0fccd28d363570bd17a872e05b37b1ef62384f76d4ba4
+984=13 unit 2 1 2 861d81574151324cacd0fccd28d363570bd17a872e05b37b1ef62384f76d4ba4
+984=02,993=00 call 1 0 2 bd28f482347b104741d73d8ab2a1797a93293ed7cfa319dcf8b7d3b492607b3a
+984=02,993=00 call 1 1 15 ae1c1be752c0f4fd254f9f9910210a8a739e79d8600eb0f406d6c800ee7b4a59
+984=02,993=00 call 1 2 128 e441b2df81cf34b7bf187a70def390b5867a07c96a2eb49175921aaa69b6c7ee
+984=02,993=00 unit 2 1 105 f82b89be14403edf70d3c6765618532c950c7004242ace8fd36b7f882c954176
+984=04 call 1 0 2 3ac500bbb8efc99c7116a1deaff87d83f4d71b028b6cfc77a98df53c434ca762
+984=04 call 1 1 17 687be811d485cbe72c390085150a24514de1fecec1c7bf311f7553307f0284e5
+984=04 call 1 2 159 babcb463ee253a7db1c118dc071519debf9c82f001a994203086fd952a1cb8ee
+984=04 unit 2 1 107 5bf5c0d9ced2f834edfd589d7a215bafb439b2284dc56cf9e942908cd43bd2e1
+984=02,1000=00 call 1 0 2 dec8ebd67dc82031ba073dbb2fdcd7d18ce5dd222ca01ffa472b21a415ab5946
+984=02,1000=00 call 1 1 16 88266a210b763d53be835d7c07a9377e52a53f2e5437efadcf26d53f644df126
+984=02,1000=00 call 1 2 143 5a0ddb6549055b1cbc3bcf8a035b601a85093c26897c308b425c995cee103034
+984=02,1000=00 unit 2 1 106 952ac382aede3703e02ad671cb425579f8b6b41967bf4b0606589abbf605c653
+984=03,888=01 call 1 0 2 33364d900a10f71f2c2f851a3d041b27169b0f15063d23780227e3363fde590f
+984=03,888=01 call 1 1 2 33364d900a10f71f2c2f851a3d041b27169b0f15063d23780227e3363fde590f
+984=03,888=01 call 1 2 2 33364d900a10f71f2c2f851a3d041b27169b0f15063d23780227e3363fde590f
+984=03,888=01 unit 2 1 2 33364d900a10f71f2c2f851a3d041b27169b0f15063d23780227e3363fde590f
+984=02,920=01,993=00 call 1 0 2 4fccc80d808e3bd004efa24b8fe5d5930abd305d469be30e7da2911f14672086
+984=02,920=01,993=00 call 1 1 2 4fccc80d808e3bd004efa24b8fe5d5930abd305d469be30e7da2911f14672086
+984=02,920=01,993=00 call 1 2 2 4fccc80d808e3bd004efa24b8fe5d5930abd305d469be30e7da2911f14672086
+984=02,920=01,993=00 unit 2 1 2 4fccc80d808e3bd004efa24b8fe5d5930abd305d469be30e7da2911f14672086
+984=02,881=00 call 1 0 2 78b0c21b99a27e2276d4fd95bdb06dae71294532654fcd1bbfa3f72a11930a7c
+984=02,881=00 call 1 1 11 b9fec196549a1ddfb87ad9644b54ea6cedad61c8721d802863e197b5e77ba2cd
+984=02,881=00 call 1 2 68 89c1913c8154a50533d910441728ef8888d36da82279277ee49b71fbd9539c45
+984=02,881=00 unit 2 1 71 0ea92908fecf35dc9f15a1673017e854ff875e839a6333a5438a9fac8b5b7317
+";
+
+/// The bytes of both slots: 0xff but for the primary's magic, a swap-size of 80, and the bytes at these places.
+pub fn flash_of(changes: &str) -> Result<[u8; 1792], Fail> {
+    let mut flash = [0xff; 1792];
+    flash[976..980].copy_from_slice(&[80, 0, 0, 0]);
+    flash[1008..1024].copy_from_slice(&MAGIC);
+    for change in changes.split(',') {
+        let (place, byte) = change.split_once('=').ok_or("a place and a byte")?;
+        let byte = u8::from_str_radix(byte, 16)?;
+        if let Some(cell) = flash.get_mut(place.parse::<usize>()?) {
+            *cell = byte;
+        }
+    }
+    Ok(flash)
+}
+
+/// The rules of two words.
+pub fn rules_of(grain: &str, profile: &str) -> Rules {
+    Rules {
+        grain: if grain == "unit" {
+            Grain::Unit
+        } else {
+            Grain::Call
+        },
+        profile: if profile == "2" {
+            Profile::Two
+        } else {
+            Profile::One
+        },
+    }
+}
+
+/// The page of all rows of a flash.
+fn page_of(alloc: Global, flash: &[u8], rules: Rules, cuts: &str) -> Result<Vec<u8>, Fail> {
+    let layout = worked()?;
+    let start = Start::from_flash(alloc, &layout, flash)?.with_rules(rules);
+    let cuts = cuts.parse::<u8>()?.min(16);
+    let mut explorer = Explorer::<JournalFlash>::start(alloc, &start, cuts)?;
+    let mut page = Vec::new(alloc);
+    write_page(&mut explorer, 1000, &mut page)?;
+    Ok(page)
+}
+
+#[test]
+fn hostile_flashes_are_explored(rt: HostRuntime) -> Result<(), Fail> {
+    let alloc = rt.alloc();
+    for row in PAGES.lines() {
+        let fields: Vec<&str> = row.split(' ').collect(alloc)?;
+        let [changes, grain, profile, cuts, lines, digest] = fields.as_slice() else {
+            return Err(Fail::from("a line has six fields"));
+        };
+        let flash = flash_of(changes)?;
+        let page = page_of(alloc, &flash, rules_of(grain, profile), cuts)?;
+        let count = page.iter().filter(|byte| **byte == b'\n').count();
+        let sum = hex::encode(alloc, Sha256::digest(page.as_slice()))?;
+        let told = format!(in alloc; "{count} {sum}")?;
+        let want = format!(in alloc; "{lines} {digest}")?;
+        assert_eq!(rt; told.as_str(), want.as_str(), "{row}");
+    }
+    Ok(())
+}

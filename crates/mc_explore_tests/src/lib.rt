@@ -1,0 +1,30 @@
+//! Tests of `mc_explore`, through what it offers to all. They stand by themselves, so that the crate is not proved again for
+//! them.
+#![tactic(auto)]
+
+#[cfg(test)]
+mod bounds;
+#[cfg(test)]
+mod cursors;
+#[cfg(test)]
+mod exploring;
+#[cfg(test)]
+mod hostile;
+#[cfg(test)]
+mod paging;
+#[cfg(test)]
+mod replays;
+#[cfg(test)]
+mod resuming;
+#[cfg(test)]
+mod sizes;
+#[cfg(test)]
+mod starts;
+#[cfg(test)]
+mod surveys;
+#[cfg(test)]
+mod tearing;
+#[cfg(test)]
+mod vectors;
+#[cfg(test)]
+mod writers;

@@ -1,0 +1,75 @@
+//! Large images, and as many cuts as a schedule has.
+use mc_boot::{BootResult, Outcome};
+use mc_explore::{Cursor, Explorer, Kind, Schedule, Start, replay};
+use mc_fixtures::image_of;
+use mc_flash::{Flash, JournalFlash, Layout, Slot, SnapFlash};
+use std::alloc::Global;
+use std::process::Abort;
+use std::test::Fail;
+
+/// The payload of an image that takes all of the 253 sectors that can be swapped in slots of 256 and 255 sectors.
+const PAYLOAD: usize = 253 * 4096 - 72;
+
+/// The start of so large images, the first of which holds 1 and the second 2.
+fn large(alloc: Global, kind: Kind) -> Result<Start, Fail> {
+    let layout = Layout::new(4096, 8, 256, 512, 256, 255)?;
+    let first = image_of(alloc, vec![in alloc; 1u8; PAYLOAD]?.as_slice())?;
+    let second = image_of(alloc, vec![in alloc; 2u8; PAYLOAD]?.as_slice())?;
+    Ok(Start::from_images(alloc, &layout, kind, first.as_slice(), second.as_slice())?)
+}
+
+/// Whether a slot holds that image.
+fn holds(slot: &[u8], fill: u8) -> bool {
+    match slot.get(32..32 + PAYLOAD) {
+        Some(payload) => payload.iter().all(|byte| *byte == fill),
+        None => false,
+    }
+}
+
+#[test]
+fn large_images_are_placed(rt: HostRuntime) -> Result<(), Fail> {
+    for kind in [Kind::None, Kind::Test, Kind::Perm, Kind::Revert] {
+        let start = large(rt.alloc(), kind)?;
+        assert!(rt; holds(start.primary(), 1), "{kind:?}");
+        assert!(rt; holds(start.secondary(), 2), "{kind:?}");
+    }
+    Ok(())
+}
+
+#[test]
+fn a_large_flash_is_explored(rt: HostRuntime) -> Result<(), Fail> {
+    let layout = Layout::new(4096, 8, 256, 512, 256, 255)?;
+    let bytes = vec![in rt.alloc(); 0xffu8; 511 * 4096]?;
+    let start = Start::from_flash(rt.alloc(), &layout, bytes.as_slice())?;
+    let mut explorer = Explorer::<SnapFlash>::start(rt.alloc(), &start, 16)?;
+    assert!(rt; explorer.next_row()?.is_some());
+    assert!(rt; explorer.next_row()?.is_none());
+    Ok(())
+}
+
+/// Replays a schedule of 16 cuts of a swap of large images, and goes on after it.
+fn many_cuts_are_replayed<F: Flash + Drop>(rt: &impl Abort, alloc: Global) -> Result<(), Fail> {
+    let start = large(alloc, Kind::Test)?;
+    let schedule = Schedule::read("9.9.9.9.9.9.9.9.9.9.9.9.9.9.9.9")?;
+    let (outcome, flash): (Outcome, F) = replay(alloc, &start, &schedule)?;
+    assert_eq!(rt; outcome.result, BootResult::Boot);
+    assert!(rt; holds(flash.read(Slot::Primary), 2));
+    assert!(rt; holds(flash.read(Slot::Secondary), 1));
+    let cursor = Cursor::of(&start, 16, &schedule);
+    let mut explorer = Explorer::<F>::resume(alloc, &start, 16, &cursor)?;
+    let next = Schedule::read("9.9.9.9.9.9.9.9.9.9.9.9.9.9.9.10")?;
+    let row = explorer.next_row()?.ok_or("a row")?;
+    assert_eq!(rt; row.schedule.cuts(), next.cuts());
+    assert_eq!(rt; row.outcome.result, BootResult::Boot);
+    Ok(())
+}
+
+#[test]
+fn many_cuts_are_replayed_over_copies(rt: HostRuntime) -> Result<(), Fail> {
+    many_cuts_are_replayed::<SnapFlash>(&rt, rt.alloc())
+}
+
+#[test]
+fn many_cuts_are_replayed_over_a_journal(rt: HostRuntime) -> Result<(), Fail> {
+    many_cuts_are_replayed::<JournalFlash>(&rt, rt.alloc())
+}

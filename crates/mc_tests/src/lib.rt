@@ -1,0 +1,16 @@
+//! Tests of the image tool, the flashes, the trailers and the boots, through what their crates offer to all. They stand by
+//! themselves, so that no crate is proved again for its tests.
+#![tactic(auto)]
+
+#[cfg(test)]
+mod boot;
+#[cfg(test)]
+mod flash;
+#[cfg(test)]
+mod image;
+#[cfg(test)]
+mod imgtool;
+#[cfg(test)]
+mod journal;
+#[cfg(test)]
+mod trailer;

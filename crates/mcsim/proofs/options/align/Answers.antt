@@ -1,5 +1,0 @@
-use Rattle.mcsim.proofs.Told.{not_ok}
-use Rattle.mcsim.proofs.options.align.Goals as goal
-
-pub returns-in_err-unit-clause-taken : goal.returns-in_err-unit-clause-taken
-returns-in_err-unit-clause-taken c = λ n told unit. absurd (not_ok (c.in_err-unit.ensures.taken n told))
