@@ -80,6 +80,19 @@ primary_pieces : (c : Grain) (g : Geometry) (s : Content) (v : Field → List �
 primary_pieces grains.Call g s v are = are
 primary_pieces grains.Unit g s v are = λ f i short within. are f i short within
 
+-- and back
+pub sized_whole : (c : Grain) (g : Geometry) (s : Content) → IsSized (in_pieces c g) s → IsSized g s
+sized_whole grains.Call g s sized = sized
+sized_whole grains.Unit g s sized = record { primary = sized.primary; secondary = sized.secondary }
+
+pub secondary_whole : (c : Grain) (g : Geometry) (s : Content) (v : Field → List ℕ) → FieldsAre (in_pieces c g) s Secondary v → FieldsAre g s Secondary v
+secondary_whole grains.Call g s v are = are
+secondary_whole grains.Unit g s v are = λ f i short within. are f i short within
+
+pub primary_whole : (c : Grain) (g : Geometry) (s : Content) (v : Field → List ℕ) → FieldsAre (in_pieces c g) s Primary v → FieldsAre g s Primary v
+primary_whole grains.Call g s v are = are
+primary_whole grains.Unit g s v are = λ f i short within. are f i short within
+
 pub asked_pieces : (c : Grain) (g : Geometry) (start : Content) (n : ℕ) (b : Bool) → IsSized g start → FieldsAre g start Secondary (asked b) → Asked (in_pieces c g) start n b start
 asked_pieces c g start n b sized are = record { secondary = secondary_pieces c g start (asked b) are; data_ = data_begin (in_pieces c g) n start (sized_pieces c g start sized) }
 

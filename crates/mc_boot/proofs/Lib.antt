@@ -33,6 +33,8 @@ pub mod SwapEnds
 pub mod StartBytes
 pub mod Starts
 pub mod RestartProof
+pub mod Confirming
+pub mod RoundsProof
 pub mod BoolTests
 pub mod Meets
 pub mod Blanking

@@ -3,7 +3,7 @@ use Rattle.std.specs.Prelude.{◌≡◌, ◌≢◌, ℕ, ◌-◌, Bool, true, fa
 use Rattle.std.proofs.Common.{sym, ap, subst, ◌∙◌}
 use Rattle.mc_boot.proofs.BootsKeep.{phase_swaps, waiting_swaps}
 use Rattle.mc_boot.proofs.Fronts.{larger_end}
-use Rattle.mc_boot.proofs.InPieces.{asked_pieces, exchanged_pieces, pieces_again, swap_pieces, waiting_pieces}
+use Rattle.mc_boot.proofs.InPieces.{asked_pieces, exchanged_pieces, pieces_again, primary_whole, secondary_whole, sized_whole, swap_pieces, waiting_pieces}
 use Rattle.mc_boot.proofs.Keeps.{Keeps, restart}
 use Rattle.mc_boot.proofs.PhasePlans.{plan_none, swap_of}
 use Rattle.mc_boot.proofs.Phases.{Ended, Phase, Swap, Waiting, asked, asks, closed, larger_size, tested, unasked, waits}
@@ -24,6 +24,7 @@ use Rattle.mc_flash.specs.Content.{Content}
 use Rattle.mc_flash.specs.Geometry.{Geometry, IsLayout}
 use Rattle.mc_flash.specs.Pieces.{in_pieces}
 use Rattle.mc_flash.specs.declared.flash.Grain.{Grain}
+use Rattle.mc_flash.specs.declared.op.Op.{Op}
 use Rattle.mc_image.specs.Valid.{is_valid}
 use Rattle.mc_trailer.specs.FieldFacts.{FieldsAre, blank_fields, fields_front, reads_absent}
 use Rattle.mc_trailer.specs.Fields.{one_unit}
@@ -39,7 +40,7 @@ use Rattle.mc_trailer.specs.declared.tables.Profile.TheVariants as profiles
 use Rattle.mc_flash.specs.declared.op.Slot.TheVariants.{Primary, Secondary}
 
 -- the same image, whole
-held_whole : (a xs : List ℕ) → SameImage a xs → Holds a xs
+pub held_whole : (a xs : List ℕ) → SameImage a xs → Holds a xs
 held_whole a xs same = record { id = same.id; whole = same.front }
 
 -- a boot that is not faulted and does not panic boots what it left, where that is valid
@@ -61,40 +62,48 @@ boots_so r g u z end whole calm valid =
     ∙ ap (λ (e : BootResult). Some e) (calm_boots (plan r g u).kind calm)
 
 -- no swap
-idle_at : (r : Rules) (g : Geometry) (a b : List ℕ) → ImageLaws → IsLayout g → BeginsImage g a → BeginsImage g b → plan r g (placed g (image_bytes a) (image_bytes b)) ≡ nothing kinds.None
+pub idle_at : (r : Rules) (g : Geometry) (a b : List ℕ) → ImageLaws → IsLayout g → BeginsImage g a → BeginsImage g b → plan r g (placed g (image_bytes a) (image_bytes b)) ≡ nothing kinds.None
 idle_at r g a b laws ok at_a at_b =
     let sized = (placed_holds g a b laws ok at_a at_b).sized in
     plan_none r g (placed g (image_bytes a) (image_bytes b))
     (reads_absent g (placed g (image_bytes a) (image_bytes b)) Primary ok sized (placed_unasked g a b Primary laws ok at_a at_b field.Magic))
     (reads_absent g (placed g (image_bytes a) (image_bytes b)) Secondary ok sized (placed_unasked g a b Secondary laws ok at_a at_b field.Magic))
 
-stays_idle : (r : Rules) (g : Geometry) (a b : List ℕ) (s u : Content) (cuts : List ℕ) → plan r g s ≡ nothing kinds.None → SameImage a s.primary → SameImage b s.secondary → after r g s cuts ≡ Some u → (z : Content) × EndsIn r g no_swap a b s u z
-stays_idle r g a b s u cuts idle one two is =
-    let P : Content → Type 0 = λ t. t ≡ s in
-    let stays : (t : Content) → t ≡ s → Keeps g P (plan r g t).list t P = λ t same. (
-    let E : Plan → Type 0 = λ p. Keeps g P p.list t P in
-    let at_t : plan r g t ≡ nothing kinds.None = ap (plan r g) same ∙ idle in
-    subst E (sym at_t) same) in
-    let there : u ≡ s = restart r g P P stays cuts s u refl is in
-    let end = ends r g P P u (stays u there) in
-    let at_u : plan r g u ≡ nothing kinds.None = ap (plan r g) there ∙ idle in
-    let calm : (plan r g u).kind ≢ kinds.Panic = λ panic. no_panic (sym (ap (λ (p : Plan). p.kind) at_u) ∙ panic) in
-    let valid : is_valid end.0.primary ≡ true = ap (λ (t : Content). is_valid t.primary) end.1.so ∙ one.valid in (
-      end.0,
+-- A flash whose boot has no operation: no cut can occur, and it stays.
+module _ (r : Rules) (g : Geometry) (m : Content) (idle : (plan r g m).list ≡ []) where
+  rests : (s : Content) → s ≡ m → Keeps g (λ t. t ≡ m) (plan r g s).list s (λ t. t ≡ m)
+  rests s same = let E : List Op → Type 0 = λ ops. Keeps g (λ t. t ≡ m) ops s (λ t. t ≡ m) in subst E (sym (ap (λ x. (plan r g x).list) same ∙ idle)) same
+
+  pub uncut : (u : Content) (cuts : List ℕ) → after r g m cuts ≡ Some u → u ≡ m
+  uncut u cuts is = restart r g (λ t. t ≡ m) (λ t. t ≡ m) rests cuts m u refl is
+
+  pub idle_leaves : left_by r g m ≡ Some m
+  idle_leaves = let end = ends r g (λ t. t ≡ m) (λ t. t ≡ m) m (rests m refl) in end.1.end ∙ ap (λ (t : Content). Some t) end.1.so
+
+  -- What holds there is what its boot ends in.
+  pub idle_ends : (kind : StartKind) (a b : List ℕ) (s : Content) → (plan r g m).kind ≡ kinds.None → is_valid m.primary ≡ true → Holds (named kind a b) m.primary → Holds (other kind a b) m.secondary → IsSwapped r g kind s m m → EndsIn r g kind a b s m m
+  idle_ends kind a b s none valid one two swapped =
+      let end = ends r g (λ t. t ≡ m) (λ t. t ≡ m) m (rests m refl) in
+      let calm : (plan r g m).kind ≢ kinds.Panic = λ panic. no_panic (sym none ∙ panic) in
       record {
-        end = end.1.end;
+        end = idle_leaves;
         whole = end.1.whole;
         calm = calm;
         boots = valid;
-        result = boots_so r g u end.0 end.1.end end.1.whole calm valid;
-        primary = let E : Content → Type 0 = λ t. Holds a t.primary in subst E (sym end.1.so) (held_whole a s.primary one);
-        secondary = let E : Content → Type 0 = λ t. Holds b t.secondary in subst E (sym end.1.so) (held_whole b s.secondary two);
-        swapped = ap (λ (p : Plan). p.list) at_u;
-      },
-    )
-  where
-    no_panic : kinds.None ≡ kinds.Panic → ⊥
-    no_panic e = cc
+        result = boots_so r g m m idle_leaves end.1.whole calm valid;
+        primary = one;
+        secondary = two;
+        swapped = swapped;
+      }
+    where
+      no_panic : kinds.None ≡ kinds.Panic → ⊥
+      no_panic e = cc
+
+stays_idle : (r : Rules) (g : Geometry) (a b : List ℕ) (s u : Content) (cuts : List ℕ) → plan r g s ≡ nothing kinds.None → SameImage a s.primary → SameImage b s.secondary → after r g s cuts ≡ Some u → (z : Content) × EndsIn r g no_swap a b s u z
+stays_idle r g a b s u cuts idle one two is =
+    let none : (plan r g s).list ≡ [] = ap (λ (p : Plan). p.list) idle in
+    let E : Content → Type 0 = λ t. EndsIn r g no_swap a b s t s in
+    (s, subst E (sym (uncut r g s none u cuts is)) (idle_ends r g s none no_swap a b s (ap (λ (p : Plan). p.kind) idle) one.valid (held_whole a s.primary one) (held_whole b s.secondary two) none))
 
 -- the trailers after a test, and after a swap that stays
 abbrev AtEnd : Bool → Rules → Geometry → Content → Type 0
@@ -102,27 +111,31 @@ AtEnd true r g z = IsTested r g z
 AtEnd false r g z = IsSettled r g z
 
 -- The swap of a start, after every list of cuts. x is what the secondary held at first, and y what the primary held.
-record Law (r : Rules) (g : Geometry) (b : Bool) (x y : List ℕ) (s u z : Content) : Type 0 where
-  end : left_by r g u ≡ Some z
-  whole : is_faulted r g u ≡ false
-  calm : (plan r g u).kind ≢ kinds.Panic
-  primary : SameImage x z.primary
-  secondary : SameImage y z.secondary
-  exchange : AreExchanged g (plan r g s).sectors s z
-  trailer : AtEnd b r g z
+pub record Law (r : Rules) (g : Geometry) (b : Bool) (n : ℕ) (x y : List ℕ) (s u z : Content) : Type 0 where
+  pub end : left_by r g u ≡ Some z
+  pub whole : is_faulted r g u ≡ false
+  pub calm : (plan r g u).kind ≢ kinds.Panic
+  pub primary : SameImage x z.primary
+  pub secondary : SameImage y z.secondary
+  pub sectors : (plan r g s).sectors ≡ n
+  pub exchange : AreExchanged g n s z
+  pub trailer : AtEnd b r g z
+
+-- the exchange by the plan of the start
+pub by_start : (r : Rules) (g : Geometry) (n : ℕ) (s z : Content) → (plan r g s).sectors ≡ n → AreExchanged g n s z → AreExchanged g (plan r g s).sectors s z
+by_start r g n s z count are = let E : ℕ → Type 0 = λ m. AreExchanged g m s z in subst E (sym count) are
 
 trailer_at_end : (c : Grain) (p : Profile) (g : Geometry) (s : Content) (size n : ℕ) (b : Bool) (z : Content) → Swap (in_pieces c g) s size n → Ended (in_pieces c g) s size n b z → AtEnd b (record { grain = c; profile = p }) g z
 trailer_at_end c p g s size n true z w e = tested_on c p g z (tested_end (record { grain = c; profile = p }) (in_pieces c g) s size n z w e)
 trailer_at_end c p g s size n false z w e = settled_on c p g z (settled_end (record { grain = c; profile = p }) (in_pieces c g) s size n z w e)
 
 law : (R : Content → Type 0) (c : Grain) (p : Profile) (g : Geometry) (b : Bool) (x y : List ℕ) (s u : Content) (size n : ℕ) (cuts : List ℕ) → Swap g s size n → BootsSwap R c p g s size n b → Phase R (in_pieces c g) s size n b s
-    → SameImage x s.secondary → SameImage y s.primary → after (record { grain = c; profile = p }) g s cuts ≡ Some u → (z : Content) × Law (record { grain = c; profile = p }) g b x y s u z
+    → SameImage x s.secondary → SameImage y s.primary → after (record { grain = c; profile = p }) g s cuts ≡ Some u → (z : Content) × Law (record { grain = c; profile = p }) g b n x y s u z
 law R c p g b x y s u size n cuts w boots begin at_x at_y is =
     let end = swap_ends R c p g s size n b cuts u boots begin is in
     let made = end.1.ends.so in
     let pieces = swap_pieces c g s size n w in
-    let held = crossed (in_pieces c g) s size n made.0 end.0 pieces made.2 in
-    let E : ℕ → Type 0 = λ m. AreExchanged g m s end.0 in (
+    let held = crossed (in_pieces c g) s size n end.0 pieces made.2.data_ in (
       end.0,
       record {
         end = end.1.ends.end;
@@ -130,13 +143,14 @@ law R c p g b x y s u size n cuts w boots begin at_x at_y is =
         calm = end.1.calm;
         primary = same_then x s.secondary end.0.primary at_x held.primary;
         secondary = same_then y s.primary end.0.secondary at_y held.secondary;
-        exchange = subst E (sym end.1.sectors) (exchanged_pieces c g n s end.0 (exchanges (in_pieces c g) s size n made.0 end.0 pieces made.2));
+        sectors = end.1.sectors;
+        exchange = exchanged_pieces c g n s end.0 (exchanges (in_pieces c g) s size n end.0 pieces made.2.data_);
         trailer = trailer_at_end c p g s size n b end.0 pieces made;
       },
     )
 
-ended : (r : Rules) (g : Geometry) (kind : StartKind) (c : Bool) (a b : List ℕ) (s u z : Content) → named kind a b ≡ b → other kind a b ≡ a → Law r g c b a s u z → IsSwapped r g kind s u z → EndsIn r g kind a b s u z
-ended r g kind c a b s u z is_named is_other l swapped = record {
+pub ended : (r : Rules) (g : Geometry) (kind : StartKind) (c : Bool) (n : ℕ) (a b : List ℕ) (s u z : Content) → named kind a b ≡ b → other kind a b ≡ a → Law r g c n b a s u z → IsSwapped r g kind s u z → EndsIn r g kind a b s u z
+ended r g kind c n a b s u z is_named is_other l swapped = record {
   end = l.end;
   whole = l.whole;
   calm = l.calm;
@@ -155,7 +169,7 @@ asked_boots : (c : Grain) (p : Profile) (g : Geometry) (s : Content) (size n : �
 asked_boots c p g s size n b w = phase_swaps Nothing (record { grain = c; profile = p }) (in_pieces c g) s size n b (pieces_again c g) (swap_pieces c g s size n w) (λ t none. absurd none)
 
 asked_law : (c : Grain) (p : Profile) (g : Geometry) (e : Bool) (a b : List ℕ) (s u : Content) (cuts : List ℕ) → ImageLaws → IsLayout g → BeginsImage g a → BeginsImage g b → Holding g a b s → FieldsAre g s Secondary (asked e)
-    → after (record { grain = c; profile = p }) g s cuts ≡ Some u → (z : Content) × Law (record { grain = c; profile = p }) g e b a s u z
+    → after (record { grain = c; profile = p }) g s cuts ≡ Some u → (z : Content) × Law (record { grain = c; profile = p }) g e (count_of g s) b a s u z
 asked_law c p g e a b s u cuts laws ok at_a at_b h are is =
     let w = swap_held g a b s laws ok at_a at_b h in
     law Nothing c p g e b a s u (larger_size s) (count_of g s) cuts w (asked_boots c p g s (larger_size s) (count_of g s) e w)
@@ -163,12 +177,12 @@ asked_law c p g e a b s u cuts laws ok at_a at_b h are is =
     (secondary_image g a b s laws ok at_b h) (primary_image g a b s laws ok at_a h) is
 
 -- a revert: from what a test of the images exchanged leaves
-record Reverts (g : Geometry) (a b : List ℕ) (size n : ℕ) (s : Content) : Type 0 where
-  swap : Swap g s size n
-  tested_is : FieldsAre g s Primary tested
-  unasked_is : FieldsAre g s Secondary unasked
-  primary : SameImage a s.primary
-  secondary : SameImage b s.secondary
+pub record Reverts (g : Geometry) (a b : List ℕ) (size n : ℕ) (s : Content) : Type 0 where
+  pub swap : Swap g s size n
+  pub tested_is : FieldsAre g s Primary tested
+  pub unasked_is : FieldsAre g s Secondary unasked
+  pub primary : SameImage a s.primary
+  pub secondary : SameImage b s.secondary
 
 tested_fields : (g : Geometry) (start : Content) (size n : ℕ) (z : Content) (e : Ended g start size n true z) → FieldsAre g z Primary tested
 tested_fields g start size n z e = fields_front g z Primary (closed g e.0 size) tested less e.2.primary
@@ -180,43 +194,57 @@ tested_fields g start size n z e = fields_front g z Primary (closed g e.0 size) 
     less field.SwapInfo = (_, refl)
     less field.SwapSize = (_, refl)
 
-swapped_back : (g : Geometry) (start : Content) (size n : ℕ) (z : Content) → Swap g start size n → (e : Ended g start size n true z) → Swap g z size n
-swapped_back g start size n z w e =
-    let held = crossed g start size n e.0 z w e.2 in
+swapped_back : (c : Grain) (g : Geometry) (start : Content) (size n : ℕ) (z : Content) → Swap g start size n → (e : Ended (in_pieces c g) start size n true z) → Swap g z size n
+swapped_back c g start size n z w e =
+    let pieces = swap_pieces c g start size n w in
+    let held = crossed (in_pieces c g) start size n z pieces e.2.data_ in
     record {
       laws = w.laws;
       ok = w.ok;
-      sized = e.2.data_.sized;
+      sized = sized_whole c g z e.2.data_.sized;
       primary = has_same start.secondary z.primary w.secondary held.primary;
       secondary = has_same start.primary z.secondary w.primary held.secondary;
-      larger = (larger_end g start size n z w e.2.data_).1;
+      larger = (larger_end (in_pieces c g) start size n z pieces e.2.data_).1;
       count = w.count;
       some = w.some;
       few = w.few;
       small = w.small;
     }
 
-test_leaves : (g : Geometry) (a b : List ℕ) (s : Content) → ImageLaws → IsLayout g → BeginsImage g a → BeginsImage g b → Holding g b a s → FieldsAre g s Secondary (asked true)
-    → (z : Content) × (left_by plain g s ≡ Some z) × Reverts g a b (larger_size s) (count_of g s) z
-test_leaves g a b s laws ok at_a at_b h are =
+-- What a test leaves after every list of cuts, from where it was asked for.
+pub record Tested (c : Grain) (p : Profile) (g : Geometry) (a b : List ℕ) (s t z : Content) : Type 0 where
+  pub end : left_by (record { grain = c; profile = p }) g t ≡ Some z
+  pub swap : Swap g s (larger_size s) (count_of g s)
+  pub sectors : (plan (record { grain = c; profile = p }) g s).sectors ≡ count_of g s
+  pub made : Ended (in_pieces c g) s (larger_size s) (count_of g s) true z
+  pub reverts : Reverts g a b (larger_size s) (count_of g s) z
+
+pub test_leaves : (c : Grain) (p : Profile) (g : Geometry) (a b : List ℕ) (s t : Content) (cuts : List ℕ) → ImageLaws → IsLayout g → BeginsImage g a → BeginsImage g b → Holding g b a s → FieldsAre g s Secondary (asked true)
+    → after (record { grain = c; profile = p }) g s cuts ≡ Some t → (z : Content) × Tested c p g a b s t z
+test_leaves c p g a b s t cuts laws ok at_a at_b h are is =
     let w = swap_held g b a s laws ok at_b at_a h in
-    let end = swap_ends Nothing grains.Call profiles.One g s (larger_size s) (count_of g s) true [] s (asked_boots grains.Call profiles.One g s (larger_size s) (count_of g s) true w)
-    (asks Nothing g s (larger_size s) (count_of g s) true s (asked_pieces grains.Call g s (count_of g s) true h.sized are)) refl in
+    let end = swap_ends Nothing c p g s (larger_size s) (count_of g s) true cuts t (asked_boots c p g s (larger_size s) (count_of g s) true w)
+    (asks Nothing (in_pieces c g) s (larger_size s) (count_of g s) true s (asked_pieces c g s (count_of g s) true h.sized are)) is in
     let made = end.1.ends.so in
-    let held = crossed g s (larger_size s) (count_of g s) made.0 end.0 w made.2 in (
+    let held = crossed (in_pieces c g) s (larger_size s) (count_of g s) end.0 (swap_pieces c g s (larger_size s) (count_of g s) w) made.2.data_ in (
       end.0,
-      end.1.ends.end,
       record {
-        swap = swapped_back g s (larger_size s) (count_of g s) end.0 w made;
-        tested_is = tested_fields g s (larger_size s) (count_of g s) end.0 made;
-        unasked_is = made.2.secondary;
-        primary = same_then a s.secondary end.0.primary (secondary_image g b a s laws ok at_a h) held.primary;
-        secondary = same_then b s.primary end.0.secondary (primary_image g b a s laws ok at_b h) held.secondary;
+        end = end.1.ends.end;
+        swap = w;
+        sectors = end.1.sectors;
+        made = made;
+        reverts = record {
+          swap = swapped_back c g s (larger_size s) (count_of g s) end.0 w made;
+          tested_is = primary_whole c g end.0 tested (tested_fields (in_pieces c g) s (larger_size s) (count_of g s) end.0 made);
+          unasked_is = secondary_whole c g end.0 unasked made.2.secondary;
+          primary = same_then a s.secondary end.0.primary (secondary_image g b a s laws ok at_a h) held.primary;
+          secondary = same_then b s.primary end.0.secondary (primary_image g b a s laws ok at_b h) held.secondary;
+        };
       },
     )
 
-revert_law : (c : Grain) (p : Profile) (g : Geometry) (a b : List ℕ) (s u : Content) (size n : ℕ) (cuts : List ℕ) → forgets_reverts c p ≡ false → Reverts g a b size n s → after (record { grain = c; profile = p }) g s cuts ≡ Some u
-    → (z : Content) × Law (record { grain = c; profile = p }) g false b a s u z
+pub revert_law : (c : Grain) (p : Profile) (g : Geometry) (a b : List ℕ) (s u : Content) (size n : ℕ) (cuts : List ℕ) → forgets_reverts c p ≡ false → Reverts g a b size n s → after (record { grain = c; profile = p }) g s cuts ≡ Some u
+    → (z : Content) × Law (record { grain = c; profile = p }) g false n b a s u z
 revert_law c p g a b s u size n cuts keeps from is =
     let w = from.swap in
     let R : Content → Type 0 = Waiting c (in_pieces c g) s n in
@@ -240,24 +268,25 @@ law_test r g a b s u cuts laws ok at_a at_b start is =
     let E : Content → Type 0 = λ t. Holding g a b t × FieldsAre g t Secondary (asked true) in
     let there = subst E start (test_holds g a b laws ok at_a at_b, test_asked g a b laws ok at_b) in
     let end = asked_law r.grain r.profile g true a b s u cuts laws ok at_a at_b there.0 there.1 is in
-    (end.0, ended r g test true a b s u end.0 refl refl end.1 (end.1.exchange, end.1.trailer))
+    (end.0, ended r g test true (count_of g s) a b s u end.0 refl refl end.1 (by_start r g (count_of g s) s end.0 end.1.sectors end.1.exchange, end.1.trailer))
 
 law_perm : (r : Rules) (g : Geometry) (a b : List ℕ) (s u : Content) (cuts : List ℕ) → ImageLaws → IsLayout g → BeginsImage g a → BeginsImage g b → perm_flash g (image_bytes a) (image_bytes b) ≡ s → after r g s cuts ≡ Some u → (z : Content) × EndsIn r g perm a b s u z
 law_perm r g a b s u cuts laws ok at_a at_b start is =
     let E : Content → Type 0 = λ t. Holding g a b t × FieldsAre g t Secondary (asked false) in
     let there = subst E start (perm_holds g a b laws ok at_a at_b, perm_asked g a b laws ok at_b) in
     let end = asked_law r.grain r.profile g false a b s u cuts laws ok at_a at_b there.0 there.1 is in
-    (end.0, ended r g perm false a b s u end.0 refl refl end.1 (end.1.exchange, end.1.trailer))
+    (end.0, ended r g perm false (count_of g s) a b s u end.0 refl refl end.1 (by_start r g (count_of g s) s end.0 end.1.sectors end.1.exchange, end.1.trailer))
 
 law_revert : (r : Rules) (g : Geometry) (a b : List ℕ) (s u : Content) (cuts : List ℕ) → ImageLaws → IsLayout g → BeginsImage g a → BeginsImage g b → forgets_reverts r.grain r.profile ≡ false → left_by plain g (test_flash g (image_bytes b) (image_bytes a)) ≡ Some s → after r g s cuts ≡ Some u → (z : Content) × EndsIn r g revert a b s u z
 law_revert r g a b s u cuts laws ok at_a at_b keeps start is =
-    let left = test_leaves g a b (test_flash g (image_bytes b) (image_bytes a)) laws ok at_a at_b (test_holds g b a laws ok at_b at_a) (test_asked g b a laws ok at_a) in
-    let same : left.0 ≡ s = same_content left.0 s (sym left.1 ∙ start) in
+    let from : Content = test_flash g (image_bytes b) (image_bytes a) in
+    let left = test_leaves grains.Call profiles.One g a b (test_flash g (image_bytes b) (image_bytes a)) (test_flash g (image_bytes b) (image_bytes a)) [] laws ok at_a at_b (test_holds g b a laws ok at_b at_a) (test_asked g b a laws ok at_a) refl in
+    let same : left.0 ≡ s = same_content left.0 s (sym left.1.end ∙ start) in
     let size : ℕ = larger_size (test_flash g (image_bytes b) (image_bytes a)) in
     let n : ℕ = count_of g (test_flash g (image_bytes b) (image_bytes a)) in
     let E : Content → Type 0 = λ t. Reverts g a b (larger_size (test_flash g (image_bytes b) (image_bytes a))) (count_of g (test_flash g (image_bytes b) (image_bytes a))) t in
-    let end = revert_law r.grain r.profile g a b s u (larger_size (test_flash g (image_bytes b) (image_bytes a))) (count_of g (test_flash g (image_bytes b) (image_bytes a))) cuts keeps (subst E same left.2) is in
-    (end.0, ended r g revert false a b s u end.0 refl refl end.1 (end.1.exchange, end.1.trailer))
+    let end = revert_law r.grain r.profile g a b s u (larger_size (test_flash g (image_bytes b) (image_bytes a))) (count_of g (test_flash g (image_bytes b) (image_bytes a))) cuts keeps (subst E same left.1.reverts) is in
+    (end.0, ended r g revert false (count_of g (test_flash g (image_bytes b) (image_bytes a))) a b s u end.0 refl refl end.1 (by_start r g (count_of g (test_flash g (image_bytes b) (image_bytes a))) s end.0 end.1.sectors end.1.exchange, end.1.trailer))
 
 pub restart_law : ImageLaws → (r : Rules) → RestartLaw r
 unfolding start_flash

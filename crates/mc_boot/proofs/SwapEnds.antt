@@ -1,13 +1,14 @@
 -- What a swap leaves, after every list of cuts.
-use Rattle.std.specs.Prelude.{◌≡◌, ◌≢◌, ℕ, ◌-◌, Bool, true, false, List, replicate, Some}
+use Rattle.std.specs.Prelude.{◌≡◌, ◌≢◌, ℕ, ◌-◌, ◌*◌, Bool, true, false, List, replicate, Some}
 use Rattle.std.proofs.Common.{sym, ap, subst, ◌∙◌}
 use Rattle.mc_boot.proofs.BootsKeep.{Swaps}
 use Rattle.mc_boot.proofs.Fronts.{front_at_end, front_lists, image_there, sees_end}
 use Rattle.mc_boot.proofs.InPieces.{keeps_pieces, plan_in_pieces, trailer_pieces}
 use Rattle.mc_boot.proofs.Keeps.{Keeps, restart}
 use Rattle.mc_boot.proofs.PhasePlans.{absent_reverts, image_ok_is, plan_settled, plan_tested, swap_of}
-use Rattle.mc_boot.proofs.Phases.{Done, Ended, IsSwapOf, Phase, Swap}
+use Rattle.mc_boot.proofs.Phases.{Ended, IsSwapOf, Phase, Swap}
 use Rattle.mc_boot.proofs.SameImages.{SameImage}
+use Rattle.mc_boot.proofs.SectorData.{Data}
 use Rattle.mc_boot.proofs.WholeBoots.{Ends, ends}
 use Rattle.mc_boot.specs.Plan.{Plan, plan}
 use Rattle.mc_boot.specs.Restart.{AreExchanged, IsSettled, IsTested}
@@ -65,17 +66,17 @@ pub record Crossed (start z : Content) : Type 0 where
   pub primary : SameImage start.secondary z.primary
   pub secondary : SameImage start.primary z.secondary
 
-pub crossed : (g : Geometry) (start : Content) (size n : ℕ) (kind : SwapType) (z : Content) → Swap g start size n → Done g start size n kind z → Crossed start z
-crossed g start size n kind z w done = record {
-  primary = image_there g start size n z Primary Secondary w done.data_.sized (front_at_end g start n z Primary w.ok w.few done.data_);
-  secondary = image_there g start size n z Secondary Primary w done.data_.sized (front_at_end g start n z Secondary w.ok w.few done.data_);
+pub crossed : (g : Geometry) (start : Content) (size n : ℕ) (z : Content) → Swap g start size n → Data g n start (3 * n) z → Crossed start z
+crossed g start size n z w data_ = record {
+  primary = image_there g start size n z Primary Secondary w data_.sized (front_at_end g start n z Primary w.ok w.few data_);
+  secondary = image_there g start size n z Secondary Primary w data_.sized (front_at_end g start n z Secondary w.ok w.few data_);
 }
 
 -- the sectors at the end
-pub exchanges : (g : Geometry) (start : Content) (size n : ℕ) (kind : SwapType) (z : Content) → Swap g start size n → Done g start size n kind z → AreExchanged g n start z
-exchanges g start size n kind z w done = record {
-  primary = front_lists g start n z Primary Secondary w.ok w.few w.sized done.data_.sized (front_at_end g start n z Primary w.ok w.few done.data_);
-  secondary = front_lists g start n z Secondary Primary w.ok w.few w.sized done.data_.sized (front_at_end g start n z Secondary w.ok w.few done.data_);
+pub exchanges : (g : Geometry) (start : Content) (size n : ℕ) (z : Content) → Swap g start size n → Data g n start (3 * n) z → AreExchanged g n start z
+exchanges g start size n z w data_ = record {
+  primary = front_lists g start n z Primary Secondary w.ok w.few w.sized data_.sized (front_at_end g start n z Primary w.ok w.few data_);
+  secondary = front_lists g start n z Secondary Primary w.ok w.few w.sized data_.sized (front_at_end g start n z Secondary w.ok w.few data_);
 }
 
 -- the trailers at the end

@@ -1,6 +1,7 @@
 //! The restart theorem.
 ghost use Rattle.mc_trailer.specs.declared.tables.Rules.{Rules};
 ghost use Rattle.mc_boot.specs.Restart.{StartsExist, RestartLaw};
+ghost use Rattle.mc_boot.specs.Rounds.{RoundsLaw};
 
 use mc_image::{one_reading, same_front};
 
@@ -10,9 +11,13 @@ use mc_image::{one_reading, same_front};
 ///
 /// It holds by whole calls and unit by unit, and for both profiles. The one exception is a revert unit by unit in the first
 /// profile, which a cut within the secondary's magic makes the boot forget.
+///
+/// A second round follows, of power cuts and a whole boot: it takes a test back that was left alone, keeps one that was
+/// confirmed, and has no operation where the first round was no test. The exception is the same: a revert in either round.
 pub fn restart_law()
     ensures starts { StartsExist }
     ensures restart { (rules : Rules) → RestartLaw rules }
+    ensures rounds { (rules : Rules) → RoundsLaw rules }
 {
     one_reading();
     same_front();

@@ -2,9 +2,10 @@
 ghost use Rattle.std.specs.Prelude.{◌≡◌};
 ghost use Rattle.mc_boot.specs.Boot.{IsBootOf};
 
+mod confirms;
 mod cuts;
 
-use mc_boot::{Boot, BootResult, ImageId, Outcome, outcome_after};
+use mc_boot::{Boot, BootResult, ImageId, Outcome, confirm, outcome_after};
 use mc_fixtures::{FIRST_IMAGE, SECOND_IMAGE, worked};
 use mc_flash::{Bytes16, Flash, FlashError, Grain, Layout, Op, Slot, SnapFlash};
 use mc_image::Version;
