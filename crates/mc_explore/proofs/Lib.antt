@@ -1,6 +1,5 @@
 mod Images
 mod Room
-mod Parting
 mod Bytes
 mod TornPages
 mod Reading
