@@ -19,3 +19,5 @@ pub mod After
 pub mod Texts
 pub mod Start
 pub mod Restart
+pub mod Confirm
+pub mod ConfirmFacts

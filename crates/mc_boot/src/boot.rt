@@ -37,7 +37,7 @@ pub struct Boot {
 }
 
 // Makes one operation.
-fn perform<F: Flash>(flash: &mut F, op: Op) -> Result<(), FlashError>
+pub(crate) fn perform<F: Flash>(flash: &mut F, op: Op) -> Result<(), FlashError>
     requires { CanTry (F.seen flash.old).geometry op }
     ensures { Does op (F.seen flash.old) result (F.seen flash.new) }
 {

@@ -2,6 +2,7 @@
 #![tactic(auto)]
 
 mod boot;
+mod confirmation;
 mod course;
 mod image;
 mod joining;
@@ -12,6 +13,7 @@ mod transfer;
 mod writes;
 
 pub use boot::{Boot, outcome_after};
+pub use confirmation::confirm;
 pub use image::ImageId;
 pub use outcome::{BootResult, Outcome};
 pub use restart::restart_law;

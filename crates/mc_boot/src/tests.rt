@@ -2,6 +2,7 @@
 ghost use Rattle.std.specs.Prelude.{◌≡◌};
 ghost use Rattle.mc_boot.specs.Boot.{IsBootOf};
 
+mod confirms;
 mod cuts;
 
 use super::*;
