@@ -2,7 +2,6 @@
 use Rattle.std.specs.Prelude.{◌≡◌, ℕ, ◌+◌, ◌<◌, ◌==◌, Bool, true, false, ◌≤◌, ◌⊎◌, ◌^◌, List, [], ◌∷◌, ◌++◌, length, flat_map, map, codes, decimal, All, AllPairs, Contains, Result, Ok, refl}
 use Rattle.std.proofs.Common.{arith, inl, inr, sym, ap, subst, ◌∙◌, append_assoc, append-nil, length-append}
 use Rattle.std.proofs.lemmas.Bool.Decides.{nat_tests}
-use Rattle.std.proofs.lemmas.List.{length-map}
 use Rattle.std.proofs.lemmas.Fmt.{decimal_injective}
 use Rattle.std.proofs.lemmas.List.Elements.{All-append, All-contains, All-contains_itself, All-cons, All-map, All-nil, All-push, All-weaker, Contains-append_right}
 use Rattle.mc_tree.specs.Twice.{pairs}
@@ -11,6 +10,7 @@ use Rattle.mc_output.specs.facts.Parting.{Lacks, lacks_both, lacks_decimal, no_d
 use Rattle.mc_output.specs.Joined.{joined}
 use Rattle.mc_output.specs.facts.Reading.{IsSpelling}
 use Rattle.mc_explore.specs.Texts.{schedule_text, IsSchedule}
+use Rattle.mc_campaign.proofs.Pairs.{pairs_length, same_parts}
 use Rattle.mc_campaign.specs.Places.{Places, pairs_of}
 use Rattle.mc_campaign.specs.Texts.{campaign_text, cut_text, FitsCut, IsAdded, IsCampaign}
 use Rattle.mc_campaign.specs.Rounds.{cuts_text, number_of}
@@ -146,37 +146,6 @@ pub campaign_of : (c : Places) → AreCuts (pairs_of c) → IsCampaign c
 campaign_of c ok = record { few = ok.few; small = ok.small }
 
 -- Two campaigns of the same cuts are one.
-head_is : {X : Type 0} (x y : X) (xs ys : List X) → x ∷ xs ≡ y ∷ ys → x ≡ y
-head_is x y xs ys e = cc
-
-tail_is : {X : Type 0} (x y : X) (xs ys : List X) → x ∷ xs ≡ y ∷ ys → xs ≡ ys
-tail_is x y xs ys e = cc
-
-apart : {X : Type 0} (x : X) (xs : List X) → [] ≡ x ∷ xs → ⊥
-apart x xs e = absurd cc
-
-same_second : (s q : List ℕ) → pairs [] s ≡ pairs [] q → s ≡ q
-same_second [] [] e = refl
-same_second [] (y ∷ q) e = absurd (apart (2, y) (pairs [] q) e)
-same_second (x ∷ s) [] e = absurd (apart (2, x) (pairs [] s) (sym e))
-same_second (x ∷ s) (y ∷ q) e =
-    let rest = same_second s q (tail_is (2, x) (2, y) (pairs [] s) (pairs [] q) e) in
-    let heads : x ≡ y = ap (λ (z : ℕ × ℕ). z.1) (head_is (2, x) (2, y) (pairs [] s) (pairs [] q) e) in
-    ap (λ (z : ℕ). z ∷ s) heads ∙ ap (λ (z : List ℕ). y ∷ z) rest
-
-not_first : (y : ℕ) (p s q : List ℕ) → pairs [] s ≡ pairs (y ∷ p) q → ⊥
-not_first y p [] q e = apart (1, y) (pairs p q) e
-not_first y p (x ∷ s) q e = let rounds : 2 ≡ 1 = ap (λ (z : ℕ × ℕ). z.0) (head_is (2, x) (1, y) (pairs [] s) (pairs p q) e) in omega (arith, rounds)
-
-same_parts : (f s p q : List ℕ) → pairs f s ≡ pairs p q → (f ≡ p) × (s ≡ q)
-same_parts [] s [] q e = (refl, same_second s q e)
-same_parts [] s (y ∷ p) q e = absurd (not_first y p s q e)
-same_parts (x ∷ f) s [] q e = absurd (not_first x f q s (sym e))
-same_parts (x ∷ f) s (y ∷ p) q e =
-    let rest = same_parts f s p q (tail_is (1, x) (1, y) (pairs f s) (pairs p q) e) in
-    let heads : x ≡ y = ap (λ (z : ℕ × ℕ). z.1) (head_is (1, x) (1, y) (pairs f s) (pairs p q) e) in
-    (ap (λ (z : ℕ). z ∷ f) heads ∙ ap (λ (z : List ℕ). y ∷ z) rest.0, rest.1)
-
 pub same_campaign : (c d : Places) → pairs_of c ≡ pairs_of d → c ≡ d
 same_campaign c d e =
     let both = same_parts c.first c.second d.first d.second e in
@@ -200,9 +169,7 @@ not_behind c text cut place some f small is told = by c.second some f.in_order
 
 pub room_for : (first second : List ℕ) (n : ℕ) → n ≡ length (pairs first second) → (n ≡ 16 → ⊥) → length first + length second ≤ 16 → length (pairs first second) < 16
 room_for first second n is not_full few =
-    let n : length (pairs first second) ≡ length first + length second =
-    length-append (map (λ i. (1, i)) first) (map (λ j. (2, j)) second) ∙ omega (arith, length-map {B = ℕ × ℕ} first (λ i. (1, i)), length-map {B = ℕ × ℕ} second (λ j. (2, j))) in
-    omega (arith, is, not_full, few, n)
+    omega (arith, is, not_full, few, pairs_length first second)
 
 pub none_in : (xs : List ℕ) (b : Bool) → b ≡ (length xs == 0) → b ≡ true → length xs ≡ 0
 none_in [] b is e = refl

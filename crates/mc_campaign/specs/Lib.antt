@@ -1,3 +1,5 @@
 pub mod Places
 pub mod Texts
 pub mod Rounds
+pub mod Campaigns
+pub mod Boots

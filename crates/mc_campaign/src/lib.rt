@@ -2,8 +2,10 @@
 #![tactic(auto)]
 
 mod campaign;
+mod laws;
 
 pub use campaign::{Campaign, CampaignError, Round};
+pub use laws::campaigns_are_paths;
 
 #[cfg(test)]
 mod tests;

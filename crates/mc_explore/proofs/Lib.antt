@@ -3,7 +3,6 @@ mod Room
 mod Bytes
 mod TornPages
 mod Reading
-mod Occurring
 mod Onwards
 mod Listing
 mod Loaded

@@ -27,7 +27,7 @@ use Rattle.mc_explore.specs.Boots.{at_cut}
 use Rattle.mc_explore.specs.Once.{HasMade, IsTold, most_of, once}
 use Rattle.mc_explore.specs.Replay.{EndsWith}
 use Rattle.mc_explore.specs.declared.once.Told.{Told}
-use Rattle.mc_explore.proofs.Occurring.{at_zero, come_lands}
+use Rattle.mc_explore.specs.facts.Occurring.{at_zero, come_lands}
 
 count_in : Option Report → ℕ
 count_in None = 0
