@@ -16,8 +16,9 @@ use Rattle.mc_boot.specs.Joins.{joins_of}
 use Rattle.mc_boot.specs.Outcome.{Report, outcome_of}
 use Rattle.mc_boot.specs.Plan.{Plan, plan}
 use Rattle.mc_boot.specs.RunFacts.{come_at}
+use Rattle.mc_boot.specs.Runs.{left_by}
 use Rattle.mc_boot.proofs.CourseJoins.{met_joins}
-use Rattle.mc_boot.proofs.Joins.{joined, less}
+use Rattle.mc_boot.proofs.Joins.{IsJoined, joined, less}
 use Rattle.mc_boot.proofs.JoinsMeet.{joins_meet}
 
 rest_is : (faulted : Bool) (done : ℕ) (ops rest : List Op) → faulted ≡ false → done ≡ 0 → (if faulted then [] else drop done ops) ≡ rest → ops ≡ rest
@@ -31,15 +32,22 @@ begun_list r p b is =
 pub layout_is : (g : Geometry) (o : Option Course) (a : Course) → o ≡ Some a → IfSome o (λ c. c.layout ≡ in_pieces c.grain g) → a.layout ≡ in_pieces a.grain g
 layout_is g o a is all = let P : Option Course → Type 0 = λ x. IfSome x (λ c. c.layout ≡ in_pieces c.grain g) in subst P is all
 
--- After a cut the next boot ends as the one that was cut would have, where the test of their courses gives a number.
-pub outcome_follows : (r : Rules) (g : Geometry) (s u : Content) (cut next : Boot) (a b : Course) (whole : Report) (j : ℕ) → IsCut r g s u cut whole → cut.course ≡ Some a → next.course ≡ Some b
-    → IsBootOf g next → progress next ≡ begun r (plan r g u) → IsLayout b.layout → joins_of a cut.done b ≡ Some j → outcome_of r g u ≡ Some (less next.kind j whole)
-outcome_follows r g s u cut next a b whole j is at_a at_b of start ok joins =
-    let meets = joins_meet g a b cut.done j ok (layout_is g cut.course a at_a is.layout) (layout_is g next.course b at_b of) joins in
-    let list_s : (plan r g s).list ≡ course_list a = sym is.list ∙ ap whole_list at_a in
-    let list_u : (plan r g u).list ≡ course_list b = sym (begun_list r (plan r g u) next start) ∙ ap whole_list at_b in
-    let join = joined r g s u cut.done j meets.sectors (met_joins r g s u cut.done j (course_list a) (course_list b) meets is.sized (come_at r g s (progress cut) u is.come) is.early list_s list_u) in
-    let kind : (plan r g u).kind ≡ next.kind = ap (λ (x : Progress). x.kind) (sym start) in
-    join.outcome
-    ∙ ap (option_map (less (plan r g u).kind j)) is.outcome
-    ∙ ap (λ (k : SwapType). Some (less k j whole)) kind
+-- After a cut the next boot goes on as the one that was cut would have, where the test of their courses gives a number.
+module _ (r : Rules) (g : Geometry) (s u : Content) (cut next : Boot) (a b : Course) (whole : Report) (j : ℕ) (is : IsCut r g s u cut whole) (at_a : cut.course ≡ Some a) (at_b : next.course ≡ Some b) where
+  module _ (of : IsBootOf g next) (start : progress next ≡ begun r (plan r g u)) (ok : IsLayout b.layout) (joins : joins_of a cut.done b ≡ Some j) where
+    follows : IsJoined r g s u j
+    follows =
+        let meets = joins_meet g a b cut.done j ok (layout_is g cut.course a at_a is.layout) (layout_is g next.course b at_b of) joins in
+        let list_s : (plan r g s).list ≡ course_list a = sym is.list ∙ ap whole_list at_a in
+        let list_u : (plan r g u).list ≡ course_list b = sym (begun_list r (plan r g u) next start) ∙ ap whole_list at_b in
+        joined r g s u cut.done j meets.sectors (met_joins r g s u cut.done j (course_list a) (course_list b) meets is.sized (come_at r g s (progress cut) u is.come) is.early list_s list_u)
+
+    pub outcome_follows : outcome_of r g u ≡ Some (less next.kind j whole)
+    outcome_follows =
+        let kind : (plan r g u).kind ≡ next.kind = ap (λ (x : Progress). x.kind) (sym start) in
+        follows.outcome
+        ∙ ap (option_map (less (plan r g u).kind j)) is.outcome
+        ∙ ap (λ (k : SwapType). Some (less k j whole)) kind
+
+    pub left_follows : left_by r g u ≡ left_by r g s
+    left_follows = follows.left

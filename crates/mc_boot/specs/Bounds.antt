@@ -13,6 +13,8 @@ use Rattle.mc_flash.specs.Content.{Content}
 use Rattle.mc_flash.specs.Apply.{apply}
 use Rattle.mc_flash.specs.Ledger.{Counts, saves, most_operations, most_saved}
 use Rattle.mc_flash.specs.Pieces.{in_pieces, pieces_layout}
+use Rattle.mc_flash.specs.Seen.{Seen}
+use Rattle.mc_flash.specs.Spends.{LeaveRoom, plus}
 use Rattle.mc_flash.specs.declared.flash.Grain.{Grain}
 use Rattle.mc_flash.specs.declared.flash.Grain.TheVariants as grains
 use Rattle.mc_flash.specs.declared.op.Slot.{Slot}
@@ -49,6 +51,10 @@ all_saves g (op ∷ rest) = saves g op + all_saves g rest
 -- What a boot has still to count: the operations to come, and the bytes that they save.
 abbrev pub left_of : Geometry → Progress → Counts
 left_of g p = record { entries = length p.to_come; saved = all_saves g p.to_come }
+
+-- What is counted and what is left to count are together no more than before.
+abbrev pub CountsOn : Progress → Progress → Seen → Seen → Type 0
+CountsOn p q old new = LeaveRoom new.ledger.counts (left_of old.geometry q) (plus old.ledger.counts (left_of old.geometry p))
 
 -- At most so many operations, and at most so many bytes that they save.
 pub record IsBounded (g : Geometry) (ops : List Op) (count saved : ℕ) : Type 0 where

@@ -10,11 +10,7 @@ use Rattle.mc_flash.specs.declared.op.Op.{Op}
 use Rattle.mc_flash.specs.declared.flash.FlashError.{FlashError}
 use Rattle.mc_flash.specs.declared.flash.FlashError.TheVariants as errors
 use Rattle.mc_boot.specs.Boot.{Progress, StepsAlong, Steps}
-use Rattle.mc_boot.specs.Bounds.{all_saves, left_of}
-
--- What is counted and what is left to count are together no more than before.
-abbrev pub CountsOn : Progress → Progress → Seen → Seen → Type 0
-CountsOn p q old new = LeaveRoom new.ledger.counts (left_of old.geometry q) (plus old.ledger.counts (left_of old.geometry p))
+use Rattle.mc_boot.specs.Bounds.{CountsOn, all_saves, left_of}
 
 -- Operations done and operations to come are together no more than before, and memory did not fail.
 pub record StepSpends (p q : Progress) (old new : Seen) : Type 0 where
@@ -26,6 +22,16 @@ pub record StepSpends (p q : Progress) (old new : Seen) : Type 0 where
 
 pub step_spends_none : (p : Progress) (f : Seen) → StepSpends p p f f
 step_spends_none p f = record { applied = omega arith; limits = refl; failed = refl }
+
+pub counts_on_none : (p : Progress) (f : Seen) → CountsOn p p f f
+counts_on_none p f = record { entries = omega arith; saved = omega arith }
+
+-- Where the layout stays.
+pub counts_on_both : (o p q : Progress) (x y z : Seen) → y.geometry ≡ x.geometry → CountsOn o p x y → CountsOn p q y z → CountsOn o q x z
+counts_on_both o p q x y z same c d =
+    let E : Geometry → Type 0 = λ g. LeaveRoom z.ledger.counts (left_of g q) (plus y.ledger.counts (left_of g p)) in
+    let on = subst E same d in
+    record { entries = omega (arith, c.entries, on.entries); saved = omega (arith, c.saved, on.saved) }
 
 pub step_spends_both : (o p q : Progress) (x y z : Seen) → StepSpends o p x y → StepSpends p q y z → StepSpends o q x z
 step_spends_both o p q x y z s t = record {

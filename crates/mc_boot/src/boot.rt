@@ -13,6 +13,7 @@ ghost use Rattle.mc_boot.specs.Boot.{progress, IsBootOf, begun};
 ghost use Rattle.mc_boot.specs.Outcome.{shown, outcome_of};
 ghost use Rattle.mc_boot.specs.Image.{images_of};
 ghost use Rattle.mc_boot.specs.Plan.{confirms, nothing, new_swap, new_plan, resumed_swap, resumed_plan, plan};
+ghost use Rattle.mc_boot.specs.Runs.{left_by};
 
 use crate::course::{Course, Opening};
 use crate::image::Images;
@@ -59,7 +60,7 @@ impl Boot {
     ghost use Rattle.mc_boot.specs.Boot.{all_of, to_come, progress, IsBootOf, Steps, begun};
     ghost use Rattle.mc_boot.specs.After.{IsStopped};
     ghost use Rattle.mc_boot.specs.Run.{HasCome};
-    ghost use Rattle.mc_boot.specs.Bounds.{all_saves, left_of};
+    ghost use Rattle.mc_boot.specs.Bounds.{all_saves, left_of, CountsOn};
     ghost use Rattle.mc_boot.specs.Outcome.{shown, report, outcome_of};
 
     // A boot with no operations.
@@ -348,6 +349,9 @@ impl Boot {
         // With that room it fails only where the flash takes memory as it goes.
         ensures spends { Spends (length (to_come self.old)) (F.seen flash.old) result
             (F.seen flash.new) }
+        // What it counts is no more than was to come.
+        ensures counts { CountsOn (progress self.old) (progress self.new) (F.seen flash.old)
+            (F.seen flash.new) }
         ensures err { IfErr result (λ e. e ≡ FlashError.Memory) }
     {
         'steps: while self.peek().is_some() {
@@ -385,14 +389,19 @@ impl Boot {
 ///
 /// `cut` is the boot at the cut, `whole` its outcome without the cut, and `next` the boot at power-on after it. There is an
 /// outcome where the next boot goes on within a transfer of the one that was cut or after the last one, where it begins the
-/// same swap again, and where the cut is before the first operation. Elsewhere there is none, and the boot has to be run. The
-/// two boots are compared in constant time, and no flash is read.
+/// same swap again, and where the cut is before the first operation. It leaves the flash then that the other would have left.
+/// Elsewhere there is none, and the boot has to be run. The two boots are compared in constant time, and no flash is read.
 pub fn outcome_after(cut: &Boot, whole: &Outcome, next: &Boot) -> Option<Outcome>
     ensures found { IsSome result ↔ IsSome (operations_kept cut.now next.now) }
     ensures outcome { (r : Rules) (g : Geometry) (s u : Content)
         → IsCut r g s u cut.now (shown whole.now)
         → IsBootOf g next.now → progress next.now ≡ begun r (plan r g u)
         → IfSome result (λ outcome. outcome_of r g u ≡ Some (shown outcome)) }
+    // And both leave the same flash.
+    ensures left { (r : Rules) (g : Geometry) (s u : Content)
+        → IsCut r g s u cut.now (shown whole.now)
+        → IsBootOf g next.now → progress next.now ≡ begun r (plan r g u)
+        → IfSome result (λ _. left_by r g u ≡ left_by r g s) }
 {
     let Some(course) = &cut.course else {
         return None;

@@ -4,7 +4,7 @@ use Rattle.mc_flash.specs.declared.flash.FlashError.TheVariants as errors
 use Rattle.mc_flash.specs.SpendsFacts.{keeps_both}
 use Rattle.mc_boot.specs.Boot.{progress, to_come}
 use Rattle.mc_boot.specs.Run.{HasCome}
-use Rattle.mc_boot.specs.StepFacts.{none_first, step_spends, step_spends_both, step_allows}
+use Rattle.mc_boot.specs.StepFacts.{counts_on_both, none_first, step_allows, step_counts, step_spends, step_spends_both}
 use Rattle.mc_boot.proofs.boot.Boot.finish.Goals as goal
 
 pub steps-preserved-in-Ok-1 : goal.steps-preserved-in-Ok-1
@@ -26,6 +26,7 @@ steps-preserved-in-Ok-1 g c =
       whole = e.whole ∙ i.whole;
       keeps = keeps_both old now new i.keeps e.keeps;
       room = step_allows p q now new c.step.result fine e.step e.keeps.geometry i.room;
+      counts = counts_on_both (progress c.args.self.now) p q old now new i.keeps.geometry i.counts (step_counts p q now new c.step.result e.step);
       spends = step_spends_both (progress c.args.self.now) p q old now new i.spends (step_spends p q now new c.step.result fine e.step);
     }
 

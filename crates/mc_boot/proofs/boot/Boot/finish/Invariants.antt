@@ -4,7 +4,7 @@ use Rattle.mc_flash.specs.Seen.{Keeps}
 use Rattle.mc_flash.specs.Spends.{Allows}
 use Rattle.mc_trailer.specs.declared.tables.Rules.{Rules}
 use Rattle.mc_boot.specs.Boot.{progress, IsBootOf, all_of, to_come}
-use Rattle.mc_boot.specs.Bounds.{left_of}
+use Rattle.mc_boot.specs.Bounds.{CountsOn, left_of}
 use Rattle.mc_boot.specs.Run.{HasCome}
 use Rattle.mc_boot.specs.StepFacts.{StepSpends}
 use Rattle.mc_boot.proofs.boot.Boot.finish.Given as goal
@@ -18,6 +18,7 @@ invariant-steps g l = record {
   whole : all_of l.self ≡ all_of l.fn.self;
   keeps : Keeps (g.F.Flash.seen l.fn.flash) (g.F.Flash.seen l.flash);
   room : Allows (left_of (g.F.Flash.seen l.flash).geometry (progress l.self)) (g.F.Flash.seen l.flash);
+  counts : CountsOn (progress l.fn.self) (progress l.self) (g.F.Flash.seen l.fn.flash) (g.F.Flash.seen l.flash);
   spends : StepSpends (progress l.fn.self) (progress l.self) (g.F.Flash.seen l.fn.flash) (g.F.Flash.seen l.flash);
 }
 
