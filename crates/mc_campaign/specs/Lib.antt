@@ -3,3 +3,4 @@ pub mod Texts
 pub mod Rounds
 pub mod Campaigns
 pub mod Boots
+pub mod Twice

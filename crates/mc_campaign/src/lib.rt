@@ -3,9 +3,12 @@
 
 mod campaign;
 mod laws;
+mod rounds;
+mod twice;
 
 pub use campaign::{Campaign, CampaignError, Round};
 pub use laws::campaigns_are_paths;
+pub use rounds::{Both, OnWay, Twice};
 
 #[cfg(test)]
 mod tests;
