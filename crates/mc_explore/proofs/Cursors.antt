@@ -15,7 +15,7 @@ use Rattle.mc_boot.specs.Plan.{plain}
 use Rattle.mc_explore.specs.CursorText.{rules_text, head_text, cursor_text, IsCursor}
 use Rattle.mc_explore.specs.Texts.{schedule_text}
 use Rattle.mc_explore.specs.declared.cursor.Cursor.{Cursor}
-use Rattle.mc_explore.proofs.Parting.{Lacks, AreParts, one_part, no_part, lacks_decimal}
+use Rattle.mc_output.specs.facts.Parting.{Lacks, AreParts, one_part, no_part, lacks_decimal}
 
 -- ---- numbers and digits
 

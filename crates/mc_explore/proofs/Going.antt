@@ -37,7 +37,7 @@ use Rattle.mc_explore.specs.declared.once.Told.{Told}
 use Rattle.mc_explore.specs.declared.phase.Phase.{Phase}
 use Rattle.mc_explore.specs.declared.phase.Phase.TheVariants as phases
 use Rattle.mc_explore.proofs.Moving.{over_listed}
-use Rattle.mc_explore.proofs.Occurring.{allowed_after, occurs_allowed, member_of, path_of}
+use Rattle.mc_explore.specs.facts.Occurring.{allowed_after, occurs_allowed, member_of, path_of}
 
 -- ---- what a path costs
 

@@ -1,10 +1,8 @@
 mod Images
 mod Room
-mod Parting
 mod Bytes
 mod TornPages
 mod Reading
-mod Occurring
 mod Onwards
 mod Listing
 mod Loaded

@@ -13,7 +13,7 @@ use Rattle.mc_explore.specs.Rest.{schedule_of, IsRow, IsRest}
 use Rattle.mc_explore.specs.Start.{Begun}
 use Rattle.mc_explore.specs.State as states
 use Rattle.mc_explore.specs.State.{State, Told, told, HasOutcome, Finds, outcome_after, moved_to}
-use Rattle.mc_explore.proofs.Occurring.{allowed_after, member_of, path_of}
+use Rattle.mc_explore.specs.facts.Occurring.{allowed_after, member_of, path_of}
 
 one_outcome : (a b : List ℕ) (x y : Report) (o : List ℕ → Option Report) → a ≡ b → o a ≡ Some x → o b ≡ Some y → x ≡ y
 one_outcome a b x y o e p q = let f : o a ≡ o b = ap o e in cc

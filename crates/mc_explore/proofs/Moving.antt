@@ -19,7 +19,7 @@ use Rattle.mc_explore.specs.declared.once.Once.{Once}
 use Rattle.mc_explore.specs.declared.once.Told.{Told}
 use Rattle.mc_explore.specs.declared.row.Row.{Row}
 use Rattle.mc_explore.proofs.Listing.{lands_told}
-use Rattle.mc_explore.proofs.Occurring.{member_of, path_of}
+use Rattle.mc_explore.specs.facts.Occurring.{member_of, path_of}
 
 -- The paths of a walk are the schedules to go through.
 module _ (w : Walked Once) (position : Position) where

@@ -1,5 +1,5 @@
 -- From one cut of a boot to the next, and what is told of the flash there.
-use Rattle.std.specs.Prelude.{◌≡◌, ℕ, ◌+◌, ◌<◌, ◌≤◌, List, [], ◌∷◌, length, Option, Some, None, Result, Ok, Err, IfErr, IfOk, option_map, refl}
+use Rattle.std.specs.Prelude.{◌≡◌, ℕ, ◌+◌, ◌<◌, ◌≤◌, List, [], ◌∷◌, length, Option, Some, None, Result, Ok, Err, IfErr, option_map, refl}
 use Rattle.std.proofs.Common.{arith, sym, ap, subst, ◌∙◌}
 use Rattle.mc_flash.specs.Content.{Content, IsSized}
 use Rattle.mc_flash.specs.Geometry.{Geometry}
@@ -13,34 +13,21 @@ use Rattle.mc_trailer.specs.declared.tables.Rules.{Rules}
 use Rattle.mc_image.specs.Bytes.{IsBytes}
 use Rattle.mc_boot.specs.After.{IsCut, IsStopped}
 use Rattle.mc_boot.specs.Boot.{Progress, IsBootOf, StepsAlong, Steps, all_of, begun, progress}
-use Rattle.mc_boot.specs.Bounds.{IsBounded, all_saves, left_of}
+use Rattle.mc_boot.specs.Bounds.{IsBounded, left_of}
 use Rattle.mc_boot.specs.Outcome.{Report, outcome_of, report, shown}
 use Rattle.mc_boot.specs.Plan.{plan}
 use Rattle.mc_boot.specs.Run.{HasCome}
-use Rattle.mc_boot.specs.RunFacts.{come_begun, come_ops, left_defined}
-use Rattle.mc_boot.specs.Runs.{is_faulted, ops_of}
+use Rattle.mc_boot.specs.RunFacts.{come_begun, come_left, come_ops, left_defined}
+use Rattle.mc_boot.specs.Runs.{is_faulted, left_by, ops_of}
 use Rattle.mc_boot.specs.StepFacts.{refused_here, step_counts, step_ran_out, step_spends, stepped_here}
 use Rattle.mc_boot.specs.declared.boot.Boot.{Boot}
 use Rattle.mc_boot.specs.declared.outcome.Outcome.{Outcome}
 use Rattle.mc_walk.specs.Kind.{IsAt, HasNext, GoesOn}
 use Rattle.mc_explore.specs.Boots.{at_cut}
-use Rattle.mc_explore.specs.Once.{HasMade, IsTold, most_of, once}
+use Rattle.mc_explore.specs.Once.{CanPass, HasMade, IsBegun, IsTold, Passes, most_of, once}
 use Rattle.mc_explore.specs.Replay.{EndsWith}
 use Rattle.mc_explore.specs.declared.once.Told.{Told}
-use Rattle.mc_explore.proofs.Occurring.{at_zero, come_lands}
-
-count_in : Option Report → ℕ
-count_in None = 0
-count_in (Some o) = o.ops
-
--- What an outcome says of the operations.
-pub outcome_ops : (r : Rules) (g : Geometry) (s : Content) (o : Report) → outcome_of r g s ≡ Some o → o.ops ≡ length (ops_of r g s)
-unfolding outcome_of report count_in
-outcome_ops r g s o e =
-    let left = left_defined r g s in
-    let is : Some o ≡ Some (report r g (plan r g s).kind (length (ops_of r g s)) (is_faulted r g s) left.0) =
-    sym e ∙ ap (option_map (λ z. report r g (plan r g s).kind (length (ops_of r g s)) (is_faulted r g s) z)) left.1 in
-    ap count_in is
+use Rattle.mc_explore.specs.facts.Occurring.{at_zero, come_lands}
 
 -- At most one operation is done.
 step_once : (p q : Progress) (old new : Seen) (result : Result (Unit {0}) FlashError) → (result ≡ Err errors.Memory → ⊥) → Steps p old result q new → length p.to_come ≤ length q.to_come + 1
@@ -55,15 +42,13 @@ others_left p q old new v steps = at p.to_come refl steps
     at [] is d = omega (arith, ap (λ (ops : List Op). length ops) is)
     at (op ∷ rest) is d = omega (arith, ap (λ (ops : List Op). length ops) is, ap (λ (x : Progress). length x.to_come) d.0)
 
--- A boot at power-on from where a flash stands, with few operations.
-pub record IsBegun (r : Rules) (f : Seen) (b : Boot) : Type 0 where
-  pub boot : progress b ≡ begun r (plan r f.geometry f.content)
-  pub list : all_of b ≡ (plan r f.geometry f.content).list
-  pub layout : IsBootOf f.geometry b
-  pub few : length (progress b).to_come ≤ most_operations r.grain f.geometry
-  pub saves : all_saves f.geometry (progress b).to_come ≤ most_saved f.geometry
-  pub sized : IsSized f.geometry f.content
-  pub bytes : IsBytes f.content.secondary
+-- What is asked of a boot that was run to its end.
+pub ends_with : (f new : Seen) (p q : Progress) (outcome : Outcome) → Keeps f new
+    → ((x : Rules) (s : Content) → HasCome x f.geometry s p f.content → HasCome x f.geometry s q new.content) → q.to_come ≡ []
+    → ((x : Rules) (s : Content) → HasCome x new.geometry s q new.content → q.to_come ≡ [] → outcome_of x new.geometry s ≡ Some (shown outcome)) → EndsWith f p outcome
+ends_with f new p q outcome keeps come end told = λ x s here.
+    let P : Geometry → Type 0 = λ y. HasCome x y s q new.content in
+    ap (λ (y : Geometry). outcome_of x y s) (sym keeps.geometry) ∙ told x s (subst P (sym keeps.geometry) (come x s here)) end
 
 module _ (r : Rules) (g : Geometry) where
   -- Something is to come of a boot that has not made all its operations.
@@ -73,28 +58,6 @@ module _ (r : Rules) (g : Geometry) where
       at : (ops : List Op) → p.to_come ≡ ops → 0 < length p.to_come
       at [] is = absurd (omega (arith, early, come_ops r g s p t come is))
       at (op ∷ rest) is = omega (arith, ap (λ (ops : List Op). length ops) is)
-
-  -- ---- what is told
-
-  pub width_is : (told : Told) (s : Content) → IsTold r g s told → told.outcome.ops ≡ length (ops_of r g s)
-  width_is told s t = outcome_ops r g s (shown told.outcome) t.outcome_is
-
-  pub first_on : (s : Content) (told : Told) → IsTold r g s told → HasMade r g s 0 told.boot
-  first_on s told t =
-      let P : Progress → Type 0 = λ p. HasCome r g s p s in
-      record {
-        layout_is = t.layout_is;
-        list_is = t.list_is;
-        come = subst (HasCome r g s (progress told.boot)) (at_zero r g s) (subst P (sym t.boot_is) (come_begun r g s));
-        count_is = ap (λ (p : Progress). p.count) t.boot_is;
-      }
-
-  -- What it has left is a whole boot at most.
-  pub first_left : (s : Content) (told : Told) → IsTold r g s told → (old : Counts) → LeaveRoom old (left_of g (progress told.boot)) (plus old (most_of r g))
-  first_left s told t old = record {
-    entries = omega (arith, t.few.few, ap (λ (p : Progress). length p.to_come) t.boot_is);
-    saved = omega (arith, t.few.saves, ap (λ (p : Progress). (left_of g p).saved) t.boot_is);
-  }
 
   -- ---- the next cut
 
@@ -140,22 +103,22 @@ module _ (r : Rules) (g : Geometry) where
             some_to_come s (progress b) old.content (subst Q at.layout_is come_here) (omega (arith, early, at.on_is.count_is))
 
   -- What a step leaves on the way to the next cut.
-  pub goes_on : (b b' : Boot) (old new : Seen) (result : Result (Unit {0}) FlashError) → HasNext (once r g) b old
+  pub passes : (b b' : Boot) (old new : Seen) (result : Result (Unit {0}) FlashError) → CanPass r g b old
       → Steps (progress b) old result (progress b') new
       → ((x : Rules) (s : Content) → HasCome x old.geometry s (progress b) old.content → HasCome x old.geometry s (progress b') new.content)
-      → all_of b' ≡ all_of b → IsBootOf new.geometry b' → Keeps old new → GoesOn (once r g) b old result b' new
-  goes_on b b' old new (Err e) has steps come whole layout keeps = tt
-  goes_on b b' old new (Ok v) has steps come whole layout keeps =
+      → all_of b' ≡ all_of b → IsBootOf new.geometry b' → Keeps old new → Passes r g b old result b' new
+  passes b b' old new (Err e) has steps come whole layout keeps = tt
+  passes b b' old new (Ok v) has steps come whole layout keeps =
       let same : old.geometry ≡ g = has.2.layout_is in
       let counts = step_counts (progress b) (progress b') old new (Ok v) steps in
       let P : Geometry → Type 0 = λ x. LeaveRoom new.ledger.counts (left_of x (progress b')) (plus old.ledger.counts (left_of x (progress b))) in
-      (λ s i at more. went_on s i b b' old new at (omega (arith, more)) v steps (come r s (come_here s i b b' old new at (omega (arith, more)))) whole layout keeps, subst P same counts)
+      (λ s i at early. went_on s i b b' old new at early v steps (come r s (come_here s i b b' old new at early)) whole layout keeps, subst P same counts)
 
   -- And what it spends.
-  pub next_spends : (b b' : Boot) (old new : Seen) (result : Result (Unit {0}) FlashError) → HasNext (once r g) b old → Steps (progress b) old result (progress b') new
+  pub pass_spends : (b b' : Boot) (old new : Seen) (result : Result (Unit {0}) FlashError) → CanPass r g b old → Steps (progress b) old result (progress b') new
       → ((x : Rules) (s : Content) → HasCome x old.geometry s (progress b) old.content → HasCome x old.geometry s (progress b') new.content)
       → Spends 1 old result new
-  next_spends b b' old new (Ok v) has steps come =
+  pass_spends b b' old new (Ok v) has steps come =
       let other : Ok v ≡ Err errors.Memory → ⊥ = λ e. absurd cc in
       let s = step_spends (progress b) (progress b') old new (Ok v) other steps in
       record {
@@ -163,24 +126,30 @@ module _ (r : Rules) (g : Geometry) where
         limits = s.limits;
         failed = s.failed;
       }
-  next_spends b b' old new (Err errors.NotErased) has steps come =
-      let early : has.1 < length (ops_of r g has.0) = omega (arith, has.3) in
-      let came = come r has.0 (come_here has.0 has.1 b b' old new has.2 early) in
-      absurd (not_refused has.0 has.1 b b' old new has.2 early (Err errors.NotErased) steps came refl)
-  next_spends b b' old new (Err errors.Memory) has steps come =
+  pass_spends b b' old new (Err errors.NotErased) has steps come =
+      let came = come r has.0 (come_here has.0 has.1 b b' old new has.2 has.3) in
+      absurd (not_refused has.0 has.1 b b' old new has.2 has.3 (Err errors.NotErased) steps came refl)
+  pass_spends b b' old new (Err errors.Memory) has steps come =
       let P : Geometry → Type 0 = λ x. LeaveRoom old.ledger.counts (left_of x (progress b)) (room_of old.ledger.limits) in
       step_ran_out (progress b) (progress b') old new (Err errors.Memory) refl steps (subst P (sym has.2.layout_is) has.4)
 
   -- A step that fails has wanted memory.
-  pub next_wants : (b b' : Boot) (old new : Seen) (result : Result (Unit {0}) FlashError) → HasNext (once r g) b old → Steps (progress b) old result (progress b') new
+  pub pass_wants : (b b' : Boot) (old new : Seen) (result : Result (Unit {0}) FlashError) → CanPass r g b old → Steps (progress b) old result (progress b') new
       → ((x : Rules) (s : Content) → HasCome x old.geometry s (progress b) old.content → HasCome x old.geometry s (progress b') new.content)
       → IfErr result (λ e. e ≡ errors.Memory)
-  next_wants b b' old new (Ok v) has steps come = tt
-  next_wants b b' old new (Err errors.Memory) has steps come = refl
-  next_wants b b' old new (Err errors.NotErased) has steps come =
-      let early : has.1 < length (ops_of r g has.0) = omega (arith, has.3) in
-      let came = come r has.0 (come_here has.0 has.1 b b' old new has.2 early) in
-      absurd (not_refused has.0 has.1 b b' old new has.2 early (Err errors.NotErased) steps came refl)
+  pass_wants b b' old new (Ok v) has steps come = tt
+  pass_wants b b' old new (Err errors.Memory) has steps come = refl
+  pass_wants b b' old new (Err errors.NotErased) has steps come =
+      let came = come r has.0 (come_here has.0 has.1 b b' old new has.2 has.3) in
+      absurd (not_refused has.0 has.1 b b' old new has.2 has.3 (Err errors.NotErased) steps came refl)
+
+  -- A child has one more before it.
+  pub can_pass : (b : Boot) (seen : Seen) → HasNext (once r g) b seen → CanPass r g b seen
+  can_pass b seen has = (has.0, has.1, has.2, omega (arith, has.3), has.4)
+
+  pub goes_on : (b b' : Boot) (old new : Seen) (result : Result (Unit {0}) FlashError) → Passes r g b old result b' new → GoesOn (once r g) b old result b' new
+  goes_on b b' old new (Ok v) p = (λ s i at more. p.0 s i at (omega (arith, more)), p.1)
+  goes_on b b' old new (Err e) p = tt
 
   -- ---- what is told of a flash
 
@@ -232,26 +201,35 @@ module _ (r : Rules) (g : Geometry) where
   told_still s i told none t =
       subst (λ n. IsTold r g (at_cut r g s n) told) (sym none) (subst (λ x. IsTold r g x told) (at_zero r g s) t)
 
-  -- The answer of what runs a boot, and of a boot that was cut.
+  pub left_still : (s : Content) (i : ℕ) → i ≡ 0 → left_by r g (at_cut r g s i) ≡ left_by r g s
+  left_still s i none = ap (λ n. left_by r g (at_cut r g s n)) none ∙ ap (left_by r g) (sym (at_zero r g s))
+
+  -- What runs a boot, and a boot that was cut.
   module _ (f : Seen) (b : Boot) (layout : f.geometry ≡ g) (begins : IsBegun r f b) where
-    pub told_run : (s : Content) → f.content ≡ s → (t : Told) → t.boot ≡ b → EndsWith f (progress b) t.outcome → IsTold r g s t
-    told_run s content t same ends =
-        let P : Progress → Type 0 = λ p. HasCome r f.geometry f.content p f.content in
-        let come : HasCome r f.geometry f.content (progress b) f.content = subst P (sym begins.boot) (come_begun r f.geometry f.content) in
-        let is : outcome_of r g s ≡ Some (shown t.outcome) =
-        ap (λ (x : Content). outcome_of r g x) (sym content) ∙ ap (λ (x : Geometry). outcome_of r x f.content) (sym layout) ∙ ends r f.content come in
-        subst (λ (x : Boot). IsTold r g s (record { boot = x; outcome = t.outcome })) (sym same) (told_of s f b t.outcome layout content begins is)
+    comes : HasCome r f.geometry f.content (progress b) f.content
+    comes = let P : Progress → Type 0 = λ p. HasCome r f.geometry f.content p f.content in subst P (sym begins.boot) (come_begun r f.geometry f.content)
+
+    pub told_run : (outcome : Outcome) → EndsWith f (progress b) outcome → IsTold r g f.content (record { boot = b; outcome = outcome })
+    told_run outcome ends =
+        let is : outcome_of r g f.content ≡ Some (shown outcome) = ap (λ (x : Geometry). outcome_of r x f.content) (sym layout) ∙ ends r f.content comes in
+        told_of f.content f b outcome layout refl begins is
+
+    pub left_run : (q : Progress) (new : Seen) → ((x : Rules) (s : Content) → HasCome x f.geometry s (progress b) f.content → HasCome x f.geometry s q new.content) → q.to_come ≡ []
+        → left_by r g f.content ≡ Some new.content
+    left_run q new come end = ap (λ (x : Geometry). left_by r x f.content) (sym layout) ∙ come_left r f.geometry f.content q new.content (come r f.content comes) end
+
+    plans : (s : Content) (i : ℕ) (at : Boot) → IsAt (once r g) s i at f → plan r f.geometry f.content ≡ plan r g (at_cut r g s i)
+    plans s i at here = ap (λ (x : Geometry). plan r x f.content) layout ∙ ap (plan r g) here.content_is
 
     pub told_derived : (s : Content) (i : ℕ) (at : Boot) (parent : Told) (outcome : Outcome) → IsAt (once r g) s i at f → i < length (ops_of r g s) → IsTold r g s parent
         → ((x : Rules) (y : Geometry) (v u : Content) → IsCut x y v u at (shown parent.outcome) → IsBootOf y b → progress b ≡ begun x (plan x y u) → outcome_of x y u ≡ Some (shown outcome))
         → IsTold r g (at_cut r g s i) (record { boot = b; outcome = outcome })
     told_derived s i at parent outcome here early told after =
-        let plans : plan r f.geometry f.content ≡ plan r g (at_cut r g s i) = ap (λ (x : Geometry). plan r x f.content) layout ∙ ap (plan r g) here.content_is in
-        let is = after r g s (at_cut r g s i) (cut_here s i at f parent here early told) (subst (λ (x : Geometry). IsBootOf x b) layout begins.layout) (begins.boot ∙ ap (begun r) plans) in
+        let is = after r g s (at_cut r g s i) (cut_here s i at f parent here early told) (subst (λ (x : Geometry). IsBootOf x b) layout begins.layout) (begins.boot ∙ ap (begun r) (plans s i at here)) in
         told_of (at_cut r g s i) f b outcome layout here.content_is begins is
 
--- By its answer.
-pub tells : {A : Type 0} (told : Result Told A) (Is : Told → Type 0) (b : Boot) (f : Seen) → IfOk told (λ t. t.boot ≡ b) → IfOk told (λ t. EndsWith f (progress b) t.outcome)
-    → ((t : Told) → t.boot ≡ b → EndsWith f (progress b) t.outcome → Is t) → IfOk told Is
-tells (Ok t) Is b f boot ends is = is t boot ends
-tells (Err e) Is b f boot ends is = tt
+    pub left_derived : (s : Content) (i : ℕ) (at : Boot) (parent : Told) → IsAt (once r g) s i at f → i < length (ops_of r g s) → IsTold r g s parent
+        → ((x : Rules) (y : Geometry) (v u : Content) → IsCut x y v u at (shown parent.outcome) → IsBootOf y b → progress b ≡ begun x (plan x y u) → left_by x y u ≡ left_by x y v)
+        → left_by r g (at_cut r g s i) ≡ left_by r g s
+    left_derived s i at parent here early told after =
+        after r g s (at_cut r g s i) (cut_here s i at f parent here early told) (subst (λ (x : Geometry). IsBootOf x b) layout begins.layout) (begins.boot ∙ ap (begun r) (plans s i at here))

@@ -17,7 +17,7 @@ use Rattle.mc_explore.specs.Replay.{IsReplayed, IsSwapOutcome, Restarts}
 use Rattle.mc_explore.specs.Restarts.{RowRestarts}
 use Rattle.mc_explore.specs.Start.{Begun}
 use Rattle.mc_explore.specs.State.{Told, HasOutcome, outcome_after}
-use Rattle.mc_explore.proofs.Onwards.{outcome_ops}
+use Rattle.mc_explore.specs.facts.Telling.{outcome_ops}
 
 -- The slots of an outcome are those of the flash that the boot leaves.
 told_slots : (r : Rules) (g : Geometry) (u z : Content) (o : Report) → outcome_of r g u ≡ Some o → left_by r g u ≡ Some z → (o.primary ≡ id_of z.primary) × (o.secondary ≡ id_of z.secondary)

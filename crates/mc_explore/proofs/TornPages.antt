@@ -29,9 +29,10 @@ use Rattle.mc_explore.specs.declared.cursor.Cursor.{Cursor}
 use Rattle.mc_explore.proofs.Bytes.{IsBetween, NoFeed, literal, and, feedless_front, schedule_between, lacks_feed, lacks_literal, row_feedless, cursor_feedless, no_space}
 use Rattle.mc_explore.proofs.Going.{few_ops}
 use Rattle.mc_explore.proofs.Listing.{rest_tail}
-use Rattle.mc_explore.proofs.Occurring.{path_of}
-use Rattle.mc_explore.proofs.Parting.{Lacks, lacks_each, one_part, no_part, lacks_decimal}
-use Rattle.mc_explore.proofs.Reading.{dash, point_no_digit, points}
+use Rattle.mc_explore.specs.facts.Occurring.{path_of}
+use Rattle.mc_output.specs.facts.Parting.{Lacks, lacks_each, one_part, no_part, lacks_decimal}
+use Rattle.mc_output.specs.facts.Reading.{dash}
+use Rattle.mc_explore.proofs.Reading.{point_no_digit, points, spelling}
 
 lacks : (byte : ℕ) (xs : List ℕ) → LacksByte byte xs → Lacks byte xs
 lacks byte xs none = lacks_each byte xs none
@@ -63,8 +64,8 @@ same_numbers c d (x ∷ xs) (y ∷ ys) p q e =
 
 -- A text is that of one schedule.
 same_schedule : (l m : List ℕ) → IsSchedule l → IsSchedule m → schedule_text l ≡ schedule_text m → l ≡ m
-same_schedule [] m p q e = sym (dash m (codes "-") q refl e)
-same_schedule (c ∷ cs) [] p q e = dash (c ∷ cs) (codes "-") p refl (sym e)
+same_schedule [] m p q e = sym (dash spelling m (codes "-") q refl e)
+same_schedule (c ∷ cs) [] p q e = dash spelling (c ∷ cs) (codes "-") p refl (sym e)
 same_schedule (c ∷ cs) (d ∷ ds) p q e =
     let same = same_numbers c d cs ds p.small q.small e in
     let first : c ≡ d = same.0 in

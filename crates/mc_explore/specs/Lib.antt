@@ -20,3 +20,4 @@ pub mod Survey
 pub mod Resume
 pub mod Restarts
 pub mod Chain
+pub mod facts

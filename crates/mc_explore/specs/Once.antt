@@ -1,17 +1,20 @@
 -- The tree of boots that are cut, as a walk goes through it.
-use Rattle.std.specs.Prelude.{◌≡◌, ℕ, Some, refl}
+use Rattle.std.specs.Prelude.{◌≡◌, ℕ, ◌+◌, ◌<◌, ◌≤◌, length, Some, Result, Ok, Err, refl}
 use Rattle.mc_flash.specs.Content.{Content, IsSized}
 use Rattle.mc_flash.specs.Geometry.{Geometry}
 use Rattle.mc_flash.specs.Ledger.{Counts, most_operations, most_saved}
+use Rattle.mc_flash.specs.Seen.{Seen}
+use Rattle.mc_flash.specs.Spends.{Allows, LeaveRoom, plus}
 use Rattle.mc_image.specs.Bytes.{IsBytes}
 use Rattle.mc_trailer.specs.declared.tables.Rules.{Rules}
 use Rattle.mc_boot.specs.Boot.{IsBootOf, all_of, begun, progress}
-use Rattle.mc_boot.specs.Bounds.{IsBounded, left_of}
+use Rattle.mc_boot.specs.Bounds.{IsBounded, all_saves, left_of}
 use Rattle.mc_boot.specs.Outcome.{outcome_of, shown}
 use Rattle.mc_boot.specs.Plan.{plan}
 use Rattle.mc_boot.specs.Run.{HasCome}
+use Rattle.mc_boot.specs.Runs.{left_by, ops_of}
 use Rattle.mc_boot.specs.declared.boot.Boot.{Boot}
-use Rattle.mc_walk.specs.Kind.{Kind}
+use Rattle.mc_walk.specs.Kind.{Kind, IsAt}
 use Rattle.mc_explore.specs.Boots.{at_cut, boots}
 use Rattle.mc_explore.specs.declared.once.Told.{Told}
 
@@ -37,6 +40,16 @@ pub record IsTold (r : Rules) (g : Geometry) (s : Content) (told : Told) : Type 
   pub bytes : IsBytes s.secondary
   pub outcome_is : outcome_of r g s ≡ Some (shown told.outcome)
 
+-- A boot at power-on from where a flash stands, with few operations.
+pub record IsBegun (r : Rules) (f : Seen) (b : Boot) : Type 0 where
+  pub boot : progress b ≡ begun r (plan r f.geometry f.content)
+  pub list : all_of b ≡ (plan r f.geometry f.content).list
+  pub layout : IsBootOf f.geometry b
+  pub few : length (progress b).to_come ≤ most_operations r.grain f.geometry
+  pub saves : all_saves f.geometry (progress b).to_come ≤ most_saved f.geometry
+  pub sized : IsSized f.geometry f.content
+  pub bytes : IsBytes f.content.secondary
+
 -- A node is a content. One goes from a child to the next by one operation, and one boot tells of a node.
 abbrev pub once : Rules → Geometry → Kind Content Boot Told
 once r g = record {
@@ -52,3 +65,21 @@ once r g = record {
   most = most_of r g;
   spare = 1;
 }
+
+-- The boot of a content was cut before an operation that it makes uncut, and there is room for what it has left.
+abbrev pub CanPass : Rules → Geometry → Boot → Seen → Type 0
+CanPass r g b seen =
+    (s : Content) × (i : ℕ) × IsAt (once r g) s i b seen × (i < length (ops_of r g s)) × Allows (left_of g (progress b)) seen
+
+-- It has made that operation, and counts no more than it had left.
+abbrev pub Passes : {E : Type 0} → Rules → Geometry → Boot → Seen → Result (Unit {0}) E → Boot → Seen → Type 0
+Passes r g b old (Ok _) b' new =
+    ((s : Content) (i : ℕ) → IsAt (once r g) s i b old → i < length (ops_of r g s) → IsAt (once r g) s (i + 1) b' new)
+    × LeaveRoom new.ledger.counts (left_of g (progress b')) (plus old.ledger.counts (left_of g (progress b)))
+Passes r g b old (Err _) b' new = Unit {0}
+
+-- The uncut boot from a cut leaves what the boot that was cut would have left, of which that was told.
+abbrev pub LeavesAlike : Rules → Geometry → Boot → Told → Seen → Type 0
+LeavesAlike r g b parent seen =
+    (s : Content) (i : ℕ) → IsAt (once r g) s i b seen → i < length (ops_of r g s) → IsTold r g s parent
+    → left_by r g (at_cut r g s i) ≡ left_by r g s

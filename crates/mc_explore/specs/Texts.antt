@@ -1,5 +1,7 @@
 -- The texts of layouts and schedules: this project's own.
-use Rattle.std.specs.Prelude.{◌≡◌, ℕ, ◌<◌, ◌≤◌, ◌^◌, List, [], ◌∷◌, ◌++◌, length, flat_map, codes, decimal, All, Result, Ok, Err}
+use Rattle.std.specs.Prelude.{◌≡◌, ℕ, ◌<◌, ◌≤◌, ◌^◌, List, ◌++◌, length, codes, decimal, All, Result, Ok, Err}
+use Rattle.mc_output.specs.Joined.{joined}
+use Rattle.mc_output.specs.Joined as joining
 use Rattle.mc_explore.specs.declared.schedule.ScheduleError.{ScheduleError}
 use Rattle.mc_flash.specs.Geometry.{Geometry}
 
@@ -11,8 +13,7 @@ layout_line g =
 
 -- `-` for no cut, else the cuts with points between them.
 abbrev pub schedule_text : List ℕ → List ℕ
-schedule_text [] = codes "-"
-schedule_text (c ∷ cs) = decimal c ++ flat_map (λ d. codes "." ++ decimal d) cs
+schedule_text cuts = joined (codes ".") decimal cuts
 
 -- At most 16 cuts, each below 2^32.
 pub record IsSchedule (l : List ℕ) : Type 0 where
@@ -24,10 +25,11 @@ abbrev pub ReadsSchedule : List ℕ → Result (List ℕ) ScheduleError → Type
 ReadsSchedule text (Ok l) = text ≡ schedule_text l
 ReadsSchedule text (Err _) = (l : List ℕ) → IsSchedule l → text ≡ schedule_text l → ⊥
 
--- The cut that a text writes stands behind others, of which there are fewer than 16.
-pub record IsAdded (old text new : List ℕ) : Type 0 where
-  pub room : length old < 16
-  pub cut : ℕ
+-- A cut that can be added: there are fewer than 16 before it.
+pub record FitsCut (before : List ℕ) (cut : ℕ) : Type 0 where
+  pub room : length before < 16
   pub small : cut < 2 ^ 32
-  pub text_is : text ≡ decimal cut
-  pub new_is : new ≡ old ++ cut ∷ []
+
+-- The cut that a text writes stands behind others.
+abbrev pub IsAdded : List ℕ → List ℕ → List ℕ → Type 0
+IsAdded old text new = joining.IsAdded decimal FitsCut old text new

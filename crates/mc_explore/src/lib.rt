@@ -28,6 +28,7 @@ pub use error::ExploreError;
 pub use explorer::Explorer;
 pub use kind::Kind;
 pub use laws::{one_list_of_rows, pages_join_up};
+pub use once::{Once, Told};
 pub use pages::{write_page, write_page_until};
 pub use replaying::{ReplayError, replay};
 pub use row::Row;

@@ -1,12 +1,6 @@
 //! The tree of boots that are cut: a node is what a flash contains, and its child of a number is what the boot from there
 //! leaves that is cut before its operation of that number.
-ghost use Rattle.std.specs.Prelude.{◌≡◌, length, IfOk, IfErr, OnOk};
-ghost use Rattle.mc_flash.specs.Content.{Content};
-ghost use Rattle.mc_flash.specs.Spends.{Spends, Stays, HasRoom};
 ghost use Rattle.mc_image.specs.Bytes.{IsBytes};
-ghost use Rattle.mc_boot.specs.Boot.{progress, to_come, IsBootOf};
-ghost use Rattle.mc_boot.specs.Bounds.{left_of};
-ghost use Rattle.mc_explore.specs.Replay.{EndsWith};
 
 use mc_boot::{Boot, Outcome, outcome_after};
 use mc_flash::{Flash, FlashError, Layout, Slot};
@@ -32,24 +26,102 @@ fn bytes_stand(bytes: &[u8])
     ensures { IsBytes bytes.now }
 {}
 
-// Runs a boot to its end, and goes back.
-fn tell<F: Flash>(flash: &mut F, boot: Boot) -> Result<Told, FlashError>
-    requires layout { IsBootOf (F.seen flash.old).geometry boot }
-    requires room { HasRoom (left_of (F.seen flash.old).geometry (progress boot))
-        (F.seen flash.old) }
-    ensures boot { IfOk result (λ told. told.boot ≡ boot) }
-    ensures outcome { IfOk result (λ told. EndsWith (F.seen flash.old) (progress boot)
-        told.outcome) }
-    ensures stays { OnOk result (Stays (F.seen flash.old) (F.seen flash.new)) }
-    ensures spends { Spends (length (to_come boot)) (F.seen flash.old) result (F.seen flash.new) }
-    ensures err { IfErr result (λ e. e ≡ FlashError.Memory) }
-{
-    let here = flash.mark()?;
-    let mut whole = boot;
-    whole.finish(flash)?;
-    let outcome = whole.outcome(flash);
-    flash.back_to(here);
-    Ok(Told { boot, outcome })
+impl Once {
+    ghost use Rattle.std.specs.Prelude.{◌≡◌, Some, IfOk, IfErr, OnOk};
+    ghost use Rattle.mc_flash.specs.Ledger.{most_operations, no_counts};
+    ghost use Rattle.mc_flash.specs.Seen.{Keeps};
+    ghost use Rattle.mc_flash.specs.Spends.{Allows, HasRoom, LeaveRoom, Spends, Stays, plus};
+    ghost use Rattle.mc_boot.specs.Runs.{left_by};
+    ghost use Rattle.mc_walk.specs.Kind.{IsChild, TellsChild};
+    ghost use Rattle.mc_explore.specs.Once.{once, most_of, CanPass, IsBegun, IsTold, LeavesAlike, Passes};
+
+    /// The boot at power-on from a flash.
+    pub fn boot<F: Flash>(&self, flash: &F) -> Boot
+        ensures { IsBegun self.now.rules (F.seen flash.now) result }
+    {
+        bytes_stand(flash.read(Slot::Secondary));
+        Boot::cold(flash, self.rules)
+    }
+
+    /// Runs the boot at power-on to its end, and tells of the flash where it began.
+    ///
+    /// # Errors
+    ///
+    /// `Memory` where the flash was refused memory.
+    pub fn run<F: Flash>(&self, flash: &mut F, boot: Boot) -> Result<Told, FlashError>
+        requires begun { IsBegun self.now.rules (F.seen flash.old) boot }
+        requires layout { (F.seen flash.old).geometry ≡ self.now.layout }
+        requires room { Allows (most_of self.now.rules self.now.layout) (F.seen flash.old) }
+        ensures told { IfOk result (IsTold self.now.rules self.now.layout (F.seen flash.old).content) }
+        ensures left { OnOk result (left_by self.now.rules self.now.layout (F.seen flash.old).content
+            ≡ Some (F.seen flash.new).content) }
+        ensures counts { LeaveRoom (F.seen flash.new).ledger.counts no_counts
+            (plus (F.seen flash.old).ledger.counts (most_of self.now.rules self.now.layout)) }
+        ensures keeps { Keeps (F.seen flash.old) (F.seen flash.new) }
+        ensures spends { Spends (most_operations self.now.rules.grain self.now.layout)
+            (F.seen flash.old) result (F.seen flash.new) }
+        ensures err { IfErr result (λ e. e ≡ FlashError.Memory) }
+    {
+        let mut whole = boot;
+        whole.finish(flash)?;
+        let outcome = whole.outcome(flash);
+        Ok(Told { boot, outcome })
+    }
+
+    // The same, and goes back.
+    fn tell<F: Flash>(&self, flash: &mut F, boot: Boot) -> Result<Told, FlashError>
+        requires begun { IsBegun self.now.rules (F.seen flash.old) boot }
+        requires layout { (F.seen flash.old).geometry ≡ self.now.layout }
+        requires room { HasRoom (most_of self.now.rules self.now.layout) (F.seen flash.old) }
+        ensures told { IfOk result (IsTold self.now.rules self.now.layout (F.seen flash.old).content) }
+        ensures stays { OnOk result (Stays (F.seen flash.old) (F.seen flash.new)) }
+        ensures spends { Spends (most_operations self.now.rules.grain self.now.layout)
+            (F.seen flash.old) result (F.seen flash.new) }
+        ensures err { IfErr result (λ e. e ≡ FlashError.Memory) }
+    {
+        let here = flash.mark()?;
+        let told = self.run(flash, boot)?;
+        flash.back_to(here);
+        Ok(told)
+    }
+
+    /// What is told of a child on its way, where it follows from what was told of its parent: then the uncut boots of both leave the
+    /// same flash. Elsewhere the boot at power-on from the child.
+    pub fn derive<F: Flash>(&self, flash: &F, at: &Boot, parent: &Told) -> Result<Told, Boot>
+        requires { IsChild (once self.now.rules self.now.layout) at.now parent.now (F.seen flash.now) }
+        ensures told { IfOk result (TellsChild (once self.now.rules self.now.layout) at.now parent.now
+            (F.seen flash.now)) }
+        ensures left { OnOk result (LeavesAlike self.now.rules self.now.layout at.now parent.now
+            (F.seen flash.now)) }
+        ensures begun { IfErr result (IsBegun self.now.rules (F.seen flash.now)) }
+    {
+        // Before its first operation a boot has changed nothing.
+        if at.count() == 0 {
+            return Ok(*parent);
+        }
+        bytes_stand(flash.read(Slot::Secondary));
+        let boot = Boot::after_cut(flash, at);
+        match outcome_after(at, &parent.outcome, &boot) {
+            Some(outcome) => Ok(Told { boot, outcome }),
+            None => Err(boot),
+        }
+    }
+
+    /// Makes the operation before which a boot was cut.
+    ///
+    /// # Errors
+    ///
+    /// `Memory` where the flash was refused memory.
+    pub fn pass<F: Flash>(&self, flash: &mut F, at: &mut Boot) -> Result<(), FlashError>
+        requires { CanPass self.now.rules self.now.layout at.old (F.seen flash.old) }
+        ensures passes { Passes self.now.rules self.now.layout at.old (F.seen flash.old) result at.new
+            (F.seen flash.new) }
+        ensures keeps { OnOk result (Keeps (F.seen flash.old) (F.seen flash.new)) }
+        ensures spends { Spends 1 (F.seen flash.old) result (F.seen flash.new) }
+        ensures err { IfErr result (λ e. e ≡ FlashError.Memory) }
+    {
+        at.step(flash)
+    }
 }
 
 impl Branches for Once {
@@ -73,25 +145,18 @@ impl Branches for Once {
     }
 
     fn next<F: Flash>(self, flash: &mut F, at: &mut Boot) -> Result<(), FlashError> {
-        at.step(flash)
+        self.pass(flash, at)
     }
 
     fn root<F: Flash>(self, flash: &mut F) -> Result<Told, FlashError> {
-        bytes_stand(flash.read(Slot::Secondary));
-        let boot = Boot::cold(flash, self.rules);
-        tell(flash, boot)
+        let boot = self.boot(flash);
+        self.tell(flash, boot)
     }
 
     fn child<F: Flash>(self, flash: &mut F, at: &Boot, parent: &Told) -> Result<Told, FlashError> {
-        // Before its first operation a boot has changed nothing.
-        if at.count() == 0 {
-            return Ok(*parent);
-        }
-        bytes_stand(flash.read(Slot::Secondary));
-        let boot = Boot::after_cut(flash, at);
-        match outcome_after(at, &parent.outcome, &boot) {
-            Some(outcome) => Ok(Told { boot, outcome }),
-            None => tell(flash, boot),
+        match self.derive(flash, at, parent) {
+            Ok(told) => Ok(told),
+            Err(boot) => self.tell(flash, boot),
         }
     }
 }

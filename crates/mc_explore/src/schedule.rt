@@ -1,7 +1,7 @@
 //! Schedules of power cuts.
 ghost use Rattle.std.specs.Prelude.{◌≡◌, ◌↔◌, true, ℕ, ◌<◌, ◌≤◌, ◌^◌, ◌++◌, List, [], ◌∷◌, length, decimal, Some, Ok, IfOk, MatchResult, OnOk, OnErr};
 ghost use Rattle.mc_tree.specs.Paths.{Precedes};
-ghost use Rattle.mc_explore.specs.Texts.{schedule_text, IsSchedule, IsAdded, ReadsSchedule};
+ghost use Rattle.mc_explore.specs.Texts.{schedule_text, FitsCut, IsSchedule, IsAdded, ReadsSchedule};
 
 use std::fmt;
 use std::marker::Model;
@@ -78,8 +78,8 @@ impl Schedule {
     // Adds the cut that a text writes, where there is room for one.
     fn add(&mut self, text: &str) -> Result<(), ScheduleError>
         ensures added { OnOk result (IsAdded self.old text.now self.new) }
-        ensures refused { OnErr result ((n : ℕ) → n < 2 ^ 32 → text.now ≡ decimal n
-            → length self.old < 16 → ⊥) }
+        ensures refused { OnErr result ((cut : ℕ) → FitsCut self.old cut → text.now ≡ decimal cut
+            → ⊥) }
     {
         let cut = cut_of(text)?;
         if self.len == MOST_CUTS {
@@ -127,7 +127,7 @@ impl Schedule {
     }
 
     /// Adds a cut at the end.
-    pub(crate) fn push(&mut self, cut: u32)
+    pub fn push(&mut self, cut: u32)
         requires { length self.old < 16 }
         ensures { self.new ≡ self.old ++ cut ∷ [] }
     {

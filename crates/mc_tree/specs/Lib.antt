@@ -1,5 +1,6 @@
 pub mod Tree
 pub mod Paths
 pub mod Rows
+pub mod Twice
 pub mod Chain
 pub mod facts

@@ -6,3 +6,4 @@ pub mod Past
 pub mod OneList
 pub mod Existence
 pub mod Joined
+pub mod Rounds

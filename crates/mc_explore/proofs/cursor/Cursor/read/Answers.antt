@@ -1,7 +1,7 @@
 use Rattle.std.specs.Prelude.{◌≡◌, Ok, Some, None}
 use Rattle.std.proofs.Common.{arith, sym, ap, ◌∙◌}
 use Rattle.mc_explore.specs.declared.cursor.Cursor.{Cursor}
-use Rattle.mc_explore.proofs.Parting.{parted, one_piece}
+use Rattle.mc_output.specs.facts.Parting.{parted, one_piece}
 use Rattle.mc_explore.proofs.Cursors.{rules_read, digits_read, no_digits, number_read, no_number, cursor_is}
 use Rattle.mc_explore.proofs.cursor.Cursor.read.Goals as goal
 

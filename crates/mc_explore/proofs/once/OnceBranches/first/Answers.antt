@@ -1,6 +1,6 @@
 use Rattle.std.proofs.Common.{◌∙◌}
-use Rattle.mc_explore.proofs.Occurring.{at_zero}
-use Rattle.mc_explore.proofs.Onwards.{first_left, first_on}
+use Rattle.mc_explore.specs.facts.Occurring.{at_zero}
+use Rattle.mc_explore.specs.facts.Telling.{first_left, first_on}
 use Rattle.mc_explore.proofs.once.OnceBranches.first.Goals as goal
 
 pub returns-clause-reaches : goal.returns-clause-reaches

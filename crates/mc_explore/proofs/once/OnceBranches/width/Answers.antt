@@ -1,4 +1,4 @@
-use Rattle.mc_explore.proofs.Onwards.{width_is}
+use Rattle.mc_explore.specs.facts.Telling.{width_is}
 use Rattle.mc_explore.proofs.once.OnceBranches.width.Goals as goal
 
 pub returns : goal.returns

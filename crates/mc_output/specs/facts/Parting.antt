@@ -1,5 +1,5 @@
 -- How a text is parted at a separator.
-use Rattle.std.specs.Prelude.{◌≡◌, ◌≢◌, ℕ, suc, ◌<◌, ◌≤◌, ◌^◌, List, [], ◌∷◌, ◌++◌, length, get_or, Option, Some, None, decimal, refl, ⊤}
+use Rattle.std.specs.Prelude.{◌≡◌, ◌≢◌, ℕ, suc, ◌<◌, ◌≤◌, ◌^◌, List, [], ◌∷◌, ◌++◌, length, get_or, Option, Some, None, codes, decimal, refl, ⊤}
 use Rattle.std.specs.Borrow.{Bor}
 use Rattle.std.specs.Str.Parse.{AllDigits}
 use Rattle.std.proofs.Common.{arith, ap, ◌∙◌}
@@ -33,6 +33,10 @@ module _ (mark : ℕ) where
   no_part (x ∷ xs) [] vs a e = a.0 cc
   no_part (x ∷ xs) (u ∷ us) vs a e = no_part xs us vs a.1 cc
 
+  pub lacks_both : (xs ys : List ℕ) → Lacks xs → Lacks ys → Lacks (xs ++ ys)
+  lacks_both [] ys a b = b
+  lacks_both (x ∷ xs) ys a b = (a.0, lacks_both xs ys a.1 b)
+
   -- The parts of a text at its first separator.
   pub record AreParts (rest first after : List ℕ) : Type 0 where
     pub parts : rest ≡ first ++ (mark ∷ after)
@@ -57,3 +61,13 @@ module _ (mark : ℕ) where
 
     pub lacks_decimal : (n : ℕ) → n < 2 ^ 32 → Lacks (decimal n)
     lacks_decimal n small = lacks_digits (decimal n) (decimal_is_IsNumeral n (omega (arith, small))).0.1
+
+numeral_no_dash : (ds rest : List ℕ) → AllDigits 10 ds → 0 < length ds → codes "-" ≡ ds ++ rest → ⊥
+numeral_no_dash [] rest digits some is = absurd (omega (arith, some))
+numeral_no_dash (d ∷ ds) rest digits some is = let first : 45 ≡ d = cc in omega (arith, first, digit_from_value d digits.0)
+
+-- No number begins with a dash.
+pub no_dash : (n : ℕ) (rest : List ℕ) → n < 2 ^ 32 → codes "-" ≡ decimal n ++ rest → ⊥
+no_dash n rest small is =
+    let numeral = (decimal_is_IsNumeral n (omega (arith, small))).0 in
+    numeral_no_dash (decimal n) rest numeral.1 numeral.0 is

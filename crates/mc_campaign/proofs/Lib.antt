@@ -1,0 +1,5 @@
+mod Pairs
+mod Reading
+mod Paths
+mod Ways
+mod Steps

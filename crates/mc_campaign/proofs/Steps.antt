@@ -1,0 +1,211 @@
+-- The first child of a place in two rounds, and the next.
+use Rattle.std.specs.Prelude.{◌≡◌, ℕ, ◌+◌, ◌<◌, ◌≤◌, min, Bool, List, length, Some, Result, Ok, Err, IfOk, refl}
+use Rattle.std.proofs.Common.{arith, sym, ap, subst, ◌∙◌}
+use Rattle.std.proofs.lemmas.List.{take_all}
+use Rattle.mc_tree.specs.Twice.{Place, first, second}
+use Rattle.mc_flash.specs.Content.{Content}
+use Rattle.mc_flash.specs.Geometry.{Geometry, IsLayout}
+use Rattle.mc_flash.specs.Ledger.{Counts, Limits, no_counts}
+use Rattle.mc_flash.specs.LedgerFacts.{few_operations}
+use Rattle.mc_flash.specs.Seen.{Seen}
+use Rattle.mc_flash.specs.Spends.{Allows, LeaveRoom, plus, room_of}
+use Rattle.mc_flash.specs.declared.op.Op.{Op}
+use Rattle.mc_trailer.specs.declared.tables.Rules.{Rules}
+use Rattle.mc_boot.specs.Boot.{progress}
+use Rattle.mc_boot.specs.Bounds.{left_of, ops_few}
+use Rattle.mc_boot.specs.Confirm.{confirmed_if, one_write}
+use Rattle.mc_boot.specs.Runs.{left_by, ops_of}
+use Rattle.mc_boot.specs.declared.boot.Boot.{Boot}
+use Rattle.mc_walk.specs.Kind.{IsAt, IsChild, TellsChild}
+use Rattle.mc_explore.specs.Boots.{at_cut}
+use Rattle.mc_explore.specs.Once.{CanPass, IsTold, LeavesAlike, once}
+use Rattle.mc_explore.specs.facts.Occurring.{at_zero}
+use Rattle.mc_explore.specs.facts.Telling.{first_left, first_on, width_is}
+use Rattle.mc_explore.specs.declared.once.Told.{Told}
+use Rattle.mc_campaign.specs.Boots.{second_start}
+use Rattle.mc_campaign.specs.Twice.{AreTold, began_at, content_at, later_from, later_number, left_of_way, most_of_both, twice_kind}
+use Rattle.mc_campaign.specs.declared.campaign.Round.TheVariants as rounds_of
+use Rattle.mc_campaign.specs.declared.rounds.Both.{Both}
+use Rattle.mc_campaign.specs.declared.rounds.OnWay.{OnWay}
+use Rattle.mc_campaign.specs.declared.rounds.OnWay.TheVariants as ways
+use Rattle.mc_campaign.proofs.Ways.{at_begin, at_first, at_next, between, between_left, child, first_at, first_child, later_at, later_child, later_early, same_start, width}
+
+module _ (r : Rules) (g : Geometry) (confirms : Bool) where
+  -- ---- how many children
+
+  few_ops : (s : Content) → IsLayout g → length (ops_of r g s) ≤ 204000000
+  few_ops s valid =
+      let few = ops_few r g s (length (ops_of r g s)) valid in
+      omega (arith, few, few_operations r.grain g valid, ap (λ (ops : List Op). length ops) (take_all (length (ops_of r g s)) (ops_of r g s) (omega arith)))
+
+  -- ---- the first
+
+  pub begins_first : (p : Place Content) (told : Both) (seen : Seen) → told.round ≡ rounds_of.First → 0 < told.first.outcome.ops → AreTold r g confirms p told → seen.content ≡ content_at p → seen.geometry ≡ g
+      → IsAt (twice_kind r g confirms) p 0 (ways.First told.first.boot told.first.outcome.ops told.second) seen
+  begins_first (first s) told seen round some t content layout =
+      let ops = width_is r g told.first s t.first_is in
+      at_first r g confirms s 0 told.first.boot told.first.outcome.ops told.second seen
+      (record { on_is = first_on r g s told.first t.first_is; content_is = content ∙ at_zero r g s; layout_is = layout }) (omega (arith, some, ops)) ops t.second_is
+  begins_first (second began s) told seen round some t content layout = let not_so : rounds_of.First ≡ rounds_of.Second = sym round ∙ t.round_is in absurd cc
+
+  -- Where the first round has no operation its boot is over.
+  pub begins_behind : (p : Place Content) (told : Both) (old new : Seen) → told.round ≡ rounds_of.First → told.first.outcome.ops ≤ 0 → AreTold r g confirms p told → old.content ≡ content_at p → old.geometry ≡ g
+      → new.content ≡ confirmed_if confirms old.geometry old.content → new.geometry ≡ old.geometry → IsAt (twice_kind r g confirms) p 0 (ways.Second told.second.boot) new
+  begins_behind (first s) told old new round none t content layout is same =
+      let ops = width_is r g told.first s t.first_is in
+      let zero : 0 ≡ length (ops_of r g s) = omega (arith, none, ops) in
+      at_begin r g confirms (first s) 0 told.second new (omega (arith, zero)) (omega (arith, zero)) (between r g confirms s new.content old layout (content ∙ at_zero r g s ∙ ap (at_cut r g s) zero) is)
+      (same ∙ layout) t.second_is
+  begins_behind (second began s) told old new round none t content layout is same = let not_so : rounds_of.First ≡ rounds_of.Second = sym round ∙ t.round_is in absurd cc
+
+  pub begins_second : (p : Place Content) (told : Both) (seen : Seen) → told.round ≡ rounds_of.Second → AreTold r g confirms p told → seen.content ≡ content_at p → seen.geometry ≡ g
+      → IsAt (twice_kind r g confirms) p 0 (ways.Second told.second.boot) seen
+  begins_second (first s) told seen round t content layout = let not_so : rounds_of.First ≡ rounds_of.Second = sym t.round_is ∙ round in absurd cc
+  begins_second (second began s) told seen round t content layout = at_begin r g confirms (second began s) 0 told.second seen tt refl content layout t.second_is
+
+  -- What is left then is no more than the rounds count.
+  pub left_first : (p : Place Content) (told : Both) (old : Counts) → AreTold r g confirms p told
+      → LeaveRoom old (left_of_way r g (ways.First told.first.boot told.first.outcome.ops told.second)) (plus old (most_of_both r g))
+  left_first p told old t =
+      let one = first_left r g (began_at p) told.first t.first_is old in
+      record { entries = omega (arith, one.entries); saved = omega (arith, one.saved) }
+
+  pub left_second : (p : Place Content) (told : Both) (old new : Counts) → AreTold r g confirms p told → LeaveRoom new no_counts (plus old one_write)
+      → LeaveRoom new (left_of_way r g (ways.Second told.second.boot)) (plus old (most_of_both r g))
+  left_second p told old new t more =
+      let one = first_left r g (later_from r g confirms p) told.second t.second_is old in
+      record { entries = omega (arith, one.entries, more.entries); saved = omega (arith, one.saved, more.saved) }
+
+  pub nothing_more : (old : Counts) → LeaveRoom old no_counts (plus old one_write)
+  nothing_more old = record { entries = omega arith; saved = omega arith }
+
+  -- ---- the next
+
+  pub first_passes : (p : Place Content) (i : ℕ) (boot : Boot) (ops : ℕ) (later : Told) (seen : Seen) → IsAt (twice_kind r g confirms) p i (ways.First boot ops later) seen
+      → Allows (left_of_way r g (ways.First boot ops later)) seen → CanPass r g boot seen
+  first_passes (first s) i boot ops later seen at room =
+      (s, i, first_at r g confirms s i boot ops later seen at, at.on_is.early, record { entries = omega (arith, room.entries); saved = omega (arith, room.saved) })
+  first_passes (second began s) i boot ops later seen at room = absurd at.on_is
+
+  pub second_passes : (p : Place Content) (i : ℕ) (boot : Boot) (seen : Seen) → IsAt (twice_kind r g confirms) p i (ways.Second boot) seen → i < width r g confirms p
+      → Allows (left_of_way r g (ways.Second boot)) seen → CanPass r g boot seen
+  second_passes p i boot seen at early room =
+      (later_from r g confirms p, later_number r g confirms p i, later_at r g confirms p i boot seen at, later_early r g confirms p i at.on_is.0 early, room)
+
+  pub next_first : (p : Place Content) (i : ℕ) (boot boot' : Boot) (ops : ℕ) (later : Told) (old new : Seen) → IsAt (twice_kind r g confirms) p i (ways.First boot ops later) old
+      → ((s : Content) (j : ℕ) → IsAt (once r g) s j boot old → j < length (ops_of r g s) → IsAt (once r g) s (j + 1) boot' new) → boot'.done < ops
+      → IsAt (twice_kind r g confirms) p (i + 1) (ways.First boot' ops later) new
+  next_first (first s) i boot boot' ops later old new at passes more =
+      let there = passes s i (first_at r g confirms s i boot ops later old at) at.on_is.early in
+      at_first r g confirms s (i + 1) boot' ops later new there (omega (arith, more, there.on_is.count_is, at.on_is.ops_is)) at.on_is.ops_is at.on_is.later_is
+  next_first (second began s) i boot boot' ops later old new at passes more = absurd at.on_is
+
+  pub next_between : (p : Place Content) (i : ℕ) (boot boot' : Boot) (ops : ℕ) (later : Told) (old mid new : Seen) → IsAt (twice_kind r g confirms) p i (ways.First boot ops later) old
+      → ((s : Content) (j : ℕ) → IsAt (once r g) s j boot old → j < length (ops_of r g s) → IsAt (once r g) s (j + 1) boot' mid) → ops ≤ boot'.done
+      → new.content ≡ confirmed_if confirms mid.geometry mid.content → new.geometry ≡ mid.geometry → IsAt (twice_kind r g confirms) p (i + 1) (ways.Second later.boot) new
+  next_between (first s) i boot boot' ops later old mid new at passes over is same =
+      let there = passes s i (first_at r g confirms s i boot ops later old at) at.on_is.early in
+      let all : i + 1 ≡ length (ops_of r g s) = omega (arith, over, there.on_is.count_is, at.on_is.ops_is, at.on_is.early) in
+      at_begin r g confirms (first s) (i + 1) later new (omega (arith, all)) (omega (arith, all)) (between r g confirms s new.content mid there.layout_is (there.content_is ∙ ap (at_cut r g s) all) is)
+      (same ∙ there.layout_is) at.on_is.later_is
+  next_between (second began s) i boot boot' ops later old mid new at passes over is same = absurd at.on_is
+
+  pub next_second : (p : Place Content) (i : ℕ) (boot boot' : Boot) (old new : Seen) → IsAt (twice_kind r g confirms) p i (ways.Second boot) old
+      → ((s : Content) (j : ℕ) → IsAt (once r g) s j boot old → j < length (ops_of r g s) → IsAt (once r g) s (j + 1) boot' new) → i < width r g confirms p
+      → IsAt (twice_kind r g confirms) p (i + 1) (ways.Second boot') new
+  next_second p i boot boot' old new at passes early =
+      at_next r g confirms p i boot' new at.on_is.0
+      (passes (later_from r g confirms p) (later_number r g confirms p i) (later_at r g confirms p i boot old at) (later_early r g confirms p i at.on_is.0 early))
+
+  -- What they count.
+  pub counts_first : (boot boot' : Boot) (ops : ℕ) (later : Told) (old new : Counts) → LeaveRoom new (left_of g (progress boot')) (plus old (left_of g (progress boot)))
+      → LeaveRoom new (left_of_way r g (ways.First boot' ops later)) (plus old (left_of_way r g (ways.First boot ops later)))
+  counts_first boot boot' ops later old new c = record { entries = omega (arith, c.entries); saved = omega (arith, c.saved) }
+
+  pub counts_between : (p : Place Content) (i : ℕ) (boot boot' : Boot) (ops : ℕ) (later : Told) (seen : Seen) (old mid new : Counts) → IsAt (twice_kind r g confirms) p i (ways.First boot ops later) seen
+      → LeaveRoom mid (left_of g (progress boot')) (plus old (left_of g (progress boot))) → LeaveRoom new no_counts (plus mid one_write)
+      → LeaveRoom new (left_of_way r g (ways.Second later.boot)) (plus old (left_of_way r g (ways.First boot ops later)))
+  counts_between (first s) i boot boot' ops later seen old mid new at c d =
+      let one = first_left r g (second_start r g confirms s) later at.on_is.later_is old in
+      record { entries = omega (arith, one.entries, c.entries, d.entries); saved = omega (arith, one.saved, c.saved, d.saved) }
+  counts_between (second began s) i boot boot' ops later seen old mid new at c d = absurd at.on_is
+
+  -- There is room for the write between the rounds.
+  pub room_between : (boot boot' : Boot) (ops : ℕ) (later : Told) (old mid : Seen) → Allows (left_of_way r g (ways.First boot ops later)) old
+      → LeaveRoom mid.ledger.counts (left_of g (progress boot')) (plus old.ledger.counts (left_of g (progress boot))) → mid.ledger.limits ≡ old.ledger.limits → Allows one_write mid
+  room_between boot boot' ops later old mid room c same =
+      let P : Limits → Type 0 = λ l. LeaveRoom mid.ledger.counts one_write (room_of l) in
+      subst P (sym same) (record { entries = omega (arith, room.entries, c.entries); saved = omega (arith, room.saved, c.saved) })
+
+  -- ---- what is told of a child
+
+  pub parent_first : (p : Place Content) (i : ℕ) (boot : Boot) (ops : ℕ) (later : Told) (parent : Both) (seen : Seen) → IsAt (twice_kind r g confirms) p i (ways.First boot ops later) seen
+      → AreTold r g confirms p parent → IsChild (once r g) boot parent.first seen
+  parent_first (first s) i boot ops later parent seen at t = (s, i, first_at r g confirms s i boot ops later seen at, at.on_is.early, t.first_is)
+  parent_first (second began s) i boot ops later parent seen at t = absurd at.on_is
+
+  pub parent_second : (p : Place Content) (i : ℕ) (boot : Boot) (parent : Both) (seen : Seen) → IsAt (twice_kind r g confirms) p i (ways.Second boot) seen → i < width r g confirms p
+      → AreTold r g confirms p parent → IsChild (once r g) boot parent.second seen
+  parent_second p i boot parent seen at early t =
+      (later_from r g confirms p, later_number r g confirms p i, later_at r g confirms p i boot seen at, later_early r g confirms p i at.on_is.0 early, t.second_is)
+
+  -- Where the outcome of the first round follows from that of the boot that was cut, so does that of the second.
+  pub told_alike : (p : Place Content) (i : ℕ) (boot : Boot) (ops : ℕ) (later one : Told) (parent : Both) (seen : Seen) → IsAt (twice_kind r g confirms) p i (ways.First boot ops later) seen
+      → AreTold r g confirms p parent → TellsChild (once r g) boot parent.first seen one → LeavesAlike r g boot parent.first seen
+      → AreTold r g confirms (child r g confirms p i) (record { round = rounds_of.First; first = one; second = parent.second })
+  told_alike (first s) i boot ops later one parent seen at t tells alike =
+      let here = first_at r g confirms s i boot ops later seen at in
+      let same = same_start r g confirms s (at_cut r g s i) (alike s i here at.on_is.early t.first_is) in
+      subst (λ q. AreTold r g confirms q (record { round = rounds_of.First; first = one; second = parent.second })) (sym (first_child r g confirms s i at.on_is.early))
+      (record {
+        round_is = refl;
+        first_is = tells s i here at.on_is.early t.first_is;
+        second_is = subst (λ x. IsTold r g x parent.second) (sym same) t.second_is;
+      })
+  told_alike (second began s) i boot ops later one parent seen at t tells alike = absurd at.on_is
+
+  -- Else both are run.
+  told_run : (p : Place Content) (i : ℕ) (boot : Boot) (ops : ℕ) (later : Told) (seen : Seen) (both : Both) → IsAt (twice_kind r g confirms) p i (ways.First boot ops later) seen
+      → AreTold r g confirms (first seen.content) both → AreTold r g confirms (child r g confirms p i) both
+  told_run (first s) i boot ops later seen both at t =
+      subst (λ q. AreTold r g confirms q both) (sym (first_child r g confirms s i at.on_is.early))
+      (subst (λ x. AreTold r g confirms (first x) both) (first_at r g confirms s i boot ops later seen at).content_is t)
+  told_run (second began s) i boot ops later seen both at t = absurd at.on_is
+
+  pub told_children : {E : Type 0} (way : OnWay) (boot : Boot) (ops : ℕ) (later : Told) (parent : Both) (seen : Seen) (result : Result Both E) → way ≡ ways.First boot ops later
+      → IfOk result (AreTold r g confirms (first seen.content)) → IfOk result (TellsChild (twice_kind r g confirms) way parent seen)
+  told_children way boot ops later parent seen (Ok both) is t = λ p i at early told. told_run p i boot ops later seen both (subst (λ w. IsAt (twice_kind r g confirms) p i w seen) is at) t
+  told_children way boot ops later parent seen (Err e) is t = tt
+
+  pub told_second : (p : Place Content) (i : ℕ) (boot : Boot) (two : Told) (parent : Both) (seen : Seen) → IsAt (twice_kind r g confirms) p i (ways.Second boot) seen → i < width r g confirms p
+      → AreTold r g confirms p parent → TellsChild (once r g) boot parent.second seen two
+      → AreTold r g confirms (child r g confirms p i) (record { round = rounds_of.Second; first = parent.first; second = two })
+  told_second p i boot two parent seen at early t tells =
+      subst (λ q. AreTold r g confirms q (record { round = rounds_of.Second; first = parent.first; second = two })) (sym (later_child r g confirms p i at.on_is.0))
+      (record {
+        round_is = refl;
+        first_is = t.first_is;
+        second_is = tells (later_from r g confirms p) (later_number r g confirms p i) (later_at r g confirms p i boot seen at) (later_early r g confirms p i at.on_is.0 early) t.second_is;
+      })
+
+  -- Two boots that were run, one behind the other.
+  pub both_told : (old mid new : Seen) (one two : Told) → old.geometry ≡ g → mid.geometry ≡ old.geometry → IsTold r g old.content one → left_by r g old.content ≡ Some mid.content
+      → new.content ≡ confirmed_if confirms mid.geometry mid.content → IsTold r g new.content two
+      → AreTold r g confirms (first old.content) (record { round = rounds_of.First; first = one; second = two })
+  both_told old mid new one two layout same a left is b = record {
+    round_is = refl;
+    first_is = a;
+    second_is = subst (λ x. IsTold r g x two) (between_left r g confirms old.content new.content mid (same ∙ layout) left is) b;
+  }
+
+  -- ---- how many children there are
+
+  pub width_first : (p : Place Content) (told : Both) (n : ℕ) → IsLayout g → told.round ≡ rounds_of.First → AreTold r g confirms p told → n ≡ min (told.first.outcome.ops + told.second.outcome.ops) 4294967295
+      → n ≡ width r g confirms p
+  width_first (first s) told n valid round t is =
+      omega (arith, is, width_is r g told.first s t.first_is, width_is r g told.second (second_start r g confirms s) t.second_is, few_ops s valid, few_ops (second_start r g confirms s) valid)
+  width_first (second began s) told n valid round t is = let not_so : rounds_of.First ≡ rounds_of.Second = sym round ∙ t.round_is in absurd cc
+
+  pub width_second : (p : Place Content) (told : Both) → told.round ≡ rounds_of.Second → AreTold r g confirms p told → told.second.outcome.ops ≡ width r g confirms p
+  width_second (first s) told round t = let not_so : rounds_of.First ≡ rounds_of.Second = sym t.round_is ∙ round in absurd cc
+  width_second (second began s) told round t = width_is r g told.second s t.second_is

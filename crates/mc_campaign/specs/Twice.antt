@@ -1,0 +1,95 @@
+-- The tree of two rounds of boots, as a walk goes through it.
+use Rattle.std.specs.Prelude.{◌≡◌, ℕ, ◌-◌, ◌<◌, ◌≤◌, Bool, length, refl}
+use Rattle.mc_tree.specs.Twice.{Place, first, second}
+use Rattle.mc_flash.specs.Content.{Content}
+use Rattle.mc_flash.specs.Geometry.{Geometry}
+use Rattle.mc_flash.specs.Ledger.{Counts}
+use Rattle.mc_flash.specs.Spends.{plus}
+use Rattle.mc_trailer.specs.declared.tables.Rules.{Rules}
+use Rattle.mc_boot.specs.Boot.{progress}
+use Rattle.mc_boot.specs.Bounds.{left_of}
+use Rattle.mc_boot.specs.Confirm.{one_write}
+use Rattle.mc_boot.specs.Runs.{ops_of}
+use Rattle.mc_boot.specs.declared.boot.Boot.{Boot}
+use Rattle.mc_walk.specs.Kind.{Kind}
+use Rattle.mc_explore.specs.Once.{HasMade, IsTold, most_of}
+use Rattle.mc_explore.specs.declared.once.Told.{Told}
+use Rattle.mc_campaign.specs.Boots.{rounds, second_start}
+use Rattle.mc_campaign.specs.declared.campaign.Round.{Round}
+use Rattle.mc_campaign.specs.declared.campaign.Round.TheVariants as rounds_of
+use Rattle.mc_campaign.specs.declared.rounds.Both.{Both}
+use Rattle.mc_campaign.specs.declared.rounds.OnWay.{OnWay}
+use Rattle.mc_campaign.specs.declared.rounds.OnWay.TheVariants as ways
+
+abbrev pub content_at : Place Content → Content
+content_at (first s) = s
+content_at (second began s) = s
+
+abbrev pub round_at : Place Content → Round
+round_at (first s) = rounds_of.First
+round_at (second began s) = rounds_of.Second
+
+-- The flash from which the last boot of the first round goes.
+abbrev pub began_at : Place Content → Content
+began_at (first s) = s
+began_at (second began s) = began
+
+-- What both rounds count at most, with the write between them.
+abbrev pub most_of_both : Rules → Geometry → Counts
+most_of_both r g = plus (most_of r g) (plus one_write (most_of r g))
+
+-- What a child on its way counts at most until its rounds are over.
+abbrev pub left_of_way : Rules → Geometry → OnWay → Counts
+left_of_way r g (ways.First boot ops later) = plus (left_of g (progress boot)) (plus one_write (most_of r g))
+left_of_way r g (ways.Second boot) = left_of g (progress boot)
+
+module _ (r : Rules) (g : Geometry) (confirms : Bool) where
+  -- The flash whose boot is cut at the children in the second round.
+  abbrev pub later_from : Place Content → Content
+  later_from (first s) = second_start r g confirms s
+  later_from (second began s) = s
+
+  -- The child of that number is one in the second round, and its number among those.
+  abbrev pub IsLater : Place Content → ℕ → Type 0
+  IsLater (first s) i = length (ops_of r g s) ≤ i
+  IsLater (second began s) i = Unit {0}
+
+  abbrev pub later_number : Place Content → ℕ → ℕ
+  later_number (first s) i = i - length (ops_of r g s)
+  later_number (second began s) i = i
+
+  -- A child in the first round is on its way: how many operations its boot makes uncut is known, and what is told of where the
+  -- second round begins behind it.
+  pub record IsOnFirst (s : Content) (i : ℕ) (boot : Boot) (ops : ℕ) (later : Told) : Type 0 where
+    pub early : i < length (ops_of r g s)
+    pub made : HasMade r g s i boot
+    pub ops_is : ops ≡ length (ops_of r g s)
+    pub later_is : IsTold r g (second_start r g confirms s) later
+
+  -- A child of that number is on that way.
+  abbrev pub IsOnWay : OnWay → Place Content → ℕ → Type 0
+  IsOnWay (ways.First boot ops later) (first s) i = IsOnFirst s i boot ops later
+  IsOnWay (ways.First boot ops later) (second began s) i = ⊥
+  IsOnWay (ways.Second boot) p i = IsLater p i × HasMade r g (later_from p) (later_number p i) boot
+
+  -- What is told of a place: its round, the last boot of the first round, and the boot of the second.
+  pub record AreTold (p : Place Content) (both : Both) : Type 0 where
+    pub round_is : both.round ≡ round_at p
+    pub first_is : IsTold r g (began_at p) both.first
+    pub second_is : IsTold r g (later_from p) both.second
+
+  -- From one child to the next there is one operation, and between the rounds a write more.
+  abbrev pub twice_kind : Kind (Place Content) OnWay Both
+  twice_kind = record {
+    tree = rounds r g confirms;
+    geometry = g;
+    content = content_at;
+    root = λ s. first s;
+    root_is = λ s. refl;
+    IsOn = λ p i way. IsOnWay way p i;
+    IsTold = AreTold;
+    step = 2;
+    left = left_of_way r g;
+    most = most_of_both r g;
+    spare = 1;
+  }

@@ -1,0 +1,14 @@
+//! Campaigns of power cuts in two rounds of boots.
+#![tactic(auto)]
+
+mod campaign;
+mod laws;
+mod rounds;
+mod twice;
+
+pub use campaign::{Campaign, CampaignError, Round};
+pub use laws::campaigns_are_paths;
+pub use rounds::{Both, OnWay, Twice};
+
+#[cfg(test)]
+mod tests;

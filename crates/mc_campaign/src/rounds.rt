@@ -1,0 +1,107 @@
+//! Two rounds of boots, one behind the other.
+ghost use Rattle.std.specs.Prelude.{◌≡◌, ◌+◌, IfOk, IfErr, OnOk};
+ghost use Rattle.mc_tree.specs.Twice.{first};
+ghost use Rattle.mc_flash.specs.Ledger.{most_operations, no_counts};
+ghost use Rattle.mc_flash.specs.Seen.{Keeps};
+ghost use Rattle.mc_flash.specs.Spends.{Allows, HasRoom, LeaveRoom, Spends, Stays, plus};
+ghost use Rattle.mc_boot.specs.Confirm.{confirmed_if, one_write};
+
+use crate::campaign::Round;
+use mc_boot::{Boot, confirm};
+use mc_explore::{Once, Told};
+use mc_flash::{Flash, FlashError};
+
+/// Two rounds of boots of a layout by the same rules, each of which can be cut. Between them the image confirms itself or not.
+#[derive(Clone, Copy)]
+pub struct Twice {
+    pub once: Once,
+    pub confirms: bool,
+}
+
+/// What is told of a place in two rounds: of the last boot of the first round, and of the boot of the second. In the first round that is
+/// the one with which the second begins.
+#[derive(Clone, Copy)]
+pub struct Both {
+    pub round: Round,
+    pub first: Told,
+    pub second: Told,
+}
+
+/// A place on the way from another.
+#[derive(Clone, Copy)]
+pub enum OnWay {
+    /// In the first round: the boot at its cut, how many operations it makes uncut, and what is told of the second round behind
+    /// it.
+    First { boot: Boot, ops: u32, later: Told },
+    /// In the second round: the boot at its cut.
+    Second(Boot),
+}
+
+impl Twice {
+    ghost use Rattle.mc_explore.specs.Once.{IsBegun};
+    ghost use Rattle.mc_campaign.specs.Twice.{AreTold, most_of_both};
+
+    /// From one round to the next: the image confirms itself, or the flash stays as it is.
+    ///
+    /// # Errors
+    ///
+    /// `Memory` where the flash was refused memory.
+    pub(crate) fn go_between<F: Flash>(&self, flash: &mut F) -> Result<(), FlashError>
+        ensures content { OnOk result ((F.seen flash.new).content
+            ≡ confirmed_if self.now.confirms (F.seen flash.old).geometry (F.seen flash.old).content) }
+        ensures keeps { Keeps (F.seen flash.old) (F.seen flash.new) }
+        ensures counts { LeaveRoom (F.seen flash.new).ledger.counts no_counts
+            (plus (F.seen flash.old).ledger.counts one_write) }
+        ensures spends { Allows one_write (F.seen flash.old)
+            → Spends 1 (F.seen flash.old) result (F.seen flash.new) }
+        ensures err { IfErr result (λ e. e ≡ FlashError.Memory) }
+    {
+        if self.confirms {
+            confirm(flash)?;
+        }
+        Ok(())
+    }
+
+    // Runs the boot at power-on to its end, and then that of the second round.
+    fn run<F: Flash>(&self, flash: &mut F, boot: Boot) -> Result<Both, FlashError>
+        requires begun { IsBegun self.now.once.rules (F.seen flash.old) boot }
+        requires layout { (F.seen flash.old).geometry ≡ self.now.once.layout }
+        requires room { Allows (most_of_both self.now.once.rules self.now.once.layout)
+            (F.seen flash.old) }
+        ensures told { IfOk result (AreTold self.now.once.rules self.now.once.layout
+            self.now.confirms (first (F.seen flash.old).content)) }
+        ensures keeps { Keeps (F.seen flash.old) (F.seen flash.new) }
+        ensures spends { Spends (most_of_both self.now.once.rules self.now.once.layout).entries
+            (F.seen flash.old) result (F.seen flash.new) }
+        ensures err { IfErr result (λ e. e ≡ FlashError.Memory) }
+    {
+        let first = self.once.run(flash, boot)?;
+        self.go_between(flash)?;
+        let then = self.once.boot(flash);
+        let second = self.once.run(flash, then)?;
+        Ok(Both {
+            round: Round::First,
+            first,
+            second,
+        })
+    }
+
+    /// The same, and goes back.
+    pub(crate) fn tell<F: Flash>(&self, flash: &mut F, boot: Boot) -> Result<Both, FlashError>
+        requires begun { IsBegun self.now.once.rules (F.seen flash.old) boot }
+        requires layout { (F.seen flash.old).geometry ≡ self.now.once.layout }
+        requires room { HasRoom (most_of_both self.now.once.rules self.now.once.layout)
+            (F.seen flash.old) }
+        ensures told { IfOk result (AreTold self.now.once.rules self.now.once.layout
+            self.now.confirms (first (F.seen flash.old).content)) }
+        ensures stays { OnOk result (Stays (F.seen flash.old) (F.seen flash.new)) }
+        ensures spends { Spends (most_of_both self.now.once.rules self.now.once.layout).entries
+            (F.seen flash.old) result (F.seen flash.new) }
+        ensures err { IfErr result (λ e. e ≡ FlashError.Memory) }
+    {
+        let here = flash.mark()?;
+        let both = self.run(flash, boot)?;
+        flash.back_to(here);
+        Ok(both)
+    }
+}

@@ -1,0 +1,99 @@
+//! The tree of two rounds of boots: a node is a place in one of them, and its children are those of its round, and in the first round
+//! then those of the second round that begins behind it.
+use crate::campaign::Round;
+use crate::rounds::{Both, OnWay, Twice};
+use mc_flash::{Flash, FlashError};
+use mc_walk::Branches;
+
+impl Branches for Twice {
+    ghost use Rattle.mc_tree.specs.Twice.{Place};
+    ghost use Rattle.mc_flash.specs.Content.{Content};
+    ghost use Rattle.mc_campaign.specs.Twice.{twice_kind};
+
+    ghost Node = { Place Content };
+
+    type At = OnWay;
+
+    type Told = Both;
+
+    ghost kind = { λ t. twice_kind t.once.rules t.once.layout t.confirms };
+
+    fn width(self, told: &Both) -> u32 {
+        // Each number of a layout tells that it is one, so that the sum is small.
+        let _sector = self.once.layout.sector();
+        match told.round {
+            Round::First => told
+                .first
+                .outcome
+                .ops
+                .saturating_add(told.second.outcome.ops),
+            Round::Second => told.second.outcome.ops,
+        }
+    }
+
+    fn first<F: Flash>(self, flash: &mut F, told: &Both) -> Result<OnWay, FlashError> {
+        let later = told.second;
+        match told.round {
+            Round::First => {
+                let ops = told.first.outcome.ops;
+                if ops > 0 {
+                    let boot = told.first.boot;
+                    return Ok(OnWay::First { boot, ops, later });
+                }
+                self.go_between(flash)?;
+                Ok(OnWay::Second(later.boot))
+            }
+            Round::Second => Ok(OnWay::Second(later.boot)),
+        }
+    }
+
+    fn next<F: Flash>(self, flash: &mut F, at: &mut OnWay) -> Result<(), FlashError> {
+        match *at {
+            OnWay::First {
+                mut boot,
+                ops,
+                later,
+            } => {
+                self.once.pass(flash, &mut boot)?;
+                if boot.count() < ops {
+                    *at = OnWay::First { boot, ops, later };
+                    return Ok(());
+                }
+                self.go_between(flash)?;
+                *at = OnWay::Second(later.boot);
+                Ok(())
+            }
+            OnWay::Second(mut boot) => {
+                self.once.pass(flash, &mut boot)?;
+                *at = OnWay::Second(boot);
+                Ok(())
+            }
+        }
+    }
+
+    fn root<F: Flash>(self, flash: &mut F) -> Result<Both, FlashError> {
+        let boot = self.once.boot(flash);
+        self.tell(flash, boot)
+    }
+
+    fn child<F: Flash>(self, flash: &mut F, at: &OnWay, parent: &Both) -> Result<Both, FlashError> {
+        match at {
+            OnWay::First { boot, .. } => match self.once.derive(flash, boot, &parent.first) {
+                Ok(first) => Ok(Both {
+                    round: Round::First,
+                    first,
+                    second: parent.second,
+                }),
+                Err(boot) => self.tell(flash, boot),
+            },
+            OnWay::Second(boot) => {
+                let second = self.once.child(flash, boot, &parent.second)?;
+                Ok(Both {
+                    round: Round::Second,
+                    first: parent.first,
+                    second,
+                })
+            }
+        }
+    }
+}

@@ -1,0 +1,52 @@
+-- What is told of a flash, and where the boot from there begins.
+use Rattle.std.specs.Prelude.{◌≡◌, ℕ, length, Option, Some, None, option_map}
+use Rattle.std.proofs.Common.{arith, sym, ap, subst, ◌∙◌}
+use Rattle.mc_flash.specs.Content.{Content}
+use Rattle.mc_flash.specs.Geometry.{Geometry}
+use Rattle.mc_flash.specs.Ledger.{Counts}
+use Rattle.mc_flash.specs.Spends.{LeaveRoom, plus}
+use Rattle.mc_trailer.specs.declared.tables.Rules.{Rules}
+use Rattle.mc_boot.specs.Boot.{Progress, progress}
+use Rattle.mc_boot.specs.Bounds.{left_of}
+use Rattle.mc_boot.specs.Outcome.{Report, outcome_of, report, shown}
+use Rattle.mc_boot.specs.Plan.{plan}
+use Rattle.mc_boot.specs.Run.{HasCome}
+use Rattle.mc_boot.specs.RunFacts.{come_begun, left_defined}
+use Rattle.mc_boot.specs.Runs.{is_faulted, ops_of}
+use Rattle.mc_explore.specs.Once.{HasMade, IsTold, most_of}
+use Rattle.mc_explore.specs.declared.once.Told.{Told}
+use Rattle.mc_explore.specs.facts.Occurring.{at_zero}
+
+count_in : Option Report → ℕ
+count_in None = 0
+count_in (Some o) = o.ops
+
+-- What an outcome says of the operations.
+pub outcome_ops : (r : Rules) (g : Geometry) (s : Content) (o : Report) → outcome_of r g s ≡ Some o → o.ops ≡ length (ops_of r g s)
+unfolding outcome_of report count_in
+outcome_ops r g s o e =
+    let left = left_defined r g s in
+    let is : Some o ≡ Some (report r g (plan r g s).kind (length (ops_of r g s)) (is_faulted r g s) left.0) =
+    sym e ∙ ap (option_map (λ z. report r g (plan r g s).kind (length (ops_of r g s)) (is_faulted r g s) z)) left.1 in
+    ap count_in is
+
+module _ (r : Rules) (g : Geometry) where
+  pub width_is : (told : Told) (s : Content) → IsTold r g s told → told.outcome.ops ≡ length (ops_of r g s)
+  width_is told s t = outcome_ops r g s (shown told.outcome) t.outcome_is
+
+  pub first_on : (s : Content) (told : Told) → IsTold r g s told → HasMade r g s 0 told.boot
+  first_on s told t =
+      let P : Progress → Type 0 = λ p. HasCome r g s p s in
+      record {
+        layout_is = t.layout_is;
+        list_is = t.list_is;
+        come = subst (HasCome r g s (progress told.boot)) (at_zero r g s) (subst P (sym t.boot_is) (come_begun r g s));
+        count_is = ap (λ (p : Progress). p.count) t.boot_is;
+      }
+
+  -- What it has left is a whole boot at most.
+  pub first_left : (s : Content) (told : Told) → IsTold r g s told → (old : Counts) → LeaveRoom old (left_of g (progress told.boot)) (plus old (most_of r g))
+  first_left s told t old = record {
+    entries = omega (arith, t.few.few, ap (λ (p : Progress). length p.to_come) t.boot_is);
+    saved = omega (arith, t.few.saves, ap (λ (p : Progress). (left_of g p).saved) t.boot_is);
+  }

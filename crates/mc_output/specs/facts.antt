@@ -1,0 +1,3 @@
+-- Lemmas that the crates above cite.
+pub mod Parting
+pub mod Reading

@@ -1,0 +1,163 @@
+-- Paths in two rounds: their pairs, in their order.
+use Rattle.std.proofs.Common.{◌≡◌, ℕ, ◌+◌, ◌-◌, ◌<◌, ◌≤◌, Bool, true, false, List, [], ◌∷◌, length, map, inl, inr, refl, sym, ap, subst, ◌∙◌, arith}
+use Rattle.std.specs.Prelude.{nat_lt, if◌then◌else◌}
+use Rattle.std.proofs.lemmas.Bool.Decides.{nat_tests}
+use Rattle.mc_tree.specs.Tree.{Tree, landed, Allowed}
+use Rattle.mc_tree.specs.Paths.{Precedes}
+use Rattle.mc_tree.specs.Twice.{Place, first, second, twice, twice_child, label, labels, in_both, pairs, Before, PairsPrecede}
+use Rattle.mc_tree.specs.facts.Precedence.{precedes_total}
+
+-- ---- the order
+
+before_asym : (x y : ℕ × ℕ) → Before x y → Before y x → ⊥
+before_asym x y (inl p) (inl q) = omega (arith, p, q)
+before_asym x y (inl p) (inr q) = omega (arith, p, q.0)
+before_asym x y (inr p) (inl q) = omega (arith, p.0, q)
+before_asym x y (inr p) (inr q) = omega (arith, p.1, q.1)
+
+never_before : (x y : ℕ × ℕ) → x ≡ y → Before x y → ⊥
+never_before x y e (inl p) = omega (arith, p, ap (λ (z : ℕ × ℕ). z.0) e)
+never_before x y e (inr p) = omega (arith, p.1, ap (λ (z : ℕ × ℕ). z.1) e)
+
+pub pairs_asym : (xs ys : List (ℕ × ℕ)) → PairsPrecede xs ys → PairsPrecede ys xs → ⊥
+pairs_asym [] [] p q = p
+pairs_asym [] (y ∷ ys) p q = q
+pairs_asym (x ∷ xs) [] p q = p
+pairs_asym (x ∷ xs) (y ∷ ys) (inl p) (inl q) = before_asym x y p q
+pairs_asym (x ∷ xs) (y ∷ ys) (inl p) (inr q) = never_before x y (sym q.0) p
+pairs_asym (x ∷ xs) (y ∷ ys) (inr p) (inl q) = never_before y x (sym p.0) q
+pairs_asym (x ∷ xs) (y ∷ ys) (inr p) (inr q) = pairs_asym xs ys p.1 q.1
+
+by_tests : (w i j : ℕ) (b c : Bool) → nat_lt i w ≡ b → nat_lt j w ≡ c → i < j
+    → Before (if b then (1, i) else (2, i - w)) (if c then (1, j) else (2, j - w))
+by_tests w i j true true p q lt = inr (refl, lt)
+by_tests w i j true false p q lt = inl (omega arith)
+by_tests w i j false true p q lt = absurd (grind (arith, nat_tests))
+by_tests w i j false false p q lt = inr (refl, grind (arith, nat_tests))
+
+-- What a test of a child's number says.
+test_is : (w i : ℕ) (b : Bool) → nat_lt i w ≡ b → (i < w → b ≡ true) × (w ≤ i → b ≡ false)
+test_is w i true e = (λ lt. refl, λ le. absurd (grind (arith, nat_tests)))
+test_is w i false e = (λ lt. absurd (grind (arith, nat_tests)), λ le. refl)
+
+pub inside : (w i : ℕ) → i < w → nat_lt i w ≡ true
+inside w i lt = (test_is w i (nat_lt i w) refl).0 lt
+
+pub outside : (w i : ℕ) → w ≤ i → nat_lt i w ≡ false
+outside w i le = (test_is w i (nat_lt i w) refl).1 le
+
+module _ {N : Type 0} (t : Tree N) (next : N → N) where
+  label_before : (p : Place N) (i j : ℕ) → i < j → Before (label t next p i) (label t next p j)
+  label_before (first s) i j lt = by_tests (t.width s) i j (nat_lt i (t.width s)) (nat_lt j (t.width s)) refl refl lt
+  label_before (second began s) i j lt = inr (refl, lt)
+
+  -- The order of paths is that of their pairs.
+  pub pairs_precede : (p : Place N) (l m : List ℕ) → Precedes l m → PairsPrecede (labels t next p l) (labels t next p m)
+  pairs_precede p [] [] h = h
+  pairs_precede p [] (y ∷ ys) h = tt
+  pairs_precede p (x ∷ xs) [] h = h
+  pairs_precede p (x ∷ xs) (y ∷ ys) (inl lt) = inl (label_before p x y lt)
+  pairs_precede p (x ∷ xs) (y ∷ ys) (inr h) =
+      let same : labels t next (twice_child t next p x) ys ≡ labels t next (twice_child t next p y) ys = ap (λ z. labels t next (twice_child t next p z) ys) h.0 in
+      inr (ap (label t next p) h.0, subst (PairsPrecede (labels t next (twice_child t next p x) xs)) same (pairs_precede (twice_child t next p x) xs ys h.1))
+
+  never_itself : (xs ys : List (ℕ × ℕ)) → xs ≡ ys → PairsPrecede xs ys → ⊥
+  never_itself xs ys e p = pairs_asym xs ys p (subst (λ z. PairsPrecede z xs) e (subst (PairsPrecede xs) (sym e) p))
+
+  pub paths_precede : (p : Place N) (l m : List ℕ) → PairsPrecede (labels t next p l) (labels t next p m) → Precedes l m
+  paths_precede p l m h = elim (precedes_total l m) [
+    | inl before ↦ before
+    | inr (inl same) ↦ absurd (never_itself (labels t next p l) (labels t next p m) (ap (labels t next p) same) h)
+    | inr (inr after) ↦ absurd (pairs_asym (labels t next p l) (labels t next p m) h (pairs_precede p m l after))
+  ]
+
+  -- ---- a child of a node of the first round
+
+  pub child_first : (s : N) (i : ℕ) → i < t.width s → twice_child t next (first s) i ≡ first (t.child s i)
+  child_first s i lt = ap (λ b. if b then first (t.child s i) else second s (t.child (next s) (i - t.width s))) (inside (t.width s) i lt)
+
+  pub child_second : (s : N) (i : ℕ) → t.width s ≤ i → twice_child t next (first s) i ≡ second s (t.child (next s) (i - t.width s))
+  child_second s i le = ap (λ b. if b then first (t.child s i) else second s (t.child (next s) (i - t.width s))) (outside (t.width s) i le)
+
+  label_first : (s : N) (i : ℕ) → i < t.width s → label t next (first s) i ≡ (1, i)
+  label_first s i lt = ap (λ b. if b then (1, i) else (2, i - t.width s)) (inside (t.width s) i lt)
+
+  label_second : (s : N) (i : ℕ) → t.width s ≤ i → label t next (first s) i ≡ (2, i - t.width s)
+  label_second s i le = ap (λ b. if b then (1, i) else (2, i - t.width s)) (outside (t.width s) i le)
+
+  -- ---- a path in both rounds
+
+  later_allowed : (began s : N) (later : List ℕ) → Allowed t s later → Allowed (twice t next) (second began s) later
+  later_allowed began s [] a = tt
+  later_allowed began s (j ∷ later) a = (a.0, later_allowed began (t.child s j) later a.1)
+
+  allowed_later : (began s : N) (later : List ℕ) → Allowed (twice t next) (second began s) later → Allowed t s later
+  allowed_later began s [] a = tt
+  allowed_later began s (j ∷ later) a = (a.0, allowed_later began (t.child s j) later a.1)
+
+  later_labels : (began s : N) (later : List ℕ) → labels t next (second began s) later ≡ map (λ j. (2, j)) later
+  later_labels began s [] = refl
+  later_labels began s (j ∷ later) = ap (λ (z : List (ℕ × ℕ)). (2, j) ∷ z) (later_labels began (t.child s j) later)
+
+  pub later_lands : (began s : N) (later : List ℕ) → landed (twice t next) (second began s) later ≡ second began (landed t s later)
+  later_lands began s [] = refl
+  later_lands began s (j ∷ later) = later_lands began (t.child s j) later
+
+  offset : (w j : ℕ) → (w + j) - w ≡ j
+  offset w j = omega arith
+
+  -- The first child in the second round, by its number there.
+  child_behind : (s : N) (j : ℕ) → twice_child t next (first s) (t.width s + j) ≡ second s (t.child (next s) j)
+  child_behind s j = child_second s (t.width s + j) (omega arith) ∙ ap (λ n. second s (t.child (next s) n)) (offset (t.width s) j)
+
+  -- It is one of the tree, where each of the two is, from where its round begins.
+  pub both_allowed : (s : N) (path later : List ℕ) → Allowed t s path → Allowed t (next (landed t s path)) later → Allowed (twice t next) (first s) (in_both t next s path later)
+  both_allowed s [] [] a b = tt
+  both_allowed s [] (j ∷ later) a b =
+      let rest = later_allowed s (t.child (next s) j) later b.1 in
+      (omega (arith, b.0), subst (λ p. Allowed (twice t next) p later) (sym (child_behind s j)) rest)
+  both_allowed s (i ∷ path) later a b =
+      let rest = both_allowed (t.child s i) path later a.1 b in
+      (omega (arith, a.0), subst (λ p. Allowed (twice t next) p (in_both t next (t.child s i) path later)) (sym (child_first s i a.0)) rest)
+
+  pub both_labels : (s : N) (path later : List ℕ) → Allowed t s path → labels t next (first s) (in_both t next s path later) ≡ pairs path later
+  both_labels s [] [] a = refl
+  both_labels s [] (j ∷ later) a =
+      ap (λ (z : ℕ × ℕ). z ∷ labels t next (twice_child t next (first s) (t.width s + j)) later) (label_second s (t.width s + j) (omega arith) ∙ ap (λ (n : ℕ). (2, n)) (offset (t.width s) j))
+      ∙ ap (λ p. (2, j) ∷ labels t next p later) (child_behind s j)
+      ∙ ap (λ (z : List (ℕ × ℕ)). (2, j) ∷ z) (later_labels s (t.child (next s) j) later)
+  both_labels s (i ∷ path) later a =
+      ap (λ (z : ℕ × ℕ). z ∷ labels t next (twice_child t next (first s) i) (in_both t next (t.child s i) path later)) (label_first s i a.0)
+      ∙ ap (λ p. (1, i) ∷ labels t next p (in_both t next (t.child s i) path later)) (child_first s i a.0)
+      ∙ ap (λ (z : List (ℕ × ℕ)). (1, i) ∷ z) (both_labels (t.child s i) path later a.1)
+
+  pub both_length : (s : N) (path later : List ℕ) → length (in_both t next s path later) ≡ length path + length later
+  both_length s [] [] = refl
+  both_length s [] (j ∷ later) = omega arith
+  both_length s (i ∷ path) later = omega (arith, both_length (t.child s i) path later)
+
+  -- Each path of the tree is such a one.
+  pub record IsBoth (s : N) (whole : List ℕ) : Type 0 where
+    pub path : List ℕ
+    pub later : List ℕ
+    pub path_allowed : Allowed t s path
+    pub later_allowed : Allowed t (next (landed t s path)) later
+    pub is : whole ≡ in_both t next s path later
+
+  pub parts : (s : N) (whole : List ℕ) → Allowed (twice t next) (first s) whole → IsBoth s whole
+  parts s [] a = record { path = []; later = []; path_allowed = tt; later_allowed = tt; is = refl }
+  parts s (i ∷ rest) a = by (nat_lt i (t.width s)) refl (λ c b. parts c rest b)
+    where
+      in_first : ((c : N) → Allowed (twice t next) (first c) rest → IsBoth c rest) → i < t.width s → IsBoth s (i ∷ rest)
+      in_first behind lt =
+          let b = behind (t.child s i) (subst (λ p. Allowed (twice t next) p rest) (child_first s i lt) a.1) in
+          record { path = i ∷ b.path; later = b.later; path_allowed = (lt, b.path_allowed); later_allowed = b.later_allowed; is = ap (λ (z : List ℕ). i ∷ z) b.is }
+
+      in_second : t.width s ≤ i → IsBoth s (i ∷ rest)
+      in_second le =
+          let b = allowed_later s (t.child (next s) (i - t.width s)) rest (subst (λ p. Allowed (twice t next) p rest) (child_second s i le) a.1) in
+          record { path = []; later = (i - t.width s) ∷ rest; path_allowed = tt; later_allowed = (omega (arith, a.0, le), b); is = ap (λ (n : ℕ). n ∷ rest) (omega (arith, le)) }
+
+      by : (b : Bool) → nat_lt i (t.width s) ≡ b → ((c : N) → Allowed (twice t next) (first c) rest → IsBoth c rest) → IsBoth s (i ∷ rest)
+      by true e behind = in_first behind (grind (arith, nat_tests))
+      by false e behind = in_second (grind (arith, nat_tests))
