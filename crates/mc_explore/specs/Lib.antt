@@ -11,6 +11,7 @@ pub mod Once
 pub mod View
 pub mod Rows
 pub mod Want
+pub mod Explores
 pub mod Bounds
 pub mod CursorText
 pub mod Page

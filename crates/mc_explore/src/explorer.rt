@@ -6,9 +6,9 @@ ghost use Rattle.mc_explore.specs.Page.{cursor_of};
 ghost use Rattle.mc_explore.specs.Resume.{Resumes};
 ghost use Rattle.mc_explore.specs.Restarts.{RowRestarts};
 ghost use Rattle.mc_explore.specs.Start.{begun};
-ghost use Rattle.mc_tree.specs.Paths.{Lost};
 ghost use Rattle.mc_explore.specs.State.{State, Finds, told, state_after, lost_at, at_start};
-ghost use Rattle.mc_explore.specs.Want.{RanOut};
+ghost use Rattle.mc_explore.specs.Explores.{Explores};
+ghost use Rattle.mc_tree.specs.Paths.{Lost};
 
 use crate::cursor::Cursor;
 use crate::error::ExploreError;
@@ -118,19 +118,12 @@ impl<F: Flash + Drop> Explorer<F> {
         // The restart theorem, for that row.
         ensures restarts { IfOk result (λ found. IfSome found
             (λ row. RowRestarts self.old.state.start (told row))) }
-        // It takes at most one boot and two operations, and none where there is no row. The limits never change.
+        // It takes at most one boot and two operations, and none where there is no row.
         ensures applied { IfOk result (λ
             found. self.new.ledger.applied ≤ self.old.ledger.applied + row_cost
             self.old.state.start.rules self.old.state.start.geometry found) }
-        ensures limits { self.new.ledger.limits ≡ self.old.ledger.limits }
-        // Memory is wanted only where the flash does not count, and was refused some: one that counts has enough.
-        ensures cause { IsErrOf result ExploreError.Memory
-            → RanOut F.counted self.new.ledger.failed }
-        // After an error the explorer has failed. It stays so as it is, and says so. No other does.
-        ensures lost { OnErr result (self.new.state.position ≡ Lost) }
-        ensures stays_lost { self.old.state.position ≡ Lost → IsErrOf result ExploreError.Failed }
-        ensures not_lost { IsErrOf result ExploreError.Failed → self.old.state.position ≡ Lost }
-        ensures still { IsErrOf result ExploreError.Failed → self.new ≡ self.old }
+        // A flash that counts has enough memory. After an error the explorer has failed, and it stays so as it is.
+        ensures explores { Explores F.counted self.old result self.new }
         ensures err { IfErr result (λ e. (e ≡ ExploreError.Memory) ⊎ (e ≡ ExploreError.Failed)) }
     {
         restart_law();

@@ -1,10 +1,9 @@
 //! Pages: several rows at a time, as text.
 ghost use Rattle.std.specs.Prelude.{◌≡◌, ◌+◌, ◌*◌, ◌≤◌, ◌⊎◌, IfOk, IfErr, OnOk, OnErr, IsErrOf};
-ghost use Rattle.mc_tree.specs.Paths.{Lost};
 ghost use Rattle.mc_explore.specs.Bounds.{most_for_row};
 ghost use Rattle.mc_explore.specs.Page.{PageIsOut, PageBegan};
 ghost use Rattle.mc_explore.specs.Until.{ShownIsOut, ShownBegan, FindsBefore};
-ghost use Rattle.mc_explore.specs.Want.{RanOut};
+ghost use Rattle.mc_explore.specs.Explores.{Explores, Goes};
 
 use crate::error::ExploreError;
 use crate::explorer::Explorer;
@@ -29,13 +28,7 @@ impl<F: Flash + Drop> Explorer<F> {
             self.new.state) }
         ensures applied { IfOk result (λ _. self.new.ledger.applied ≤ self.old.ledger.applied
             + most_for_row self.old.state.start.rules self.old.state.start.geometry) }
-        ensures limits { self.new.ledger.limits ≡ self.old.ledger.limits }
-        ensures cause { IsErrOf result ExploreError.Memory
-            → RanOut F.counted self.new.ledger.failed }
-        ensures lost { OnErr result (self.new.state.position ≡ Lost) }
-        ensures stays_lost { self.old.state.position ≡ Lost → IsErrOf result ExploreError.Failed }
-        ensures not_lost { IsErrOf result ExploreError.Failed → self.old.state.position ≡ Lost }
-        ensures still { IsErrOf result ExploreError.Failed → self.new ≡ self.old }
+        ensures explores { Explores F.counted self.old result self.new }
         ensures err { IfErr result (λ e. (e ≡ ExploreError.Memory) ⊎ (e ≡ ExploreError.Failed)) }
     {
         let Some(until) = until else {
@@ -63,12 +56,7 @@ fn write_lines<F: Flash + Drop, W: Write>(
         (W.contents writer.old) (W.contents writer.new)) }
     ensures applied { OnOk result (explorer.new.ledger.applied ≤ explorer.old.ledger.applied + limit
         * most_for_row explorer.old.state.start.rules explorer.old.state.start.geometry) }
-    ensures limits { explorer.new.ledger.limits ≡ explorer.old.ledger.limits }
-    ensures cause { IsErrOf result ExploreError.Memory
-        → RanOut F.counted explorer.new.ledger.failed }
-    ensures stays_lost { explorer.old.state.position ≡ Lost → IsErrOf result ExploreError.Failed }
-    ensures not_lost { IsErrOf result ExploreError.Failed → explorer.old.state.position ≡ Lost }
-    ensures still { IsErrOf result ExploreError.Failed → explorer.new ≡ explorer.old }
+    ensures goes { Goes F.counted explorer.old result explorer.new }
     ensures unwritten { IsErrOf result ExploreError.Failed → writer.new ≡ writer.old }
     ensures err { IfErr result (λ e. (e ≡ ExploreError.Memory) ⊎ (e ≡ ExploreError.Failed)
         ⊎ (e ≡ ExploreError.Write)) }
@@ -114,17 +102,10 @@ pub fn write_page_until<F: Flash + Drop, W: Write>(
         (W.contents writer.old) (W.contents writer.new)) }
     ensures began { OnErr result (ShownBegan until explorer.old.state limit
         (W.contents writer.old) (W.contents writer.new)) }
-    // Each row takes as much as one by itself. The limits never change.
+    // Each row takes as much as one by itself.
     ensures applied { OnOk result (explorer.new.ledger.applied ≤ explorer.old.ledger.applied + limit
         * most_for_row explorer.old.state.start.rules explorer.old.state.start.geometry) }
-    ensures limits { explorer.new.ledger.limits ≡ explorer.old.ledger.limits }
-    ensures cause { IsErrOf result ExploreError.Memory
-        → RanOut F.counted explorer.new.ledger.failed }
-    ensures lost { OnErr result (explorer.new.state.position ≡ Lost) }
-    ensures stays_lost { explorer.old.state.position ≡ Lost → IsErrOf result ExploreError.Failed }
-    ensures not_lost { IsErrOf result ExploreError.Failed → explorer.old.state.position ≡ Lost }
-    // An explorer that failed stays as it is, and so does the writer.
-    ensures still { IsErrOf result ExploreError.Failed → explorer.new ≡ explorer.old }
+    ensures explores { Explores F.counted explorer.old result explorer.new }
     ensures unwritten { IsErrOf result ExploreError.Failed → writer.new ≡ writer.old }
     ensures err { IfErr result (λ e. (e ≡ ExploreError.Memory) ⊎ (e ≡ ExploreError.Failed)
         ⊎ (e ≡ ExploreError.Write)) }
@@ -153,17 +134,10 @@ pub fn write_page<F: Flash + Drop, W: Write>(
         (W.contents writer.old) (W.contents writer.new)) }
     ensures began { OnErr result (PageBegan explorer.old.state limit (W.contents writer.old)
         (W.contents writer.new)) }
-    // Each row takes as much as one by itself. The limits never change.
+    // Each row takes as much as one by itself.
     ensures applied { OnOk result (explorer.new.ledger.applied ≤ explorer.old.ledger.applied + limit
         * most_for_row explorer.old.state.start.rules explorer.old.state.start.geometry) }
-    ensures limits { explorer.new.ledger.limits ≡ explorer.old.ledger.limits }
-    ensures cause { IsErrOf result ExploreError.Memory
-        → RanOut F.counted explorer.new.ledger.failed }
-    ensures lost { OnErr result (explorer.new.state.position ≡ Lost) }
-    ensures stays_lost { explorer.old.state.position ≡ Lost → IsErrOf result ExploreError.Failed }
-    ensures not_lost { IsErrOf result ExploreError.Failed → explorer.old.state.position ≡ Lost }
-    // An explorer that failed stays as it is, and so does the writer.
-    ensures still { IsErrOf result ExploreError.Failed → explorer.new ≡ explorer.old }
+    ensures explores { Explores F.counted explorer.old result explorer.new }
     ensures unwritten { IsErrOf result ExploreError.Failed → writer.new ≡ writer.old }
     ensures err { IfErr result (λ e. (e ≡ ExploreError.Memory) ⊎ (e ≡ ExploreError.Failed)
         ⊎ (e ≡ ExploreError.Write)) }

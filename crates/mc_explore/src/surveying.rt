@@ -1,10 +1,9 @@
 //! What the rows of an exploration come to.
 ghost use Rattle.std.specs.Prelude.{◌≡◌, ◌+◌, ◌-◌, ◌*◌, ◌^◌, ◌<◌, ◌≤◌, ◌⊎◌, List, ◌∷◌, ◌++◌, [], Some, IfOk, IfErr, OnOk, OnErr, IsErrOf, length};
-ghost use Rattle.mc_tree.specs.Paths.{Lost};
 ghost use Rattle.mc_explore.specs.Bounds.{most_for_row};
 ghost use Rattle.mc_explore.specs.State.{Told, told};
 ghost use Rattle.mc_explore.specs.Survey.{Surveys, SurveysUntil, tally_so_far, tally_text};
-ghost use Rattle.mc_explore.specs.Want.{RanOut};
+ghost use Rattle.mc_explore.specs.Explores.{Explores};
 
 use crate::cursor::Cursor;
 use crate::error::ExploreError;
@@ -102,16 +101,10 @@ pub fn survey_until<F: Flash + Drop>(
 ) -> Result<Tally, ExploreError>
     requires { 1 ≤ limit }
     ensures surveys { IfOk result (SurveysUntil until explorer.old.state explorer.new.state limit) }
-    // Each row takes as much as one by itself. The limits never change.
+    // Each row takes as much as one by itself.
     ensures applied { OnOk result (explorer.new.ledger.applied ≤ explorer.old.ledger.applied + limit
         * most_for_row explorer.old.state.start.rules explorer.old.state.start.geometry) }
-    ensures limits { explorer.new.ledger.limits ≡ explorer.old.ledger.limits }
-    ensures cause { IsErrOf result ExploreError.Memory
-        → RanOut F.counted explorer.new.ledger.failed }
-    ensures lost { OnErr result (explorer.new.state.position ≡ Lost) }
-    ensures stays_lost { explorer.old.state.position ≡ Lost → IsErrOf result ExploreError.Failed }
-    ensures not_lost { IsErrOf result ExploreError.Failed → explorer.old.state.position ≡ Lost }
-    ensures still { IsErrOf result ExploreError.Failed → explorer.new ≡ explorer.old }
+    ensures explores { Explores F.counted explorer.old result explorer.new }
     ensures err { IfErr result (λ e. (e ≡ ExploreError.Memory) ⊎ (e ≡ ExploreError.Failed)) }
 {
     let mut tally = Tally::new();
@@ -144,16 +137,10 @@ pub fn survey<F: Flash + Drop>(
     requires { 1 ≤ limit }
     // It is the stated function of the page's rows, and what is to come afterwards is the rest of the rows.
     ensures surveys { IfOk result (Surveys explorer.old.state explorer.new.state limit) }
-    // Each row takes as much as one by itself. The limits never change.
+    // Each row takes as much as one by itself.
     ensures applied { OnOk result (explorer.new.ledger.applied ≤ explorer.old.ledger.applied + limit
         * most_for_row explorer.old.state.start.rules explorer.old.state.start.geometry) }
-    ensures limits { explorer.new.ledger.limits ≡ explorer.old.ledger.limits }
-    ensures cause { IsErrOf result ExploreError.Memory
-        → RanOut F.counted explorer.new.ledger.failed }
-    ensures lost { OnErr result (explorer.new.state.position ≡ Lost) }
-    ensures stays_lost { explorer.old.state.position ≡ Lost → IsErrOf result ExploreError.Failed }
-    ensures not_lost { IsErrOf result ExploreError.Failed → explorer.old.state.position ≡ Lost }
-    ensures still { IsErrOf result ExploreError.Failed → explorer.new ≡ explorer.old }
+    ensures explores { Explores F.counted explorer.old result explorer.new }
     ensures err { IfErr result (λ e. (e ≡ ExploreError.Memory) ⊎ (e ≡ ExploreError.Failed)) }
 {
     survey_until(explorer, None, limit)

@@ -57,10 +57,10 @@ fill-preserved g c =
     record {
       page = page_on c.args.until.now c.args.explorer.now.state c.args.limit _ c.fill.explorer.state c.fill.room c.fill.last (g.W.Write.contents c.fill.writer) c.fill.invariant.page (c.fill.room - 1) room c.next_before.new.self.state _ c.in-Some.row found c.in_ok-write_line-in-Some.ensures.whole;
       not_lost = λ e. let q : Lost ≡ After c.in-Some.row.schedule = sym e ∙ ap (λ (s : State). s.position) moved in absurd cc;
-      stuck = λ e. let q : Ok c.in_ok-row.field-0 ≡ Err errors.Failed = rw c.in_ok-row.was at (c.next_before.ensures.stays_lost (c.fill.invariant.stuck e).0) in absurd cc;
+      stuck = λ e. let q : Ok c.in_ok-row.field-0 ≡ Err errors.Failed = rw c.in_ok-row.was at (c.next_before.ensures.explores.goes.stays_lost (c.fill.invariant.stuck e).0) in absurd cc;
       unwritten = λ e. let q : Lost ≡ After c.in-Some.row.schedule = sym e ∙ ap (λ (s : State). s.position) moved in absurd cc;
       start = ap (λ (s : State). s.start) moved ∙ c.fill.invariant.start;
-      limits = c.next_before.ensures.limits ∙ c.fill.invariant.limits;
+      limits = c.next_before.ensures.explores.goes.limits ∙ c.fill.invariant.limits;
       applied = row_paid c.fill.explorer.ledger.applied c.next_before.new.self.ledger.applied c.fill.room (c.fill.room - 1) _ _ room (omega (arith, c.in_ok-row.ensures.applied, cost)) c.fill.invariant.applied;
       full = inr (λ e. let q : Lost ≡ After c.in-Some.row.schedule = sym e ∙ ap (λ (s : State). s.position) moved in absurd cc);
     }
