@@ -9,6 +9,3 @@ mod twice;
 pub use campaign::{Campaign, CampaignError, Round};
 pub use laws::campaigns_are_paths;
 pub use rounds::{Both, OnWay, Twice};
-
-#[cfg(test)]
-mod tests;

@@ -1,9 +1,11 @@
-//! Tests of `mc_explore`, through what it offers to all. They stand by themselves, so that the crate is not proved again for
-//! them.
+//! Tests of `mc_explore` and `mc_campaign`, through what they offer to all. They stand by themselves, so that no crate is proved
+//! again for them.
 #![tactic(auto)]
 
 #[cfg(test)]
 mod bounds;
+#[cfg(test)]
+mod campaigns;
 #[cfg(test)]
 mod cursors;
 #[cfg(test)]

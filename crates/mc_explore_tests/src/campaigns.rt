@@ -1,5 +1,5 @@
 //! Texts of campaigns.
-use super::*;
+use mc_campaign::{Campaign, CampaignError, Round};
 use std::alloc::Global;
 use std::test::Fail;
 
