@@ -40,7 +40,8 @@ module _ (r : Rules) (g : Geometry) (confirms : Bool) where
 
   -- ---- the first
 
-  pub begins_first : (p : Place Content) (told : Both) (seen : Seen) → told.round ≡ rounds_of.First → 0 < told.first.outcome.ops → AreTold r g confirms p told → seen.content ≡ content_at p → seen.geometry ≡ g
+  pub begins_first : (p : Place Content) (told : Both) (seen : Seen) → told.round ≡ rounds_of.First → 0 < told.first.outcome.ops → AreTold r g confirms p told
+      → seen.content ≡ content_at p → seen.geometry ≡ g
       → IsAt (twice_kind r g confirms) p 0 (ways.First told.first.boot told.first.outcome.ops told.second) seen
   begins_first (first s) told seen round some t content layout =
       let ops = width_is r g told.first s t.first_is in
@@ -49,12 +50,14 @@ module _ (r : Rules) (g : Geometry) (confirms : Bool) where
   begins_first (second began s) told seen round some t content layout = let not_so : rounds_of.First ≡ rounds_of.Second = sym round ∙ t.round_is in absurd cc
 
   -- Where the first round has no operation its boot is over.
-  pub begins_behind : (p : Place Content) (told : Both) (old new : Seen) → told.round ≡ rounds_of.First → told.first.outcome.ops ≤ 0 → AreTold r g confirms p told → old.content ≡ content_at p → old.geometry ≡ g
+  pub begins_behind : (p : Place Content) (told : Both) (old new : Seen) → told.round ≡ rounds_of.First → told.first.outcome.ops ≤ 0 → AreTold r g confirms p told
+      → old.content ≡ content_at p → old.geometry ≡ g
       → new.content ≡ confirmed_if confirms old.geometry old.content → new.geometry ≡ old.geometry → IsAt (twice_kind r g confirms) p 0 (ways.Second told.second.boot) new
   begins_behind (first s) told old new round none t content layout is same =
       let ops = width_is r g told.first s t.first_is in
       let zero : 0 ≡ length (ops_of r g s) = omega (arith, none, ops) in
-      at_begin r g confirms (first s) 0 told.second new (omega (arith, zero)) (omega (arith, zero)) (between r g confirms s new.content old layout (content ∙ at_zero r g s ∙ ap (at_cut r g s) zero) is)
+      at_begin r g confirms (first s) 0 told.second new (omega (arith, zero)) (omega (arith, zero))
+      (between r g confirms s new.content old layout (content ∙ at_zero r g s ∙ ap (at_cut r g s) zero) is)
       (same ∙ layout) t.second_is
   begins_behind (second began s) told old new round none t content layout is same = let not_so : rounds_of.First ≡ rounds_of.Second = sym round ∙ t.round_is in absurd cc
 
@@ -122,7 +125,8 @@ module _ (r : Rules) (g : Geometry) (confirms : Bool) where
       → LeaveRoom new (left_of_way r g (ways.First boot' ops later)) (plus old (left_of_way r g (ways.First boot ops later)))
   counts_first boot boot' ops later old new c = record { entries = omega (arith, c.entries); saved = omega (arith, c.saved) }
 
-  pub counts_between : (p : Place Content) (i : ℕ) (boot boot' : Boot) (ops : ℕ) (later : Told) (seen : Seen) (old mid new : Counts) → IsAt (twice_kind r g confirms) p i (ways.First boot ops later) seen
+  pub counts_between : (p : Place Content) (i : ℕ) (boot boot' : Boot) (ops : ℕ) (later : Told) (seen : Seen) (old mid new : Counts)
+      → IsAt (twice_kind r g confirms) p i (ways.First boot ops later) seen
       → LeaveRoom mid (left_of g (progress boot')) (plus old (left_of g (progress boot))) → LeaveRoom new no_counts (plus mid one_write)
       → LeaveRoom new (left_of_way r g (ways.Second later.boot)) (plus old (left_of_way r g (ways.First boot ops later)))
   counts_between (first s) i boot boot' ops later seen old mid new at c d =
@@ -200,7 +204,8 @@ module _ (r : Rules) (g : Geometry) (confirms : Bool) where
 
   -- ---- how many children there are
 
-  pub width_first : (p : Place Content) (told : Both) (n : ℕ) → IsLayout g → told.round ≡ rounds_of.First → AreTold r g confirms p told → n ≡ min (told.first.outcome.ops + told.second.outcome.ops) 4294967295
+  pub width_first : (p : Place Content) (told : Both) (n : ℕ) → IsLayout g → told.round ≡ rounds_of.First → AreTold r g confirms p told
+      → n ≡ min (told.first.outcome.ops + told.second.outcome.ops) 4294967295
       → n ≡ width r g confirms p
   width_first (first s) told n valid round t is =
       omega (arith, is, width_is r g told.first s t.first_is, width_is r g told.second (second_start r g confirms s) t.second_is, few_ops s valid, few_ops (second_start r g confirms s) valid)

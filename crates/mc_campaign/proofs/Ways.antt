@@ -33,7 +33,8 @@ module _ (r : Rules) (g : Geometry) (confirms : Bool) where
   pub first_child : (s : Content) (i : ℕ) → i < length (ops_of r g s) → child (first s) i ≡ first (at_cut r g s i)
   first_child s i lt = child_first (boots r g) (second_start r g confirms) s i lt
 
-  pub first_at : (s : Content) (i : ℕ) (boot : Boot) (ops : ℕ) (later : Told) (seen : Seen) → IsAt (twice_kind r g confirms) (first s) i (ways.First boot ops later) seen → IsAt (once r g) s i boot seen
+  pub first_at : (s : Content) (i : ℕ) (boot : Boot) (ops : ℕ) (later : Told) (seen : Seen) → IsAt (twice_kind r g confirms) (first s) i (ways.First boot ops later) seen
+      → IsAt (once r g) s i boot seen
   first_at s i boot ops later seen at = record {
     on_is = at.on_is.made;
     content_is = at.content_is ∙ ap content_at (first_child s i at.on_is.early);
@@ -94,7 +95,8 @@ module _ (r : Rules) (g : Geometry) (confirms : Bool) where
   ended s = refl
 
   -- The first round is over, and the image has confirmed itself or not.
-  pub between : (s new : Content) (old : Seen) → old.geometry ≡ g → old.content ≡ at_cut r g s (length (ops_of r g s)) → new ≡ confirmed_if confirms old.geometry old.content → new ≡ second_start r g confirms s
+  pub between : (s new : Content) (old : Seen) → old.geometry ≡ g → old.content ≡ at_cut r g s (length (ops_of r g s)) → new ≡ confirmed_if confirms old.geometry old.content
+      → new ≡ second_start r g confirms s
   unfolding second_start
   between s new old layout content is = is ∙ ap (λ x. confirmed_if confirms x old.content) layout ∙ ap (confirmed_if confirms g) (content ∙ ended s)
 

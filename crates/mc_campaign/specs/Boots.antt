@@ -15,8 +15,8 @@ use Rattle.mc_campaign.specs.Places.{Places, pairs_of}
 unfoldable pub second_start : Rules → Geometry → Bool → Content → Content
 second_start r g confirms s = confirmed_if confirms g (content_or s (left_by r g s))
 
--- A boot of the first round can be cut before each operation that it makes uncut, and so can then the one that begins the second
--- round behind it.
+-- A boot of the first round can be cut before each operation that it makes uncut, and so can then the one that begins the
+-- second round behind it.
 abbrev pub rounds : Rules → Geometry → Bool → Tree (Place Content)
 rounds r g confirms = twice (boots r g) (second_start r g confirms)
 

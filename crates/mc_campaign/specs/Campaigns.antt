@@ -9,8 +9,8 @@ use Rattle.mc_boot.specs.Runs.{after, left_by}
 use Rattle.mc_explore.specs.Schedules as schedules
 use Rattle.mc_campaign.specs.Places.{Places, pairs_of}
 
--- From s the cuts of the first round can occur, one after another. The uncut boot from the flash that they leave ends the round;
--- there the image confirms itself or not, and from what is then there the cuts of the second round can occur.
+-- From s the cuts of the first round can occur, one after another. The uncut boot from the flash that they leave ends the
+-- round; there the image confirms itself or not, and from what is then there the cuts of the second round can occur.
 pub record CanOccur (r : Rules) (g : Geometry) (confirms : Bool) (s : Content) (c : Places) : Type 0 where
   pub cut : Content
   pub first : after r g s c.first ≡ Some cut

@@ -67,7 +67,8 @@ fn round_of(number: u32) -> Option<Round>
     }
 }
 
-// The round and the place of a cut that a text tells: two numbers with a point between them, as a schedule of two cuts is written.
+// The round and the place of a cut that a text tells: two numbers with a point between them, as a schedule of two cuts is
+// written.
 fn cut_of(text: &str) -> Result<(Round, u32), CampaignError>
     ensures { MatchResult result
         (λ cut. (text.now ≡ cut_text (number_of cut.0, cut.1)) × (cut.1 < 2 ^ 32))
@@ -87,9 +88,9 @@ fn cut_of(text: &str) -> Result<(Round, u32), CampaignError>
 }
 
 impl Campaign {
-    /// The campaign that a text tells: `-` for no cut, else 1 to 16 cuts with commas between them. A cut is written as its round, 1
-    /// or 2, a point and its place, below 2^32 and without leading zeros: `1.0,2.5`. No cut of the first round stands behind one of
-    /// the second. It takes no memory.
+    /// The campaign that a text tells: `-` for no cut, else 1 to 16 cuts with commas between them. A cut is written as its
+    /// round, 1 or 2, a point and its place, below 2^32 and without leading zeros: `1.0,2.5`. No cut of the first round stands
+    /// behind one of the second. It takes no memory.
     ///
     /// # Errors
     ///

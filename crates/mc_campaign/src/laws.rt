@@ -10,8 +10,8 @@ ghost use Rattle.mc_campaign.specs.Places.{Places};
 ghost use Rattle.mc_campaign.specs.Campaigns.{IsMember, Precedes};
 ghost use Rattle.mc_campaign.specs.Boots.{IsPathOf, rounds};
 
-/// The campaigns that can occur are the paths of the tree of two rounds: each of at most so many cuts is that of a path of at most
-/// so many steps, and each such path is that of such a campaign. The order of campaigns is that of their paths.
+/// The campaigns that can occur are the paths of the tree of two rounds: each of at most so many cuts is that of a path of at
+/// most so many steps, and each such path is that of such a campaign. The order of campaigns is that of their paths.
 pub fn campaigns_are_paths()
     ensures paths { (r : Rules) (g : Geometry) (confirms : Bool) (s : Content) (bound : ℕ)
         (c : Places) → IsMember r g confirms s bound c

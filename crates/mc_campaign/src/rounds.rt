@@ -18,8 +18,8 @@ pub struct Twice {
     pub confirms: bool,
 }
 
-/// What is told of a place in two rounds: of the last boot of the first round, and of the boot of the second. In the first round that is
-/// the one with which the second begins.
+/// What is told of a place in two rounds: of the last boot of the first round, and of the boot of the second. In the first
+/// round that is the one with which the second begins.
 #[derive(Clone, Copy)]
 pub struct Both {
     pub round: Round,
@@ -30,8 +30,8 @@ pub struct Both {
 /// A place on the way from another.
 #[derive(Clone, Copy)]
 pub enum OnWay {
-    /// In the first round: the boot at its cut, how many operations it makes uncut, and what is told of the second round behind
-    /// it.
+    /// In the first round: the boot at its cut, how many operations it makes uncut, and what is told of the second round
+    /// behind it.
     First { boot: Boot, ops: u32, later: Told },
     /// In the second round: the boot at its cut.
     Second(Boot),
@@ -47,8 +47,8 @@ impl Twice {
     ///
     /// `Memory` where the flash was refused memory.
     pub(crate) fn go_between<F: Flash>(&self, flash: &mut F) -> Result<(), FlashError>
-        ensures content { OnOk result ((F.seen flash.new).content
-            ≡ confirmed_if self.now.confirms (F.seen flash.old).geometry (F.seen flash.old).content) }
+        ensures content { OnOk result ((F.seen flash.new).content ≡ confirmed_if self.now.confirms
+            (F.seen flash.old).geometry (F.seen flash.old).content) }
         ensures keeps { Keeps (F.seen flash.old) (F.seen flash.new) }
         ensures counts { LeaveRoom (F.seen flash.new).ledger.counts no_counts
             (plus (F.seen flash.old).ledger.counts one_write) }

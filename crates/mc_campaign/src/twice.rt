@@ -1,5 +1,5 @@
-//! The tree of two rounds of boots: a node is a place in one of them, and its children are those of its round, and in the first round
-//! then those of the second round that begins behind it.
+//! The tree of two rounds of boots: a node is a place in one of them, and its children are those of its round, and in the first
+//! round then those of the second round that begins behind it.
 use crate::campaign::Round;
 use crate::rounds::{Both, OnWay, Twice};
 use mc_flash::{Flash, FlashError};

@@ -18,7 +18,8 @@ returns-in-Ok-clause-tells g c =
     let l = c.args.self.once.layout in
     let f = g.F.Flash.seen c.args.flash.now in
     λ p i at early told.
-    told_alike r l c.args.self.confirms p i c.in-First.boot c.in-First.ops c.in-First.later c.in-Ok.first c.args.parent.now f (subst (λ way. IsAt (twice_kind r l c.args.self.confirms) p i way f) c.in-First.is at) told
+    told_alike r l c.args.self.confirms p i c.in-First.boot c.in-First.ops c.in-First.later c.in-Ok.first c.args.parent.now f
+    (subst (λ way. IsAt (twice_kind r l c.args.self.confirms) p i way f) c.in-First.is at) told
     c.in-Ok.ensures.told c.in-Ok.ensures.left
 
 pub returns-in-Err-clause-tells : goal.returns-in-Err-clause-tells
@@ -34,5 +35,6 @@ returns-in_ok-second-in-Second-clause-tells g c =
     let l = c.args.self.once.layout in
     let f = g.F.Flash.seen c.args.flash.now in
     λ p i at early told.
-    told_second r l c.args.self.confirms p i c.in-Second.boot c.in_ok-second-in-Second.second c.args.parent.now f (subst (λ way. IsAt (twice_kind r l c.args.self.confirms) p i way f) c.in-Second.is at) early told
+    told_second r l c.args.self.confirms p i c.in-Second.boot c.in_ok-second-in-Second.second c.args.parent.now f
+    (subst (λ way. IsAt (twice_kind r l c.args.self.confirms) p i way f) c.in-Second.is at) early told
     c.in_ok-second-in-Second.ensures.tells

@@ -67,7 +67,8 @@ returns-in_ok-go_between-in-First-clause-goes_on g c =
           next_between r l c.args.self.confirms p i c.in-First.boot c.pass.new.at c.in-First.ops c.in-First.later old mid new (subst (λ way. IsAt k p i way old) c.in-First.is at) e.passes.0
           (omega (arith, c.if-count-ops.false, c.count.ensures)) h.content h.keeps.geometry,
       subst (λ way. LeaveRoom new.ledger.counts (left_of_way r l (ways.Second c.in-First.later.boot)) (plus old.ledger.counts (left_of_way r l way))) (sym c.in-First.is)
-          (counts_between r l c.args.self.confirms has.0 has.1 c.in-First.boot c.pass.new.at c.in-First.ops c.in-First.later old old.ledger.counts mid.ledger.counts new.ledger.counts has.2 e.passes.1 h.counts),
+          (counts_between r l c.args.self.confirms has.0 has.1 c.in-First.boot c.pass.new.at c.in-First.ops c.in-First.later old
+          old.ledger.counts mid.ledger.counts new.ledger.counts has.2 e.passes.1 h.counts),
     )
 
 pub returns-in_ok-go_between-in-First-clause-spends : goal.returns-in_ok-go_between-in-First-clause-spends
