@@ -1,9 +1,9 @@
 -- From one cut of a boot to the next, and what is told of the flash there.
-use Rattle.std.specs.Prelude.{◌≡◌, ℕ, ◌+◌, ◌<◌, ◌≤◌, List, [], ◌∷◌, length, Option, Some, None, Result, Ok, Err, IfErr, option_map, refl}
+use Rattle.std.specs.Prelude.{◌≡◌, ℕ, ◌+◌, ◌<◌, ◌≤◌, List, [], ◌∷◌, length, Some, Result, Ok, Err, IfErr, refl}
 use Rattle.std.proofs.Common.{arith, sym, ap, subst, ◌∙◌}
 use Rattle.mc_flash.specs.Content.{Content, IsSized}
 use Rattle.mc_flash.specs.Geometry.{Geometry}
-use Rattle.mc_flash.specs.Ledger.{Counts, most_operations, most_saved}
+use Rattle.mc_flash.specs.Ledger.{most_operations, most_saved}
 use Rattle.mc_flash.specs.Seen.{Seen, Keeps}
 use Rattle.mc_flash.specs.Spends.{Spends, LeaveRoom, plus, room_of}
 use Rattle.mc_flash.specs.declared.op.Op.{Op}
@@ -14,17 +14,17 @@ use Rattle.mc_image.specs.Bytes.{IsBytes}
 use Rattle.mc_boot.specs.After.{IsCut, IsStopped}
 use Rattle.mc_boot.specs.Boot.{Progress, IsBootOf, StepsAlong, Steps, all_of, begun, progress}
 use Rattle.mc_boot.specs.Bounds.{IsBounded, left_of}
-use Rattle.mc_boot.specs.Outcome.{Report, outcome_of, report, shown}
+use Rattle.mc_boot.specs.Outcome.{outcome_of, shown}
 use Rattle.mc_boot.specs.Plan.{plan}
 use Rattle.mc_boot.specs.Run.{HasCome}
-use Rattle.mc_boot.specs.RunFacts.{come_begun, come_left, come_ops, left_defined}
-use Rattle.mc_boot.specs.Runs.{is_faulted, left_by, ops_of}
+use Rattle.mc_boot.specs.RunFacts.{come_begun, come_left, come_ops}
+use Rattle.mc_boot.specs.Runs.{left_by, ops_of}
 use Rattle.mc_boot.specs.StepFacts.{refused_here, step_counts, step_ran_out, step_spends, stepped_here}
 use Rattle.mc_boot.specs.declared.boot.Boot.{Boot}
 use Rattle.mc_boot.specs.declared.outcome.Outcome.{Outcome}
 use Rattle.mc_walk.specs.Kind.{IsAt, HasNext, GoesOn}
 use Rattle.mc_explore.specs.Boots.{at_cut}
-use Rattle.mc_explore.specs.Once.{CanPass, HasMade, IsBegun, IsTold, Passes, most_of, once}
+use Rattle.mc_explore.specs.Once.{CanPass, IsBegun, IsTold, Passes, most_of, once}
 use Rattle.mc_explore.specs.Replay.{EndsWith}
 use Rattle.mc_explore.specs.declared.once.Told.{Told}
 use Rattle.mc_explore.specs.facts.Occurring.{at_zero, come_lands}
