@@ -1,4 +1,6 @@
 //! Texts of campaigns.
+mod replays;
+
 use super::*;
 use std::alloc::Global;
 use std::test::Fail;
