@@ -3,3 +3,4 @@ mod Reading
 mod Paths
 mod Ways
 mod Steps
+mod Replays

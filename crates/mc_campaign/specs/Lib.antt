@@ -4,3 +4,4 @@ pub mod Rounds
 pub mod Campaigns
 pub mod Boots
 pub mod Twice
+pub mod Replay

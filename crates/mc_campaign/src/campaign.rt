@@ -148,7 +148,8 @@ impl Campaign {
 
     /// How many cuts it has, in both rounds.
     pub fn len(&self) -> usize
-        ensures { result ≡ length (pairs_of self.now) }
+        ensures value { result ≡ length (pairs_of self.now) }
+        ensures few { result ≤ 16 }
     {
         self.first.cuts().len() + self.second.cuts().len()
     }

@@ -37,30 +37,30 @@ pub enum OnWay {
     Second(Boot),
 }
 
+/// From one round to the next: the image confirms itself, or the flash stays as it is.
+///
+/// # Errors
+///
+/// `Memory` where the flash was refused memory.
+pub(crate) fn go_between<F: Flash>(confirms: bool, flash: &mut F) -> Result<(), FlashError>
+    ensures content { OnOk result ((F.seen flash.new).content ≡ confirmed_if confirms
+        (F.seen flash.old).geometry (F.seen flash.old).content) }
+    ensures keeps { Keeps (F.seen flash.old) (F.seen flash.new) }
+    ensures counts { LeaveRoom (F.seen flash.new).ledger.counts no_counts
+        (plus (F.seen flash.old).ledger.counts one_write) }
+    ensures spends { Allows one_write (F.seen flash.old)
+        → Spends 1 (F.seen flash.old) result (F.seen flash.new) }
+    ensures err { IfErr result (λ e. e ≡ FlashError.Memory) }
+{
+    if confirms {
+        confirm(flash)?;
+    }
+    Ok(())
+}
+
 impl Twice {
     ghost use Rattle.mc_explore.specs.Once.{IsBegun};
     ghost use Rattle.mc_campaign.specs.Twice.{AreTold, most_of_both};
-
-    /// From one round to the next: the image confirms itself, or the flash stays as it is.
-    ///
-    /// # Errors
-    ///
-    /// `Memory` where the flash was refused memory.
-    pub(crate) fn go_between<F: Flash>(&self, flash: &mut F) -> Result<(), FlashError>
-        ensures content { OnOk result ((F.seen flash.new).content ≡ confirmed_if self.now.confirms
-            (F.seen flash.old).geometry (F.seen flash.old).content) }
-        ensures keeps { Keeps (F.seen flash.old) (F.seen flash.new) }
-        ensures counts { LeaveRoom (F.seen flash.new).ledger.counts no_counts
-            (plus (F.seen flash.old).ledger.counts one_write) }
-        ensures spends { Allows one_write (F.seen flash.old)
-            → Spends 1 (F.seen flash.old) result (F.seen flash.new) }
-        ensures err { IfErr result (λ e. e ≡ FlashError.Memory) }
-    {
-        if self.confirms {
-            confirm(flash)?;
-        }
-        Ok(())
-    }
 
     // Runs the boot at power-on to its end, and then that of the second round.
     fn run<F: Flash>(&self, flash: &mut F, boot: Boot) -> Result<Both, FlashError>
@@ -76,7 +76,7 @@ impl Twice {
         ensures err { IfErr result (λ e. e ≡ FlashError.Memory) }
     {
         let first = self.once.run(flash, boot)?;
-        self.go_between(flash)?;
+        go_between(self.confirms, flash)?;
         let then = self.once.boot(flash);
         let second = self.once.run(flash, then)?;
         Ok(Both {

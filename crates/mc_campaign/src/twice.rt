@@ -1,7 +1,7 @@
 //! The tree of two rounds of boots: a node is a place in one of them, and its children are those of its round, and in the first
 //! round then those of the second round that begins behind it.
 use crate::campaign::Round;
-use crate::rounds::{Both, OnWay, Twice};
+use crate::rounds::{Both, OnWay, Twice, go_between};
 use mc_flash::{Flash, FlashError};
 use mc_walk::Branches;
 
@@ -40,7 +40,7 @@ impl Branches for Twice {
                     let boot = told.first.boot;
                     return Ok(OnWay::First { boot, ops, later });
                 }
-                self.go_between(flash)?;
+                go_between(self.confirms, flash)?;
                 Ok(OnWay::Second(later.boot))
             }
             Round::Second => Ok(OnWay::Second(later.boot)),
@@ -59,7 +59,7 @@ impl Branches for Twice {
                     *at = OnWay::First { boot, ops, later };
                     return Ok(());
                 }
-                self.go_between(flash)?;
+                go_between(self.confirms, flash)?;
                 *at = OnWay::Second(later.boot);
                 Ok(())
             }

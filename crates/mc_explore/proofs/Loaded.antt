@@ -1,6 +1,7 @@
 -- A flash that was just loaded, and a walk on it.
 use Rattle.std.specs.Prelude.{◌≡◌, ℕ, ◌+◌, ◌*◌, ◌≤◌, Bool, List, [], length, Some}
 use Rattle.std.proofs.Common.{arith, sym, ap, subst, ◌∙◌}
+use Rattle.std.proofs.Math.Nat.{mul-le-mul_right}
 use Rattle.mc_flash.specs.Content.{Content}
 use Rattle.mc_flash.specs.Geometry.{Geometry, IsLayout}
 use Rattle.mc_flash.specs.Ledger.{Ledger, Limits, IsWithin, limits_for, most_operations, most_saved}
@@ -16,8 +17,8 @@ use Rattle.mc_boot.specs.RunFacts.{come_left}
 use Rattle.mc_boot.specs.Runs.{left_by}
 use Rattle.mc_walk.specs.Walks.{IsClear, IsFresh, IsOf, Walked, start_of}
 use Rattle.mc_explore.specs.Once.{once}
-use Rattle.mc_explore.specs.Start.{Begun}
-use Rattle.mc_explore.specs.View.{IsLoaded}
+use Rattle.mc_explore.specs.Start.{Begun, Started, begun}
+use Rattle.mc_explore.specs.View.{IsLoaded, begun_with}
 use Rattle.mc_explore.specs.declared.once.Once.{Once}
 
 record AreLimits (grain : Grain) (g : Geometry) (boots : ℕ) (limits : Limits) : Type 0 where
@@ -30,18 +31,20 @@ unfolding limits_for
 limits_are grain g boots limits within = record { for_entries = within.entries; for_saved = within.saved; for_marks = within.marks }
 
 module _ (counted : Bool) (g : Geometry) (primary secondary : List ℕ) (f : Seen) where
-  -- It serves for a walk of one cut less than there are boots.
-  pub clear : (r : Rules) (bound : ℕ) → Loads counted g primary secondary r.grain (bound + 1) f → IsClear (once r g) bound f
-  clear r bound l =
-      let limits = limits_are r.grain g (bound + 1) f.ledger.limits l.room in
+  -- It serves for a walk of fewer cuts than there are boots.
+  pub clear : (r : Rules) (bound boots : ℕ) → bound + 1 ≤ boots → Loads counted g primary secondary r.grain boots f → IsClear (once r g) bound f
+  clear r bound boots few l =
+      let limits = limits_are r.grain g boots f.ledger.limits l.room in
+      let entries : (bound + 1) * most_operations r.grain g ≤ boots * most_operations r.grain g = mul-le-mul_right (most_operations r.grain g) few in
+      let saved : (bound + 1) * most_saved g ≤ boots * most_saved g = mul-le-mul_right (most_saved g) few in
       record {
         none = l.none;
         counts = ap (λ (x : Ledger). x.counts) l.ledger_is;
         layout_is = l.geometry_is;
         roomy = record {
-          entries = limits.for_entries;
-          saved = limits.for_saved;
-          marks = omega (arith, limits.for_marks);
+          entries = omega (arith, limits.for_entries, entries);
+          saved = omega (arith, limits.for_saved, saved);
+          marks = omega (arith, limits.for_marks, few);
         };
       }
 
@@ -63,6 +66,15 @@ module _ (counted : Bool) (g : Geometry) (primary secondary : List ℕ) (f : See
   left_here p new v l come end same =
       ap (λ (x : Geometry). left_by plain x (record { primary = primary; secondary = secondary })) (sym l.geometry_is) ∙ ap (left_by plain f.geometry) (sym l.content_is)
       ∙ come_left plain f.geometry f.content p new.content come end ∙ ap (λ (x : Content). Some x) (sym same)
+
+-- The start of the same four parts.
+pub same_start : (start : Started) (once : Once) (primary secondary : List ℕ) → once.rules ≡ start.rules → once.layout ≡ start.geometry → primary ≡ start.content.primary
+    → secondary ≡ start.content.secondary → begun_with once primary secondary ≡ begun start
+same_start start once primary secondary rules layout one two =
+    ap (λ (x : Rules). record { geometry = once.layout; rules = x; content = record { primary = primary; secondary = secondary } }) rules
+    ∙ ap (λ (x : Geometry). record { geometry = x; rules = start.rules; content = record { primary = primary; secondary = secondary } }) layout
+    ∙ ap (λ (x : List ℕ). record { geometry = start.geometry; rules = start.rules; content = record { primary = x; secondary = secondary } }) one
+    ∙ ap (λ (x : List ℕ). record { geometry = start.geometry; rules = start.rules; content = record { primary = start.content.primary; secondary = x } }) two
 
 -- A walk from there.
 pub loaded : (counted : Bool) (start : Begun) (primary secondary : List ℕ) (bound many : ℕ) (f : Seen) (b : Once) (w : Walked Once) → Loads counted start.geometry primary secondary start.rules.grain many f

@@ -22,6 +22,14 @@ position_of Broken last = Lost
 abbrev pub begun_of : Walked Once → Begun
 begun_of w = record { geometry = w.branches.layout; rules = w.branches.rules; content = start_of w.seen }
 
+-- The start of a walk from a flash of these bytes.
+abbrev pub begun_with : Once → List ℕ → List ℕ → Begun
+begun_with once primary secondary = record {
+  geometry = once.layout;
+  rules = once.rules;
+  content = record { primary = primary; secondary = secondary };
+}
+
 -- The state of an explorer on that walk, whose last row is that of a schedule.
 abbrev pub state_of : Walked Once → Position → State
 state_of w position = record { start = begun_of w; bound = w.bound; position = position; failed = w.seen.ledger.failed }

@@ -52,9 +52,10 @@ impl Once {
         requires begun { IsBegun self.now.rules (F.seen flash.old) boot }
         requires layout { (F.seen flash.old).geometry ≡ self.now.layout }
         requires room { Allows (most_of self.now.rules self.now.layout) (F.seen flash.old) }
-        ensures told { IfOk result (IsTold self.now.rules self.now.layout (F.seen flash.old).content) }
-        ensures left { OnOk result (left_by self.now.rules self.now.layout (F.seen flash.old).content
-            ≡ Some (F.seen flash.new).content) }
+        ensures told { IfOk result (IsTold self.now.rules self.now.layout
+            (F.seen flash.old).content) }
+        ensures left { OnOk result (left_by self.now.rules self.now.layout
+            (F.seen flash.old).content ≡ Some (F.seen flash.new).content) }
         ensures counts { LeaveRoom (F.seen flash.new).ledger.counts no_counts
             (plus (F.seen flash.old).ledger.counts (most_of self.now.rules self.now.layout)) }
         ensures keeps { Keeps (F.seen flash.old) (F.seen flash.new) }
@@ -73,7 +74,8 @@ impl Once {
         requires begun { IsBegun self.now.rules (F.seen flash.old) boot }
         requires layout { (F.seen flash.old).geometry ≡ self.now.layout }
         requires room { HasRoom (most_of self.now.rules self.now.layout) (F.seen flash.old) }
-        ensures told { IfOk result (IsTold self.now.rules self.now.layout (F.seen flash.old).content) }
+        ensures told { IfOk result (IsTold self.now.rules self.now.layout
+            (F.seen flash.old).content) }
         ensures stays { OnOk result (Stays (F.seen flash.old) (F.seen flash.new)) }
         ensures spends { Spends (most_operations self.now.rules.grain self.now.layout)
             (F.seen flash.old) result (F.seen flash.new) }
@@ -85,12 +87,13 @@ impl Once {
         Ok(told)
     }
 
-    /// What is told of a child on its way, where it follows from what was told of its parent: then the uncut boots of both leave the
-    /// same flash. Elsewhere the boot at power-on from the child.
+    /// What is told of a child on its way, where it follows from what was told of its parent: then the uncut boots of both
+    /// leave the same flash. Elsewhere the boot at power-on from the child.
     pub fn derive<F: Flash>(&self, flash: &F, at: &Boot, parent: &Told) -> Result<Told, Boot>
-        requires { IsChild (once self.now.rules self.now.layout) at.now parent.now (F.seen flash.now) }
-        ensures told { IfOk result (TellsChild (once self.now.rules self.now.layout) at.now parent.now
-            (F.seen flash.now)) }
+        requires { IsChild (once self.now.rules self.now.layout) at.now parent.now
+            (F.seen flash.now) }
+        ensures told { IfOk result (TellsChild (once self.now.rules self.now.layout) at.now
+            parent.now (F.seen flash.now)) }
         ensures left { OnOk result (LeavesAlike self.now.rules self.now.layout at.now parent.now
             (F.seen flash.now)) }
         ensures begun { IfErr result (IsBegun self.now.rules (F.seen flash.now)) }
@@ -114,8 +117,8 @@ impl Once {
     /// `Memory` where the flash was refused memory.
     pub fn pass<F: Flash>(&self, flash: &mut F, at: &mut Boot) -> Result<(), FlashError>
         requires { CanPass self.now.rules self.now.layout at.old (F.seen flash.old) }
-        ensures passes { Passes self.now.rules self.now.layout at.old (F.seen flash.old) result at.new
-            (F.seen flash.new) }
+        ensures passes { Passes self.now.rules self.now.layout at.old (F.seen flash.old) result
+            at.new (F.seen flash.new) }
         ensures keeps { OnOk result (Keeps (F.seen flash.old) (F.seen flash.new)) }
         ensures spends { Spends 1 (F.seen flash.old) result (F.seen flash.new) }
         ensures err { IfErr result (λ e. e ≡ FlashError.Memory) }

@@ -1,14 +1,17 @@
 //! One schedule of power cuts, replayed.
-ghost use Rattle.std.specs.Prelude.{◌≡◌, ◌+◌, true, length, IfOk, MatchResult};
+ghost use Rattle.std.specs.Prelude.{◌≡◌, ◌+◌, ◌≤◌, true, length, IfOk, MatchResult};
 ghost use Rattle.mc_flash.specs.Ledger.{limits_for};
 ghost use Rattle.mc_boot.specs.Outcome.{shown};
 ghost use Rattle.mc_explore.specs.Replay.{IsReplayed, Refuses, Restarts};
+ghost use Rattle.mc_explore.specs.View.{IsLoaded, begun_of};
 
 use crate::loading::load;
+use crate::once::Once;
 use crate::schedule::Schedule;
 use crate::start::Start;
 use mc_boot::{Outcome, restart_law};
 use mc_flash::{Flash, FlashError};
+use mc_walk::Walk;
 use std::alloc::Global;
 use thiserror::Error;
 
@@ -31,6 +34,39 @@ impl From<FlashError> for ReplayError {
     fn from(_: FlashError) -> Self {
         ReplayError::Memory
     }
+}
+
+/// Goes along cuts on a walk from a start: the outcome of the uncut boot after them, and the flash that it leaves.
+///
+/// # Errors
+///
+/// `CannotOccur` with the place of the first cut that is not less than the operations that its boot makes uncut; `Memory`.
+pub fn replay_on<F: Flash>(
+    mut walk: Walk<F, Once>,
+    cuts: &[u32],
+) -> Result<(Outcome, F), ReplayError>
+    requires loaded { IsLoaded F.counted (begun_of walk) (length cuts.now) walk }
+    requires few { length cuts.now ≤ 16 }
+    ensures replayed { let s = begun_of walk in MatchResult result
+        (λ done. IsReplayed s.rules s.geometry s.content cuts.now (shown done.0)
+        (F.seen done.1).content)
+        (λ e. Refuses s.rules s.geometry s.content cuts.now e) }
+    ensures geometry { IfOk result
+        (λ done. (F.seen done.1).geometry ≡ (begun_of walk).geometry) }
+    ensures limits { IfOk result
+        (λ done. (F.seen done.1).ledger.limits ≡ walk.seen.ledger.limits) }
+{
+    walk.begin()?;
+    if !walk.follow(cuts)? {
+        return Err(ReplayError::CannotOccur(walk.path().len()));
+    }
+    let Some(told) = walk.told() else {
+        return Err(ReplayError::Memory);
+    };
+    let mut flash = walk.into_flash();
+    let mut boot = told.boot;
+    boot.finish(&mut flash)?;
+    Ok((told.outcome, flash))
 }
 
 /// The outcome of the uncut boot after a schedule of cuts, and the flash that it leaves, which is loaded for one boot more
@@ -58,16 +94,7 @@ pub fn replay<F: Flash>(
 {
     restart_law();
     let cuts = schedule.cuts();
-    let mut walk = load(alloc, start, cuts.len() as u8)?;
-    walk.begin()?;
-    if !walk.follow(cuts)? {
-        return Err(ReplayError::CannotOccur(walk.path().len()));
-    }
-    let Some(told) = walk.told() else {
-        return Err(ReplayError::Memory);
-    };
-    let mut flash = walk.into_flash();
-    let mut boot = told.boot;
-    boot.finish(&mut flash)?;
-    Ok((told.outcome, flash))
+    let walk = load(alloc, start, cuts.len() as u8)?;
+    let done = replay_on(walk, cuts)?;
+    Ok(done)
 }

@@ -1,5 +1,10 @@
-//! Texts of campaigns.
-use mc_campaign::{Campaign, CampaignError, Round};
+//! Texts of campaigns, and campaigns of a test swap that are replayed.
+use mc_boot::{BootResult, Outcome};
+use mc_campaign::{Campaign, CampaignError, Round, replay_campaign};
+use mc_explore::{Kind, ReplayError, Start};
+use mc_fixtures::{FIRST_IMAGE, SECOND_IMAGE, worked};
+use mc_flash::SnapFlash;
+use mc_trailer::SwapType;
 use std::alloc::Global;
 use std::test::Fail;
 
@@ -63,5 +68,54 @@ fn sixteen_cuts_are_the_most(rt: HostRuntime) -> Result<(), Fail> {
     assert!(rt; stands(rt.alloc(), sixteen)?);
     let more = format!(in rt.alloc(); "{sixteen},2.0")?;
     assert_eq!(rt; Campaign::read(more.as_str()).err(), Some(CampaignError));
+    Ok(())
+}
+
+/// The outcomes of both rounds of the campaign of a text.
+fn rounds(
+    alloc: Global,
+    text: &str,
+    confirms: bool,
+) -> Result<Result<(Outcome, Outcome), ReplayError>, Fail> {
+    let layout = worked()?;
+    let start = Start::from_images(alloc, &layout, Kind::Test, &FIRST_IMAGE, &SECOND_IMAGE)?;
+    let campaign = Campaign::read(text)?;
+    match replay_campaign::<SnapFlash>(alloc, &start, &campaign, confirms) {
+        Ok((one, two, _)) => Ok(Ok((one, two))),
+        Err(ReplayError::Memory) => Err(ReplayError::Memory.into()),
+        Err(error) => Ok(Err(error)),
+    }
+}
+
+#[test]
+fn both_rounds_are_told(rt: HostRuntime) -> Result<(), Fail> {
+    let alloc = rt.alloc();
+    for (text, confirms, kind, ops) in [
+        ("-", false, SwapType::Revert, 23),
+        ("-", true, SwapType::None, 0),
+        ("2.4", false, SwapType::Perm, 19),
+    ] {
+        let (one, two) = rounds(alloc, text, confirms)??;
+        assert_eq!(rt;
+            (one.result, one.kind, one.ops),
+            (BootResult::Boot, SwapType::Test, 18)
+        );
+        assert_eq!(rt;
+            (two.result, two.kind, two.ops),
+            (BootResult::Boot, kind, ops),
+            "{text}"
+        );
+        assert_eq!(rt; two.next, SwapType::None);
+    }
+    Ok(())
+}
+
+#[test]
+fn a_cut_of_the_second_round_cannot_occur(rt: HostRuntime) -> Result<(), Fail> {
+    let alloc = rt.alloc();
+    for (text, place) in [("1.0,2.23", 1), ("1.18,2.0", 0)] {
+        let refused = rounds(alloc, text, false)?.err();
+        assert_eq!(rt; refused, Some(ReplayError::CannotOccur(place)), "{text}");
+    }
     Ok(())
 }

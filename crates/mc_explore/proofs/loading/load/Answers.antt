@@ -1,11 +1,11 @@
-use Rattle.std.proofs.Common.{◌≡◌, ◌+◌, subst, arith}
-use Rattle.mc_flash.specs.Seen.{Loads}
-use Rattle.mc_explore.proofs.Loaded.{clear}
+use Rattle.std.proofs.Common.{subst}
+use Rattle.mc_explore.specs.Start.{Begun}
+use Rattle.mc_explore.specs.View.{IsLoaded}
+use Rattle.mc_explore.proofs.Loaded.{same_start}
 use Rattle.mc_explore.proofs.loading.load.Goals as goal
 
-pub start-requires : goal.start-requires
-start-requires g c =
-    let f = g.F.Flash.seen c.in_ok-flash.flash in
-    let boots : c.from.result + 1 ≡ c.from-2.result + 1 = omega (arith, c.from.ensures, c.from-2.ensures) in
-    let loads = subst (λ n. Loads g.F.Flash.counted c.layout.result.now c.primary.result.now c.secondary.result.now c.rules-rules.result.grain n f) boots c.in_ok-flash.ensures.loads in
-    clear g.F.Flash.counted c.layout.result.now c.primary.result.now c.secondary.result.now f c.rules-rules.result c.from-2.result loads
+pub returns-clause-loaded : goal.returns-clause-loaded
+returns-clause-loaded g c =
+    let same = same_start c.args.start.now (record { rules = c.rules.result; layout = c.layout.result.now }) c.primary-primary.result.now c.secondary-secondary.result.now
+    c.rules.ensures c.layout.ensures.value c.primary-primary.ensures.value c.secondary-secondary.ensures.value in
+    subst (λ (s : Begun). IsLoaded g.F.Flash.counted s c.args.bound c.in_ok-walk.walk) same c.in_ok-walk.ensures.loaded

@@ -32,13 +32,13 @@ pub returns-else-not-is_empty-clause-added : goal.returns-else-not-is_empty-clau
 returns-else-not-is_empty-clause-added c =
     let old : Places = record { first = c.self.inside.first; second = c.self.inside.second } in
     let none = none_in c.self.inside.second c.is_empty.result (c.is_empty.ensures ∙ ap (λ (l : List ℕ). length l == 0) c.cuts.ensures.value) c.if-not-is_empty.false in
-    let room = room_for c.self.inside.first c.self.inside.second c.len.result (c.len.ensures ∙ ap (λ z. length (pairs_of z)) (sym c.self.view_is)) c.if-len-eq-MOST_CUTS.false c.self.invariant in
+    let room = room_for c.self.inside.first c.self.inside.second c.len.result (c.len.ensures.value ∙ ap (λ z. length (pairs_of z)) (sym c.self.view_is)) c.if-len-eq-MOST_CUTS.false c.self.invariant in
     subst (λ z. IsAdded z c.args.text.now (record { first = c.push.new.self; second = c.self.inside.second })) c.self.view_is
     (added_first old c.push.new.self c.args.text.now c.in_ok-round.place none room c.in_ok-round.ensures.1 (first_told _ _ _ c.in-First.is c.in_ok-round.ensures.0) c.push.ensures)
 
 pub returns-in-Second-clause-added : goal.returns-in-Second-clause-added
 returns-in-Second-clause-added c =
     let old : Places = record { first = c.self.inside.first; second = c.self.inside.second } in
-    let room = room_for c.self.inside.first c.self.inside.second c.len.result (c.len.ensures ∙ ap (λ z. length (pairs_of z)) (sym c.self.view_is)) c.if-len-eq-MOST_CUTS.false c.self.invariant in
+    let room = room_for c.self.inside.first c.self.inside.second c.len.result (c.len.ensures.value ∙ ap (λ z. length (pairs_of z)) (sym c.self.view_is)) c.if-len-eq-MOST_CUTS.false c.self.invariant in
     subst (λ z. IsAdded z c.args.text.now (record { first = c.self.inside.first; second = c.push-in-Second.new.self })) c.self.view_is
     (added_second old c.push-in-Second.new.self c.args.text.now c.in_ok-round.place room c.in_ok-round.ensures.1 (second_told _ _ _ c.in-Second.is c.in_ok-round.ensures.0) c.push-in-Second.ensures)

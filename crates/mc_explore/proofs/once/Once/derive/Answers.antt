@@ -29,7 +29,8 @@ returns-in-Some-clause-told g c =
     let bytes : IsBytes f.content.secondary = subst (λ (x : List ℕ). IsBytes x) c.read.ensures.value c.bytes_stand.ensures in
     let begins : IsBegun c.args.at.now.rules f boot = record { boot = b.progress; list = b.whole; layout = b.layout; few = b.few; saves = b.few_saves; sized = b.sized; bytes = bytes } in
     λ s i here early told.
-    told_derived r c.args.self.now.layout f boot here.layout_is (subst (λ (x : Rules). IsBegun x f boot) here.on_is.come.rules begins) s i c.args.at.now c.args.parent.now c.in-Some.outcome here early told
+    told_derived r c.args.self.now.layout f boot here.layout_is (subst (λ (x : Rules). IsBegun x f boot) here.on_is.come.rules begins) s i c.args.at.now c.args.parent.now c.in-Some.outcome
+    here early told
     c.in-Some.ensures.outcome
 
 pub returns-in-Some-clause-left : goal.returns-in-Some-clause-left

@@ -4,7 +4,8 @@ use Rattle.mc_explore.proofs.once.Once.pass.Goals as goal
 pub returns-clause-passes : goal.returns-clause-passes
 returns-clause-passes g c =
     let e = c.step.ensures in
-    passes c.args.self.now.rules c.args.self.now.layout c.args.at.now c.step.new.self (g.F.Flash.seen c.args.flash.now) (g.F.Flash.seen c.step.new.flash) c.step.result c.requires e.step e.come e.whole e.layout e.keeps
+    passes c.args.self.now.rules c.args.self.now.layout c.args.at.now c.step.new.self (g.F.Flash.seen c.args.flash.now) (g.F.Flash.seen c.step.new.flash) c.step.result c.requires e.step
+    e.come e.whole e.layout e.keeps
 
 pub returns-clause-spends : goal.returns-clause-spends
 returns-clause-spends g c =

@@ -14,4 +14,5 @@ returns-clause-told g c =
 pub returns-clause-left : goal.returns-clause-left
 returns-clause-left g c =
     let e = c.in_ok-finish.ensures in
-    left_run c.args.self.now.rules c.args.self.now.layout (g.F.Flash.seen c.args.flash.now) c.args.boot c.requires.layout c.requires.begun (progress c.finish.new.self) (g.F.Flash.seen c.finish.new.flash) e.come e.end
+    left_run c.args.self.now.rules c.args.self.now.layout (g.F.Flash.seen c.args.flash.now) c.args.boot c.requires.layout c.requires.begun (progress c.finish.new.self)
+    (g.F.Flash.seen c.finish.new.flash) e.come e.end

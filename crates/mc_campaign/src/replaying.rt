@@ -1,0 +1,84 @@
+//! One campaign of power cuts, replayed.
+ghost use Rattle.std.specs.Prelude.{◌≡◌, ◌+◌, ◌≤◌, true, length, IfOk, MatchResult};
+ghost use Rattle.mc_flash.specs.Content.{size_of};
+ghost use Rattle.mc_flash.specs.Ledger.{limits_for};
+ghost use Rattle.mc_flash.specs.declared.op.Slot.TheVariants.{Primary, Secondary};
+ghost use Rattle.mc_boot.specs.Outcome.{shown};
+ghost use Rattle.mc_explore.specs.Replay as replays;
+ghost use Rattle.mc_explore.specs.View.{begun_with};
+ghost use Rattle.mc_campaign.specs.Places.{pairs_of};
+ghost use Rattle.mc_campaign.specs.Replay.{AreReplayed, Refuses};
+
+use crate::campaign::{Campaign, Round};
+use crate::rounds::go_between;
+use mc_boot::Outcome;
+use mc_explore::{Once, ReplayError, Start, load_for, replay_on};
+use mc_flash::{Flash, Slot};
+use std::alloc::Global;
+
+// One round, on a flash of these bytes that is loaded for so many boots.
+fn replay_round<F: Flash>(
+    alloc: Global,
+    once: &Once,
+    primary: &[u8],
+    secondary: &[u8],
+    cuts: &[u32],
+    boots: u8,
+) -> Result<(Outcome, F), ReplayError>
+    requires primary { length primary.now ≡ size_of once.now.layout Primary }
+    requires secondary { length secondary.now ≡ size_of once.now.layout Secondary }
+    requires few { (length cuts.now ≤ 16) × (length cuts.now + 1 ≤ boots) × (boots ≤ 32) }
+    ensures replayed { let s = begun_with once.now primary.now secondary.now in MatchResult result
+        (λ done. replays.IsReplayed s.rules s.geometry s.content cuts.now (shown done.0)
+        (F.seen done.1).content)
+        (λ e. replays.Refuses s.rules s.geometry s.content cuts.now e) }
+    ensures geometry { IfOk result (λ done. (F.seen done.1).geometry ≡ once.now.layout) }
+    ensures exact { IfOk result (λ done. F.counted ≡ true → (F.seen done.1).ledger.limits
+        ≡ limits_for once.now.rules.grain once.now.layout boots) }
+{
+    let walk = load_for(alloc, *once, primary, secondary, cuts.len() as u8, boots)?;
+    let done = replay_on(walk, cuts)?;
+    Ok(done)
+}
+
+/// The outcomes of both rounds of a campaign from a start, between which the image confirms itself or not, and the flash that the
+/// second leaves. Each round has a flash of its own, which is loaded for three boots more than the campaign has cuts.
+///
+/// # Errors
+///
+/// `CannotOccur` with the place of the first cut that is not less than the operations that its boot makes uncut, counted from 0
+/// over both rounds; `Memory`.
+pub fn replay_campaign<F: Flash>(
+    alloc: Global,
+    start: &Start,
+    campaign: &Campaign,
+    confirms: bool,
+) -> Result<(Outcome, Outcome, F), ReplayError>
+    ensures replayed { let s = start.now in MatchResult result
+        (λ done. AreReplayed s.rules s.geometry confirms s.content campaign.now (shown done.0)
+        (shown done.1) (F.seen done.2).content)
+        (λ e. Refuses s.rules s.geometry confirms s.content campaign.now e) }
+    ensures geometry { IfOk result (λ done. (F.seen done.2).geometry ≡ start.now.geometry) }
+    // A flash that counts has room for exactly so many boots.
+    ensures exact { IfOk result (λ done. F.counted ≡ true → (F.seen done.2).ledger.limits
+        ≡ limits_for start.now.rules.grain start.now.geometry
+        (length (pairs_of campaign.now) + 3)) }
+{
+    let once = Once {
+        rules: start.rules(),
+        layout: *start.layout(),
+    };
+    let boots = campaign.len() as u8 + 3;
+    let (first, second) = (campaign.cuts(Round::First), campaign.cuts(Round::Second));
+    let (primary, secondary) = (start.primary(), start.secondary());
+    let (one, mut middle) = replay_round::<F>(alloc, &once, primary, secondary, first, boots)?;
+    go_between(confirms, &mut middle)?;
+    let (primary, secondary) = (middle.read(Slot::Primary), middle.read(Slot::Secondary));
+    match replay_round(alloc, &once, primary, secondary, second, boots) {
+        Ok((two, flash)) => Ok((one, two, flash)),
+        Err(ReplayError::CannotOccur(later)) => {
+            Err(ReplayError::CannotOccur(first.len() + later))
+        }
+        Err(ReplayError::Memory) => Err(ReplayError::Memory),
+    }
+}
