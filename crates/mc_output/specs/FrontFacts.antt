@@ -32,9 +32,9 @@ module _ (before mid now : Option (List ℕ)) (text piece rest : List ℕ) (o : 
   pub out_front : AppendsFront mid now piece → AppendsFront before now text
   out_front (n, p) =
       let split : (o.done ++ take n piece) ++ (drop n piece ++ rest) ≡ (o.done ++ piece) ++ rest =
-          append_assoc o.done (take n piece) (drop n piece ++ rest)
-          ∙ ap (λ z. o.done ++ z) (sym (append_assoc (take n piece) (drop n piece) rest) ∙ ap (λ z. z ++ rest) (take-append-drop n piece))
-          ∙ sym (append_assoc o.done piece rest) in
+      append_assoc o.done (take n piece) (drop n piece ++ rest)
+      ∙ ap (λ z. o.done ++ z) (sym (append_assoc (take n piece) (drop n piece) rest) ∙ ap (λ z. z ++ rest) (take-append-drop n piece))
+      ∙ sym (append_assoc o.done piece rest) in
       is_front before now (o.done ++ take n piece) (drop n piece ++ rest) text (Appends-trans before mid now o.done (take n piece) o.out p) (split ∙ text_is)
 
 -- All of it is out.

@@ -54,13 +54,23 @@ fn swap_of(alloc: Global, count: usize) -> Result<String, Fail> {
 }
 
 /// Looks at the trace of the worked test swap.
-fn swap_tells(rt: &impl Abort, alloc: Global, words: &str, boots: &str, ops: u32) -> Result<(), Fail> {
+fn swap_tells(
+    rt: &impl Abort,
+    alloc: Global,
+    words: &str,
+    boots: &str,
+    ops: u32,
+) -> Result<(), Fail> {
     let out = format!(in alloc;
         "{boots}result boot\ntype test\nops {ops}\nprimary {SECOND_TOLD}\nsecondary {FIRST_TOLD}\nnext revert\n"
     )?;
     let case = Case {
         out: out.as_str(),
-        ..trace_of(&FIRST_IMAGE, "--kind test --image-a in --image-b second", words)
+        ..trace_of(
+            &FIRST_IMAGE,
+            "--kind test --image-a in --image-b second",
+            words,
+        )
     };
     ends(rt, alloc, &case)
 }
