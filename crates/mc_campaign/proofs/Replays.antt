@@ -15,7 +15,8 @@ use Rattle.mc_campaign.specs.Places.{Places}
 use Rattle.mc_campaign.specs.Replay.{CannotOccurLater}
 
 -- The same five parts.
-moved : (P : Rules → Geometry → List ℕ → List ℕ → List ℕ → Type 0) (r r' : Rules) (g g' : Geometry) (p p' q q' l l' : List ℕ) → r ≡ r' → g ≡ g' → p ≡ p' → q ≡ q' → l ≡ l' → P r g p q l → P r' g' p' q' l'
+moved : (P : Rules → Geometry → List ℕ → List ℕ → List ℕ → Type 0) (r r' : Rules) (g g' : Geometry) (p p' q q' l l' : List ℕ)
+    → r ≡ r' → g ≡ g' → p ≡ p' → q ≡ q' → l ≡ l' → P r g p q l → P r' g' p' q' l'
 moved P r r' g g' p p' q q' l l' a b c d e h =
     subst (λ x. P r' g' p' q' x) e (subst (λ x. P r' g' p' x l) d (subst (λ x. P r' g' x q l) c (subst (λ x. P r' x p q l) b (subst (λ x. P x g p q l) a h))))
 
@@ -23,9 +24,11 @@ module _ (start : Started) (confirms : Bool) (c : Places) (r : Rules) (g : Geome
   module _ (p q cuts : List ℕ) (one : Report) (middle : Content) (p_is : p ≡ start.content.primary) (q_is : q ≡ start.content.secondary) (cuts_are : cuts ≡ c.first)
       (replayed : IsReplayed r g (record { primary = p; secondary = q }) cuts one middle) where
     first_round : IsReplayed start.rules start.geometry start.content c.first one middle
-    first_round = moved (λ a b x y l. IsReplayed a b (record { primary = x; secondary = y }) l one middle) r start.rules g start.geometry p start.content.primary q start.content.secondary cuts c.first rules layout p_is q_is cuts_are replayed
+    first_round =
+        moved (λ a b x y l. IsReplayed a b (record { primary = x; secondary = y }) l one middle) r start.rules g start.geometry p start.content.primary q start.content.secondary cuts c.first rules layout p_is q_is cuts_are replayed
 
-    module _ (at : Geometry) (left : Content) (same : at ≡ g) (left_is : left ≡ confirmed_if confirms at middle) (p' q' later_cuts : List ℕ) (p'_is : p' ≡ left.primary) (q'_is : q' ≡ left.secondary)
+    module _ (at : Geometry) (left : Content) (same : at ≡ g) (left_is : left ≡ confirmed_if confirms at middle) (p' q' later_cuts : List ℕ)
+        (p'_is : p' ≡ left.primary) (q'_is : q' ≡ left.secondary)
         (later_are : later_cuts ≡ c.second) where
       begins : left ≡ confirmed_if confirms start.geometry middle
       begins = left_is ∙ ap (λ x. confirmed_if confirms x middle) (same ∙ layout)

@@ -1,7 +1,7 @@
 //! Two rounds of boots, one behind the other.
 ghost use Rattle.std.specs.Prelude.{◌≡◌, ◌+◌, IfOk, IfErr, OnOk};
 ghost use Rattle.mc_tree.specs.Twice.{first};
-ghost use Rattle.mc_flash.specs.Ledger.{most_operations, no_counts};
+ghost use Rattle.mc_flash.specs.Ledger.{no_counts};
 ghost use Rattle.mc_flash.specs.Seen.{Keeps};
 ghost use Rattle.mc_flash.specs.Spends.{Allows, HasRoom, LeaveRoom, Spends, Stays, plus};
 ghost use Rattle.mc_boot.specs.Confirm.{confirmed_if, one_write};

@@ -36,6 +36,7 @@ pub fn parse<'a>(alloc: Global, words: &'a [String]) -> Result<ArgMatches<'a>, E
         .subcommand(boot_command(alloc)?)?
         .subcommand(replay_command(alloc)?)?
         .subcommand(trace_command(alloc)?)?
+        .subcommand(sectors_command(alloc)?)?
         .subcommand(explore_command(alloc)?)?
         .subcommand(survey_command(alloc)?)?
         .subcommand(explain_command(alloc)?)?;
@@ -205,6 +206,12 @@ fn replay_command<'a>(alloc: Global) -> Result<Command<'a>, AllocError> {
                 .required(true)
                 .help("Cuts joined by points, as 9.4; - for none"),
         )?
+        .arg(
+            Arg::new(alloc, "at-cut")
+                .long("at-cut")
+                .value_name("FILE")
+                .help("Write the flash as it was when the last cut fell"),
+        )?
         .arg(out_file(alloc))
 }
 
@@ -225,13 +232,34 @@ fn trace_command<'a>(alloc: Global) -> Result<Command<'a>, AllocError> {
         .after_help(AFTER_TRACE);
     with_rules(alloc, with_flash(alloc, command)?)?
         .next_help_heading("Trace")
-        .arg(
-            Arg::new(alloc, "schedule")
-                .long("schedule")
-                .value_name("S")
-                .default_value("-")
-                .help("Cuts joined by points, as 9.4; - for none"),
-        )
+        .arg(schedule_or_none(alloc))
+}
+
+/// A schedule, of no cut where none is given.
+fn schedule_or_none<'a>(alloc: Global) -> Arg<'a> {
+    Arg::new(alloc, "schedule")
+        .long("schedule")
+        .value_name("S")
+        .default_value("-")
+        .help("Cuts joined by points, as 9.4; - for none")
+}
+
+static AFTER_SECTORS: &str = "\
+A line for each slot, a word for each sector: `-` where it is blank, `aN` or `bN` where it holds what
+sector N of the primary or of the secondary held at the start (the first such), `*` where it holds
+something else:
+  primary a0 - * *
+  secondary b0 - -";
+
+/// `sectors`: a picture of the flash at the last cut of a schedule.
+fn sectors_command<'a>(alloc: Global) -> Result<Command<'a>, AllocError> {
+    let command = Command::new(alloc, "sectors")
+        .override_usage("mcsim sectors <LAYOUT> <SOURCE> [OPTIONS]")
+        .about("Print what lies in each sector when the last cut of a schedule falls")
+        .after_help(AFTER_SECTORS);
+    with_rules(alloc, with_flash(alloc, command)?)?
+        .next_help_heading("Sectors")
+        .arg(schedule_or_none(alloc))
 }
 
 static AFTER_EXPLORE: &str = "\

@@ -5,6 +5,7 @@ pub mod explain;
 pub mod explore;
 mod infile;
 pub mod replay;
+mod schedule;
 pub mod trace;
 pub mod trailers;
 pub mod verify;

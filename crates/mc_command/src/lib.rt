@@ -76,12 +76,10 @@ fn run_command<F: Files, R: Read, O: Write>(
             commands::dumpinfo::run(files, alloc, arguments, input, out)
         }
         Some(("type", arguments)) => commands::trailers::run(files, alloc, arguments, out),
-        Some(("boot", arguments)) => commands::replay::run(files, alloc, arguments, "-", out),
-        Some(("replay", arguments)) => {
-            let schedule = options::required(arguments, "schedule")?;
-            commands::replay::run(files, alloc, arguments, schedule, out)
-        }
+        Some(("boot", arguments)) => commands::replay::boot(files, alloc, arguments, out),
+        Some(("replay", arguments)) => commands::replay::run(files, alloc, arguments, out),
         Some(("trace", arguments)) => commands::trace::run(files, alloc, arguments, out),
+        Some(("sectors", arguments)) => commands::trace::sectors(files, alloc, arguments, out),
         Some(("explain", arguments)) => commands::explain::run(arguments, out),
         Some(("explore", arguments)) => commands::explore::run(files, alloc, arguments, out),
         Some(("survey", arguments)) => commands::explore::survey(files, alloc, arguments, out),

@@ -30,7 +30,7 @@ use Rattle.mc_explore.specs.Resume.{Names, behind}
 use Rattle.mc_explore.specs.Schedules.{IsMember, CanOccur}
 use Rattle.mc_explore.specs.Start.{Begun}
 use Rattle.mc_explore.specs.State.{State, IsOver}
-use Rattle.mc_explore.specs.View.{IsLoaded, IsSound, begun_of, position_of, state_of}
+use Rattle.mc_explore.specs.View.{Followed, IsLoaded, IsSound, begun_of, position_of, state_of}
 use Rattle.mc_explore.specs.declared.cursor.Cursor.{Cursor}
 use Rattle.mc_explore.specs.declared.once.Once.{Once}
 use Rattle.mc_explore.specs.declared.once.Told.{Told}
@@ -60,17 +60,6 @@ same_begun : (old new : Walked Once) → IsSame old new → begun_of new ≡ beg
 same_begun old new s =
     ap (λ (b : Once). record { geometry = b.layout; rules = b.rules; content = start_of new.seen }) s.branches
     ∙ ap (λ (c : Content). record { geometry = old.branches.layout; rules = old.branches.rules; content = c }) s.start
-
--- A walk that has come along a schedule, from a start.
-pub record Followed (counted : Bool) (start : Begun) (bound : ℕ) (path : List ℕ) (w : Walked Once) : Type 0 where
-  pub start_is : begun_of w ≡ start
-  pub bound_is : w.bound ≡ bound
-  pub path_is : w.path ≡ path
-  pub stands : w.stands ≡ true
-  pub allowed : tree.IsMember (boots start.rules start.geometry) start.content bound path
-  pub counted_is : w.seen.ledger.limits.counted ≡ counted
-  pub calm : w.seen.ledger.failed ≡ false
-  pub applied : w.seen.ledger.applied ≤ 2 * (bound + 1) * most_operations start.rules.grain start.geometry
 
 module _ (counted : Bool) (start : Begun) (bound : ℕ) (path : List ℕ) (zero_walk one two : Walked Once) (told : Told) (l : IsLoaded counted start bound zero_walk)
     (b : Begins (once zero_walk.branches.rules zero_walk.branches.layout) zero_walk told one) where
@@ -196,6 +185,10 @@ module _ (counted : Bool) (start : Begun) (bound : ℕ) (path : List ℕ) (w : W
 
   pub layout_here : w.seen.geometry ≡ start.geometry
   layout_here = there.layout_is ∙ ap (λ (s : Begun). s.geometry) f.start_is
+
+  -- The flash is as it was when the last cut fell.
+  pub cut_here : after start.rules start.geometry start.content path ≡ Some w.seen.content
+  cut_here = allowed_after start.rules start.geometry start.content path f.allowed.1 ∙ ap (λ (c : Content). Some c) (sym (there.content_is ∙ node_is))
 
   -- There is room for the boot.
   pub room_here : Allows (left_of w.seen.geometry (progress told.boot)) w.seen

@@ -225,7 +225,8 @@ module _ (r : Rules) (g : Geometry) where
         → ((x : Rules) (y : Geometry) (v u : Content) → IsCut x y v u at (shown parent.outcome) → IsBootOf y b → progress b ≡ begun x (plan x y u) → outcome_of x y u ≡ Some (shown outcome))
         → IsTold r g (at_cut r g s i) (record { boot = b; outcome = outcome })
     told_derived s i at parent outcome here early told after =
-        let is = after r g s (at_cut r g s i) (cut_here s i at f parent here early told) (subst (λ (x : Geometry). IsBootOf x b) layout begins.layout) (begins.boot ∙ ap (begun r) (plans s i at here)) in
+        let is = after r g s (at_cut r g s i) (cut_here s i at f parent here early told) (subst (λ (x : Geometry). IsBootOf x b) layout begins.layout)
+        (begins.boot ∙ ap (begun r) (plans s i at here)) in
         told_of (at_cut r g s i) f b outcome layout here.content_is begins is
 
     pub left_derived : (s : Content) (i : ℕ) (at : Boot) (parent : Told) → IsAt (once r g) s i at f → i < length (ops_of r g s) → IsTold r g s parent

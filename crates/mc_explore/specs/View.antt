@@ -1,8 +1,11 @@
 -- What an explorer's fields stand for, and what holds of them.
-use Rattle.std.specs.Prelude.{◌≡◌, ◌≤◌, Bool, true, false, List, ℕ, length}
+use Rattle.std.specs.Prelude.{◌≡◌, ℕ, ◌+◌, ◌*◌, ◌≤◌, Bool, true, false, List, length}
+use Rattle.mc_tree.specs.Tree as tree
 use Rattle.mc_tree.specs.Paths.{Position, AtStart, After, Lost, IsOver}
 use Rattle.mc_flash.specs.Geometry.{IsLayout}
+use Rattle.mc_flash.specs.Ledger.{most_operations}
 use Rattle.mc_walk.specs.Walks.{Walked, IsFresh, IsPath, start_of}
+use Rattle.mc_explore.specs.Boots.{boots}
 use Rattle.mc_explore.specs.Once.{once}
 use Rattle.mc_explore.specs.Resume.{Names}
 use Rattle.mc_explore.specs.Start.{Begun}
@@ -66,3 +69,14 @@ pub record IsLoaded (counted : Bool) (start : Begun) (bound : ℕ) (w : Walked O
   pub idle : w.seen.ledger.applied ≡ 0
   pub calm : w.seen.ledger.failed ≡ false
   pub valid : IsLayout start.geometry
+
+-- A walk that has come along a schedule, from a start.
+pub record Followed (counted : Bool) (start : Begun) (bound : ℕ) (path : List ℕ) (w : Walked Once) : Type 0 where
+  pub start_is : begun_of w ≡ start
+  pub bound_is : w.bound ≡ bound
+  pub path_is : w.path ≡ path
+  pub stands : w.stands ≡ true
+  pub allowed : tree.IsMember (boots start.rules start.geometry) start.content bound path
+  pub counted_is : w.seen.ledger.limits.counted ≡ counted
+  pub calm : w.seen.ledger.failed ≡ false
+  pub applied : w.seen.ledger.applied ≤ 2 * (bound + 1) * most_operations start.rules.grain start.geometry

@@ -31,7 +31,7 @@ pub use laws::{one_list_of_rows, pages_join_up};
 pub use loading::load_for;
 pub use once::{Once, Told};
 pub use pages::{write_page, write_page_until};
-pub use replaying::{ReplayError, replay, replay_on};
+pub use replaying::{ReplayError, flash_at_cut, replay, replay_on};
 pub use row::Row;
 pub use schedule::{MOST_CUTS, Schedule, ScheduleError};
 pub use start::{Start, StartError};

@@ -1,12 +1,15 @@
-//! One schedule of power cuts, replayed.
-ghost use Rattle.std.specs.Prelude.{◌≡◌, ◌+◌, ◌≤◌, true, length, IfOk, MatchResult};
+//! One schedule of power cuts, replayed or followed to its last cut.
+ghost use Rattle.std.specs.Prelude.{◌≡◌, ◌+◌, ◌≤◌, true, length, Some, IfOk, IfErr, MatchResult};
 ghost use Rattle.mc_flash.specs.Ledger.{limits_for};
 ghost use Rattle.mc_boot.specs.Outcome.{shown};
+ghost use Rattle.mc_boot.specs.Runs.{after};
+ghost use Rattle.mc_walk.specs.Walks.{IsThere};
+ghost use Rattle.mc_explore.specs.Once.{once};
 ghost use Rattle.mc_explore.specs.Replay.{IsReplayed, Refuses, Restarts};
-ghost use Rattle.mc_explore.specs.View.{IsLoaded, begun_of};
+ghost use Rattle.mc_explore.specs.View.{Followed, IsLoaded, begun_of};
 
 use crate::loading::load;
-use crate::once::Once;
+use crate::once::{Once, Told};
 use crate::schedule::Schedule;
 use crate::start::Start;
 use mc_boot::{Outcome, restart_law};
@@ -36,15 +39,38 @@ impl From<FlashError> for ReplayError {
     }
 }
 
+// Goes along cuts on a walk from a start: the walk at their end, and what is told there.
+fn follow<F: Flash>(
+    mut walk: Walk<F, Once>,
+    cuts: &[u32],
+) -> Result<(Walk<F, Once>, Told), ReplayError>
+    requires loaded { IsLoaded F.counted (begun_of walk) (length cuts.now) walk }
+    requires few { length cuts.now ≤ 16 }
+    ensures followed { IfOk result (λ at. Followed F.counted (begun_of walk) (length cuts.now)
+        cuts.now at.0) }
+    ensures told { IfOk result (λ at. IsThere
+        (once at.0.branches.rules at.0.branches.layout) at.0 at.1) }
+    ensures limits { IfOk result
+        (λ at. at.0.seen.ledger.limits ≡ walk.seen.ledger.limits) }
+    ensures refused { let s = begun_of walk in IfErr result
+        (Refuses s.rules s.geometry s.content cuts.now) }
+{
+    walk.begin()?;
+    if !walk.follow(cuts)? {
+        return Err(ReplayError::CannotOccur(walk.path().len()));
+    }
+    let Some(told) = walk.told() else {
+        return Err(ReplayError::Memory);
+    };
+    Ok((walk, told))
+}
+
 /// Goes along cuts on a walk from a start: the outcome of the uncut boot after them, and the flash that it leaves.
 ///
 /// # Errors
 ///
 /// `CannotOccur` with the place of the first cut that is not less than the operations that its boot makes uncut; `Memory`.
-pub fn replay_on<F: Flash>(
-    mut walk: Walk<F, Once>,
-    cuts: &[u32],
-) -> Result<(Outcome, F), ReplayError>
+pub fn replay_on<F: Flash>(walk: Walk<F, Once>, cuts: &[u32]) -> Result<(Outcome, F), ReplayError>
     requires loaded { IsLoaded F.counted (begun_of walk) (length cuts.now) walk }
     requires few { length cuts.now ≤ 16 }
     ensures replayed { let s = begun_of walk in MatchResult result
@@ -56,14 +82,8 @@ pub fn replay_on<F: Flash>(
     ensures limits { IfOk result
         (λ done. (F.seen done.1).ledger.limits ≡ walk.seen.ledger.limits) }
 {
-    walk.begin()?;
-    if !walk.follow(cuts)? {
-        return Err(ReplayError::CannotOccur(walk.path().len()));
-    }
-    let Some(told) = walk.told() else {
-        return Err(ReplayError::Memory);
-    };
-    let mut flash = walk.into_flash();
+    let (there, told) = follow(walk, cuts)?;
+    let mut flash = there.into_flash();
     let mut boot = told.boot;
     boot.finish(&mut flash)?;
     Ok((told.outcome, flash))
@@ -97,4 +117,30 @@ pub fn replay<F: Flash>(
     let walk = load(alloc, start, cuts.len() as u8)?;
     let done = replay_on(walk, cuts)?;
     Ok(done)
+}
+
+/// The flash as it was when the last cut of a schedule fell, or the start's where there is none. It is loaded for one boot more
+/// than there are cuts.
+///
+/// # Errors
+///
+/// Those of `replay`.
+pub fn flash_at_cut<F: Flash>(
+    alloc: Global,
+    start: &Start,
+    schedule: &Schedule,
+) -> Result<F, ReplayError>
+    ensures cut { MatchResult result
+        (λ flash. after start.now.rules start.now.geometry start.now.content schedule.now
+        ≡ Some (F.seen flash).content)
+        (λ e. Refuses start.now.rules start.now.geometry start.now.content schedule.now e) }
+    ensures geometry { IfOk result (λ flash. (F.seen flash).geometry ≡ start.now.geometry) }
+    // A flash that counts has room for exactly so many boots.
+    ensures exact { IfOk result (λ flash. F.counted ≡ true → (F.seen flash).ledger.limits
+        ≡ limits_for start.now.rules.grain start.now.geometry (length schedule.now + 1)) }
+{
+    let cuts = schedule.cuts();
+    let walk = load(alloc, start, cuts.len() as u8)?;
+    let (there, _) = follow(walk, cuts)?;
+    Ok(there.into_flash())
 }

@@ -1,4 +1,4 @@
-//! Tests of `mc_explore` and `mc_campaign`, through what they offer to all. They stand by themselves, so that no crate is proved
+//! Tests of `mc_explore`, `mc_trace` and `mc_campaign`, through what they offer to all. They stand by themselves, so that no crate is proved
 //! again for them.
 #![tactic(auto)]
 
@@ -14,6 +14,8 @@ mod exploring;
 mod hostile;
 #[cfg(test)]
 mod paging;
+#[cfg(test)]
+mod pictures;
 #[cfg(test)]
 mod replays;
 #[cfg(test)]

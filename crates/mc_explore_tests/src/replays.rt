@@ -1,6 +1,8 @@
 //! Schedules as texts, and replayed.
 use mc_boot::{BootResult, Outcome};
-use mc_explore::{Explorer, Kind, ReplayError, Schedule, ScheduleError, Start, replay};
+use mc_explore::{
+    Explorer, Kind, ReplayError, Schedule, ScheduleError, Start, flash_at_cut, replay,
+};
 use mc_fixtures::{FIRST_IMAGE, SECOND_IMAGE, worked};
 use mc_flash::{Flash, JournalFlash, Slot, SnapFlash};
 use std::test::Fail;
@@ -121,5 +123,29 @@ fn many_cuts_find_room_in_a_journal(rt: HostRuntime) -> Result<(), Fail> {
                 .starts_with(FIRST_IMAGE.as_slice())
         );
     }
+    Ok(())
+}
+
+#[test]
+fn a_flash_at_its_last_cut(rt: HostRuntime) -> Result<(), Fail> {
+    let layout = worked()?;
+    let start = Start::from_images(rt.alloc(), &layout, Kind::Test, &FIRST_IMAGE, &SECOND_IMAGE)?;
+    let flash: SnapFlash = flash_at_cut(rt.alloc(), &start, &Schedule::read("-")?)?;
+    assert_eq!(rt; flash.read(Slot::Primary), start.primary());
+    assert_eq!(rt; flash.read(Slot::Secondary), start.secondary());
+    // The first image stands one sector up, the entry of that transfer is written, and the secondary asks for nothing.
+    let flash: SnapFlash = flash_at_cut(rt.alloc(), &start, &Schedule::read("0.9")?)?;
+    let primary = flash.read(Slot::Primary);
+    assert_eq!(rt; primary.get(256..336), Some(FIRST_IMAGE.as_slice()));
+    assert_eq!(rt;
+        primary.get(880..888),
+        Some([1, 0xff, 0xff, 0xff, 0xff, 0xff, 0xff, 0xff].as_slice())
+    );
+    assert_eq!(rt;
+        flash.read(Slot::Secondary).get(752..768),
+        Some([0xff; 16].as_slice())
+    );
+    let refused = flash_at_cut::<SnapFlash>(rt.alloc(), &start, &Schedule::read("0.18")?);
+    assert!(rt; matches!(refused, Err(ReplayError::CannotOccur(1))));
     Ok(())
 }

@@ -1,3 +1,4 @@
 mod Telling
 mod CutBoots
 mod Tracing
+mod Pictured

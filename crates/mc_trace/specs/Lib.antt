@@ -1,3 +1,5 @@
 pub mod Operations
 pub mod Trace
 pub mod Refused
+pub mod Sectors
+pub mod Pictures

@@ -5,6 +5,7 @@ ghost use Rattle.mc_trace.specs.declared.error.TraceError.TheVariants.{Memory, W
 use mc_explore::ReplayError;
 use mc_flash::FlashError;
 use mc_output::WriteFailed;
+use std::alloc::AllocError;
 use thiserror::Error;
 
 /// Why a schedule is not told.
@@ -39,6 +40,14 @@ impl From<ReplayError> for TraceError {
             ReplayError::CannotOccur(place) => TraceError::CannotOccur(place),
             ReplayError::Memory => TraceError::Memory,
         }
+    }
+}
+
+impl From<AllocError> for TraceError {
+    ghost from_gives = { λ _ e. e ≡ Memory };
+
+    fn from(_: AllocError) -> Self {
+        TraceError::Memory
     }
 }
 

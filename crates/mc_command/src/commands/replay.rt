@@ -1,47 +1,71 @@
 //! `boot` and `replay`: what the boot after a schedule of power cuts does.
-use crate::options::flash_options;
+use crate::commands::schedule::read_schedule;
+use crate::options::required;
 use crate::refusal::Refusal;
-use crate::source::read_start;
 use clap::ArgMatches;
-use mc_explore::{Schedule, replay};
+use mc_explore::{Schedule, Start, flash_at_cut, replay};
 use mc_flash::{Flash, JournalFlash, Slot};
 use std::alloc::Global;
 use std::fs;
 use std::io::Write;
 use std::rt::Files;
 
-/// Replays a schedule from a source, and prints the outcome. Where `--out` names a file, the flash that is left is written
-/// to it first. The words are checked before a file is touched.
+/// Runs the boot of a source, and prints its outcome. Where `--out` names a file, the flash that is left is written to it first.
+/// The words are checked before a file is touched.
 ///
 /// # Errors
 ///
-/// `Source`, `Layout` and `Schedule` of the words; what `read_start` refuses; `Replay` where a cut can't occur, or for want
-/// of memory; `Open` and `Write` of the file and the output.
+/// `Source` and `Layout` of the words; what `read_start` refuses; `Replay` for want of memory; `Open` and `Write` of the file and
+/// the output.
+pub fn boot<F: Files, O: Write>(
+    files: &F,
+    alloc: Global,
+    arguments: &ArgMatches<'_>,
+    out: &mut O,
+) -> Result<(), Refusal> {
+    let (start, schedule) = read_schedule(files, alloc, arguments, "-")?;
+    tell(files, alloc, arguments, &start, &schedule, out)
+}
+
+/// Replays a schedule from a source, and prints the outcome. Where `--at-cut` names a file, the flash as it was when the last cut
+/// fell is written to it first, and then, where `--out` does, the flash that is left. The words are checked before a file is
+/// touched.
+///
+/// # Errors
+///
+/// Those of `boot`; `Schedule` of the words, and `Replay` where a cut can't occur.
 pub fn run<F: Files, O: Write>(
     files: &F,
     alloc: Global,
     arguments: &ArgMatches<'_>,
-    schedule: &str,
     out: &mut O,
 ) -> Result<(), Refusal> {
-    let options = match flash_options(arguments) {
-        Ok(options) => options,
-        Err(refusal) => return Err(refusal),
-    };
-    let schedule = Schedule::read(schedule)?;
-    let start = read_start(files, alloc, &options)?;
-    let (outcome, flash) = replay::<JournalFlash>(alloc, &start, &schedule)?;
+    let schedule = required(arguments, "schedule")?;
+    let (start, schedule) = read_schedule(files, alloc, arguments, schedule)?;
+    if let Some(path) = arguments.get_str("at-cut") {
+        let flash: JournalFlash = flash_at_cut(alloc, &start, &schedule)?;
+        write_flash(files, path, &flash)?;
+    }
+    tell(files, alloc, arguments, &start, &schedule, out)
+}
+
+// Prints the outcome of a schedule, after the flash that is left was written where `--out` names a file.
+fn tell<F: Files, O: Write>(
+    files: &F,
+    alloc: Global,
+    arguments: &ArgMatches<'_>,
+    start: &Start,
+    schedule: &Schedule,
+    out: &mut O,
+) -> Result<(), Refusal> {
+    let (outcome, flash) = replay::<JournalFlash>(alloc, start, schedule)?;
     if let Some(path) = arguments.get_str("out") {
         write_flash(files, path, &flash)?;
     }
     write!(out, "{outcome}").map_err(|_| Refusal::Write)
 }
 
-/// Writes the bytes of both slots, the primary's first, to a file that is made, or emptied first.
-///
-/// # Errors
-///
-/// `Open` where it cannot be made, `Write` where it cannot be written.
+// Writes the bytes of both slots, the primary's first, to a file that is made, or emptied first.
 fn write_flash<F: Files, S: Flash>(files: &F, path: &str, flash: &S) -> Result<(), Refusal> {
     let mut file = fs::create(files, path).map_err(|_| Refusal::Open)?;
     for slot in [Slot::Primary, Slot::Secondary] {

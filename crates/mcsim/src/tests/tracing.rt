@@ -1,5 +1,5 @@
 //! `trace` at the worked layout. The operations are those that a model which shares no code with this repository tells.
-use super::support::{Case, ends};
+use super::support::{Case, ends, writes};
 use super::trailers::{WORKED, begun};
 use mc_fixtures::{FIRST_IMAGE, FIRST_TOLD, SECOND_TOLD};
 use std::alloc::Global;
@@ -118,4 +118,28 @@ next test
         ..trace_of(&stuck, "--flash in", "--schedule 0")
     };
     ends(&rt, rt.alloc(), &case)
+}
+
+#[test]
+fn pictures_the_last_cut(rt: HostRuntime) -> Result<(), Fail> {
+    let alloc = rt.alloc();
+    let source = "--kind test --image-a in --image-b second";
+    let case = Case {
+        command: "sectors",
+        out: "primary b0 a0 - *\nsecondary b0 - -\n",
+        ..trace_of(&FIRST_IMAGE, source, "--schedule 9.4")
+    };
+    ends(&rt, alloc, &case)?;
+    let told = format!(in alloc;
+        "result boot\ntype test\nops 18\nprimary {SECOND_TOLD}\nsecondary {FIRST_TOLD}\nnext revert\n"
+    )?;
+    let case = Case {
+        command: "replay",
+        out: told.as_str(),
+        ..trace_of(&FIRST_IMAGE, source, "--schedule 0 --at-cut out")
+    };
+    let flash = writes(&rt, alloc, &case)?;
+    assert_eq!(rt; flash.len(), 1792);
+    assert!(rt; flash.as_slice().starts_with(FIRST_IMAGE.as_slice()));
+    Ok(())
 }

@@ -7,7 +7,9 @@ pub returns-in-Err-CannotOccur-clause-replayed : goal.returns-in-Err-CannotOccur
 returns-in-Err-CannotOccur-clause-replayed g c =
     let middle = g.F.Flash.seen c.in_ok-one.middle in
     let left = g.F.Flash.seen c.go_between.new.flash in
-    inr (refused_later c.args.start.now c.args.confirms c.args.campaign.now c.rules.result c.layout.result.now c.rules.ensures c.layout.ensures.value c.primary-primary.result.now c.secondary-secondary.result.now
-    c.cuts-first.result.now (shown c.in_ok-one.one) middle.content c.primary-primary.ensures.value c.secondary-secondary.ensures.value c.cuts-first.ensures c.in_ok-one.ensures.replayed
-    middle.geometry left.content c.in_ok-one.ensures.geometry c.in_ok-go_between.ensures.content c.read-primary.result.now c.read-secondary.result.now c.cuts-second.result.now c.read-primary.ensures.value
-    c.read-secondary.ensures.value c.cuts-second.ensures c.in-Err-CannotOccur.field-0 c.in-Err-CannotOccur.later _ c.in-Err-CannotOccur.field-0-is c.in-Err-CannotOccur.later-is c.in-Err-CannotOccur.ensures.replayed)
+    inr (refused_later c.args.start.now c.args.confirms c.args.campaign.now c.rules.result c.layout.result.now c.rules.ensures c.layout.ensures.value
+    c.primary-primary.result.now c.secondary-secondary.result.now c.cuts-first.result.now (shown c.in_ok-one.one) middle.content
+    c.primary-primary.ensures.value c.secondary-secondary.ensures.value c.cuts-first.ensures c.in_ok-one.ensures.replayed
+    middle.geometry left.content c.in_ok-one.ensures.geometry c.in_ok-go_between.ensures.content c.read-primary.result.now c.read-secondary.result.now
+    c.cuts-second.result.now c.read-primary.ensures.value c.read-secondary.ensures.value c.cuts-second.ensures
+    c.in-Err-CannotOccur.field-0 c.in-Err-CannotOccur.later _ c.in-Err-CannotOccur.field-0-is c.in-Err-CannotOccur.later-is c.in-Err-CannotOccur.ensures.replayed)

@@ -1,5 +1,6 @@
 use Rattle.mc_explore.specs.Start.{begun}
-use Rattle.mc_explore.proofs.Going.{Followed, behind_it, followed, listed, not_listed, resumed}
+use Rattle.mc_explore.specs.View.{Followed}
+use Rattle.mc_explore.proofs.Going.{behind_it, followed, listed, not_listed, resumed}
 use Rattle.mc_explore.proofs.explorer.Explorer.resume.Given.{Over}
 use Rattle.mc_explore.proofs.explorer.Explorer.resume.Goals as goal
 use Rattle.mc_explore.proofs.explorer.Explorer.resume.Goals.{After-result-1}

@@ -1,0 +1,43 @@
+-- What lies where in a flash: this project's own picture of its sectors.
+use Rattle.std.specs.Prelude.{ℕ, zero, suc, ◌+◌, ◌*◌, List, [], ◌∷◌, ◌++◌, codes, decimal, bytes_eq, if◌then◌else◌, Option, Some, None}
+use Rattle.std.specs.List.{between}
+use Rattle.mc_flash.specs.Blank.{is_blank}
+use Rattle.mc_flash.specs.Content.{Content, sectors_of}
+use Rattle.mc_flash.specs.Geometry.{Geometry}
+use Rattle.mc_flash.specs.Texts.{slot_text}
+use Rattle.mc_flash.specs.declared.op.Slot.{Slot}
+use Rattle.mc_flash.specs.declared.op.Slot.TheVariants.{Primary, Secondary}
+
+-- The bytes of a sector of a slot.
+abbrev pub sector_of : Geometry → List ℕ → ℕ → List ℕ
+sector_of g slot i = between (i * g.sector) (i * g.sector + g.sector) slot
+
+-- The first of n sectors from i on that holds these bytes.
+abbrev pub first_like : Geometry → List ℕ → List ℕ → ℕ → ℕ → Option ℕ
+first_like g slot bytes i zero = None
+first_like g slot bytes i (suc n) =
+    if bytes_eq (sector_of g slot i) bytes then Some i else first_like g slot bytes (i + 1) n
+
+-- The first sector of the start's primary that held these bytes, else of its secondary, else none.
+abbrev pub word_in : Option ℕ → Option ℕ → List ℕ
+word_in (Some i) second = codes "a" ++ decimal i
+word_in None (Some i) = codes "b" ++ decimal i
+word_in None None = codes "*"
+
+unfoldable pub sector_word : Geometry → Content → List ℕ → List ℕ
+sector_word g start bytes =
+    if is_blank bytes then codes "-"
+    else word_in (first_like g start.primary bytes 0 g.primary) (first_like g start.secondary bytes 0 g.secondary)
+
+-- A word for each of n sectors from i on, each behind a space.
+abbrev pub sector_words : Geometry → Content → List ℕ → ℕ → ℕ → List ℕ
+sector_words g start slot i zero = []
+sector_words g start slot i (suc n) = codes " " ++ (sector_word g start (sector_of g slot i) ++ sector_words g start slot (i + 1) n)
+
+-- The line of a slot that holds these bytes.
+abbrev pub line_of : Geometry → Content → List ℕ → Slot → List ℕ
+line_of g start bytes slot = slot_text slot ++ (sector_words g start bytes 0 (sectors_of g slot) ++ 10 ∷ [])
+
+-- Both slots of a flash, by the sectors of the start.
+abbrev pub picture : Geometry → Content → Content → List ℕ
+picture g start s = line_of g start s.primary Primary ++ line_of g start s.secondary Secondary
