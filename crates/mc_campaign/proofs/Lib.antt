@@ -4,3 +4,5 @@ mod Paths
 mod Ways
 mod Steps
 mod Replays
+mod Placing
+mod Telling

@@ -24,7 +24,7 @@ some_same x y e = cc
 
 module _ (r : Rules) (g : Geometry) (confirms : Bool) where
   -- What the uncut boot leaves, once the image has confirmed itself.
-  begins : (s left : Content) → left_by r g s ≡ Some left → second_start r g confirms s ≡ confirmed_if confirms g left
+  pub begins : (s left : Content) → left_by r g s ≡ Some left → second_start r g confirms s ≡ confirmed_if confirms g left
   unfolding second_start
   begins s left is = ap (λ (o : Option Content). confirmed_if confirms g (content_or s o)) is
 
@@ -43,10 +43,10 @@ module _ (r : Rules) (g : Geometry) (confirms : Bool) where
         }
 
     -- And the other way round.
-    first_allowed : (c : Places) → CanOccur r g confirms s c → Allowed (boots r g) s c.first
+    pub first_allowed : (c : Places) → CanOccur r g confirms s c → Allowed (boots r g) s c.first
     first_allowed c o = occurs_allowed r g s c.first (ap (λ (x : Option Content). is_some x) o.first)
 
-    second_allowed : (c : Places) → CanOccur r g confirms s c → Allowed (boots r g) (second_start r g confirms (landed (boots r g) s c.first)) c.second
+    pub second_allowed : (c : Places) → CanOccur r g confirms s c → Allowed (boots r g) (second_start r g confirms (landed (boots r g) s c.first)) c.second
     second_allowed c o =
         let lands : landed (boots r g) s c.first ≡ o.cut = some_same _ _ (sym (allowed_after r g s c.first (first_allowed c o)) ∙ o.first) in
         let from : second_start r g confirms (landed (boots r g) s c.first) ≡ confirmed_if confirms g o.left = ap (second_start r g confirms) lands ∙ begins o.cut o.left o.left_is in
@@ -65,6 +65,7 @@ module _ (r : Rules) (g : Geometry) (confirms : Bool) where
         )
 
     pub campaign_along : (bound : ℕ) (path : List ℕ) → tree.IsMember (rounds r g confirms) (first s) bound path → (c : Places) × IsMember r g confirms s bound c × IsPathOf r g confirms s bound path c
+        × (path ≡ in_both (boots r g) (second_start r g confirms) s c.first c.second)
     campaign_along bound path m =
         let b = parts (boots r g) (second_start r g confirms) s path m.1 in
         let c : Places = record { first = b.path; second = b.later } in
@@ -76,6 +77,7 @@ module _ (r : Rules) (g : Geometry) (confirms : Bool) where
             member = m;
             pairs_are = ap (labels (boots r g) (second_start r g confirms) (first s)) b.is ∙ both_labels (boots r g) (second_start r g confirms) s b.path b.later b.path_allowed;
           },
+          b.is,
         )
 
     pub member_of : (bound : ℕ) (c : Places) (path : List ℕ) → IsPathOf r g confirms s bound path c → IsMember r g confirms s bound c

@@ -23,7 +23,7 @@ use Rattle.mc_explore.specs.facts.Occurring.{at_zero}
 use Rattle.mc_explore.specs.facts.Telling.{first_left, first_on, width_is}
 use Rattle.mc_explore.specs.declared.once.Told.{Told}
 use Rattle.mc_campaign.specs.Boots.{second_start}
-use Rattle.mc_campaign.specs.Twice.{AreTold, began_at, content_at, later_from, later_number, left_of_way, most_of_both, twice_kind}
+use Rattle.mc_campaign.specs.Twice.{AreTold, began_at, content_at, later_from, later_number, left_of_way, most_of_both, owed_at, twice_kind}
 use Rattle.mc_campaign.specs.declared.campaign.Round.TheVariants as rounds_of
 use Rattle.mc_campaign.specs.declared.rounds.Both.{Both}
 use Rattle.mc_campaign.specs.declared.rounds.OnWay.{OnWay}
@@ -66,21 +66,25 @@ module _ (r : Rules) (g : Geometry) (confirms : Bool) where
   begins_second (first s) told seen round t content layout = let not_so : rounds_of.First ≡ rounds_of.Second = sym t.round_is ∙ round in absurd cc
   begins_second (second began s) told seen round t content layout = at_begin r g confirms (second began s) 0 told.second seen tt refl content layout t.second_is
 
-  -- What is left then is no more than the rounds count.
-  pub left_first : (p : Place Content) (told : Both) (old : Counts) → AreTold r g confirms p told
-      → LeaveRoom old (left_of_way r g (ways.First told.first.boot told.first.outcome.ops told.second)) (plus old (most_of_both r g))
-  left_first p told old t =
-      let one = first_left r g (began_at p) told.first t.first_is old in
+  -- What is left then is no more than was owed.
+  pub left_first : (p : Place Content) (told : Both) (old : Counts) → told.round ≡ rounds_of.First → AreTold r g confirms p told
+      → LeaveRoom old (left_of_way r g (ways.First told.first.boot told.first.outcome.ops told.second)) (plus old (owed_at r g p))
+  left_first (first s) told old round t =
+      let one = first_left r g s told.first t.first_is old in
       record { entries = omega (arith, one.entries); saved = omega (arith, one.saved) }
+  left_first (second began s) told old round t = let not_so : rounds_of.First ≡ rounds_of.Second = sym round ∙ t.round_is in absurd cc
 
-  pub left_second : (p : Place Content) (told : Both) (old new : Counts) → AreTold r g confirms p told → LeaveRoom new no_counts (plus old one_write)
-      → LeaveRoom new (left_of_way r g (ways.Second told.second.boot)) (plus old (most_of_both r g))
-  left_second p told old new t more =
-      let one = first_left r g (later_from r g confirms p) told.second t.second_is old in
+  pub left_behind : (p : Place Content) (told : Both) (old new : Counts) → told.round ≡ rounds_of.First → AreTold r g confirms p told → LeaveRoom new no_counts (plus old one_write)
+      → LeaveRoom new (left_of_way r g (ways.Second told.second.boot)) (plus old (owed_at r g p))
+  left_behind (first s) told old new round t more =
+      let one = first_left r g (second_start r g confirms s) told.second t.second_is old in
       record { entries = omega (arith, one.entries, more.entries); saved = omega (arith, one.saved, more.saved) }
+  left_behind (second began s) told old new round t more = let not_so : rounds_of.First ≡ rounds_of.Second = sym round ∙ t.round_is in absurd cc
 
-  pub nothing_more : (old : Counts) → LeaveRoom old no_counts (plus old one_write)
-  nothing_more old = record { entries = omega arith; saved = omega arith }
+  pub left_second : (p : Place Content) (told : Both) (old : Counts) → told.round ≡ rounds_of.Second → AreTold r g confirms p told
+      → LeaveRoom old (left_of_way r g (ways.Second told.second.boot)) (plus old (owed_at r g p))
+  left_second (first s) told old round t = let not_so : rounds_of.First ≡ rounds_of.Second = sym t.round_is ∙ round in absurd cc
+  left_second (second began s) told old round t = first_left r g s told.second t.second_is old
 
   -- ---- the next
 

@@ -5,3 +5,6 @@ pub mod Campaigns
 pub mod Boots
 pub mod Twice
 pub mod Replay
+pub mod Cursor
+pub mod State
+pub mod View

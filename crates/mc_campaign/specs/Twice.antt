@@ -1,10 +1,13 @@
 -- The tree of two rounds of boots, as a walk goes through it.
 use Rattle.std.specs.Prelude.{◌≡◌, ℕ, ◌-◌, ◌<◌, ◌≤◌, Bool, length, refl}
+use Rattle.std.proofs.Common.{arith, sym, subst}
 use Rattle.mc_tree.specs.Twice.{Place, first, second}
+use Rattle.mc_tree.specs.Twice as trees
+use Rattle.mc_tree.specs.facts.Rounds.{child_second}
 use Rattle.mc_flash.specs.Content.{Content}
 use Rattle.mc_flash.specs.Geometry.{Geometry}
-use Rattle.mc_flash.specs.Ledger.{Counts}
-use Rattle.mc_flash.specs.Spends.{plus}
+use Rattle.mc_flash.specs.Ledger.{Counts, no_counts}
+use Rattle.mc_flash.specs.Spends.{LeaveRoom, plus}
 use Rattle.mc_trailer.specs.declared.tables.Rules.{Rules}
 use Rattle.mc_boot.specs.Boot.{progress}
 use Rattle.mc_boot.specs.Bounds.{left_of}
@@ -14,6 +17,7 @@ use Rattle.mc_boot.specs.declared.boot.Boot.{Boot}
 use Rattle.mc_walk.specs.Kind.{Kind}
 use Rattle.mc_explore.specs.Once.{HasMade, IsTold, most_of}
 use Rattle.mc_explore.specs.declared.once.Told.{Told}
+use Rattle.mc_explore.specs.Boots.{boots}
 use Rattle.mc_campaign.specs.Boots.{rounds, second_start}
 use Rattle.mc_campaign.specs.declared.campaign.Round.{Round}
 use Rattle.mc_campaign.specs.declared.campaign.Round.TheVariants as rounds_of
@@ -38,7 +42,16 @@ began_at (second began s) = began
 abbrev pub most_of_both : Rules → Geometry → Counts
 most_of_both r g = plus (most_of r g) (plus one_write (most_of r g))
 
--- What a child on its way counts at most until its rounds are over.
+-- What is counted at most until the rounds of a place are over.
+abbrev pub owed_at : Rules → Geometry → Place Content → Counts
+owed_at r g (first s) = most_of_both r g
+owed_at r g (second began s) = most_of r g
+
+pub owed_all : (r : Rules) (g : Geometry) (p : Place Content) → LeaveRoom no_counts (owed_at r g p) (most_of_both r g)
+owed_all r g (first s) = record { entries = omega arith; saved = omega arith }
+owed_all r g (second began s) = record { entries = omega arith; saved = omega arith }
+
+-- And until those of a child on its way are.
 abbrev pub left_of_way : Rules → Geometry → OnWay → Counts
 left_of_way r g (ways.First boot ops later) = plus (left_of g (progress boot)) (plus one_write (most_of r g))
 left_of_way r g (ways.Second boot) = left_of g (progress boot)
@@ -78,6 +91,16 @@ module _ (r : Rules) (g : Geometry) (confirms : Bool) where
     pub first_is : IsTold r g (began_at p) both.first
     pub second_is : IsTold r g (later_from p) both.second
 
+  pub owed_more : (p : Place Content) (i : ℕ) (way : OnWay) → IsOnWay way p i
+      → LeaveRoom no_counts (owed_at r g (trees.twice_child (boots r g) (second_start r g confirms) p i)) (plus (left_of_way r g way) (most_of r g))
+  owed_more p i (ways.First boot ops later) on =
+      let all = owed_all r g (trees.twice_child (boots r g) (second_start r g confirms) p i) in
+      record { entries = omega (arith, all.entries); saved = omega (arith, all.saved) }
+  owed_more (first s) i (ways.Second boot) on =
+      subst (λ q. LeaveRoom no_counts (owed_at r g q) (plus (left_of g (progress boot)) (most_of r g)))
+      (sym (child_second (boots r g) (second_start r g confirms) s i on.0)) (record { entries = omega arith; saved = omega arith })
+  owed_more (second began s) i (ways.Second boot) on = record { entries = omega arith; saved = omega arith }
+
   -- From one child to the next there is one operation, and between the rounds a write more.
   abbrev pub twice_kind : Kind (Place Content) OnWay Both
   twice_kind = record {
@@ -89,7 +112,10 @@ module _ (r : Rules) (g : Geometry) (confirms : Bool) where
     IsOn = λ p i way. IsOnWay way p i;
     IsTold = AreTold;
     step = 2;
+    owed = owed_at r g;
+    all = most_of_both r g;
+    all_is = owed_all r g;
     left = left_of_way r g;
-    most = most_of_both r g;
-    spare = 1;
+    most = most_of r g;
+    most_is = λ p i way on some. owed_more p i way on;
   }

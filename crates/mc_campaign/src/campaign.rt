@@ -1,6 +1,6 @@
 //! Campaigns of power cuts.
-ghost use Rattle.std.specs.Prelude.{◌≡◌, ℕ, ◌+◌, ◌<◌, ◌≤◌, ◌^◌, [], ◌∷◌, ◌++◌, length, Some, None, Ok, IfOk, IfSome, OnOk, OnErr, MatchResult};
-ghost use Rattle.mc_campaign.specs.Places.{Places, no_places, pairs_of};
+ghost use Rattle.std.specs.Prelude.{◌≡◌, ◌⊎◌, ℕ, List, ◌+◌, ◌<◌, ◌≤◌, ◌^◌, [], ◌∷◌, ◌++◌, length, Some, None, Ok, IfOk, IfSome, OnOk, OnErr, MatchResult};
+ghost use Rattle.mc_campaign.specs.Places.{Places, no_places, pairs_of, placed};
 ghost use Rattle.mc_campaign.specs.Texts.{campaign_text, cut_text, FitsCut, IsAdded, IsCampaign, ReadsCampaign};
 ghost use Rattle.mc_campaign.specs.Rounds.{cuts_text, number_of, places_in};
 ghost use Rattle.std.specs.Fmt.{WritesOnOk};
@@ -143,6 +143,20 @@ impl Campaign {
         Campaign {
             first: Schedule::new(),
             second: Schedule::new(),
+        }
+    }
+
+    // Adds a cut at the end of its round.
+    pub(crate) fn place(&mut self, round: u8, place: u32)
+        requires room { length (pairs_of self.old) < 16 }
+        requires round { (round ≡ 1) ⊎ (round ≡ 2) }
+        ensures { (cuts : List (ℕ × ℕ)) → self.old ≡ placed cuts → self.new
+            ≡ placed (cuts ++ (round, place) ∷ []) }
+    {
+        if round == 1 {
+            self.first.push(place);
+        } else {
+            self.second.push(place);
         }
     }
 

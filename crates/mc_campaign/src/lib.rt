@@ -2,12 +2,18 @@
 #![tactic(auto)]
 
 mod campaign;
+mod cursor;
+mod explorer;
 mod laws;
 mod replaying;
 mod rounds;
+mod row;
 mod twice;
 
 pub use campaign::{Campaign, CampaignError, Round};
+pub use cursor::CampaignCursor;
+pub use explorer::CampaignExplorer;
 pub use laws::campaigns_are_paths;
 pub use replaying::replay_campaign;
 pub use rounds::{Both, OnWay, Twice};
+pub use row::CampaignRow;

@@ -16,7 +16,24 @@ impl Branches for Twice {
 
     type Told = Both;
 
+    /// The number of a round, and the place of a cut there.
+    type Label = (u8, u32);
+
+    ghost use Rattle.mc_tree.specs.Twice as trees;
+    ghost use Rattle.mc_explore.specs.Boots.{boots};
+    ghost use Rattle.mc_campaign.specs.Boots.{second_start};
+
     ghost kind = { λ t. twice_kind t.once.rules t.once.layout t.confirms };
+
+    ghost label_of = { λ t place number. trees.label (boots t.once.rules t.once.layout)
+        (second_start t.once.rules t.once.layout t.confirms) place number };
+
+    fn label(self, at: &OnWay) -> (u8, u32) {
+        match at {
+            OnWay::First { boot, .. } => (Round::First.number(), boot.count()),
+            OnWay::Second(boot) => (Round::Second.number(), boot.count()),
+        }
+    }
 
     fn width(self, told: &Both) -> u32 {
         // Each number of a layout tells that it is one, so that the sum is small.

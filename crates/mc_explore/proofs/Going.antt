@@ -1,5 +1,5 @@
 -- A walk that was loaded for a start goes along a schedule.
-use Rattle.std.specs.Prelude.{◌≡◌, ℕ, suc, ◌+◌, ◌*◌, ◌≤◌, Bool, true, false, is_some, List, [], ◌∷◌, length, take, Option, Some, None, refl}
+use Rattle.std.specs.Prelude.{◌≡◌, ℕ, suc, ◌+◌, ◌*◌, ◌≤◌, Bool, true, false, is_some, List, [], ◌∷◌, ◌++◌, length, take, Option, Some, None, refl}
 use Rattle.std.proofs.Common.{arith, sym, ap, subst, ◌∙◌}
 use Rattle.std.proofs.Math.Nat.{mul-le-mul_right}
 use Rattle.std.proofs.lemmas.List.{length-take-le, take_all}
@@ -29,14 +29,13 @@ use Rattle.mc_explore.specs.Replay.{CannotOccurAt, IsReplayed}
 use Rattle.mc_explore.specs.Resume.{Names, behind}
 use Rattle.mc_explore.specs.Schedules.{IsMember, CanOccur}
 use Rattle.mc_explore.specs.Start.{Begun}
-use Rattle.mc_explore.specs.State.{State, IsOver}
-use Rattle.mc_explore.specs.View.{Followed, IsLoaded, IsSound, begun_of, position_of, state_of}
+use Rattle.mc_explore.specs.State.{State}
+use Rattle.mc_walk.specs.declared.tour.Phase.TheVariants as phases
+use Rattle.mc_explore.specs.View.{Followed, IsLoaded, IsSound, begun_of, state_of}
 use Rattle.mc_explore.specs.declared.cursor.Cursor.{Cursor}
 use Rattle.mc_explore.specs.declared.once.Once.{Once}
 use Rattle.mc_explore.specs.declared.once.Told.{Told}
-use Rattle.mc_explore.specs.declared.phase.Phase.{Phase}
-use Rattle.mc_explore.specs.declared.phase.Phase.TheVariants as phases
-use Rattle.mc_explore.proofs.Moving.{over_listed}
+use Rattle.mc_explore.proofs.Moving.{same_begun}
 use Rattle.mc_explore.specs.facts.Occurring.{allowed_after, occurs_allowed, member_of, path_of}
 
 -- ---- what a path costs
@@ -56,11 +55,6 @@ cost_few r g s (c ∷ cs) valid a =
 
 -- ---- the same start
 
-same_begun : (old new : Walked Once) → IsSame old new → begun_of new ≡ begun_of old
-same_begun old new s =
-    ap (λ (b : Once). record { geometry = b.layout; rules = b.rules; content = start_of new.seen }) s.branches
-    ∙ ap (λ (c : Content). record { geometry = old.branches.layout; rules = old.branches.rules; content = c }) s.start
-
 module _ (counted : Bool) (start : Begun) (bound : ℕ) (path : List ℕ) (zero_walk one two : Walked Once) (told : Told) (l : IsLoaded counted start bound zero_walk)
     (b : Begins (once zero_walk.branches.rules zero_walk.branches.layout) zero_walk told one) where
   one_start : begun_of one ≡ start
@@ -69,17 +63,29 @@ module _ (counted : Bool) (start : Begun) (bound : ℕ) (path : List ℕ) (zero_
   one_bound : one.bound ≡ bound
   one_bound = b.same.bound ∙ l.bound_is
 
-  at_start : tree.IsMember (boots one.branches.rules one.branches.layout) (start_of one.seen) one.bound path → tree.IsMember (boots start.rules start.geometry) start.content bound path
-  at_start m =
-      let P : Begun → Type 0 = λ s. tree.IsMember (boots s.rules s.geometry) s.content one.bound path in
-      subst (λ n. tree.IsMember (boots start.rules start.geometry) start.content n path) one_bound (subst P one_start m)
+  -- It was at the root.
+  from_root : (l : List ℕ) → one.path ++ l ≡ l
+  from_root l = ap (λ z. z ++ l) b.path
+
+  at_start : (l : List ℕ) → tree.IsMember (boots one.branches.rules one.branches.layout) (start_of one.seen) one.bound l → tree.IsMember (boots start.rules start.geometry) start.content bound l
+  at_start l m =
+      let P : Begun → Type 0 = λ s. tree.IsMember (boots s.rules s.geometry) s.content one.bound l in
+      subst (λ n. tree.IsMember (boots start.rules start.geometry) start.content n l) one_bound (subst P one_start m)
+
+  -- And those of its start are its own.
+  at_one : (l : List ℕ) → tree.IsMember (boots start.rules start.geometry) start.content bound l → tree.IsMember (boots one.branches.rules one.branches.layout) (start_of one.seen) one.bound (one.path ++ l)
+  at_one l m =
+      let P : Begun → Type 0 = λ s. tree.IsMember (boots s.rules s.geometry) s.content one.bound l in
+      let here = subst P (sym one_start) (subst (λ n. tree.IsMember (boots start.rules start.geometry) start.content n l) (sym one_bound) m) in
+      subst (tree.IsMember (boots one.branches.rules one.branches.layout) (start_of one.seen) one.bound) (sym (from_root l)) here
 
   -- There.
   pub followed : (went : Bool) → went ≡ true → Follows (once one.branches.rules one.branches.layout) path one went two → Spent (telling (once zero_walk.branches.rules zero_walk.branches.layout)) zero_walk.seen one.seen
       → Spent (path_cost (once one.branches.rules one.branches.layout) path) one.seen two.seen → Followed counted start bound path two
   followed false is f s t = absurd cc
   followed true is f s t =
-      let allowed = at_start f.1 in
+      let path_is : two.path ≡ path = f.0 ∙ from_root path in
+      let allowed = at_start path (subst (tree.IsMember (boots one.branches.rules one.branches.layout) (start_of one.seen) one.bound) path_is f.1) in
       let P : Begun → Type 0 = λ x. Spent (telling (once x.rules x.geometry)) zero_walk.seen one.seen in
       let Q : Begun → Type 0 = λ x. Spent (path_cost (once x.rules x.geometry) path) one.seen two.seen in
       let first : Spent (telling (once start.rules start.geometry)) zero_walk.seen one.seen = subst P l.start_is s in
@@ -89,7 +95,7 @@ module _ (counted : Bool) (start : Begun) (bound : ℕ) (path : List ℕ) (zero_
       record {
         start_is = same_begun one two f.2 ∙ one_start;
         bound_is = f.2.bound ∙ one_bound;
-        path_is = f.0;
+        path_is = path_is;
         stands = f.3;
         allowed = allowed;
         counted_is = ap (λ (x : Limits). x.counted) (along.limits ∙ first.limits) ∙ l.counted_is;
@@ -97,7 +103,7 @@ module _ (counted : Bool) (start : Begun) (bound : ℕ) (path : List ℕ) (zero_
         applied = sum (most_operations start.rules.grain start.geometry) bound (path_cost (once start.rules start.geometry) path) (length path * (2 * most_operations start.rules.grain start.geometry)) zero_walk.seen.ledger.applied one.seen.ledger.applied two.seen.ledger.applied l.idle first.applied along.applied cost few;
       }
     where
-      sum : (most n cost many a b c : ℕ) → a ≡ 0 → b ≤ a + 1 * most → c ≤ b + cost → cost ≤ many → many ≤ n * (2 * most) → c ≤ 2 * (n + 1) * most
+      sum : (most n cost many a b c : ℕ) → a ≡ 0 → b ≤ a + most → c ≤ b + cost → cost ≤ many → many ≤ n * (2 * most) → c ≤ 2 * (n + 1) * most
       sum most n cost many a b c z first along few all = let e : 2 * (n + 1) * most ≡ n * (2 * most) + 2 * most = omega arith in omega (arith, z, first, along, few, all, e)
 
   -- Or the schedule is none of those.
@@ -105,57 +111,53 @@ module _ (counted : Bool) (start : Begun) (bound : ℕ) (path : List ℕ) (zero_
   not_listed true is f m = absurd cc
   not_listed false is f m =
       let here = path_of start.rules start.geometry start.content bound path m in
-      let n : ℕ = length two.path + 1 in
+      let n : ℕ = f.steps + 1 in
       let len : length (take n path) ≤ bound = omega (arith, length-take-le n path (omega (arith, f.inside)), f.inside, here.0) in
-      let front = allowed_front (boots start.rules start.geometry) start.content path n here.1 in
-      let P : Begun → Type 0 = λ x. tree.IsMember (boots x.rules x.geometry) x.content one.bound (take n path) in
-      f.no_child (subst P (sym one_start) (subst (λ k. tree.IsMember (boots start.rules start.geometry) start.content k (take n path)) (sym one_bound) (len, front)))
+      f.no_child (at_one (take n path) (len, allowed_front (boots start.rules start.geometry) start.content path n here.1))
 
   -- And the cut where it stops is the first that can't occur.
   pub stops : (went : Bool) → went ≡ false → Follows (once one.branches.rules one.branches.layout) path one went two → bound ≡ length path → (place : ℕ) → place ≡ length two.path
       → CannotOccurAt start.rules start.geometry start.content path place
   stops true is f whole place at = absurd cc
   stops false is f whole place at =
-      let n : ℕ = length two.path in
-      let P : Begun → Type 0 = λ x. tree.IsMember (boots x.rules x.geometry) x.content one.bound two.path in
-      let member = subst P one_start f.member in
-      subst (CannotOccurAt start.rules start.geometry start.content path) (sym at) (record {
+      let front : two.path ≡ take f.steps path = f.front ∙ from_root (take f.steps path) in
+      let here : place ≡ f.steps = at ∙ ap length front ∙ length-take-le f.steps path (omega (arith, f.inside)) in
+      let member = at_start two.path f.member in
+      subst (CannotOccurAt start.rules start.geometry start.content path) (sym here) (record {
         inside = f.inside;
         cut = landed (boots start.rules start.geometry) start.content two.path;
-        before = ap (after start.rules start.geometry start.content) (sym f.front) ∙ allowed_after start.rules start.geometry start.content two.path member.1;
-        not_there = none (after start.rules start.geometry start.content (take (n + 1) path)) refl;
+        before = ap (after start.rules start.geometry start.content) (sym front) ∙ allowed_after start.rules start.geometry start.content two.path member.1;
+        not_there = none (after start.rules start.geometry start.content (take (f.steps + 1) path)) refl;
       })
     where
-      none : (o : Option Content) → after start.rules start.geometry start.content (take (length two.path + 1) path) ≡ o → after start.rules start.geometry start.content (take (length two.path + 1) path) ≡ None
+      none : (o : Option Content) → after start.rules start.geometry start.content (take (f.steps + 1) path) ≡ o → after start.rules start.geometry start.content (take (f.steps + 1) path) ≡ None
       none None e = e
       none (Some u) e =
-          let n : ℕ = length two.path + 1 in
+          let n : ℕ = f.steps + 1 in
           let occurs : CanOccur start.rules start.geometry start.content (take n path) = ap (λ (o : Option Content). is_some o) e in
           let len : length (take n path) ≤ bound = omega (arith, length-take-le n path (omega (arith, f.inside)), f.inside, whole) in
-          let Q : Begun → Type 0 = λ x. tree.IsMember (boots x.rules x.geometry) x.content one.bound (take n path) in
-          absurd (f.no_child (subst Q (sym one_start) (subst (λ k. tree.IsMember (boots start.rules start.geometry) start.content k (take n path)) (sym one_bound) (len, occurs_allowed start.rules start.geometry start.content (take n path) occurs))))
+          absurd (f.no_child (at_one (take n path) (len, occurs_allowed start.rules start.geometry start.content (take n path) occurs)))
 
 -- ---- an explorer behind a cursor
 
-pub resumed : (counted : Bool) (start : Begun) (bound : ℕ) (c : Cursor) (w : Walked Once) → Followed counted start bound c.schedule w → Names start bound c → bound ≤ 16 → IsSound w counted c phases.Going
-resumed counted start bound c w f names few = (
+pub resumed : (counted : Bool) (start : Begun) (bound : ℕ) (c : Cursor) (w : Walked Once) → Followed counted start bound c.schedule w → Names start bound c → bound ≤ 16 → IsSound counted (record { walk = w; phase = phases.Going }) c
+resumed counted start bound c w f names few = λ _. (
   record {
     names = subst (λ (s : Begun). Names s w.bound c) (sym f.start_is) (subst (λ n. Names start n c) (sym f.bound_is) names);
     few = omega (arith, f.bound_is, few);
     counted_is = f.counted_is;
   },
-  f.stands,
-  f.path_is,
+  ap (λ l. After l) (sym f.path_is),
 )
 
-pub started : (counted : Bool) (start : Begun) (bound : ℕ) (c : Cursor) (w : Walked Once) → IsLoaded counted start bound w → Names start bound c → bound ≤ 16 → IsSound w counted c phases.Fresh
-started counted start bound c w l names few = (
+pub started : (counted : Bool) (start : Begun) (bound : ℕ) (c : Cursor) (w : Walked Once) → IsLoaded counted start bound w → Names start bound c → bound ≤ 16 → IsSound counted (record { walk = w; phase = phases.Fresh }) c
+started counted start bound c w l names few = λ _. (
   record {
     names = subst (λ (s : Begun). Names s w.bound c) (sym l.start_is) (subst (λ n. Names start n c) (sym l.bound_is) names);
     few = omega (arith, l.bound_is, few);
     counted_is = l.counted_is;
   },
-  l.fresh,
+  refl,
 )
 
 pub behind_it : (counted : Bool) (start : Begun) (bound : ℕ) (c : Cursor) (w : Walked Once) → Followed counted start bound c.schedule w → state_of w (After c.schedule) ≡ behind start bound c.schedule
@@ -217,20 +219,3 @@ module _ (counted : Bool) (start : Begun) (bound : ℕ) (path : List ℕ) (w : W
         outcome_is = t.outcome_is;
         left = come_left start.rules start.geometry cut q new.content ends end;
       }
-
--- ---- no further row
-
-module _ (w : Walked Once) (counted : Bool) (c : Cursor) (phase : Phase) (state : State) (is : state_of w (position_of phase c.schedule) ≡ state) where
-  pub over_done : phase ≡ phases.Done → IsSound w counted c phase → IsOver state
-  over_done e sound =
-      let P : Phase → Type 0 = λ p. IsSound w counted c p in
-      let Q : Phase → Type 0 = λ p. state_of w (position_of p c.schedule) ≡ state in
-      subst IsOver (subst Q e is) (over_listed w (After c.schedule) (subst P e sound).1)
-
-  pub over_going : phase ≡ phases.Going → IsSound w counted c phase → paths.IsOver (IsPath (once w.branches.rules w.branches.layout) w) (After w.path) → IsOver state
-  over_going e sound over =
-      let P : Phase → Type 0 = λ p. IsSound w counted c p in
-      let Q : Phase → Type 0 = λ p. state_of w (position_of p c.schedule) ≡ state in
-      let path : w.path ≡ c.schedule = (subst P e sound).2 in
-      let R : List ℕ → Type 0 = λ l. IsOver (state_of w (After l)) in
-      subst IsOver (subst Q e is) (subst R path (over_listed w (After w.path) over))

@@ -1,73 +1,131 @@
--- What a walk comes to is the next row of the schedules.
-use Rattle.std.specs.Prelude.{◌≡◌, Bool, true, false, List, ℕ, [], Some, None}
+-- The node that a tour visits is the next row of the schedules.
+use Rattle.std.specs.Prelude.{◌≡◌, ◌≢◌, ◌≤◌, Bool, List, ℕ, [], Some, None, refl}
 use Rattle.std.proofs.Common.{arith, sym, ap, subst, ◌∙◌}
 use Rattle.mc_tree.specs.Tree as tree
 use Rattle.mc_tree.specs.Tree.{landed}
-use Rattle.mc_tree.specs.Paths.{Position, AtStart, After, IsNext, IsOver}
-use Rattle.mc_tree.specs.facts.Order.{none_before_root}
+use Rattle.mc_tree.specs.Paths as paths
+use Rattle.mc_tree.specs.Paths.{Position, After}
 use Rattle.mc_tree.specs.facts.Past.{same_next, same_over}
-use Rattle.mc_walk.specs.Walks.{Walked, Begins, Advances, IsPath, IsThere, start_of}
+use Rattle.mc_flash.specs.Content.{Content}
+use Rattle.mc_flash.specs.Ledger.{Limits}
+use Rattle.mc_walk.specs.Kind.{Kind}
+use Rattle.mc_walk.specs.Tours.{Toured, StandsAt, Visits}
+use Rattle.mc_walk.specs.Walks.{Walked, IsPath, IsSame, node_at, start_of}
+use Rattle.mc_walk.specs.facts.Same.{over_there}
+use Rattle.mc_walk.specs.declared.tour.Phase.{Phase}
+use Rattle.mc_walk.specs.declared.tour.Phase.TheVariants as phases
 use Rattle.mc_boot.specs.Outcome.{shown}
+use Rattle.mc_boot.specs.declared.boot.Boot.{Boot}
 use Rattle.mc_explore.specs.Boots.{boots}
 use Rattle.mc_explore.specs.Once.{IsTold, once}
-use Rattle.mc_explore.specs.Rows.{Gives, GivesNext}
+use Rattle.mc_explore.specs.Resume.{Names}
 use Rattle.mc_explore.specs.Schedules.{IsMember}
+use Rattle.mc_explore.specs.Start.{Begun}
 use Rattle.mc_explore.specs.State as states
-use Rattle.mc_explore.specs.State.{HasOutcome, Finds, told}
-use Rattle.mc_explore.specs.View.{begun_of, state_of}
+use Rattle.mc_explore.specs.State.{State, Finds, moved_to}
+use Rattle.mc_explore.specs.View.{IsOurs, IsSound, begun_of, position_of, state_of}
+use Rattle.mc_explore.specs.declared.cursor.Cursor.{Cursor}
 use Rattle.mc_explore.specs.declared.once.Once.{Once}
 use Rattle.mc_explore.specs.declared.once.Told.{Told}
 use Rattle.mc_explore.specs.declared.row.Row.{Row}
 use Rattle.mc_explore.proofs.Listing.{lands_told}
 use Rattle.mc_explore.specs.facts.Occurring.{member_of, path_of}
 
+-- The kind of tree that a walk goes through.
+abbrev pub kind_of : Once → Kind Content Boot Told
+kind_of b = once b.rules b.layout
+
 -- The paths of a walk are the schedules to go through.
-module _ (w : Walked Once) (position : Position) where
-  pub next_listed : (l : List ℕ) → IsNext (IsPath (once w.branches.rules w.branches.layout) w) position l → states.IsNext (state_of w position) l
+module _ (w : Walked Once) (position : Position (List ℕ)) where
+  pub next_listed : (l : List ℕ) → paths.IsNext (IsPath (kind_of w.branches) w) position l → states.IsNext (state_of w position) l
   next_listed =
       same_next (tree.IsMember (boots w.branches.rules w.branches.layout) (start_of w.seen) w.bound) (IsMember w.branches.rules w.branches.layout (start_of w.seen) w.bound)
       (member_of w.branches.rules w.branches.layout (start_of w.seen) w.bound) (path_of w.branches.rules w.branches.layout (start_of w.seen) w.bound) position
 
-  pub over_listed : IsOver (IsPath (once w.branches.rules w.branches.layout) w) position → states.IsOver (state_of w position)
+  pub over_listed : paths.IsOver (IsPath (kind_of w.branches) w) position → states.IsOver (state_of w position)
   over_listed =
       same_over (tree.IsMember (boots w.branches.rules w.branches.layout) (start_of w.seen) w.bound) (IsMember w.branches.rules w.branches.layout (start_of w.seen) w.bound)
       (member_of w.branches.rules w.branches.layout (start_of w.seen) w.bound) (path_of w.branches.rules w.branches.layout (start_of w.seen) w.bound) position
 
--- The outcome of a schedule is what is told at its end.
-outcome_there : (w : Walked Once) (l : List ℕ) (t : Told) → tree.Allowed (boots w.branches.rules w.branches.layout) (start_of w.seen) l
-    → IsTold w.branches.rules w.branches.layout (landed (boots w.branches.rules w.branches.layout) (start_of w.seen) l) t
-    → states.outcome_after (begun_of w) l ≡ Some (shown t.outcome)
-outcome_there w l t a is = lands_told (begun_of w) l a ∙ is.outcome_is
+-- ---- the same start
 
--- The first row of all.
-pub gives_first : (old new : Walked Once) (t : Told) (row : Row) → Begins (once old.branches.rules old.branches.layout) old t new → row.schedule ≡ [] → row.outcome ≡ t.outcome → Gives old AtStart row
-gives_first old new t row b s o =
-    let first : IsNext (IsPath (once old.branches.rules old.branches.layout) old) AtStart [] = record {
-      listed = (omega arith, tt);
-      past = tt;
-      none_between = λ m _ _ before. none_before_root m before;
-    } in
-    let outcome = outcome_there old [] t tt b.told_is in (
-      subst (states.IsNext (state_of old AtStart)) (sym s) (next_listed old AtStart [] first),
-      ap (states.outcome_after (begun_of old)) s ∙ outcome ∙ ap (λ x. Some (shown x)) (sym o),
+pub same_begun : (old new : Walked Once) → IsSame old new → begun_of new ≡ begun_of old
+same_begun old new s =
+    ap (λ (b : Once). record { geometry = b.layout; rules = b.rules; content = start_of new.seen }) s.branches
+    ∙ ap (λ (c : Content). record { geometry = old.branches.layout; rules = old.branches.rules; content = c }) s.start
+
+same_state : (old new : Walked Once) (position : Position (List ℕ)) → IsSame old new → new.seen.ledger.failed ≡ old.seen.ledger.failed → state_of new position ≡ state_of old position
+same_state old new position s calm =
+    ap (λ (b : Begun). record { start = b; bound = new.bound; position = position; failed = new.seen.ledger.failed }) (same_begun old new s)
+    ∙ ap (λ (n : ℕ). record { start = begun_of old; bound = n; position = position; failed = new.seen.ledger.failed }) s.bound
+    ∙ ap (λ (f : Bool). record { start = begun_of old; bound = old.bound; position = position; failed = f }) calm
+
+-- ---- what a visit finds
+
+module _ (counted : Bool) (old new : Toured Once) (c : Cursor) (works : old.phase ≢ phases.Broken) (sound : IsSound counted old c) where
+  abbrev here : Position (List ℕ)
+  here = position_of old.phase c.schedule
+
+  ours_there : IsSame old.walk new.walk → new.walk.seen.ledger.limits ≡ old.walk.seen.ledger.limits → (d : Cursor) → d.rules ≡ c.rules → d.digest ≡ c.digest → d.bound ≡ c.bound → IsOurs new.walk counted d
+  ours_there same limits d rules digest bound =
+      let ours = (sound works).0 in
+      record {
+        names = subst (λ (s : Begun). Names s new.walk.bound d) (sym (same_begun old.walk new.walk same)) (subst (λ n. Names (begun_of old.walk) n d) (sym same.bound) (record {
+          digest_is = digest ∙ ours.names.digest_is;
+          rules_are = rules ∙ ours.names.rules_are;
+          bound_is = bound ∙ ours.names.bound_is;
+        }));
+        few = omega (arith, ours.few, same.bound);
+        counted_is = ap (λ (l : Limits). l.counted) limits ∙ ours.counted_is;
+      }
+
+  pub few_there : IsSame old.walk new.walk → new.walk.bound ≤ 16
+  few_there same = omega (arith, (sound works).0.few, same.bound)
+
+  -- The next row.
+  module _ (told : Told) (visits : Visits (kind_of old.walk.branches) old here (Some told) new) where
+    pub finds_row : (row : Row) → row.schedule ≡ new.walk.path → row.outcome ≡ told.outcome → Finds (state_of old.walk here) (Some row)
+    finds_row row s o =
+        let w = old.walk in
+        let told_here = subst (λ x. IsTold w.branches.rules w.branches.layout (landed (boots w.branches.rules w.branches.layout) x new.walk.path) told) visits.2.start visits.1 in
+        let outcome = lands_told (begun_of w) new.walk.path visits.0.listed.1 ∙ told_here.outcome_is in (
+          subst (states.IsNext (state_of w here)) (sym s) (next_listed w here new.walk.path visits.0),
+          ap (states.outcome_after (begun_of w)) s ∙ outcome ∙ ap (λ x. Some (shown x)) (sym o),
+        )
+
+    pub moved_on : (l : List ℕ) → new.walk.seen.ledger.failed ≡ old.walk.seen.ledger.failed → state_of new.walk (position_of new.phase l) ≡ moved_to (state_of old.walk here) l
+    moved_on l calm =
+        ap (λ p. state_of new.walk (position_of p l)) visits.3 ∙ same_state old.walk new.walk (After l) visits.2 calm
+
+    pub sound_on : (d : Cursor) → d.rules ≡ c.rules → d.digest ≡ c.digest → d.bound ≡ c.bound → d.schedule ≡ new.walk.path → new.walk.seen.ledger.limits ≡ old.walk.seen.ledger.limits → IsSound counted new d
+    sound_on d rules digest bound path limits = λ _. (
+      ours_there visits.2 limits d rules digest bound,
+      subst (λ p. StandsAt (kind_of new.walk.branches) (record { walk = new.walk; phase = p }) (position_of p d.schedule)) (sym visits.3) (ap (λ l. After l) path),
     )
 
--- The row after the one at which it stands.
-pub gives_next : (old new : Walked Once) (t : Told) (row : Row) (went : Bool) → went ≡ true → Advances (once old.branches.rules old.branches.layout) old went new
-    → IsThere (once new.branches.rules new.branches.layout) new t → row.schedule ≡ new.path → row.outcome ≡ t.outcome → GivesNext old (Some row) new
-gives_next old new t row false e a there s o = absurd cc
-gives_next old new t row true e a there s o =
-    let same = a.1 in
-    let told_is = subst (λ (x : Once). IsTold x.rules x.layout (landed (boots x.rules x.layout) (start_of new.seen) new.path) t) same.branches there.told_is in
-    let told_here = subst (λ c. IsTold old.branches.rules old.branches.layout (landed (boots old.branches.rules old.branches.layout) c new.path) t) same.start told_is in
-    let outcome = outcome_there old new.path t a.0.listed.1 told_here in (
-      (
-        subst (states.IsNext (state_of old (After old.path))) (sym s) (next_listed old (After old.path) new.path a.0),
-        ap (states.outcome_after (begun_of old)) s ∙ outcome ∙ ap (λ x. Some (shown x)) (sym o),
-      ),
-      record { path = sym s; same = same; stands = a.2 },
-    )
+  -- Or there is none.
+  module _ (visits : Visits (kind_of old.walk.branches) old here None new) where
+    pub finds_none : states.IsOver (state_of old.walk here)
+    finds_none = over_listed old.walk here visits.0
 
-pub gives_none : (old new : Walked Once) (went : Bool) → went ≡ false → Advances (once old.branches.rules old.branches.layout) old went new → GivesNext old None new
-gives_none old new true e a = absurd cc
-gives_none old new false e a = (a.0, a.1, a.2)
+    stays_there : position_of phases.Done c.schedule ≡ here
+    stays_there = by old.phase refl
+      where
+        by : (p : Phase) → old.phase ≡ p → After c.schedule ≡ position_of p c.schedule
+        by phases.Fresh is =
+            let over = subst (λ q. paths.IsOver (IsPath (kind_of old.walk.branches) old.walk) (position_of q c.schedule)) is visits.0 in
+            absurd (over [] (omega arith, tt) tt)
+        by phases.Going is = refl
+        by phases.Done is = refl
+        by phases.Broken is = absurd (works is)
+
+    pub stays_so : new.walk.seen.ledger.failed ≡ old.walk.seen.ledger.failed → state_of new.walk (position_of new.phase c.schedule) ≡ state_of old.walk here
+    stays_so calm =
+        ap (λ p. state_of new.walk (position_of p c.schedule)) visits.3 ∙ ap (state_of new.walk) stays_there ∙ same_state old.walk new.walk here visits.2 calm
+
+    pub sound_over : new.walk.seen.ledger.limits ≡ old.walk.seen.ledger.limits → IsSound counted new c
+    sound_over limits = λ _. (
+      ours_there visits.2 limits c refl refl refl,
+      subst (λ p. StandsAt (kind_of new.walk.branches) (record { walk = new.walk; phase = p }) (position_of p c.schedule)) (sym visits.3)
+          (subst (paths.IsOver (IsPath (kind_of new.walk.branches) new.walk)) (sym stays_there) (over_there kind_of old.walk new.walk here visits.2 visits.0)),
+    )

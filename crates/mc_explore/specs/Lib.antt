@@ -9,7 +9,6 @@ pub mod Rest
 pub mod RowText
 pub mod Once
 pub mod View
-pub mod Rows
 pub mod Want
 pub mod Explores
 pub mod Bounds

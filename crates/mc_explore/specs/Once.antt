@@ -1,5 +1,6 @@
 -- The tree of boots that are cut, as a walk goes through it.
 use Rattle.std.specs.Prelude.{◌≡◌, ℕ, ◌+◌, ◌<◌, ◌≤◌, length, Some, Result, Ok, Err, refl}
+use Rattle.std.proofs.Common.{arith}
 use Rattle.mc_flash.specs.Content.{Content, IsSized}
 use Rattle.mc_flash.specs.Geometry.{Geometry}
 use Rattle.mc_flash.specs.Ledger.{Counts, most_operations, most_saved}
@@ -61,9 +62,12 @@ once r g = record {
   IsOn = HasMade r g;
   IsTold = IsTold r g;
   step = 1;
+  owed = λ s. most_of r g;
+  all = most_of r g;
+  all_is = λ s. record { entries = omega arith; saved = omega arith };
   left = λ b. left_of g (progress b);
   most = most_of r g;
-  spare = 1;
+  most_is = λ s i b on some. record { entries = omega arith; saved = omega arith };
 }
 
 -- The boot of a content was cut before an operation that it makes uncut, and there is room for what it has left.

@@ -15,7 +15,7 @@ use Rattle.mc_explore.specs.declared.row.Row.{Row}
 pub record State : Type 0 where
   pub start : Begun
   pub bound : ℕ
-  pub position : Position
+  pub position : Position (List ℕ)
   pub failed : Bool
 
 -- One of the schedules to go through.

@@ -1,5 +1,5 @@
 -- What an explorer's fields stand for, and what holds of them.
-use Rattle.std.specs.Prelude.{◌≡◌, ℕ, ◌+◌, ◌*◌, ◌≤◌, Bool, true, false, List, length}
+use Rattle.std.specs.Prelude.{◌≡◌, ◌≢◌, ℕ, ◌+◌, ◌*◌, ◌≤◌, Bool, true, false, List, length}
 use Rattle.mc_tree.specs.Tree as tree
 use Rattle.mc_tree.specs.Paths.{Position, AtStart, After, Lost, IsOver}
 use Rattle.mc_flash.specs.Geometry.{IsLayout}
@@ -12,10 +12,12 @@ use Rattle.mc_explore.specs.Start.{Begun}
 use Rattle.mc_explore.specs.State.{State, Explored}
 use Rattle.mc_explore.specs.declared.cursor.Cursor.{Cursor}
 use Rattle.mc_explore.specs.declared.once.Once.{Once}
-use Rattle.mc_explore.specs.declared.phase.Phase.{Phase}
-use Rattle.mc_explore.specs.declared.phase.Phase.TheVariants.{Fresh, Going, Done, Broken}
+use Rattle.mc_walk.specs.Tours.{Toured, StandsAt}
+use Rattle.mc_walk.specs.declared.tour.Phase.{Phase}
+use Rattle.mc_walk.specs.declared.tour.Phase.TheVariants.{Fresh, Going, Done, Broken}
 
-abbrev pub position_of : Phase → List ℕ → Position
+-- Where an explorer has come to, by how its tour stands and the last row.
+abbrev pub position_of : {K : Type 0} → Phase → K → Position K
 position_of Fresh last = AtStart
 position_of Going last = After last
 position_of Done last = After last
@@ -34,10 +36,10 @@ begun_with once primary secondary = record {
 }
 
 -- The state of an explorer on that walk, whose last row is that of a schedule.
-abbrev pub state_of : Walked Once → Position → State
+abbrev pub state_of : Walked Once → Position (List ℕ) → State
 state_of w position = record { start = begun_of w; bound = w.bound; position = position; failed = w.seen.ledger.failed }
 
-abbrev pub explored : Walked Once → Position → Explored
+abbrev pub explored : Walked Once → Position (List ℕ) → Explored
 explored w position = record {
   state = state_of w position;
   content = w.seen.content;
@@ -51,14 +53,11 @@ pub record IsOurs (w : Walked Once) (counted : Bool) (c : Cursor) : Type 0 where
   pub few : w.bound ≤ 16
   pub counted_is : w.seen.ledger.limits.counted ≡ counted
 
--- What holds of an explorer's fields. While it goes on the walk stands at the cursor's schedule, at the root before the first
--- row.
-abbrev pub IsSound : Walked Once → Bool → Cursor → Phase → Type 0
-IsSound w counted c Fresh = IsOurs w counted c × IsFresh (once w.branches.rules w.branches.layout) w
-IsSound w counted c Going = IsOurs w counted c × (w.stands ≡ true) × (w.path ≡ c.schedule)
-IsSound w counted c Done =
-    IsOurs w counted c × IsOver (IsPath (once w.branches.rules w.branches.layout) w) (After c.schedule)
-IsSound w counted c Broken = Unit {0}
+-- What holds of an explorer's fields until it fails: the tour stands where the last row says, which the cursor names.
+abbrev pub IsSound : Bool → Toured Once → Cursor → Type 0
+IsSound counted t c =
+    t.phase ≢ Broken
+    → IsOurs t.walk counted c × StandsAt (once t.walk.branches.rules t.walk.branches.layout) t (position_of t.phase c.schedule)
 
 -- A walk that was just loaded for a start.
 pub record IsLoaded (counted : Bool) (start : Begun) (bound : ℕ) (w : Walked Once) : Type 0 where

@@ -1,8 +1,10 @@
 //! Why an explorer gives up.
 ghost use Rattle.std.specs.Prelude.{◌≡◌};
 ghost use Rattle.mc_explore.specs.declared.error.ExploreError.TheVariants.{Memory};
+ghost use Rattle.mc_explore.specs.Want.{failure_of};
 
 use mc_flash::FlashError;
+use mc_walk::TourError;
 use std::alloc::{AllocError, AllocFailed};
 use thiserror::Error;
 
@@ -45,5 +47,16 @@ impl From<AllocError> for ExploreError {
 
     fn from(_: AllocError) -> Self {
         ExploreError::Memory
+    }
+}
+
+impl From<TourError> for ExploreError {
+    ghost from_gives = { λ failure e. e ≡ failure_of failure };
+
+    fn from(failure: TourError) -> Self {
+        match failure {
+            TourError::Memory => ExploreError::Memory,
+            TourError::Failed => ExploreError::Failed,
+        }
     }
 }

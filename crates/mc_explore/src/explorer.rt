@@ -14,13 +14,11 @@ use crate::cursor::Cursor;
 use crate::error::ExploreError;
 use crate::loading::{ask, load};
 use crate::once::Once;
-use crate::phase::Phase;
 use crate::row::Row;
-use crate::rows::{first_row, later_row};
 use crate::{Schedule, Start};
 use mc_boot::restart_law;
 use mc_flash::Flash;
-use mc_walk::Walk;
+use mc_walk::Tour;
 use std::alloc::Global;
 use std::marker::Model;
 
@@ -28,10 +26,9 @@ use std::marker::Model;
 /// flash.
 #[derive(Drop)]
 pub struct Explorer<F: Flash> {
-    walk: Walk<F, Once>,
+    tour: Tour<F, Once>,
     // Where to go on behind the last row.
     cursor: Cursor,
-    phase: Phase,
 }
 
 impl<F: Flash> Model for Explorer<F> {
@@ -40,9 +37,9 @@ impl<F: Flash> Model for Explorer<F> {
 
     ghost Value = { Explored };
 
-    ghost view = { λ e. explored e.walk (position_of e.phase e.cursor.schedule) };
+    ghost view = { λ e. explored e.tour.walk (position_of e.tour.phase e.cursor.schedule) };
 
-    ghost invariant = { λ e. IsSound e.walk F.counted e.cursor e.phase };
+    ghost invariant = { λ e. IsSound F.counted e.tour e.cursor };
 }
 
 impl<F: Flash + Drop> Explorer<F> {
@@ -63,9 +60,8 @@ impl<F: Flash + Drop> Explorer<F> {
     {
         let walk = load(alloc, start, bound)?;
         Ok(Explorer {
-            walk,
+            tour: Tour::fresh(walk),
             cursor: Cursor::of(start, bound, &Schedule::new()),
-            phase: Phase::Fresh,
         })
     }
 
@@ -100,9 +96,8 @@ impl<F: Flash + Drop> Explorer<F> {
             return Err(ExploreError::CannotOccur);
         }
         Ok(Explorer {
-            walk,
+            tour: Tour::behind(walk),
             cursor: *cursor,
-            phase: Phase::Going,
         })
     }
 
@@ -127,35 +122,15 @@ impl<F: Flash + Drop> Explorer<F> {
         ensures err { IfErr result (λ e. (e ≡ ExploreError.Memory) ⊎ (e ≡ ExploreError.Failed)) }
     {
         restart_law();
-        match self.phase {
-            Phase::Broken => {
-                return Err(ExploreError::Failed);
-            }
-            Phase::Done => {
-                return Ok(None);
-            }
-            Phase::Fresh => {
-                self.phase = Phase::Broken;
-                let row = first_row(&mut self.walk)?;
-                self.cursor.schedule = row.schedule;
-                self.phase = Phase::Going;
-                return Ok(Some(row));
-            }
-            Phase::Going => {
-                self.phase = Phase::Broken;
-                match later_row(&mut self.walk)? {
-                    Some(row) => {
-                        self.cursor.schedule = row.schedule;
-                        self.phase = Phase::Going;
-                        return Ok(Some(row));
-                    }
-                    None => {
-                        self.phase = Phase::Done;
-                        return Ok(None);
-                    }
-                }
-            }
-        }
+        let Some(told) = self.tour.visit()? else {
+            return Ok(None);
+        };
+        let schedule = Schedule::of(self.tour.walk().path().as_slice());
+        self.cursor.schedule = schedule;
+        Ok(Some(Row {
+            schedule,
+            outcome: told.outcome,
+        }))
     }
 
     /// The flash as it is.
@@ -164,7 +139,7 @@ impl<F: Flash + Drop> Explorer<F> {
         ensures ledger { (F.seen result.now).ledger ≡ self.now.ledger }
         ensures marked { length (F.seen result.now).marks ≡ self.now.marked }
     {
-        self.walk.flash()
+        self.tour.walk().flash()
     }
 
     /// Where to go on after a schedule.
@@ -185,6 +160,6 @@ impl<F: Flash + Drop> Explorer<F> {
         ensures ledger { self.new.ledger ≡ self.old.ledger }
         ensures marked { self.new.marked ≡ self.old.marked }
     {
-        self.phase = Phase::Broken;
+        self.tour.give_up();
     }
 }

@@ -137,7 +137,15 @@ impl Branches for Once {
 
     type Told = Told;
 
+    type Label = u32;
+
     ghost kind = { λ s. once s.rules s.layout };
+
+    ghost label_of = { λ _ _ number. number };
+
+    fn label(self, at: &Boot) -> u32 {
+        at.count()
+    }
 
     fn width(self, told: &Told) -> u32 {
         told.outcome.ops

@@ -9,14 +9,14 @@ last_path path l [] = l
 last_path path l (row ∷ rows) = last_path path (path row) rows
 
 -- The rows of a page of at most so many of the rows to come.
-pub record IsPage {R : Type 0} (path : R → List ℕ) (IsRow : R → Type 0) (position : Position) (limit : ℕ) (page : List R) : Type 0 where
+pub record IsPage {R : Type 0} (path : R → List ℕ) (IsRow : R → Type 0) (position : Position (List ℕ)) (limit : ℕ) (page : List R) : Type 0 where
   pub all : List R
   pub rest : IsRest path IsRow position all
   pub first : page ≡ take limit all
 
 -- The rows of the pages of a chain, joined. The first page begins at the position, and each further one behind the last row of
 -- the page before it. A page that is not full ends the chain.
-abbrev pub Chain : {R : Type 0} → (R → List ℕ) → (R → Type 0) → Position → List ℕ → Bool → List R → Type 0
+abbrev pub Chain : {R : Type 0} → (R → List ℕ) → (R → Type 0) → Position (List ℕ) → List ℕ → Bool → List R → Type 0
 Chain {R} path IsRow position [] ended rows = (rows ≡ []) × (ended ≡ false)
 Chain {R} path IsRow position (limit ∷ limits) ended rows =
     (page : List R) × (more : List R) × IsPage path IsRow position limit page × (rows ≡ page ++ more)

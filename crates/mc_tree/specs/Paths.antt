@@ -14,23 +14,35 @@ Beyond [] m = ⊥
 Beyond (x ∷ xs) [] = ⊥
 Beyond (x ∷ xs) (y ∷ ys) = (x < y) ⊎ ((x ≡ y) × Beyond xs ys)
 
--- Where one has come to: before the first path; or at a path; or one has lost the way, and nothing is to come.
-pub data Position : Type 0 where
-  AtStart : Position
-  After : (last : List ℕ) → Position
-  Lost : Position
+-- Where one has come to among elements in their order: before the first; or at one of them; or one has lost the way, and nothing
+-- is to come.
+pub data Position (K : Type 0) : Type 0 where
+  AtStart : Position K
+  After : (last : K) → Position K
+  Lost : Position K
 
-abbrev pub IsPast : Position → List ℕ → Type 0
-IsPast AtStart path = Unit {0}
-IsPast (After last) path = Precedes last path
-IsPast Lost path = ⊥
+module _ {K : Type 0} (Before : K → K → Type 0) where
+  abbrev pub IsPastIn : Position K → K → Type 0
+  IsPastIn AtStart x = Unit {0}
+  IsPastIn (After last) x = Before last x
+  IsPastIn Lost x = ⊥
 
--- Of the listed paths, the first past the position.
-pub record IsNext (Listed : List ℕ → Type 0) (position : Position) (next : List ℕ) : Type 0 where
-  pub listed : Listed next
-  pub past : IsPast position next
-  pub none_between : (m : List ℕ) → Listed m → IsPast position m → Precedes m next → ⊥
+  -- Of the listed elements, the first past the position.
+  pub record IsNextIn (Listed : K → Type 0) (position : Position K) (next : K) : Type 0 where
+    pub listed : Listed next
+    pub past : IsPastIn position next
+    pub none_between : (m : K) → Listed m → IsPastIn position m → Before m next → ⊥
 
--- None of them is past the position.
-abbrev pub IsOver : (List ℕ → Type 0) → Position → Type 0
-IsOver Listed position = (m : List ℕ) → Listed m → IsPast position m → ⊥
+  -- None of them is past the position.
+  abbrev pub IsOverIn : (K → Type 0) → Position K → Type 0
+  IsOverIn Listed position = (m : K) → Listed m → IsPastIn position m → ⊥
+
+-- The same of paths.
+abbrev pub IsPast : Position (List ℕ) → List ℕ → Type 0
+IsPast = IsPastIn Precedes
+
+abbrev pub IsNext : (List ℕ → Type 0) → Position (List ℕ) → List ℕ → Type 0
+IsNext = IsNextIn Precedes
+
+abbrev pub IsOver : (List ℕ → Type 0) → Position (List ℕ) → Type 0
+IsOver = IsOverIn Precedes

@@ -19,3 +19,8 @@ Allowed t s (number ∷ path) = (number < t.width s) × Allowed t (t.child s num
 -- The paths of at most so many steps.
 abbrev pub IsMember : {N : Type 0} → Tree N → N → ℕ → List ℕ → Type 0
 IsMember t s bound path = (length path ≤ bound) × Allowed t s path
+
+-- The labels along a path, where each child of a node has one.
+abbrev pub labelled : {N L : Type 0} → Tree N → (N → ℕ → L) → N → List ℕ → List L
+labelled t label s [] = []
+labelled t label s (number ∷ path) = label s number ∷ labelled t label (t.child s number) path

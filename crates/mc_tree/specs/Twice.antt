@@ -1,6 +1,6 @@
 -- The tree of two rounds over a tree.
 use Rattle.std.specs.Prelude.{◌≡◌, ℕ, ◌+◌, ◌-◌, ◌<◌, ◌⊎◌, nat_lt, if◌then◌else◌, List, [], ◌∷◌, ◌++◌, map}
-use Rattle.mc_tree.specs.Tree.{Tree}
+use Rattle.mc_tree.specs.Tree.{Tree, labelled}
 
 -- A node of the first round; or one of the second, with the node of the first behind which its round began.
 pub data Place (N : Type 0) : Type 0 where
@@ -28,8 +28,7 @@ module _ {N : Type 0} (t : Tree N) (next : N → N) where
   label (second began s) i = (2, i)
 
   abbrev pub labels : Place N → List ℕ → List (ℕ × ℕ)
-  labels p [] = []
-  labels p (i ∷ path) = label p i ∷ labels (twice_child p i) path
+  labels = labelled twice label
 
   -- The path that goes along one path in the first round, and along another in the second.
   abbrev pub in_both : N → List ℕ → List ℕ → List ℕ

@@ -1,13 +1,14 @@
 -- A walk from one path to another.
-use Rattle.std.proofs.Common.{◌≡◌, ℕ, zero, suc, ◌+◌, ◌<◌, ◌≤◌, Bool, true, false, List, [], ◌∷◌, ◌++◌, length, take, get_or, sym, ap, subst, ◌∙◌, arith}
-use Rattle.std.proofs.lemmas.List.{take_more, take_all, length-take-le}
+use Rattle.std.proofs.Common.{◌≡◌, ℕ, zero, suc, ◌+◌, ◌<◌, ◌≤◌, Bool, true, false, List, [], ◌∷◌, ◌++◌, length, take, get_or, sym, ap, subst, ◌∙◌, append_assoc, append-nil, refl, arith}
+use Rattle.std.proofs.lemmas.List.{take_more, take_all}
 use Rattle.mc_flash.specs.Spends.{Spent}
 use Rattle.mc_flash.specs.SpendsFacts.{spent_both, spent_more}
 use Rattle.mc_tree.specs.Tree.{IsMember}
 use Rattle.mc_tree.specs.Paths.{After, IsNext}
 use Rattle.mc_tree.specs.facts.Order.{next_below, next_above, none_above, childless}
 use Rattle.mc_walk.specs.Kind.{Kind}
-use Rattle.mc_walk.specs.Walks.{Walked, IsSame, StopsOn, GoesDown, Climbs, Advances, Follows, root_of, start_of, child_cost, path_cost}
+use Rattle.mc_walk.specs.Walks.{Walked, IsSame, StopsOn, GoesDown, Climbs, Advances, Follows, root_of, child_cost, path_cost}
+use Rattle.mc_walk.specs.facts.Same.{path_back, same_back}
 
 module _ {N A T B : Type 0} (kind : B → Kind N A T) where
   abbrev IsPath : Walked B → List ℕ → Type 0
@@ -32,22 +33,22 @@ module _ {N A T B : Type 0} (kind : B → Kind N A T) where
   advanced_up old mid new false up few e d c =
       advanced_from old new up few d.0 (subst (λ z. Climbs (kind z.branches) z up new) d.1 c)
 
-  same_sym : (old new : Walked B) → IsSame old new → IsSame new old
-  same_sym old new s = record { branches = sym s.branches; bound = sym s.bound; start = sym s.start }
-
-  path_of_same : (old new : Walked B) (l : List ℕ) → IsSame old new → IsPath new l → IsPath old l
-  path_of_same old new l s m =
-      let bound = subst (λ n. IsMember (kind new.branches).tree ((kind new.branches).root (start_of new.seen)) n l) s.bound m in
-      let start = subst (λ c. IsMember (kind new.branches).tree ((kind new.branches).root c) old.bound l) s.start bound in
-      subst (λ b. IsMember (kind b).tree ((kind b).root (start_of old.seen)) old.bound l) s.branches start
-
   -- It has come along so many steps of a path.
   pub record IsAlong (path : List ℕ) (n : ℕ) (old now : Walked B) : Type 0 where
-    pub path_is : now.path ≡ take n path
+    pub path_is : now.path ≡ old.path ++ take n path
     pub stands : now.stands ≡ true
     pub same : IsSame old now
     pub member : IsPath old now.path
     pub spent : Spent (path_cost (kind old.branches) (take n path)) old.seen now.seen
+
+  pub along_begin : (path : List ℕ) (old : Walked B) → old.stands ≡ true → IsPath old old.path → IsAlong path 0 old old
+  along_begin path old stands member = record {
+    path_is = sym (append-nil old.path);
+    stands = stands;
+    same = record { branches = refl; bound = refl; start = refl };
+    member = member;
+    spent = record { applied = omega arith; limits = refl; failed = refl };
+  }
 
   path_cost-push : (k : Kind N A T) (l : List ℕ) (x : ℕ) → path_cost k (l ++ x ∷ []) ≡ path_cost k l + child_cost k x
   path_cost-push k [] x = omega arith
@@ -67,10 +68,10 @@ module _ {N A T B : Type 0} (kind : B → Kind N A T) where
       let cost : path_cost k (take n path) + child_cost k (get_or path n 0) ≡ path_cost k (take (n + 1) path) = sym (ap (path_cost k) more ∙ path_cost-push k (take n path) (get_or path n 0)) in
       let same : IsSame old new = record { branches = d.2.branches ∙ a.same.branches; bound = d.2.bound ∙ a.same.bound; start = d.2.start ∙ a.same.start } in
       record {
-        path_is = d.0 ∙ ap (λ z. z ++ get_or path n 0 ∷ []) a.path_is ∙ sym more;
+        path_is = d.0 ∙ ap (λ z. z ++ get_or path n 0 ∷ []) a.path_is ∙ append_assoc old.path (take n path) (get_or path n 0 ∷ []) ∙ ap (λ z. old.path ++ z) (sym more);
         stands = d.3;
         same = same;
-        member = path_of_same old mid new.path a.same d.1;
+        member = path_back kind old mid new.path a.same d.1;
         spent = subst (λ z. Spent z old.seen new.seen) cost (spent_both (path_cost k (take n path)) (child_cost k (get_or path n 0)) old.seen mid.seen new.seen a.spent step);
       }
 
@@ -78,13 +79,14 @@ module _ {N A T B : Type 0} (kind : B → Kind N A T) where
   along_none path n old mid new true a lt e d = absurd (cc)
   along_none path n old mid new false a lt e d =
       let k : Kind N A T = kind old.branches in
-      let len : length mid.path ≡ n = ap length a.path_is ∙ length-take-le n path (omega (arith, lt)) in
-      let more : take (length mid.path + 1) path ≡ mid.path ++ get_or path n 0 ∷ [] = ap (λ m. take (m + 1) path) len ∙ take_more path n 0 lt ∙ ap (λ z. z ++ get_or path n 0 ∷ []) (sym a.path_is) in
+      let more : old.path ++ take (n + 1) path ≡ mid.path ++ get_or path n 0 ∷ [] =
+      ap (λ z. old.path ++ z) (take_more path n 0 lt) ∙ sym (append_assoc old.path (take n path) (get_or path n 0 ∷ [])) ∙ ap (λ z. z ++ get_or path n 0 ∷ []) (sym a.path_is) in
       subst (StopsOn k path old) (sym d.1) (record {
-        inside = omega (arith, len, lt);
-        front = a.path_is ∙ ap (λ m. take m path) (sym len);
+        steps = n;
+        inside = lt;
+        front = a.path_is;
         member = a.member;
-        no_child = λ m. d.0 (path_of_same mid old (mid.path ++ get_or path n 0 ∷ []) (same_sym old mid a.same) (subst (IsPath old) more m));
+        no_child = λ m. d.0 (path_back kind mid old (mid.path ++ get_or path n 0 ∷ []) (same_back kind old mid a.same) (subst (IsPath old) more m));
         same = a.same;
         stands = a.stands;
       })
@@ -98,4 +100,4 @@ module _ {N A T B : Type 0} (kind : B → Kind N A T) where
   pub along_all : (path : List ℕ) (n : ℕ) (old now : Walked B) → IsAlong path n old now → length path ≤ n → Follows (kind old.branches) path old true now × Spent (path_cost (kind old.branches) path) old.seen now.seen
   along_all path n old now a le =
       let all : take n path ≡ path = take_all n path le in
-      ((a.path_is ∙ all, subst (IsPath old) (a.path_is ∙ all) a.member, a.same, a.stands), subst (λ z. Spent (path_cost (kind old.branches) z) old.seen now.seen) all a.spent)
+      ((a.path_is ∙ ap (λ z. old.path ++ z) all, a.member, a.same, a.stands), subst (λ z. Spent (path_cost (kind old.branches) z) old.seen now.seen) all a.spent)

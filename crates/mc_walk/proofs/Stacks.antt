@@ -5,15 +5,21 @@ use Rattle.std.specs.Prelude.{slice_index_or}
 use Rattle.mc_tree.specs.Tree.{landed, Allowed}
 use Rattle.mc_tree.specs.facts.Order.{AllLast, landed-push}
 use Rattle.mc_flash.specs.Content.{Content}
-use Rattle.mc_flash.specs.Ledger.{Spot}
+use Rattle.mc_flash.specs.Ledger.{Counts, Spot, no_counts}
 use Rattle.mc_flash.specs.Seen.{Seen, no_spot, spot_at, spot_of, went_back, marked}
-use Rattle.mc_flash.specs.Spends.{Stays}
+use Rattle.mc_flash.specs.Spends.{LeaveRoom, Stays}
 use Rattle.mc_walk.specs.Kind.{Kind, IsAt, IsChild, TellsChild}
-use Rattle.mc_walk.specs.Stack.{path_of, AreSpent, IsFrame, AreFrames, Stacked, node_of, Stands, Comes}
+use Rattle.mc_walk.specs.Stack.{path_of, most_at, AreSpent, IsFrame, AreFrames, Stacked, node_of, Stands, Comes}
 use Rattle.mc_walk.specs.declared.frame.Frame.{Frame}
 
 pub path-push : {A T : Type 0} (fs : List (Frame A T)) (f : Frame A T) → path_of (fs ++ f ∷ []) ≡ path_of fs ++ f.number ∷ []
 path-push fs f = map-append (λ f. f.number) fs (f ∷ [])
+
+none_more : (n : ℕ) → n ≡ 0 + n
+none_more n = omega arith
+
+one_more : (n m : ℕ) → (n + 1) * m ≡ n * m + m
+one_more n m = omega arith
 
 pub no_path : {A T : Type 0} (fs : List (Frame A T)) → path_of fs ≡ [] → fs ≡ []
 no_path [] e = refl
@@ -92,45 +98,47 @@ module _ {N A T : Type 0} (k : Kind N A T) where
   started start f fs st = ap (λ (ms : List Spot). (slice_index_or ms 0 no_spot).content) st.marks_are ∙ st.start_is
 
   pub length-stack : (start : Content) (marks : List Spot) (fs : List (Frame A T)) → Stacked k start marks fs → length marks ≡ 1 + length fs
-  length-stack start marks fs st = omega (arith, ap length st.marks_are, length-frames (k.root start) 1 st.above fs st.frames)
+  length-stack start marks fs st = omega (arith, ap length st.marks_are, length-frames (k.root start) 0 st.above fs st.frames)
 
   pub node-push : (start : Content) (fs : List (Frame A T)) (f : Frame A T) → node_of k start (fs ++ f ∷ []) ≡ k.tree.child (node_of k start fs) f.number
   node-push start fs f = ap (landed k.tree (k.root start)) (path-push fs f) ∙ landed-push k.tree (k.root start) (path_of fs) f.number
 
   -- The flash was marked at a child, and its frame is put on.
   stacked-push : (start : Content) (marks : List Spot) (fs : List (Frame A T)) (spot : Spot) (f : Frame A T) → Stacked k start marks fs
-      → IsFrame k (node_of k start fs) (length marks) spot f → Stacked k start (marks ++ spot ∷ []) (fs ++ f ∷ [])
+      → IsFrame k (node_of k start fs) (length fs) spot f → Stacked k start (marks ++ spot ∷ []) (fs ++ f ∷ [])
   stacked-push start marks fs spot f st h = record {
     first = st.first;
     above = st.above ++ spot ∷ [];
     marks_are = ap (λ ms. ms ++ spot ∷ []) st.marks_are;
     start_is = st.start_is;
-    frames = frames-push (k.root start) 1 st.above fs spot f st.frames (subst (λ p. IsFrame k (node_of k start fs) p spot f) (length-stack start marks fs st) h);
+    frames = frames-push (k.root start) 0 st.above fs spot f st.frames (subst (λ p. IsFrame k (node_of k start fs) p spot f) (none_more (length fs)) h);
   }
 
-  -- What has been gone and left is little.
-  frame_counts : (levels count : ℕ) (spot : Spot) (n : N) (f : Frame A T) → levels ≡ count → IsFrame k n levels spot f
-      → (spot.counts.entries ≤ count * k.most.entries) × (spot.counts.saved ≤ count * k.most.saved)
-  frame_counts levels count spot n f e h =
-      let entries = h.room.entries in
-      let saved = h.room.saved in
-      (omega (arith, entries, ap (λ z. z * k.most.entries) e), omega (arith, saved, ap (λ z. z * k.most.saved) e))
+  -- What is counted and owed at the child is no more than that after one step more.
+  pub frame_counts : (count : ℕ) (spot : Spot) (n : N) (fs : List (Frame A T)) (f : Frame A T) → count ≡ length fs + 1 → IsFrame k n (length fs) spot f
+      → LeaveRoom spot.counts (k.owed (k.tree.child n f.number)) (most_at k count)
+  frame_counts count spot n fs f e h =
+      let more = k.most_is n f.number f.at h.on_is h.some in
+      let entries : count * k.most.entries ≡ length fs * k.most.entries + k.most.entries = ap (λ z. z * k.most.entries) e ∙ one_more (length fs) k.most.entries in
+      let saved : count * k.most.saved ≡ length fs * k.most.saved + k.most.saved = ap (λ z. z * k.most.saved) e ∙ one_more (length fs) k.most.saved in
+      record { entries = omega (arith, more.entries, h.room.entries, entries); saved = omega (arith, more.saved, h.room.saved, saved) }
 
   -- And its node is told.
   pub entered : (start : Content) (seen new : Seen) (fs : List (Frame A T)) (f : Frame A T) (told : T) → Comes k start seen fs f → Stays (marked seen) new
       → k.IsTold (k.tree.child (node_of k start fs) f.number) told → Stands k start new (fs ++ f ∷ []) told
   entered start seen new fs f told c s t =
       let node = node-push start fs f in
-      let levels : length seen.marks ≡ length (fs ++ f ∷ []) = omega (arith, length-stack start seen.marks fs c.stacked, length-append fs (f ∷ [])) in
-      let few = frame_counts (length seen.marks) (length (fs ++ f ∷ [])) (spot_of seen) (node_of k start fs) f levels c.frame in
+      let steps : length (fs ++ f ∷ []) ≡ length fs + 1 = omega (arith, length-append fs (f ∷ [])) in
+      let few = frame_counts (length (fs ++ f ∷ [])) (spot_of seen) (node_of k start fs) fs f steps c.frame in
+      let owed : k.owed (node_of k start (fs ++ f ∷ [])) ≡ k.owed (k.tree.child (node_of k start fs) f.number) = ap k.owed node in
       record {
         stacked = subst (λ ms. Stacked k start ms (fs ++ f ∷ [])) (sym s.marks) (stacked-push start seen.marks fs (spot_of seen) f c.stacked c.frame);
         content_is = s.content ∙ c.frame.content_is ∙ ap k.content (sym node);
         layout_is = s.geometry ∙ c.layout_is;
         told_is = subst (λ n. k.IsTold n told) (sym node) t;
         counts = record {
-          entries = omega (arith, ap (λ c. c.entries) s.counts, few.0);
-          saved = omega (arith, ap (λ c. c.saved) s.counts, few.1);
+          entries = omega (arith, ap (λ c. c.entries) s.counts, ap (λ (c : Counts). c.entries) owed, few.entries);
+          saved = omega (arith, ap (λ c. c.saved) s.counts, ap (λ (c : Counts). c.saved) owed, few.saved);
         };
       }
 
@@ -160,17 +168,16 @@ module _ {N A T : Type 0} (k : Kind N A T) where
       → seen.geometry ≡ k.geometry → all ≡ fs ++ f ∷ more → Comes k start (went_back (length fs + 1) seen) fs f × (length fs + 1 < length seen.marks)
   unfolding went_back
   popped start seen all fs f more st layout e =
-      let r = among (k.root start) 1 st.above fs f more (subst (AreFrames k (k.root start) 1 st.above) e st.frames) in
-      let n : length (st.first ∷ r.before) ≡ length fs + 1 = omega (arith, length-frames (k.root start) 1 r.before fs r.frames) in
+      let r = among (k.root start) 0 st.above fs f more (subst (AreFrames k (k.root start) 0 st.above) e st.frames) in
+      let n : length (st.first ∷ r.before) ≡ length fs + 1 = omega (arith, length-frames (k.root start) 0 r.before fs r.frames) in
       let marks : seen.marks ≡ (st.first ∷ r.before) ++ r.spot ∷ r.after = st.marks_are ∙ ap (λ z. st.first ∷ z) r.spots_are in
       let spot : spot_at seen (length fs + 1) ≡ r.spot = ap (λ ms. slice_index_or ms (length fs + 1) no_spot) marks ∙ get_or_at (st.first ∷ r.before) r.spot r.after no_spot (length fs + 1) n in
       let left : take (length fs + 1) seen.marks ≡ st.first ∷ r.before = ap (take (length fs + 1)) marks ∙ take_at (st.first ∷ r.before) (r.spot ∷ r.after) (length fs + 1) n in
-      let len : 1 + length fs ≡ length (take (length fs + 1) seen.marks) = omega (arith, ap length left, length-frames (k.root start) 1 r.before fs r.frames) in
       let node : N = node_of k start fs in (
         record {
           stacked = record { first = st.first; above = r.before; marks_are = left; start_is = st.start_is; frames = r.frames };
           layout_is = layout;
-          frame = subst (λ p. IsFrame k node p (spot_at seen (length fs + 1)) f) len (subst (λ s. IsFrame k node (1 + length fs) s f) (sym spot) r.frame);
+          frame = subst (λ p. IsFrame k node p (spot_at seen (length fs + 1)) f) (sym (none_more (length fs))) (subst (λ s. IsFrame k node (0 + length fs) s f) (sym spot) r.frame);
         },
         omega (arith, ap length marks, length-append (st.first ∷ r.before) (r.spot ∷ r.after), n),
       )

@@ -7,12 +7,12 @@ use Rattle.mc_tree.specs.facts.Order.{IsNextBeyond, allowed-last, none_beyond, n
 use Rattle.mc_flash.specs.Content.{Content}
 use Rattle.mc_flash.specs.Ledger.{Counts, Limits, Spot, no_counts}
 use Rattle.mc_flash.specs.Seen.{Seen, Keeps, no_spot, spot_of, went_back, marked}
-use Rattle.mc_flash.specs.Spends.{Spent, Stays, LeaveRoom, plus, times, room_of}
+use Rattle.mc_flash.specs.Spends.{Spent, Stays, HasRoom, LeaveRoom, plus, room_of}
 use Rattle.mc_flash.specs.SpendsFacts.{spent_back, spent_both, spent_more}
 use Rattle.mc_flash.specs.declared.flash.FlashError.{FlashError}
-use Rattle.mc_walk.specs.Kind.{Kind, HasSpare, telling, IsAt, IsNode, HasNext, GoesOn, CanReach, Reaches}
-use Rattle.mc_walk.specs.Stack.{path_of, AreSpent, IsLastOpen, AreFrames, Stacked, node_of, Stands, Comes, IsRoomy}
-use Rattle.mc_walk.specs.Walks.{walked, start_of, IsFresh, Begins, IsThere, IsGoing, IsSound, GoesDown, Climbs}
+use Rattle.mc_walk.specs.Kind.{Kind, owed_there, telling, IsAt, IsNode, HasNext, GoesOn, CanReach, Reaches}
+use Rattle.mc_walk.specs.Stack.{path_of, most_at, AreSpent, IsLastOpen, AreFrames, Stacked, node_of, Stands, Comes, IsRoomy}
+use Rattle.mc_walk.specs.Walks.{walked, start_of, IsFresh, Begins, IsThere, IsGoing, IsPath, IsSound, GoesDown, Climbs}
 use Rattle.mc_walk.specs.declared.frame.Frame.{Frame}
 use Rattle.mc_walk.proofs.Stacks.{path-push, no_path, frames_allowed, frames_last, among, started, length-stack, popped}
 
@@ -28,32 +28,31 @@ module _ {N A T : Type 0} (k : Kind N A T) where
     marks = omega (arith, r.marks, ap (λ (l : Limits). l.marks) e);
   }
 
-  -- Room for what is counted at so many levels, and to tell of a node.
-  level_room : (bound level : ℕ) (counts more : Counts) (seen : Seen) → IsRoomy k bound seen → level ≤ bound → LeaveRoom counts more (times level k.most)
-      → LeaveRoom (plus counts more) (times k.spare k.most) (room_of seen.ledger.limits)
-  level_room bound level counts more seen r le h =
-      let entries : level * k.most.entries ≤ bound * k.most.entries = mul-le-mul_right k.most.entries le in
-      let saved : level * k.most.saved ≤ bound * k.most.saved = mul-le-mul_right k.most.saved le in
-      let all : (bound + k.spare) * k.most.entries ≡ bound * k.most.entries + k.spare * k.most.entries = omega arith in
-      let all_saved : (bound + k.spare) * k.most.saved ≡ bound * k.most.saved + k.spare * k.most.saved = omega arith in
-      record { entries = omega (arith, entries, r.entries, h.entries, all); saved = omega (arith, saved, r.saved, h.saved, all_saved) }
-
-  -- And to go to a child, where the bound allows it.
-  child_room : (bound level : ℕ) (counts : Counts) (seen : Seen) → IsRoomy k bound seen → level < bound → LeaveRoom counts no_counts (times level k.most)
-      → LeaveRoom counts k.most (room_of seen.ledger.limits)
-  child_room bound level counts seen r le h =
-      let entries : (level + 1) * k.most.entries ≤ (bound + k.spare) * k.most.entries = mul-le-mul_right k.most.entries (omega (arith, le)) in
-      let saved : (level + 1) * k.most.saved ≤ (bound + k.spare) * k.most.saved = mul-le-mul_right k.most.saved (omega (arith, le)) in
+  -- Room for what is counted and owed after so many steps.
+  steps_room : (bound steps : ℕ) (counts more : Counts) (seen : Seen) → IsRoomy k bound seen → steps ≤ bound → LeaveRoom counts more (most_at k steps)
+      → LeaveRoom counts more (room_of seen.ledger.limits)
+  steps_room bound steps counts more seen r le h =
+      let entries : steps * k.most.entries ≤ bound * k.most.entries = mul-le-mul_right k.most.entries le in
+      let saved : steps * k.most.saved ≤ bound * k.most.saved = mul-le-mul_right k.most.saved le in
       record { entries = omega (arith, entries, r.entries, h.entries); saved = omega (arith, saved, r.saved, h.saved) }
 
+  -- And for what is owed at a child.
+  child_room : (bound steps : ℕ) (counts left : Counts) (seen : Seen) → IsRoomy k bound seen → steps < bound → LeaveRoom counts left (most_at k steps)
+      → LeaveRoom counts (plus left k.most) (room_of seen.ledger.limits)
+  child_room bound steps counts left seen r le h =
+      let entries : (steps + 1) * k.most.entries ≤ bound * k.most.entries = mul-le-mul_right k.most.entries (omega (arith, le)) in
+      let saved : (steps + 1) * k.most.saved ≤ bound * k.most.saved = mul-le-mul_right k.most.saved (omega (arith, le)) in
+      let one : (steps + 1) * k.most.entries ≡ steps * k.most.entries + k.most.entries = omega arith in
+      let one_saved : (steps + 1) * k.most.saved ≡ steps * k.most.saved + k.most.saved = omega arith in
+      record { entries = omega (arith, entries, r.entries, h.entries, one); saved = omega (arith, saved, r.saved, h.saved, one_saved) }
+
   pub enter_room : (bound : ℕ) (start : Content) (seen : Seen) (fs : List (Frame A T)) (f : Frame A T) → Comes k start seen fs f → IsRoomy k bound seen → length fs < bound
-      → HasSpare k (marked seen)
+      → HasRoom (owed_there k f.at) (marked seen)
   enter_room bound start seen fs f c r few =
       let n = length-stack k start seen.marks fs c.stacked in
-      let room = level_room bound (length seen.marks) seen.ledger.counts (k.left f.at) seen r (omega (arith, n, few)) c.frame.room in
       record {
-        allows = record { entries = omega (arith, room.entries); saved = omega (arith, room.saved) };
-        marks = omega (arith, n, few, r.marks, length-append seen.marks (spot_of seen ∷ []));
+        allows = child_room bound (length fs) seen.ledger.counts (k.left f.at) seen r few c.frame.room;
+        mark = omega (arith, n, few, r.marks, length-append seen.marks (spot_of seen ∷ []));
       }
 
   pub mark_room : (bound : ℕ) (start : Content) (seen : Seen) (fs : List (Frame A T)) (f : Frame A T) → Comes k start seen fs f → IsRoomy k bound seen → length fs < bound
@@ -64,6 +63,13 @@ module _ {N A T : Type 0} (k : Kind N A T) where
   pub standing : (bound : ℕ) (seen : Seen) (fs : List (Frame A T)) (told : Option T) → is_some told ≡ true → IfSome told (IsGoing k bound seen fs) → (t : T) × IsGoing k bound seen fs t
   standing bound seen fs None stands going = absurd cc
   standing bound seen fs (Some t) stands going = (t, going)
+
+  -- It stands at one of its paths.
+  pub on_path : {B : Type 0} (b : B) (bound : ℕ) (seen : Seen) (fs : List (Frame A T)) (stood : Option T) (told : T) → IsGoing k bound seen fs told
+      → IsPath k (walked b bound seen fs stood) (path_of fs)
+  on_path b bound seen fs stood told going =
+      let st = going.stands.stacked in
+      (omega (arith, going.few, length-map fs (λ (f : Frame A T). f.number)), frames_allowed k (k.root (start_of seen)) 0 st.above fs st.frames)
 
   -- A walk is told of its root.
   pub begun : {B : Type 0} (b : B) (bound : ℕ) (old new : Seen) (fs : List (Frame A T)) (stood : Option T) (told : T) → IsFresh k (walked b bound old fs stood) → Stays old new
@@ -80,8 +86,8 @@ module _ {N A T : Type 0} (k : Kind N A T) where
         layout_is = stays.geometry ∙ fresh.layout_is;
         told_is = subst (λ c. k.IsTold (k.root c) told) (sym start) told_is;
         counts = record {
-          entries = omega (arith, ap (λ c. c.entries) (stays.counts ∙ fresh.counts));
-          saved = omega (arith, ap (λ c. c.saved) (stays.counts ∙ fresh.counts));
+          entries = omega (arith, (k.all_is (k.root (start_of new))).entries, ap (λ c. c.entries) (stays.counts ∙ fresh.counts));
+          saved = omega (arith, (k.all_is (k.root (start_of new))).saved, ap (λ c. c.saved) (stays.counts ∙ fresh.counts));
         };
       } in (
         subst (λ xs. IsGoing k bound new xs told) none (record { stands = stands; few = omega arith; roomy = roomy_stays bound old new limits fresh.roomy }),
@@ -111,9 +117,8 @@ module _ {N A T : Type 0} (k : Kind N A T) where
       let spent = spent_back (length fs + 1) old in
       let roomy = roomy_stays bound old seen spent.limits going.roomy in
       let few : length fs < bound = omega (arith, going.few, ap length last.split, length-append fs (f ∷ last.more)) in
-      let n = length-stack k (start_of old) seen.marks fs p.0.stacked in
       let here : IsAt k (node_of k (start_of old) fs) f.number f.at seen = record { on_is = p.0.frame.on_is; content_is = p.0.frame.content_is; layout_is = p.0.layout_is } in
-      let room = level_room bound (length seen.marks) seen.ledger.counts (k.left f.at) seen roomy (omega (arith, n, few)) p.0.frame.room in
+      let room = steps_room bound (length fs) seen.ledger.counts (k.left f.at) seen roomy (omega (arith, few)) p.0.frame.room in
       let more : f.number + 1 < k.tree.width (node_of k (start_of old) fs) = last.open_is (node_of k (start_of old) fs) p.0.frame.told_is in
       record {
         comes = p.0;
@@ -122,24 +127,19 @@ module _ {N A T : Type 0} (k : Kind N A T) where
         roomy = roomy;
         spent = spent;
         more = more;
-        has_next = (node_of k (start_of old) fs, f.number, here, more, record { entries = omega (arith, room.entries); saved = omega (arith, room.saved) });
+        has_next = (node_of k (start_of old) fs, f.number, here, more, room);
       }
 
   pub went_up : (bound : ℕ) (old seen : Seen) (all fs : List (Frame A T)) (f : Frame A T) (told : T) → IsGoing k bound old all told → IsLastOpen k f all fs
       → seen ≡ went_back (length fs + 1) old → Back bound old seen all fs f
   went_up bound old seen all fs f told going last e = subst (λ z. Back bound old z all fs f) (sym e) (went_up_to bound old all fs f told going last)
 
-  room_at : (same other : ℕ) (counts more : Counts) → same ≡ other → LeaveRoom counts more (times same k.most) → LeaveRoom counts more (times other k.most)
-  room_at same other counts more e r = subst (λ z. LeaveRoom counts more (times z k.most)) e r
-
   -- It goes on to the next child.
   pub went_on : (start : Content) (seen new : Seen) (fs : List (Frame A T)) (f : Frame A T) (at : A) → Comes k start seen fs f → f.number + 1 < k.tree.width (node_of k start fs)
       → Keeps seen new → GoesOn k {E = FlashError} f.at seen (Ok tt) at new → Comes k start new fs (record { at = at; number = f.number + 1; parent = f.parent })
   went_on start seen new fs f at c lt keeps goes =
-      let same : length seen.marks ≡ length new.marks = ap length (sym keeps.marks) in
       let before : IsAt k (node_of k start fs) f.number f.at seen = record { on_is = c.frame.on_is; content_is = c.frame.content_is; layout_is = c.layout_is } in
       let here = goes.0 (node_of k start fs) f.number before lt in
-      let room = room_at (length seen.marks) (length new.marks) seen.ledger.counts (k.left f.at) same c.frame.room in
       record {
         stacked = subst (λ ms. Stacked k start ms fs) (sym keeps.marks) c.stacked;
         layout_is = here.layout_is;
@@ -148,7 +148,7 @@ module _ {N A T : Type 0} (k : Kind N A T) where
           on_is = here.on_is;
           content_is = here.content_is;
           told_is = c.frame.told_is;
-          room = record { entries = omega (arith, goes.1.entries, room.entries); saved = omega (arith, goes.1.saved, room.saved) };
+          room = record { entries = omega (arith, goes.1.entries, c.frame.room.entries); saved = omega (arith, goes.1.saved, c.frame.room.saved) };
         };
       }
 
@@ -177,7 +177,7 @@ module _ {N A T : Type 0} (k : Kind N A T) where
   can_reach bound number width old fs told go few has lt =
       let s = go.stands in
       let n : N = node_of k (start_of old) fs in
-      (n, here_node old fs told s, omega (arith, lt, has n s.told_is), child_room bound (length fs) old.ledger.counts old go.roomy few s.counts)
+      (n, here_node old fs told s, omega (arith, lt, has n s.told_is), steps_room bound (length fs) old.ledger.counts (k.owed n) old go.roomy (omega (arith, few)) s.counts)
 
   pub ready_down : (bound number width cost : ℕ) (old mid : Seen) (fs : List (Frame A T)) (told : T) (at : A) → IsGoing k bound old fs told → length fs < bound
       → ((n : N) → k.IsTold n told → width ≡ k.tree.width n) → number < width → Keeps old mid → Reaches k {E = FlashError} number told old (Ok at) mid → Spent cost old mid
@@ -185,12 +185,11 @@ module _ {N A T : Type 0} (k : Kind N A T) where
   ready_down bound number width cost old mid fs told at go few has lt keeps reaches spent =
       let s = go.stands in
       let n : N = node_of k (start_of old) fs in
-      let marks : length fs + 1 ≡ length mid.marks = omega (arith, length-stack k (start_of old) old.marks fs s.stacked, ap length keeps.marks) in
       let below : number < k.tree.width n = omega (arith, lt, has n s.told_is) in
-      let here = reaches.0 n (here_node old fs told s) below in
-      let next : LeaveRoom mid.ledger.counts (k.left at) (times (length fs + 1) k.most) = record {
-        entries = omega (arith, reaches.1.entries, s.counts.entries);
-        saved = omega (arith, reaches.1.saved, s.counts.saved);
+      let (here, left) = reaches n (here_node old fs told s) below in
+      let next : LeaveRoom mid.ledger.counts (k.left at) (most_at k (length fs)) = record {
+        entries = omega (arith, left.entries, s.counts.entries);
+        saved = omega (arith, left.saved, s.counts.saved);
       } in
       record {
         comes = record {
@@ -201,7 +200,7 @@ module _ {N A T : Type 0} (k : Kind N A T) where
             on_is = here.on_is;
             content_is = here.content_is;
             told_is = s.told_is;
-            room = room_at (length fs + 1) (length mid.marks) mid.ledger.counts (k.left at) marks next;
+            room = next;
           };
         };
         few = few;
@@ -213,7 +212,7 @@ module _ {N A T : Type 0} (k : Kind N A T) where
     pub ready_here : Comes k (start_of mid) mid fs f
     ready_here = subst (λ z. Comes k z mid fs f) (sym (started k (start_of old) mid fs r.comes.stacked)) r.comes
 
-    pub ready_room : HasSpare k (marked mid)
+    pub ready_room : HasRoom (owed_there k f.at) (marked mid)
     ready_room = enter_room bound (start_of old) mid fs f r.comes (roomy_stays bound old mid r.spent.limits r.roomy) r.few
 
     pub ready_mark : length mid.marks < mid.ledger.limits.marks
@@ -224,14 +223,13 @@ module _ {N A T : Type 0} (k : Kind N A T) where
       → IsThere k (walked b bound seen fs (Some told)) told
   is_there b bound seen fs told going =
       let s = going.stands in
-      let room = level_room bound (length fs) seen.ledger.counts no_counts seen going.roomy going.few s.counts in
       record {
         told_is = s.told_is;
         content_is = s.content_is;
         layout_is = s.layout_is;
         room = record {
-          allows = record { entries = omega (arith, room.entries); saved = omega (arith, room.saved) };
-          marks = omega (arith, going.few, going.roomy.marks, length-stack k (start_of seen) seen.marks fs s.stacked);
+          allows = steps_room bound (length fs) seen.ledger.counts (k.owed (node_of k (start_of seen) fs)) seen going.roomy going.few s.counts;
+          mark = omega (arith, going.few, going.roomy.marks, length-stack k (start_of seen) seen.marks fs s.stacked);
         };
       }
 
@@ -265,7 +263,7 @@ module _ {N A T : Type 0} (k : Kind N A T) where
   gone_down b bound cost number old new fs all f told stood a e n =
       let path : path_of all ≡ path_of fs ++ number ∷ [] = ap path_of n ∙ path-push fs f ∙ ap (λ z. path_of fs ++ z ∷ []) e in
       let st = a.going.stands.stacked in
-      let allowed = subst (λ z. Allowed k.tree (k.root z) (path_of all)) a.start (frames_allowed k (k.root (start_of new)) 1 st.above all st.frames) in
+      let allowed = subst (λ z. Allowed k.tree (k.root z) (path_of all)) a.start (frames_allowed k (k.root (start_of new)) 0 st.above all st.frames) in
       (path, (omega (arith, a.going.few, length-map all (λ (h : Frame A T). h.number)), allowed), record { branches = refl; bound = refl; start = a.start }, refl)
 
   pub not_below_bound : (bound number : ℕ) (start : N) (fs : List (Frame A T)) → bound ≤ length fs → IsMember k.tree start bound (path_of fs ++ number ∷ []) → ⊥
@@ -280,11 +278,11 @@ module _ {N A T : Type 0} (k : Kind N A T) where
   climbed_to : (start : Content) (marks : List Spot) (all fs : List (Frame A T)) (f g : Frame A T) → Stacked k start marks all → IsLastOpen k f all fs → g.number ≡ f.number + 1
       → IsNextBeyond k.tree (k.root start) (path_of all) (path_of (fs ++ g ∷ []))
   climbed_to start marks all fs f g st last e =
-      let r = among k (k.root start) 1 st.above fs f last.more (subst (AreFrames k (k.root start) 1 st.above) last.split st.frames) in
+      let r = among k (k.root start) 0 st.above fs f last.more (subst (AreFrames k (k.root start) 0 st.above) last.split st.frames) in
       let path : path_of all ≡ path_of fs ++ f.number ∷ path_of last.more = ap path_of last.split ∙ map-append (λ (h : Frame A T). h.number) fs (f ∷ last.more) in
       let new : path_of (fs ++ g ∷ []) ≡ path_of fs ++ (f.number + 1) ∷ [] = path-push fs g ∙ ap (λ z. path_of fs ++ z ∷ []) e in
-      let allowed = frames_allowed k (k.root start) 1 st.above all st.frames in
-      let spent = frames_last k (k.tree.child (node_of k start fs) f.number) ((1 + length fs) + 1) r.after last.more r.rest last.spent in
+      let allowed = frames_allowed k (k.root start) 0 st.above all st.frames in
+      let spent = frames_last k (k.tree.child (node_of k start fs) f.number) ((0 + length fs) + 1) r.after last.more r.rest last.spent in
       let beyond = next_beyond k.tree (k.root start) (path_of fs) f.number (path_of last.more) (subst (Allowed k.tree (k.root start)) path allowed) spent (last.open_is (node_of k start fs) r.frame.told_is) in
       subst (λ z. IsNextBeyond k.tree (k.root start) z (path_of (fs ++ g ∷ []))) (sym path)
       (subst (IsNextBeyond k.tree (k.root start) (path_of fs ++ f.number ∷ path_of last.more)) (sym new) beyond)
@@ -301,7 +299,7 @@ module _ {N A T : Type 0} (k : Kind N A T) where
   pub none_on : {B : Type 0} (b : B) (bound : ℕ) (old : Seen) (all fs : List (Frame A T)) (stood : Option T) → Stacked k (start_of old) old.marks all → AreSpent k all
       → Climbs k (walked b bound old all stood) false (walked {A = A} {T = T} b bound old fs None)
   none_on b bound old all fs stood st spent = (
-    none_beyond k.tree (k.root (start_of old)) (path_of all) (frames_last k (k.root (start_of old)) 1 st.above all st.frames spent),
+    none_beyond k.tree (k.root (start_of old)) (path_of all) (frames_last k (k.root (start_of old)) 0 st.above all st.frames spent),
     record { branches = refl; bound = refl; start = refl },
     refl,
   )

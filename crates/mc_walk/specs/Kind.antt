@@ -1,11 +1,11 @@
 -- A kind of tree over the contents of a flash.
-use Rattle.std.specs.Prelude.{◌≡◌, ℕ, ◌+◌, ◌*◌, ◌<◌, ◌≤◌, length, Result, Ok, Err}
+use Rattle.std.specs.Prelude.{◌≡◌, ℕ, ◌+◌, ◌<◌, Result, Ok, Err}
 use Rattle.mc_tree.specs.Tree.{Tree}
 use Rattle.mc_flash.specs.Content.{Content}
 use Rattle.mc_flash.specs.Geometry.{Geometry}
-use Rattle.mc_flash.specs.Ledger.{Counts}
+use Rattle.mc_flash.specs.Ledger.{Counts, no_counts}
 use Rattle.mc_flash.specs.Seen.{Seen}
-use Rattle.mc_flash.specs.Spends.{Allows, LeaveRoom, plus, times}
+use Rattle.mc_flash.specs.Spends.{Allows, LeaveRoom, plus}
 
 pub record Kind (N A T : Type 0) : Type 1 where
   pub tree : Tree N
@@ -17,12 +17,17 @@ pub record Kind (N A T : Type 0) : Type 1 where
   -- the child of that number is on its way from that node
   pub IsOn : N → ℕ → A → Type 0
   pub IsTold : N → T → Type 0
-  -- the most operations from one child to the next, and the counts that one on its way has left
+  -- the most operations from one child to the next
   pub step : ℕ
+  -- what is counted at most from a node to its end, to its last child or to tell of it; the most of any; and what a child on its
+  -- way has left of that
+  pub owed : N → Counts
+  pub all : Counts
+  pub all_is : (n : N) → LeaveRoom no_counts (owed n) all
   pub left : A → Counts
-  -- the most from a node to its last child; and to tell of a node so many times that at most
+  -- so much more is owed at the child at most
   pub most : Counts
-  pub spare : ℕ
+  pub most_is : (n : N) (i : ℕ) (at : A) → IsOn n i at → i < tree.width n → LeaveRoom no_counts (owed (tree.child n i)) (plus (left at) most)
 
 module _ {N A T : Type 0} (k : Kind N A T) where
   -- That child is on its way, and the flash contains what it does there.
@@ -37,27 +42,26 @@ module _ {N A T : Type 0} (k : Kind N A T) where
     pub content_is : seen.content ≡ k.content n
     pub layout_is : seen.geometry ≡ k.geometry
 
-  -- There is room to tell of the node at which the flash stands.
-  pub record HasSpare (seen : Seen) : Type 0 where
-    pub allows : Allows (times k.spare k.most) seen
-    pub marks : length seen.marks + k.spare ≤ seen.ledger.limits.marks
-
   -- The most operations to tell of a node.
   abbrev pub telling : ℕ
-  telling = k.spare * k.most.entries
+  telling = k.all.entries
+
+  -- What a child on its way owes at most when it is told.
+  abbrev pub owed_there : A → Counts
+  owed_there at = plus (k.left at) k.most
 
   abbrev pub HasWidth : T → ℕ → Type 0
   HasWidth told width = (n : N) → k.IsTold n told → width ≡ k.tree.width n
 
   -- It has a child of that number, and there is room to go to it and on.
   abbrev pub CanReach : ℕ → T → Seen → Type 0
-  CanReach number told seen = (n : N) × IsNode n told seen × (number < k.tree.width n) × Allows k.most seen
+  CanReach number told seen = (n : N) × IsNode n told seen × (number < k.tree.width n) × Allows (k.owed n) seen
 
   -- That child is on its way.
   abbrev pub Reaches : {E : Type 0} → ℕ → T → Seen → Result A E → Seen → Type 0
   Reaches number told old (Ok at) new =
-      ((n : N) → IsNode n told old → number < k.tree.width n → IsAt n number at new)
-      × LeaveRoom new.ledger.counts (k.left at) (plus old.ledger.counts k.most)
+      (n : N) → IsNode n told old → number < k.tree.width n
+      → IsAt n number at new × LeaveRoom new.ledger.counts (k.left at) (plus old.ledger.counts (k.owed n))
   Reaches number told old (Err _) new = Unit {0}
 
   -- There is a next child, and room for what it has left.

@@ -2,9 +2,9 @@
 use Rattle.std.specs.Prelude.{◌≡◌, ℕ, ◌+◌, ◌*◌, ◌<◌, ◌≤◌, List, [], ◌∷◌, ◌++◌, length, map}
 use Rattle.mc_tree.specs.Tree.{landed}
 use Rattle.mc_flash.specs.Content.{Content}
-use Rattle.mc_flash.specs.Ledger.{Spot, no_counts}
+use Rattle.mc_flash.specs.Ledger.{Counts, Spot}
 use Rattle.mc_flash.specs.Seen.{Seen, spot_of}
-use Rattle.mc_flash.specs.Spends.{LeaveRoom, times}
+use Rattle.mc_flash.specs.Spends.{LeaveRoom, plus, times}
 use Rattle.mc_walk.specs.Kind.{Kind}
 use Rattle.mc_walk.specs.declared.frame.Frame.{Frame}
 
@@ -38,22 +38,26 @@ module _ {N A T : Type 0} (k : Kind N A T) where
     pub spent : AreSpent more
     pub split : old ≡ new ++ f ∷ more
 
-  -- The child of a node that a frame says was on its way when the flash was marked. The counts there, with what it has left,
-  -- are at most those of so many levels.
-  pub record IsFrame (n : N) (levels : ℕ) (spot : Spot) (f : Frame A T) : Type 0 where
+  -- What is counted at most down to a node after so many steps, with what is owed there.
+  abbrev pub most_at : ℕ → Counts
+  most_at steps = plus (times steps k.most) k.all
+
+  -- The child of a node after so many steps that a frame says was on its way when the flash was marked. What is counted there,
+  -- with what it has left, is no more than what is counted and owed at the node.
+  pub record IsFrame (n : N) (steps : ℕ) (spot : Spot) (f : Frame A T) : Type 0 where
     pub some : f.number < k.tree.width n
     pub on_is : k.IsOn n f.number f.at
     pub content_is : spot.content ≡ k.content (k.tree.child n f.number)
     pub told_is : k.IsTold n f.parent
-    pub room : LeaveRoom spot.counts (k.left f.at) (times levels k.most)
+    pub room : LeaveRoom spot.counts (k.left f.at) (most_at steps)
 
   -- So it is with each frame and its mark, from a node down.
   abbrev pub AreFrames : N → ℕ → List Spot → List (Frame A T) → Type 0
-  AreFrames n levels [] [] = Unit {0}
-  AreFrames n levels [] (f ∷ fs) = ⊥
-  AreFrames n levels (spot ∷ spots) [] = ⊥
-  AreFrames n levels (spot ∷ spots) (f ∷ fs) =
-      IsFrame n levels spot f × AreFrames (k.tree.child n f.number) (levels + 1) spots fs
+  AreFrames n steps [] [] = Unit {0}
+  AreFrames n steps [] (f ∷ fs) = ⊥
+  AreFrames n steps (spot ∷ spots) [] = ⊥
+  AreFrames n steps (spot ∷ spots) (f ∷ fs) =
+      IsFrame n steps spot f × AreFrames (k.tree.child n f.number) (steps + 1) spots fs
 
   -- The frames stand over their marks, and those over that of the start.
   pub record Stacked (start : Content) (marks : List Spot) (fs : List (Frame A T)) : Type 0 where
@@ -61,7 +65,7 @@ module _ {N A T : Type 0} (k : Kind N A T) where
     pub above : List Spot
     pub marks_are : marks ≡ first ∷ above
     pub start_is : first.content ≡ start
-    pub frames : AreFrames (k.root start) 1 above fs
+    pub frames : AreFrames (k.root start) 0 above fs
 
   -- The node at the end of the frames.
   abbrev pub node_of : Content → List (Frame A T) → N
@@ -73,16 +77,16 @@ module _ {N A T : Type 0} (k : Kind N A T) where
     pub content_is : seen.content ≡ k.content (node_of start fs)
     pub layout_is : seen.geometry ≡ k.geometry
     pub told_is : k.IsTold (node_of start fs) told
-    pub counts : LeaveRoom seen.ledger.counts no_counts (times (length fs) k.most)
+    pub counts : LeaveRoom seen.ledger.counts (k.owed (node_of start fs)) (most_at (length fs))
 
   -- A child of that node is on its way, and the flash stands at it.
   pub record Comes (start : Content) (seen : Seen) (fs : List (Frame A T)) (f : Frame A T) : Type 0 where
     pub stacked : Stacked start seen.marks fs
     pub layout_is : seen.geometry ≡ k.geometry
-    pub frame : IsFrame (node_of start fs) (length seen.marks) (spot_of seen) f
+    pub frame : IsFrame (node_of start fs) (length fs) (spot_of seen) f
 
-  -- There is room for so many levels, and to tell of the last.
+  -- There is room for what is counted and owed after so many steps; and for their marks, that of the root, and one more.
   pub record IsRoomy (bound : ℕ) (seen : Seen) : Type 0 where
-    pub entries : (bound + k.spare) * k.most.entries ≤ seen.ledger.limits.entries
-    pub saved : (bound + k.spare) * k.most.saved ≤ seen.ledger.limits.saved
-    pub marks : bound + 1 + k.spare ≤ seen.ledger.limits.marks
+    pub entries : (most_at bound).entries ≤ seen.ledger.limits.entries
+    pub saved : (most_at bound).saved ≤ seen.ledger.limits.saved
+    pub marks : bound + 2 ≤ seen.ledger.limits.marks

@@ -6,7 +6,8 @@ use Rattle.mc_tree.specs.facts.Order.{IsNextBeyond, NoneBeyond}
 use Rattle.mc_flash.specs.Content.{Content}
 use Rattle.mc_flash.specs.Ledger.{no_counts}
 use Rattle.mc_flash.specs.Seen.{Seen, spot_at, spot_of}
-use Rattle.mc_walk.specs.Kind.{Kind, HasSpare, telling}
+use Rattle.mc_flash.specs.Spends.{HasRoom}
+use Rattle.mc_walk.specs.Kind.{Kind, telling}
 use Rattle.mc_walk.specs.Stack.{Stands, IsRoomy, path_of}
 use Rattle.mc_walk.specs.declared.frame.Frame.{Frame}
 
@@ -46,7 +47,7 @@ module _ {N A T B : Type 0} (k : Kind N A T) where
     pub told_is : k.IsTold (node_at w) told
     pub content_is : w.seen.content ≡ k.content (node_at w)
     pub layout_is : w.seen.geometry ≡ k.geometry
-    pub room : HasSpare k w.seen
+    pub room : HasRoom (k.owed (node_at w)) w.seen
 
   -- The paths that it can take.
   abbrev pub IsPath : Walked B → List ℕ → Type 0
@@ -74,18 +75,19 @@ module _ {N A T B : Type 0} (k : Kind N A T) where
   Advances old true new = IsNext (IsPath old) (After old.path) new.path × IsSame old new × (new.stands ≡ true)
   Advances old false new = IsOver (IsPath old) (After old.path) × IsSame old new × (new.seen ≡ old.seen)
 
-  -- From the root it went along a front of a path, at whose end there is no such child, or the bound is reached.
+  -- From its path it went on along a front of another, at whose end there is no such child, or the bound is reached.
   pub record StopsOn (path : List ℕ) (old new : Walked B) : Type 0 where
-    pub inside : length new.path < length path
-    pub front : new.path ≡ take (length new.path) path
+    pub steps : ℕ
+    pub inside : steps < length path
+    pub front : new.path ≡ old.path ++ take steps path
     pub member : IsPath old new.path
-    pub no_child : IsPath old (take (length new.path + 1) path) → ⊥
+    pub no_child : IsPath old (old.path ++ take (steps + 1) path) → ⊥
     pub same : IsSame old new
     pub stands : new.stands ≡ true
 
-  -- From the root it went to that path; or there is none such.
+  -- From its path it went on along another; or there is none such.
   abbrev pub Follows : List ℕ → Walked B → Bool → Walked B → Type 0
-  Follows path old true new = (new.path ≡ path) × IsPath old path × IsSame old new × (new.stands ≡ true)
+  Follows path old true new = (new.path ≡ old.path ++ path) × IsPath old new.path × IsSame old new × (new.stands ≡ true)
   Follows path old false new = StopsOn path old new
 
 module _ {N A T : Type 0} (k : Kind N A T) where

@@ -4,10 +4,10 @@ use mc_flash::{Flash, FlashError};
 /// A kind of tree over the contents of a flash: how one goes from a node to its children, and what is told of a node. What is
 /// told may be derived from what was told of the parent.
 pub trait Branches: Copy {
-    ghost use Rattle.std.specs.Prelude.{◌≡◌, IfOk, IfErr, OnOk};
+    ghost use Rattle.std.specs.Prelude.{◌≡◌, ℕ, IfOk, IfErr, OnOk};
     ghost use Rattle.mc_flash.specs.Seen.{Keeps};
-    ghost use Rattle.mc_flash.specs.Spends.{Spends, Stays};
-    ghost use Rattle.mc_walk.specs.Kind.{Kind, CanReach, Reaches, HasNext, GoesOn, IsRoot, TellsRoot, IsChild, TellsChild, HasWidth, HasSpare, telling};
+    ghost use Rattle.mc_flash.specs.Spends.{HasRoom, Spends, Stays};
+    ghost use Rattle.mc_walk.specs.Kind.{Kind, CanReach, Reaches, HasNext, GoesOn, IsRoot, TellsRoot, IsChild, TellsChild, HasWidth, owed_there, telling};
 
     ghost Node: { Type 0 };
 
@@ -17,7 +17,16 @@ pub trait Branches: Copy {
     /// What is told of a node.
     type Told: Copy;
 
+    /// The name of a child among those of its node.
+    type Label: Copy;
+
     ghost kind: { Self → Kind Node Self.At Self.Told };
+
+    ghost label_of: { Self → Node → ℕ → Self.Label };
+
+    /// The name of a child on its way.
+    fn label(self, at: &Self::At) -> Self::Label
+        ensures { (n : Node) (i : ℕ) → (kind self).IsOn n i at.now → result ≡ label_of self n i };
 
     /// How many children a node has of which that is told.
     fn width(self, told: &Self::Told) -> u32
@@ -44,7 +53,7 @@ pub trait Branches: Copy {
     /// What is told of the root at which the flash stands.
     fn root<F: Flash>(self, flash: &mut F) -> Result<Self::Told, FlashError>
         requires root { IsRoot (kind self) (F.seen flash.old) }
-        requires room { HasSpare (kind self) (F.seen flash.old) }
+        requires room { HasRoom (kind self).all (F.seen flash.old) }
         ensures tells { IfOk result (TellsRoot (kind self) (F.seen flash.old)) }
         ensures stays { OnOk result (Stays (F.seen flash.old) (F.seen flash.new)) }
         ensures spends { Spends (telling (kind self)) (F.seen flash.old) result
@@ -59,7 +68,7 @@ pub trait Branches: Copy {
         parent: &Self::Told,
     ) -> Result<Self::Told, FlashError>
         requires child { IsChild (kind self) at.now parent.now (F.seen flash.old) }
-        requires room { HasSpare (kind self) (F.seen flash.old) }
+        requires room { HasRoom (owed_there (kind self) at.now) (F.seen flash.old) }
         ensures tells { IfOk result (TellsChild (kind self) at.now parent.now (F.seen flash.old)) }
         ensures stays { OnOk result (Stays (F.seen flash.old) (F.seen flash.new)) }
         ensures spends { Spends (telling (kind self)) (F.seen flash.old) result

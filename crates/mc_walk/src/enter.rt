@@ -2,8 +2,8 @@
 ghost use Rattle.std.specs.Prelude.{◌≡◌, ◌<◌, ◌≤◌, ◌++◌, [], ◌∷◌, IfOk, IfErr, OnOk, length, vec_len};
 ghost use Rattle.std.specs.Vec.{vec_capacity};
 ghost use Rattle.mc_flash.specs.Seen.{marked};
-ghost use Rattle.mc_flash.specs.Spends.{Spends};
-ghost use Rattle.mc_walk.specs.Kind.{HasSpare, telling};
+ghost use Rattle.mc_flash.specs.Spends.{HasRoom, Spends};
+ghost use Rattle.mc_walk.specs.Kind.{owed_there, telling};
 ghost use Rattle.mc_walk.specs.Stack.{Comes, Stands};
 ghost use Rattle.mc_walk.specs.Walks.{start_of};
 
@@ -20,7 +20,8 @@ pub(crate) fn enter<F: Flash, B: Branches>(
 ) -> Result<B::Told, FlashError>
     requires comes { Comes (B.kind branches) (start_of (F.seen flash.old)) (F.seen flash.old)
         frames.old.items frame }
-    requires room { HasSpare (B.kind branches) (marked (F.seen flash.old)) }
+    requires room { HasRoom (owed_there (B.kind branches) frame.at)
+        (marked (F.seen flash.old)) }
     requires mark { length (F.seen flash.old).marks < (F.seen flash.old).ledger.limits.marks }
     requires capacity { vec_len frames.old < vec_capacity frames.old }
     ensures stands { IfOk result (Stands (B.kind branches) (start_of (F.seen flash.old))

@@ -5,7 +5,9 @@ mod branches;
 mod enter;
 mod frame;
 mod reach;
+mod tour;
 mod walk;
 
 pub use branches::Branches;
+pub use tour::{Phase, Tour, TourError};
 pub use walk::Walk;

@@ -1,8 +1,10 @@
 //! A walk through a tree.
-ghost use Rattle.std.specs.Prelude.{◌≡◌, ◌≤◌, [], is_some, IfOk, IfErr, IfSome, true, false};
+ghost use Rattle.std.specs.Prelude.{◌≡◌, ◌≤◌, is_some, IfOk, IfErr, IfSome, true, false};
+ghost use Rattle.std.specs.List.{slice_get};
+ghost use Rattle.mc_tree.specs.Tree.{labelled};
 ghost use Rattle.mc_flash.specs.Spends.{Spends, Spent};
 ghost use Rattle.mc_walk.specs.Kind.{telling};
-ghost use Rattle.mc_walk.specs.Walks.{IsClear, IsFresh, IsOf, Begins, GoesDown, Climbs, Advances, Follows, IsThere, child_cost, path_cost};
+ghost use Rattle.mc_walk.specs.Walks.{IsClear, IsFresh, IsOf, Begins, GoesDown, Climbs, Advances, Follows, IsThere, root_of, child_cost, path_cost};
 
 use crate::Branches;
 use crate::enter::enter;
@@ -108,6 +110,17 @@ impl<F: Flash, B: Branches> Walk<F, B> {
         path
     }
 
+    /// The name of the child at that step of the path, counted from 0, if it has such a step.
+    pub fn label(&self, step: usize) -> Option<B::Label>
+        requires { self.now.stands ≡ true }
+        ensures { result ≡ slice_get (labelled (B.kind self.now.branches).tree
+            (B.label_of self.now.branches) (root_of (B.kind self.now.branches) self.now)
+            self.now.path) step }
+    {
+        let frame = self.frames.get(step)?;
+        Some(self.branches.label(&frame.at))
+    }
+
     /// The flash as it is.
     pub fn flash(&self) -> &F
         ensures { F.seen result.now ≡ self.now.seen }
@@ -206,21 +219,22 @@ impl<F: Flash, B: Branches> Walk<F, B> {
         Ok(went)
     }
 
-    /// Goes from the root along a path, as far as it has such children and the bound allows.
+    /// Goes on along a path, as far as there are such children and the bound allows.
     ///
     /// # Errors
     ///
     /// `Memory` where the flash was refused memory; then the walk stands nowhere.
     #[tactic(auto, using(crate::proofs::Along::along_more, crate::proofs::Along::along_none, crate::proofs::Along::along_none_spent))]
     pub fn follow(&mut self, path: &[u32]) -> Result<bool, FlashError>
-        requires stands { self.old.stands ≡ true }
-        requires root { self.old.path ≡ [] }
+        requires { self.old.stands ≡ true }
         ensures step { IfOk result (λ went. Follows (B.kind self.old.branches) path.now self.old
             went self.new) }
         ensures spends { Spends (path_cost (B.kind self.old.branches) path.now) self.old.seen result
             self.new.seen }
         ensures err { IfErr result (λ e. e ≡ FlashError.Memory) }
     {
+        // A field that is read tells what holds of all of them.
+        let _bound = self.bound;
         for number in path {
             if !self.go_down(*number)? {
                 return Ok(false);

@@ -121,12 +121,12 @@ module _ {N : Type 0} (t : Tree N) where
       (beginning_in f (t.width s) x xs mem.1.0 (all_in k (t.child s x) xs (omega (arith, mem.0), mem.1.1)))
 
   -- The members past a position.
-  pub record ArePast (s : N) (bound : ℕ) (position : Position) (ls : List (List ℕ)) : Type 0 where
+  pub record ArePast (s : N) (bound : ℕ) (position : Position (List ℕ)) (ls : List (List ℕ)) : Type 0 where
     pub ascends : PathsAscend ls
     pub only : (l : List ℕ) → Contains ls l → IsMember t s bound l × IsPast position l
     pub all : (l : List ℕ) → IsMember t s bound l → IsPast position l → Contains ls l
 
-  past_from : (s : N) (bound : ℕ) (position : Position) → (ls : List (List ℕ)) × ArePast s bound position ls
+  past_from : (s : N) (bound : ℕ) (position : Position (List ℕ)) → (ls : List (List ℕ)) × ArePast s bound position ls
   past_from s bound AtStart = (
     all_from bound s,
     record {
@@ -154,7 +154,7 @@ pub record AreRows {N R : Type 0} (t : Tree N) (s : N) (bound : ℕ) (path : R �
   pub only : (row : R) → IsRow row → row ≡ row_of (path row)
 
 pub some_rest : {N R : Type 0} (t : Tree N) (s : N) (bound : ℕ) (path : R → List ℕ) (IsRow : R → Type 0) (row_of : List ℕ → R) → AreRows t s bound path IsRow row_of
-    → (position : Position) → (rows : List R) × IsRest path IsRow position rows
+    → (position : Position (List ℕ)) → (rows : List R) × IsRest path IsRow position rows
 some_rest t s bound path IsRow row_of are position =
     let past = past_from t s bound position in (
       map row_of past.0,

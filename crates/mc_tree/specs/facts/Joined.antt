@@ -38,7 +38,7 @@ module _ {R : Type 0} (path : R → List ℕ) where
 
 module _ {R : Type 0} (path : R → List ℕ) (IsRow : R → Type 0) where
   -- Past a full page the others are to come.
-  pub rest_past : (limit : ℕ) (position : Position) (rows : List R) → 0 < limit → length (take limit rows) ≡ limit
+  pub rest_past : (limit : ℕ) (position : Position (List ℕ)) (rows : List R) → 0 < limit → length (take limit rows) ≡ limit
       → IsRest path IsRow position rows → IsRest path IsRow (After (last_path path [] (take limit rows))) (drop limit rows)
   rest_past zero position rows some full rest = absurd (omega (arith, some))
   rest_past (suc k) position [] some full rest = absurd (omega (arith, full))
@@ -48,7 +48,7 @@ module _ {R : Type 0} (path : R → List ℕ) (IsRow : R → Type 0) where
       let last = last_same path [] (path row) (take (suc k) rows) (omega (arith, full)) in
       subst (λ l. IsRest path IsRow (After l) (drop (suc k) rows)) last on
 
-  pub pages_join : (limits : List ℕ) (position : Position) (whole rows : List R) (ended : Bool) → All (λ n. 0 < n) limits
+  pub pages_join : (limits : List ℕ) (position : Position (List ℕ)) (whole rows : List R) (ended : Bool) → All (λ n. 0 < n) limits
       → IsRest path IsRow position whole → Chain path IsRow position limits ended rows → JoinUp whole rows ended
   pages_join [] position whole rows ended some rest chain =
       record { front = (0, chain.0); all = λ is. let no : true ≡ false = sym is ∙ chain.1 in absurd cc }

@@ -39,7 +39,7 @@ module _ {R : Type 0} (path : R → List ℕ) where
       let rest = same_ascending xs ys (pairs_behind E x xs up) (pairs_behind E y ys on) there' back' in
       cc
 
-module _ {R : Type 0} (path : R → List ℕ) (IsRow : R → Type 0) (position : Position) where
+module _ {R : Type 0} (path : R → List ℕ) (IsRow : R → Type 0) (position : Position (List ℕ)) where
   pub one_rest : (xs ys : List R) → IsRest path IsRow position xs → IsRest path IsRow position ys → xs ≡ ys
   one_rest xs ys r s =
       same_ascending path xs ys r.ascends s.ascends

@@ -3,19 +3,19 @@ use Rattle.std.proofs.Common.{ℕ, List}
 use Rattle.mc_tree.specs.Paths.{Precedes, Position, AtStart, After, Lost, IsPast, IsNext, IsOver}
 use Rattle.mc_tree.specs.facts.Precedence.{precedes_trans}
 
-pub past_on : (p : Position) (l m : List ℕ) → IsPast p l → Precedes l m → IsPast p m
+pub past_on : (p : Position (List ℕ)) (l m : List ℕ) → IsPast p l → Precedes l m → IsPast p m
 past_on AtStart l m p q = tt
 past_on (After last) l m p q = precedes_trans last l m p q
 past_on Lost l m p q = p
 
 -- Where two lists have the same paths, they have the same next one.
 module _ (P Q : List ℕ → Type 0) (there : (l : List ℕ) → P l → Q l) (back : (l : List ℕ) → Q l → P l) where
-  pub same_next : (p : Position) (l : List ℕ) → IsNext P p l → IsNext Q p l
+  pub same_next : (p : Position (List ℕ)) (l : List ℕ) → IsNext P p l → IsNext Q p l
   same_next p l n = record {
     listed = there l n.listed;
     past = n.past;
     none_between = λ m q. n.none_between m (back m q);
   }
 
-  pub same_over : (p : Position) → IsOver P p → IsOver Q p
+  pub same_over : (p : Position (List ℕ)) → IsOver P p → IsOver Q p
   same_over p over = λ m q. over m (back m q)

@@ -161,3 +161,25 @@ module _ {N : Type 0} (t : Tree N) (next : N → N) where
       by : (b : Bool) → nat_lt i (t.width s) ≡ b → ((c : N) → Allowed (twice t next) (first c) rest → IsBoth c rest) → IsBoth s (i ∷ rest)
       by true e behind = in_first behind (grind (arith, nat_tests))
       by false e behind = in_second (grind (arith, nat_tests))
+
+  -- Where such a path lands: the node of the first round, and the one whose children are those of the second.
+  abbrev pub first_of : Place N → N
+  first_of (first s) = s
+  first_of (second began s) = began
+
+  abbrev pub second_of : Place N → N
+  second_of (first s) = next s
+  second_of (second began s) = s
+
+  pub both_first : (s : N) (path later : List ℕ) → Allowed t s path → first_of (landed (twice t next) (first s) (in_both t next s path later)) ≡ landed t s path
+  both_first s [] [] a = refl
+  both_first s [] (j ∷ later) a = ap (λ p. first_of (landed (twice t next) p later)) (child_behind s j) ∙ ap first_of (later_lands s (t.child (next s) j) later)
+  both_first s (i ∷ path) later a =
+      ap (λ p. first_of (landed (twice t next) p (in_both t next (t.child s i) path later))) (child_first s i a.0) ∙ both_first (t.child s i) path later a.1
+
+  pub both_second : (s : N) (path later : List ℕ) → Allowed t s path
+      → second_of (landed (twice t next) (first s) (in_both t next s path later)) ≡ landed t (next (landed t s path)) later
+  both_second s [] [] a = refl
+  both_second s [] (j ∷ later) a = ap (λ p. second_of (landed (twice t next) p later)) (child_behind s j) ∙ ap second_of (later_lands s (t.child (next s) j) later)
+  both_second s (i ∷ path) later a =
+      ap (λ p. second_of (landed (twice t next) p (in_both t next (t.child s i) path later))) (child_first s i a.0) ∙ both_second (t.child s i) path later a.1

@@ -1,5 +1,6 @@
 use Rattle.std.proofs.Common.{sym, subst}
-use Rattle.mc_walk.specs.Kind.{HasSpare}
+use Rattle.mc_flash.specs.Spends.{HasRoom}
+use Rattle.mc_walk.specs.Kind.{owed_there}
 use Rattle.mc_walk.specs.Walks.{start_of}
 use Rattle.mc_walk.proofs.Stacks.{child_here, entered_told}
 use Rattle.mc_walk.proofs.enter.enter.Goals as goal
@@ -7,7 +8,7 @@ use Rattle.mc_walk.proofs.enter.enter.Goals as goal
 pub child-requires : goal.child-requires
 child-requires g c = record {
   child = child_here (g.B.Branches.kind c.args.branches) _ _ _ _ c.args.frame c.requires.comes c.in_ok-mark.ensures.1;
-  room = subst (HasSpare (g.B.Branches.kind c.args.branches)) (sym c.in_ok-mark.ensures.1) c.requires.room;
+  room = subst (HasRoom (owed_there (g.B.Branches.kind c.args.branches) c.args.frame.at)) (sym c.in_ok-mark.ensures.1) c.requires.room;
 }
 
 pub returns-clause-stands : goal.returns-clause-stands

@@ -11,8 +11,7 @@ first-requires g c = (c.requires.0, c.requires.1, omega (arith, c.requires.2), c
 
 pub loop-i-init : goal.loop-i-init
 loop-i-init g c = record {
-  here = λ n node lt. c.in_ok-at.ensures.reaches.0 n node (omega (arith, lt));
-  room = c.in_ok-at.ensures.reaches.1;
+  here = λ n node lt. c.in_ok-at.ensures.reaches n node (omega (arith, lt));
   keeps = c.in_ok-at.ensures.keeps;
   spent = spent_more _ _ _ _ (omega arith) c.in_ok-at.ensures.spends;
 }
@@ -20,14 +19,15 @@ loop-i-init g c = record {
 pub next-requires : goal.next-requires
 next-requires g c =
     let i = c.loop-i.invariant in
-    let room = c.requires.3 in (
+    let room = c.requires.3 in
+    let (here, left) = i.here c.requires.0 c.requires.1 c.requires.2 in (
       c.requires.0,
       c.loop-i._i,
-      i.here c.requires.0 c.requires.1 c.requires.2,
+      here,
       omega (arith, c.requires.2),
       record {
-        entries = omega (arith, i.room.entries, room.entries, ap (λ (l : Limits). l.entries) i.spent.limits);
-        saved = omega (arith, i.room.saved, room.saved, ap (λ (l : Limits). l.saved) i.spent.limits);
+        entries = omega (arith, left.entries, room.entries, ap (λ (l : Limits). l.entries) i.spent.limits);
+        saved = omega (arith, left.saved, room.saved, ap (λ (l : Limits). l.saved) i.spent.limits);
       },
     )
 
@@ -38,8 +38,9 @@ loop-i-preserved g c =
     let h = c.in_ok-next.ensures in
     let left = h.goes_on.1 in
     record {
-      here = λ n node lt. h.goes_on.0 n c.loop-i._i (i.here n node lt) (omega (arith, lt));
-      room = record { entries = omega (arith, i.room.entries, left.entries); saved = omega (arith, i.room.saved, left.saved) };
+      here = λ n node lt.
+          let (here, room) = i.here n node lt in
+          (h.goes_on.0 n c.loop-i._i here (omega (arith, lt)), record { entries = omega (arith, room.entries, left.entries); saved = omega (arith, room.saved, left.saved) });
       keeps = keeps_both _ _ _ i.keeps h.keeps;
       spent = spent_more _ _ _ _ (omega arith) (spent_both ((c.loop-i._i + 1) * k.step) k.step _ _ _ i.spent h.spends);
     }
@@ -49,7 +50,9 @@ returns-clause-reaches g c =
     let k = g.B.Branches.kind c.args.branches in
     let i = c.loop-i.invariant in
     let e : c.loop-i._i ≡ c.args.number = omega arith in
-    (λ n node lt. subst (λ z. IsAt k n z c.loop-i.at (g.F.Flash.seen c.loop-i.flash)) e (i.here n node lt), i.room)
+    λ n node lt.
+    let (here, room) = i.here n node lt in
+    (subst (λ z. IsAt k n z c.loop-i.at (g.F.Flash.seen c.loop-i.flash)) e here, room)
 
 pub returns-clause-spends : goal.returns-clause-spends
 returns-clause-spends g c =

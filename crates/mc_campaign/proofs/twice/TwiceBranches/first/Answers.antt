@@ -1,13 +1,14 @@
-use Rattle.mc_campaign.proofs.Steps.{begins_behind, begins_first, begins_second, left_first, left_second, nothing_more}
+use Rattle.mc_campaign.proofs.Steps.{begins_behind, begins_first, begins_second, left_behind, left_first, left_second}
 use Rattle.mc_campaign.proofs.twice.TwiceBranches.first.Goals as goal
 
 pub returns-then-ops-gt0-clause-reaches : goal.returns-then-ops-gt0-clause-reaches
 returns-then-ops-gt0-clause-reaches g c =
     let r = c.args.self.once.rules in
     let l = c.args.self.once.layout in
-    let f = g.F.Flash.seen c.args.flash.now in (
-      λ p node some. begins_first r l c.args.self.confirms p c.args.told.now f c.in-First.is c.if-ops-gt0.true node.told_is node.content_is node.layout_is,
-      left_first r l c.args.self.confirms c.requires.0 c.args.told.now f.ledger.counts c.requires.1.told_is,
+    let f = g.F.Flash.seen c.args.flash.now in
+    λ p node some. (
+      begins_first r l c.args.self.confirms p c.args.told.now f c.in-First.is c.if-ops-gt0.true node.told_is node.content_is node.layout_is,
+      left_first r l c.args.self.confirms p c.args.told.now f.ledger.counts c.in-First.is node.told_is,
     )
 
 pub returns-in_ok-go_between-in-First-clause-reaches : goal.returns-in_ok-go_between-in-First-clause-reaches
@@ -16,17 +17,18 @@ returns-in_ok-go_between-in-First-clause-reaches g c =
     let l = c.args.self.once.layout in
     let f = g.F.Flash.seen c.args.flash.now in
     let new = g.F.Flash.seen c.go_between.new.flash in
-    let e = c.in_ok-go_between-in-First.ensures in (
-      λ p node some.
-          begins_behind r l c.args.self.confirms p c.args.told.now f new c.in-First.is c.if-ops-gt0.false node.told_is node.content_is node.layout_is e.content e.keeps.geometry,
-      left_second r l c.args.self.confirms c.requires.0 c.args.told.now f.ledger.counts new.ledger.counts c.requires.1.told_is e.counts,
+    let e = c.in_ok-go_between-in-First.ensures in
+    λ p node some. (
+      begins_behind r l c.args.self.confirms p c.args.told.now f new c.in-First.is c.if-ops-gt0.false node.told_is node.content_is node.layout_is e.content e.keeps.geometry,
+      left_behind r l c.args.self.confirms p c.args.told.now f.ledger.counts new.ledger.counts c.in-First.is node.told_is e.counts,
     )
 
 pub returns-in-Second-clause-reaches : goal.returns-in-Second-clause-reaches
 returns-in-Second-clause-reaches g c =
     let r = c.args.self.once.rules in
     let l = c.args.self.once.layout in
-    let f = g.F.Flash.seen c.args.flash.now in (
-      λ p node some. begins_second r l c.args.self.confirms p c.args.told.now f c.in-Second.is node.told_is node.content_is node.layout_is,
-      left_second r l c.args.self.confirms c.requires.0 c.args.told.now f.ledger.counts f.ledger.counts c.requires.1.told_is (nothing_more r l c.args.self.confirms f.ledger.counts),
+    let f = g.F.Flash.seen c.args.flash.now in
+    λ p node some. (
+      begins_second r l c.args.self.confirms p c.args.told.now f c.in-Second.is node.told_is node.content_is node.layout_is,
+      left_second r l c.args.self.confirms p c.args.told.now f.ledger.counts c.in-Second.is node.told_is,
     )

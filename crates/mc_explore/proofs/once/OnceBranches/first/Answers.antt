@@ -6,11 +6,12 @@ use Rattle.mc_explore.proofs.once.OnceBranches.first.Goals as goal
 pub returns-clause-reaches : goal.returns-clause-reaches
 returns-clause-reaches g c =
     let r = c.args.self.rules in
-    let layout = c.args.self.layout in (
-      λ s node some. record {
+    let layout = c.args.self.layout in
+    λ s node some. (
+      record {
         on_is = first_on r layout s c.args.told.now node.told_is;
         content_is = node.content_is ∙ at_zero r layout s;
         layout_is = node.layout_is;
       },
-      first_left r layout c.requires.0 c.args.told.now c.requires.1.told_is (g.F.Flash.seen c.args._flash.now).ledger.counts,
+      first_left r layout s c.args.told.now node.told_is (g.F.Flash.seen c.args._flash.now).ledger.counts,
     )

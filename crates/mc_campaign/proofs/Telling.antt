@@ -1,0 +1,256 @@
+-- The rows of a tour through two rounds.
+use Rattle.std.specs.Prelude.{◌≡◌, ◌≢◌, ◌↔◌, ℕ, ◌≤◌, Bool, List, [], length, Option, Some, None, refl}
+use Rattle.std.proofs.Common.{arith, sym, ap, subst, ◌∙◌}
+use Rattle.mc_tree.specs.Tree as tree
+use Rattle.mc_tree.specs.Tree.{Allowed, landed}
+use Rattle.mc_tree.specs.Twice.{Place, first, second, in_both}
+use Rattle.mc_tree.specs.Paths as paths
+use Rattle.mc_tree.specs.Paths.{After, IsNextIn, IsOverIn, IsPastIn, Position}
+use Rattle.mc_tree.specs.facts.Rounds.{both_first, both_second, first_of, second_of}
+use Rattle.mc_flash.specs.Content.{Content}
+use Rattle.mc_flash.specs.Geometry.{Geometry}
+use Rattle.mc_flash.specs.Ledger.{Limits}
+use Rattle.mc_trailer.specs.declared.tables.Rules.{Rules}
+use Rattle.mc_boot.specs.Confirm.{confirmed_if}
+use Rattle.mc_boot.specs.Outcome.{shown}
+use Rattle.mc_boot.specs.declared.outcome.Outcome.{Outcome}
+use Rattle.mc_boot.specs.RunFacts.{left_defined}
+use Rattle.mc_walk.specs.Kind.{Kind}
+use Rattle.mc_walk.specs.Tours.{Toured, StandsAt, Visits}
+use Rattle.mc_walk.specs.Walks.{Walked, IsPath, IsSame, node_at, start_of}
+use Rattle.mc_walk.specs.facts.Same.{over_there}
+use Rattle.mc_walk.specs.declared.tour.Phase.{Phase}
+use Rattle.mc_walk.specs.declared.tour.Phase.TheVariants as phases
+use Rattle.mc_explore.specs.Boots.{boots}
+use Rattle.mc_explore.specs.Once.{IsTold}
+use Rattle.mc_explore.specs.Replay.{IsReplayed}
+use Rattle.mc_explore.specs.Start.{Begun, start_digest}
+use Rattle.mc_explore.specs.View.{position_of}
+use Rattle.mc_explore.specs.facts.Occurring.{allowed_after}
+use Rattle.mc_campaign.specs.Boots.{IsPathOf, pairs_along, rounds, second_start}
+use Rattle.mc_campaign.specs.Campaigns.{IsMember, Precedes}
+use Rattle.mc_campaign.specs.Cursor.{Names}
+use Rattle.mc_campaign.specs.Places.{Places, no_places, pairs_of, placed}
+use Rattle.mc_campaign.specs.Replay.{AreReplayed}
+use Rattle.mc_campaign.specs.State as states
+use Rattle.mc_campaign.specs.State.{State, Finds, HasOutcomes, moved_to}
+use Rattle.mc_campaign.specs.Twice.{AreTold, began_at, later_from, twice_kind}
+use Rattle.mc_campaign.specs.View.{IsOurs, IsSound, StandsBehind, begun_of, state_of}
+use Rattle.mc_campaign.specs.declared.cursor.CampaignCursor.{CampaignCursor}
+use Rattle.mc_campaign.specs.declared.rounds.Both.{Both}
+use Rattle.mc_campaign.specs.declared.rounds.OnWay.{OnWay}
+use Rattle.mc_campaign.specs.declared.rounds.Twice.{Twice}
+use Rattle.mc_campaign.specs.declared.row.CampaignRow.{CampaignRow}
+use Rattle.mc_campaign.proofs.Paths.{begins, campaign_along, first_allowed, member_of, path_of, same_order, second_allowed}
+use Rattle.mc_campaign.proofs.Placing.{placed_pairs}
+
+-- The kind of tree that a walk goes through.
+abbrev pub kind_of : Twice → Kind (Place Content) OnWay Both
+kind_of b = twice_kind b.once.rules b.once.layout b.confirms
+
+-- ---- the campaigns in their order
+
+module _ (r : Rules) (g : Geometry) (confirms : Bool) (s : Content) (bound : ℕ) where
+  -- Each path of the tree is that of its cuts.
+  pub campaign_of : (path : List ℕ) → tree.IsMember (rounds r g confirms) (first s) bound path
+      → IsPathOf r g confirms s bound path (placed (pairs_along r g confirms s path))
+  campaign_of path m =
+      let along = campaign_along r g confirms s bound path m in
+      let same : along.0 ≡ placed (pairs_along r g confirms s path) = sym (placed_pairs along.0) ∙ ap placed (sym along.2.pairs_are) in
+      subst (IsPathOf r g confirms s bound path) same along.2
+
+  module _ (path : List ℕ) (c : Places) (p : IsPathOf r g confirms s bound path c) where
+    past_there : (phase : Phase) (l : List ℕ) (d : Places) → IsPathOf r g confirms s bound l d → IsPastIn Precedes (position_of phase c) d → paths.IsPast (position_of phase path) l
+    past_there phases.Fresh l d q past = tt
+    past_there phases.Going l d q past = (same_order r g confirms s bound path l c d p q).0 past
+    past_there phases.Done l d q past = (same_order r g confirms s bound path l c d p q).0 past
+    past_there phases.Broken l d q past = absurd past
+
+    past_here : (phase : Phase) (l : List ℕ) (d : Places) → IsPathOf r g confirms s bound l d → paths.IsPast (position_of phase path) l → IsPastIn Precedes (position_of phase c) d
+    past_here phases.Fresh l d q past = tt
+    past_here phases.Going l d q past = (same_order r g confirms s bound path l c d p q).1 past
+    past_here phases.Done l d q past = (same_order r g confirms s bound path l c d p q).1 past
+    past_here phases.Broken l d q past = absurd past
+
+    -- The next path is that of the next campaign.
+    pub next_campaign : (phase : Phase) (l : List ℕ) (d : Places) → IsPathOf r g confirms s bound l d
+        → paths.IsNext (tree.IsMember (rounds r g confirms) (first s) bound) (position_of phase path) l → IsNextIn Precedes (IsMember r g confirms s bound) (position_of phase c) d
+    next_campaign phase l d q n = record {
+      listed = member_of r g confirms s bound d l q;
+      past = past_here phase l d q n.past;
+      none_between = λ m listed past before.
+          let there = path_of r g confirms s bound m listed in
+          n.none_between there.0 there.1.member (past_there phase there.0 m there.1 past) ((same_order r g confirms s bound there.0 l m d there.1 q).0 before);
+    }
+
+    pub over_campaign : (phase : Phase) → paths.IsOver (tree.IsMember (rounds r g confirms) (first s) bound) (position_of phase path)
+        → IsOverIn Precedes (IsMember r g confirms s bound) (position_of phase c)
+    over_campaign phase over = λ m listed past.
+        let there = path_of r g confirms s bound m listed in
+        over there.0 there.1.member (past_there phase there.0 m there.1 past)
+
+  -- ---- what is told at the end of a path
+
+  ended : (p : Place Content) → (began_at p ≡ first_of (boots r g) (second_start r g confirms) p) × (later_from r g confirms p ≡ second_of (boots r g) (second_start r g confirms) p)
+  ended (first s) = (refl, refl)
+  ended (second began s) = (refl, refl)
+
+  pub outcomes_told : (path : List ℕ) (c : Places) (told : Both) → IsPathOf r g confirms s bound path c → AreTold r g confirms (landed (rounds r g confirms) (first s) path) told
+      → (z : Content) × AreReplayed r g confirms s c (shown told.first.outcome) (shown told.second.outcome) z
+  outcomes_told path c told p t =
+      let along = campaign_along r g confirms s bound path p.member in
+      let same : along.0 ≡ c = sym (placed_pairs along.0) ∙ ap placed (sym along.2.pairs_are ∙ p.pairs_are) ∙ placed_pairs c in
+      subst (λ d. (z : Content) × AreReplayed r g confirms s d (shown told.first.outcome) (shown told.second.outcome) z) same (here along.0 along.1 (subst (λ l. AreTold r g confirms (landed (rounds r g confirms) (first s) l) told) along.3 t))
+    where
+      here : (d : Places) → IsMember r g confirms s bound d → AreTold r g confirms (landed (rounds r g confirms) (first s) (in_both (boots r g) (second_start r g confirms) s d.first d.second)) told
+          → (z : Content) × AreReplayed r g confirms s d (shown told.first.outcome) (shown told.second.outcome) z
+      here d m at =
+          let one = first_allowed r g confirms s d m.1 in
+          let two = second_allowed r g confirms s d m.1 in
+          let u : Content = landed (boots r g) s d.first in
+          let v : Content = landed (boots r g) (second_start r g confirms u) d.second in
+          let end : Place Content = landed (rounds r g confirms) (first s) (in_both (boots r g) (second_start r g confirms) s d.first d.second) in
+          let at_u : began_at end ≡ u = (ended end).0 ∙ both_first (boots r g) (second_start r g confirms) s d.first d.second one in
+          let at_v : later_from r g confirms end ≡ v = (ended end).1 ∙ both_second (boots r g) (second_start r g confirms) s d.first d.second one in
+          let first_told = subst (λ x. IsTold r g x told.first) at_u at.first_is in
+          let second_told = subst (λ x. IsTold r g x told.second) at_v at.second_is in
+          let middle = left_defined r g u in
+          let left = left_defined r g v in
+          let from : second_start r g confirms u ≡ confirmed_if confirms g middle.0 = begins r g confirms u middle.0 middle.1 in (
+            left.0,
+            record {
+              middle = middle.0;
+              first = record { cut = u; occurs = allowed_after r g s d.first one; outcome_is = first_told.outcome_is; left = middle.1 };
+              second = subst (λ x. IsReplayed r g x d.second (shown told.second.outcome) left.0) from
+                  (record { cut = v; occurs = allowed_after r g (second_start r g confirms u) d.second two; outcome_is = second_told.outcome_is; left = left.1 });
+            },
+          )
+
+-- ---- the same start
+
+same_begun : (old new : Walked Twice) → IsSame old new → begun_of new ≡ begun_of old
+same_begun old new s =
+    ap (λ (b : Twice). record { geometry = b.once.layout; rules = b.once.rules; content = start_of new.seen }) s.branches
+    ∙ ap (λ (c : Content). record { geometry = old.branches.once.layout; rules = old.branches.once.rules; content = c }) s.start
+
+same_state : (old new : Walked Twice) (position : Position Places) → IsSame old new → new.seen.ledger.failed ≡ old.seen.ledger.failed → state_of new position ≡ state_of old position
+same_state old new position s calm =
+    ap (λ (b : Begun). record { start = b; confirms = new.branches.confirms; bound = new.bound; position = position; failed = new.seen.ledger.failed }) (same_begun old new s)
+    ∙ ap (λ (b : Twice). record { start = begun_of old; confirms = b.confirms; bound = new.bound; position = position; failed = new.seen.ledger.failed }) s.branches
+    ∙ ap (λ (n : ℕ). record { start = begun_of old; confirms = old.branches.confirms; bound = n; position = position; failed = new.seen.ledger.failed }) s.bound
+    ∙ ap (λ (f : Bool). record { start = begun_of old; confirms = old.branches.confirms; bound = old.bound; position = position; failed = f }) calm
+
+-- A path is that of the same campaign.
+abbrev IsPathIn : Walked Twice → List ℕ → Places → Type 0
+IsPathIn w path c = IsPathOf w.branches.once.rules w.branches.once.layout w.branches.confirms (start_of w.seen) w.bound path c
+
+path_there : (old new : Walked Twice) (path : List ℕ) (c : Places) → IsSame old new → IsPathIn old path c → IsPathIn new path c
+path_there old new path c s p =
+    let at_branches = subst (λ (b : Twice). IsPathOf b.once.rules b.once.layout b.confirms (start_of old.seen) old.bound path c) (sym s.branches) p in
+    let at_start = subst (λ x. IsPathOf new.branches.once.rules new.branches.once.layout new.branches.confirms x old.bound path c) (sym s.start) at_branches in
+    subst (λ n. IsPathOf new.branches.once.rules new.branches.once.layout new.branches.confirms (start_of new.seen) n path c) (sym s.bound) at_start
+
+pub pairs_there : (old new : Walked Twice) (path : List ℕ) → IsSame old new
+    → pairs_along new.branches.once.rules new.branches.once.layout new.branches.confirms (start_of new.seen) path
+    ≡ pairs_along old.branches.once.rules old.branches.once.layout old.branches.confirms (start_of old.seen) path
+pairs_there old new path s =
+    ap (λ (b : Twice). pairs_along b.once.rules b.once.layout b.confirms (start_of new.seen) path) s.branches
+    ∙ ap (λ x. pairs_along old.branches.once.rules old.branches.once.layout old.branches.confirms x path) s.start
+
+-- ---- what a visit finds
+
+module _ (counted : Bool) (old new : Toured Twice) (c : CampaignCursor) (works : old.phase ≢ phases.Broken) (sound : IsSound counted old c) where
+  abbrev pub w : Walked Twice
+  w = old.walk
+
+  abbrev pub here : Position Places
+  here = position_of old.phase c.campaign
+
+  abbrev pub behind : StandsBehind old c.campaign
+  behind = (sound works).1
+
+  ours_there : IsSame old.walk new.walk → new.walk.seen.ledger.limits ≡ old.walk.seen.ledger.limits → (l : Places)
+      → IsOurs new.walk counted (record { rules = c.rules; confirms = c.confirms; digest = c.digest; bound = c.bound; campaign = l })
+  ours_there same limits l =
+      let ours = (sound works).0 in
+      record {
+        names = record {
+          digest_is = ours.names.digest_is ∙ ap start_digest (sym (same_begun old.walk new.walk same));
+          rules_are = ours.names.rules_are ∙ ap (λ (b : Twice). b.once.rules) (sym same.branches);
+          choice_is = ours.names.choice_is ∙ ap (λ (b : Twice). b.confirms) (sym same.branches);
+          bound_is = ours.names.bound_is ∙ sym same.bound;
+        };
+        few = omega (arith, ours.few, same.bound);
+        counted_is = ap (λ (x : Limits). x.counted) limits ∙ ours.counted_is;
+      }
+
+  pub few_there : IsSame old.walk new.walk → new.walk.bound ≤ 16
+  few_there same = omega (arith, (sound works).0.few, same.bound)
+
+  -- The next row.
+  module _ (told : Both) (visits : Visits (kind_of w.branches) old (position_of old.phase behind.path) (Some told) new) where
+    abbrev pub cuts : List (ℕ × ℕ)
+    cuts = pairs_along w.branches.once.rules w.branches.once.layout w.branches.confirms (start_of w.seen) new.walk.path
+
+    path_is : IsPathIn w new.walk.path (placed cuts)
+    path_is = campaign_of w.branches.once.rules w.branches.once.layout w.branches.confirms (start_of w.seen) w.bound new.walk.path visits.0.listed
+
+    pub finds_row : (row : CampaignRow) → row.campaign ≡ placed cuts → row.first ≡ told.first.outcome → row.second ≡ told.second.outcome → Finds (state_of w here) (Some row)
+    finds_row row is one two =
+        let r = w.branches.once.rules in
+        let g = w.branches.once.layout in
+        let k = w.branches.confirms in
+        let told_here = subst (λ x. AreTold r g k (landed (rounds r g k) (first x) new.walk.path) told) visits.2.start visits.1 in
+        let outcomes = outcomes_told r g k (start_of w.seen) w.bound new.walk.path (placed cuts) told path_is told_here in
+        let P : Places → Type 0 = λ d. (z : Content) × AreReplayed r g k (start_of w.seen) d (shown told.first.outcome) (shown told.second.outcome) z in
+        let Q : Outcome → Type 0 = λ o. (z : Content) × AreReplayed r g k (start_of w.seen) row.campaign (shown o) (shown told.second.outcome) z in
+        let R : Outcome → Type 0 = λ o. (z : Content) × AreReplayed r g k (start_of w.seen) row.campaign (shown row.first) (shown o) z in (
+          subst (IsNextIn Precedes (IsMember r g k (start_of w.seen) w.bound) here) (sym is)
+              (next_campaign r g k (start_of w.seen) w.bound behind.path c.campaign behind.path_is old.phase new.walk.path (placed cuts) path_is visits.0),
+          subst R (sym two) (subst Q (sym one) (subst P (sym is) outcomes)),
+        )
+
+    pub moved_on : (l : Places) → new.walk.seen.ledger.failed ≡ old.walk.seen.ledger.failed → state_of new.walk (position_of new.phase l) ≡ moved_to (state_of w here) l
+    moved_on l calm = ap (λ p. state_of new.walk (position_of p l)) visits.3 ∙ same_state w new.walk (After l) visits.2 calm
+
+    pub sound_on : (l : Places) → l ≡ placed cuts → new.walk.seen.ledger.limits ≡ old.walk.seen.ledger.limits
+        → IsSound counted new (record { rules = c.rules; confirms = c.confirms; digest = c.digest; bound = c.bound; campaign = l })
+    sound_on l is limits = λ _. (
+      ours_there visits.2 limits l,
+      record {
+        path = new.walk.path;
+        path_is = path_there w new.walk new.walk.path l visits.2 (subst (IsPathIn w new.walk.path) (sym is) path_is);
+        stands = subst (λ p. StandsAt (kind_of new.walk.branches) (record { walk = new.walk; phase = p }) (position_of p new.walk.path)) (sym visits.3) refl;
+      },
+    )
+
+  -- Or there is none.
+  module _ (visits : Visits (kind_of w.branches) old (position_of old.phase behind.path) None new) where
+    pub finds_none : states.IsOver (state_of w here)
+    finds_none = over_campaign w.branches.once.rules w.branches.once.layout w.branches.confirms (start_of w.seen) w.bound behind.path c.campaign behind.path_is old.phase visits.0
+
+    stays_there : {K : Type 0} (x : K) → position_of phases.Done x ≡ position_of old.phase x
+    stays_there x = by old.phase refl
+      where
+        by : (p : Phase) → old.phase ≡ p → After x ≡ position_of p x
+        by phases.Fresh is =
+            let over = subst (λ q. paths.IsOver (IsPath (kind_of w.branches) w) (position_of q behind.path)) is visits.0 in
+            absurd (over [] (omega arith, tt) tt)
+        by phases.Going is = refl
+        by phases.Done is = refl
+        by phases.Broken is = absurd (works is)
+
+    pub stays_so : new.walk.seen.ledger.failed ≡ old.walk.seen.ledger.failed → state_of new.walk (position_of new.phase c.campaign) ≡ state_of w here
+    stays_so calm =
+        ap (λ p. state_of new.walk (position_of p c.campaign)) visits.3 ∙ ap (state_of new.walk) (stays_there c.campaign) ∙ same_state w new.walk here visits.2 calm
+
+    pub sound_over : new.walk.seen.ledger.limits ≡ old.walk.seen.ledger.limits → IsSound counted new c
+    sound_over limits = λ _. (
+      ours_there visits.2 limits c.campaign,
+      record {
+        path = behind.path;
+        path_is = path_there w new.walk behind.path c.campaign visits.2 behind.path_is;
+        stands = subst (λ p. StandsAt (kind_of new.walk.branches) (record { walk = new.walk; phase = p }) (position_of p behind.path)) (sym visits.3)
+            (subst (paths.IsOver (IsPath (kind_of new.walk.branches) new.walk)) (sym (stays_there behind.path)) (over_there kind_of w new.walk (position_of old.phase behind.path) visits.2 visits.0));
+      },
+    )

@@ -1,0 +1,92 @@
+//! Goes through the campaigns of power cuts, one after another.
+ghost use Rattle.std.specs.Prelude.{◌≡◌, ◌+◌, ◌≤◌, true, length, IfOk, IfErr, ◌⊎◌};
+ghost use Rattle.mc_tree.specs.Tree.{labelled};
+ghost use Rattle.mc_walk.specs.Walks.{root_of};
+ghost use Rattle.mc_flash.specs.Ledger.{limits_for};
+ghost use Rattle.mc_explore.specs.Start.{begun};
+ghost use Rattle.mc_campaign.specs.Boots.{pairs_along};
+ghost use Rattle.mc_campaign.specs.Places.{placed};
+ghost use Rattle.mc_campaign.specs.State.{Finds, at_start, lost_at, state_after};
+ghost use Rattle.mc_campaign.specs.View.{begun_of};
+
+use crate::campaign::Campaign;
+use crate::cursor::CampaignCursor;
+use crate::rounds::Twice;
+use crate::row::CampaignRow;
+use mc_explore::{ExploreError, Once, Start};
+use mc_flash::{Flash, FlashError};
+use mc_walk::{Tour, Walk};
+use std::alloc::Global;
+use std::marker::Model;
+
+/// Goes through all campaigns of at most so many cuts that can occur, in their order, each with the outcomes of both rounds, over
+/// one flash.
+#[derive(Drop)]
+pub struct CampaignExplorer<F: Flash> {
+    tour: Tour<F, Twice>,
+    // Where to go on behind the last row.
+    cursor: CampaignCursor,
+}
+
+impl<F: Flash> Model for CampaignExplorer<F> {
+    ghost use Rattle.mc_explore.specs.View.{position_of};
+    ghost use Rattle.mc_campaign.specs.State.{Explored};
+    ghost use Rattle.mc_campaign.specs.View.{explored, IsSound};
+
+    ghost Value = { Explored };
+
+    ghost view = { λ e. explored e.tour.walk (position_of e.tour.phase e.cursor.campaign) };
+
+    ghost invariant = { λ e. IsSound F.counted e.tour e.cursor };
+}
+
+// The campaign of the path at whose end a walk stands.
+fn campaign_at<F: Flash>(walk: &Walk<F, Twice>) -> Campaign
+    requires stands { walk.now.stands ≡ true }
+    requires few { length walk.now.path ≤ 16 }
+    ensures { result ≡ placed (pairs_along walk.now.branches.once.rules
+        walk.now.branches.once.layout walk.now.branches.confirms
+        (begun_of walk.now).content walk.now.path) }
+{
+    let mut campaign = Campaign::new();
+    let mut step = 0;
+    'cuts: while let Some((round, place)) = walk.label(step) {
+        campaign.place(round, place);
+        step += 1;
+    }
+    campaign
+}
+
+impl<F: Flash + Drop> CampaignExplorer<F> {
+    /// The row of the next campaign, and none where there is no further one.
+    ///
+    /// # Errors
+    ///
+    /// `Memory` where the flash was refused memory; from then on always `Failed`.
+    pub fn next_row(&mut self) -> Result<Option<CampaignRow>, ExploreError>
+        // It is the first row past the position, and there is none exactly where no campaign is past it.
+        ensures found { IfOk result (λ found. Finds self.old.state found) }
+        ensures moved { IfOk result (λ found. self.new.state ≡ state_after self.old.state found) }
+        ensures err { IfErr result (λ e. (e ≡ ExploreError.Memory) ⊎ (e ≡ ExploreError.Failed)) }
+    {
+        let Some(told) = self.tour.visit()? else {
+            return Ok(None);
+        };
+        let campaign = campaign_at(self.tour.walk());
+        self.cursor.campaign = campaign;
+        Ok(Some(CampaignRow {
+            campaign,
+            first: told.first.outcome,
+            second: told.second.outcome,
+        }))
+    }
+
+    /// The flash as it is.
+    pub fn flash(&self) -> &F
+        ensures content { (F.seen result.now).content ≡ self.now.content }
+        ensures ledger { (F.seen result.now).ledger ≡ self.now.ledger }
+        ensures marked { length (F.seen result.now).marks ≡ self.now.marked }
+    {
+        self.tour.walk().flash()
+    }
+}

@@ -1,0 +1,2 @@
+-- Lemmas that the crates above cite.
+pub mod Same

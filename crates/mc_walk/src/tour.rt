@@ -1,0 +1,135 @@
+//! The nodes of a tree, one after another.
+ghost use Rattle.std.specs.Prelude.{◌≡◌, ℕ, List, true, IfOk};
+ghost use Rattle.mc_tree.specs.Paths.{Position};
+ghost use Rattle.mc_walk.specs.Tours.{Toured, StandsAt, Visits, Costs};
+ghost use Rattle.mc_walk.specs.Walks.{IsFresh};
+
+use crate::{Branches, Walk};
+use mc_flash::{Flash, FlashError};
+use std::marker::Model;
+
+/// How a tour stands with its walk.
+#[derive(Clone, Copy, Debug, PartialEq, Eq)]
+pub enum Phase {
+    /// It visited no node yet.
+    Fresh,
+    /// The walk stands at the node that it visited last.
+    Going,
+    /// There is no further node.
+    Done,
+    /// It failed, and the walk is in disorder.
+    Broken,
+}
+
+/// Why a tour gives up.
+#[derive(Clone, Copy, Debug, PartialEq, Eq)]
+pub enum TourError {
+    /// The flash was refused memory. The tour has failed then.
+    Memory,
+    /// The tour failed before.
+    Failed,
+}
+
+impl From<FlashError> for TourError {
+    ghost use Rattle.mc_walk.specs.declared.tour.TourError.TheVariants.{Memory};
+
+    ghost from_gives = { λ _ e. e ≡ Memory };
+
+    fn from(_: FlashError) -> Self {
+        TourError::Memory
+    }
+}
+
+/// Visits the nodes of a tree in the order of their paths, over one flash.
+#[derive(Drop)]
+pub struct Tour<F: Flash, B: Branches> {
+    walk: Walk<F, B>,
+    phase: Phase,
+}
+
+impl<F: Flash, B: Branches> Model for Tour<F, B> {
+    ghost use Rattle.mc_walk.specs.Tours.{Toured, IsInOrder};
+
+    ghost Value = { Toured B };
+
+    ghost view = { λ t. record { walk = t.walk; phase = t.phase } };
+
+    ghost invariant = { λ t. IsInOrder (B.kind t.walk.branches) t.phase t.walk };
+}
+
+impl<F: Flash, B: Branches> Tour<F, B> {
+    /// A tour that begins at the root.
+    pub fn fresh(walk: Walk<F, B>) -> Tour<F, B>
+        requires { IsFresh (B.kind walk.branches) walk }
+        ensures { result ≡ record { walk = walk; phase = Phase.Fresh } }
+    {
+        Tour {
+            walk,
+            phase: Phase::Fresh,
+        }
+    }
+
+    /// A tour that goes on behind the node at which a walk stands.
+    pub fn behind(walk: Walk<F, B>) -> Tour<F, B>
+        requires { walk.stands ≡ true }
+        ensures { result ≡ record { walk = walk; phase = Phase.Going } }
+    {
+        Tour {
+            walk,
+            phase: Phase::Going,
+        }
+    }
+
+    /// Goes on to the next node, if there is one, and tells of it.
+    ///
+    /// # Errors
+    ///
+    /// `Memory` where the flash was refused memory; from then on always `Failed`.
+    pub fn visit(&mut self) -> Result<Option<B::Told>, TourError>
+        ensures visits { IfOk result (λ found. (position : Position (List ℕ))
+            → StandsAt (B.kind self.old.walk.branches) self.old position
+            → Visits (B.kind self.old.walk.branches) self.old position found self.new) }
+        ensures costs { Costs (B.kind self.old.walk.branches) self.old result self.new }
+    {
+        match self.phase {
+            Phase::Broken => Err(TourError::Failed),
+            Phase::Done => Ok(None),
+            Phase::Fresh => {
+                self.phase = Phase::Broken;
+                let told = self.walk.begin()?;
+                self.phase = Phase::Going;
+                Ok(Some(told))
+            }
+            Phase::Going => {
+                self.phase = Phase::Broken;
+                if !self.walk.advance()? {
+                    self.phase = Phase::Done;
+                    return Ok(None);
+                }
+                self.phase = Phase::Going;
+                Ok(self.walk.told())
+            }
+        }
+    }
+
+    /// The walk as it is.
+    pub fn walk(&self) -> &Walk<F, B>
+        ensures { result.now ≡ self.now.walk }
+    {
+        &self.walk
+    }
+
+    /// How it stands with its walk.
+    pub fn phase(&self) -> Phase
+        ensures { result ≡ self.now.phase }
+    {
+        self.phase
+    }
+
+    /// Makes it one that failed.
+    pub fn give_up(&mut self)
+        ensures { self.new ≡ record { walk = self.old.walk; phase = Phase.Broken } }
+    {
+        self.phase = Phase::Broken;
+    }
+}
