@@ -6,3 +6,4 @@ mod Steps
 mod Replays
 mod Placing
 mod Telling
+mod Loaded

@@ -7,4 +7,5 @@ pub mod Twice
 pub mod Replay
 pub mod Cursor
 pub mod State
+pub mod Explores
 pub mod View

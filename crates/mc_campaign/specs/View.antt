@@ -1,8 +1,9 @@
 -- What the fields of an explorer of campaigns stand for, and what holds of them.
-use Rattle.std.specs.Prelude.{◌≡◌, ◌≢◌, ℕ, ◌≤◌, Bool, List, length}
+use Rattle.std.specs.Prelude.{◌≡◌, ◌≢◌, ℕ, ◌≤◌, Bool, false, List, length}
 use Rattle.mc_tree.specs.Paths.{Position}
 use Rattle.mc_walk.specs.Tours.{Toured, StandsAt}
-use Rattle.mc_walk.specs.Walks.{Walked, start_of}
+use Rattle.mc_flash.specs.Geometry.{IsLayout}
+use Rattle.mc_walk.specs.Walks.{Walked, IsFresh, start_of}
 use Rattle.mc_walk.specs.declared.tour.Phase.TheVariants.{Broken}
 use Rattle.mc_explore.specs.Start.{Begun}
 use Rattle.mc_explore.specs.View.{position_of}
@@ -51,3 +52,14 @@ pub record StandsBehind (t : Toured Twice) (c : Places) : Type 0 where
 -- What holds of an explorer's fields until it fails.
 abbrev pub IsSound : Bool → Toured Twice → CampaignCursor → Type 0
 IsSound counted t c = t.phase ≢ Broken → IsOurs t.walk counted c × StandsBehind t c.campaign
+
+-- A walk that was just loaded for a start.
+pub record IsLoaded (counted : Bool) (start : Begun) (confirms : Bool) (bound : ℕ) (w : Walked Twice) : Type 0 where
+  pub start_is : begun_of w ≡ start
+  pub choice_is : w.branches.confirms ≡ confirms
+  pub bound_is : w.bound ≡ bound
+  pub fresh : IsFresh (twice_kind w.branches.once.rules w.branches.once.layout w.branches.confirms) w
+  pub counted_is : w.seen.ledger.limits.counted ≡ counted
+  pub idle : w.seen.ledger.applied ≡ 0
+  pub calm : w.seen.ledger.failed ≡ false
+  pub valid : IsLayout start.geometry

@@ -5,16 +5,18 @@ ghost use Rattle.mc_walk.specs.Walks.{root_of};
 ghost use Rattle.mc_flash.specs.Ledger.{limits_for};
 ghost use Rattle.mc_explore.specs.Start.{begun};
 ghost use Rattle.mc_campaign.specs.Boots.{pairs_along};
+ghost use Rattle.mc_campaign.specs.Explores.{Explores, row_cost};
 ghost use Rattle.mc_campaign.specs.Places.{placed};
-ghost use Rattle.mc_campaign.specs.State.{Finds, at_start, lost_at, state_after};
+ghost use Rattle.mc_campaign.specs.State.{Finds, at_start, state_after};
 ghost use Rattle.mc_campaign.specs.View.{begun_of};
 
 use crate::campaign::Campaign;
 use crate::cursor::CampaignCursor;
+use crate::loading::load;
 use crate::rounds::Twice;
 use crate::row::CampaignRow;
-use mc_explore::{ExploreError, Once, Start};
-use mc_flash::{Flash, FlashError};
+use mc_explore::{ExploreError, Start};
+use mc_flash::Flash;
 use mc_walk::{Tour, Walk};
 use std::alloc::Global;
 use std::marker::Model;
@@ -58,6 +60,34 @@ fn campaign_at<F: Flash>(walk: &Walk<F, Twice>) -> Campaign
 }
 
 impl<F: Flash + Drop> CampaignExplorer<F> {
+    /// An explorer at the start. Between the rounds the image confirms itself or not. It takes its own memory here, and none
+    /// later but through the flash, which it loads for three boots more than there are cuts.
+    ///
+    /// # Errors
+    ///
+    /// `Memory` where an allocation failed.
+    pub fn start(
+        alloc: Global,
+        start: &Start,
+        bound: u8,
+        confirms: bool,
+    ) -> Result<CampaignExplorer<F>, ExploreError>
+        requires { bound ≤ 16 }
+        ensures ok { IfOk result (λ explorer. explorer.state
+            ≡ at_start (begun start.now) confirms bound) }
+        // No operation is done yet, and a flash that counts has room for exactly so many boots.
+        ensures applied { IfOk result (λ explorer. explorer.ledger.applied ≡ 0) }
+        ensures exact { IfOk result (λ explorer. F.counted ≡ true → explorer.ledger.limits
+            ≡ limits_for start.now.rules.grain start.now.geometry (bound + 3)) }
+        ensures err { IfErr result (λ e. e ≡ ExploreError.Memory) }
+    {
+        let walk = load(alloc, start, bound, confirms)?;
+        Ok(CampaignExplorer {
+            tour: Tour::fresh(walk),
+            cursor: CampaignCursor::of(start, bound, confirms, &Campaign::new()),
+        })
+    }
+
     /// The row of the next campaign, and none where there is no further one.
     ///
     /// # Errors
@@ -67,6 +97,12 @@ impl<F: Flash + Drop> CampaignExplorer<F> {
         // It is the first row past the position, and there is none exactly where no campaign is past it.
         ensures found { IfOk result (λ found. Finds self.old.state found) }
         ensures moved { IfOk result (λ found. self.new.state ≡ state_after self.old.state found) }
+        // It takes at most two boots and three operations, and none where there is no row.
+        ensures applied { IfOk result (λ
+            found. self.new.ledger.applied ≤ self.old.ledger.applied + row_cost
+            self.old.state.start.rules self.old.state.start.geometry found) }
+        // A flash that counts has enough memory. After an error the explorer has failed, and it stays so as it is.
+        ensures explores { Explores F.counted self.old result self.new }
         ensures err { IfErr result (λ e. (e ≡ ExploreError.Memory) ⊎ (e ≡ ExploreError.Failed)) }
     {
         let Some(told) = self.tour.visit()? else {

@@ -5,6 +5,7 @@ mod campaign;
 mod cursor;
 mod explorer;
 mod laws;
+mod loading;
 mod replaying;
 mod rounds;
 mod row;

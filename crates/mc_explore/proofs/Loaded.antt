@@ -17,18 +17,10 @@ use Rattle.mc_boot.specs.RunFacts.{come_left}
 use Rattle.mc_boot.specs.Runs.{left_by}
 use Rattle.mc_walk.specs.Walks.{IsClear, IsFresh, IsOf, Walked, start_of}
 use Rattle.mc_explore.specs.Once.{once}
+use Rattle.mc_explore.specs.facts.Room.{limits_are}
 use Rattle.mc_explore.specs.Start.{Begun, Started, begun}
 use Rattle.mc_explore.specs.View.{IsLoaded, begun_with}
 use Rattle.mc_explore.specs.declared.once.Once.{Once}
-
-record AreLimits (grain : Grain) (g : Geometry) (boots : ℕ) (limits : Limits) : Type 0 where
-  for_entries : boots * most_operations grain g ≤ limits.entries
-  for_saved : boots * most_saved g ≤ limits.saved
-  for_marks : boots + 1 ≤ limits.marks
-
-limits_are : (grain : Grain) (g : Geometry) (boots : ℕ) (limits : Limits) → IsWithin (limits_for grain g boots) limits → AreLimits grain g boots limits
-unfolding limits_for
-limits_are grain g boots limits within = record { for_entries = within.entries; for_saved = within.saved; for_marks = within.marks }
 
 module _ (counted : Bool) (g : Geometry) (primary secondary : List ℕ) (f : Seen) where
   -- It serves for a walk of fewer cuts than there are boots.

@@ -1,4 +1,5 @@
 use Rattle.std.proofs.Common.{◌≡◌, None, Option, Some, refl, ap, subst, ◌∙◌, arith}
+use Rattle.mc_flash.specs.Seen.{Seen}
 use Rattle.mc_walk.specs.Tours.{Visits}
 use Rattle.mc_campaign.specs.Boots.{pairs_along}
 use Rattle.mc_campaign.specs.Places.{Places, placed}
@@ -88,3 +89,9 @@ returns-clause-moved g c =
     let e = c.in_ok-told.ensures in
     moved_on g.F.Flash.counted c.self.inside.tour c.visit.new.self c.self.inside.cursor e.costs.0 c.self.invariant c.in-Some.told (some g a) c.campaign_at-campaign.result e.costs.1.failed
     ∙ ap (λ (z : Explored). moved_to z.state c.campaign_at-campaign.result) c.self.view_is
+
+pub returns-in_default-clause-applied : goal.returns-in_default-clause-applied
+returns-in_default-clause-applied g c =
+    let a = (goal.at.returns-in_default-clause-applied g c).In_default in
+    let same = (none g a).1 in
+    omega (arith, ap (λ (f : Seen). f.ledger.applied) same, ap (λ (z : Explored). z.ledger.applied) c.self.view_is)

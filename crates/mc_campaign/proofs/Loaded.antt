@@ -1,0 +1,90 @@
+-- A flash that was just loaded, and a walk through two rounds on it.
+use Rattle.std.specs.Prelude.{◌≡◌, ℕ, ◌+◌, ◌*◌, ◌≤◌, Bool, List, [], refl}
+use Rattle.std.proofs.Common.{arith, sym, ap, subst, ◌∙◌}
+use Rattle.mc_flash.specs.Content.{Content}
+use Rattle.mc_flash.specs.Geometry.{Geometry, IsLayout}
+use Rattle.mc_flash.specs.Ledger.{Ledger, Limits, most_operations, most_saved}
+use Rattle.mc_flash.specs.Seen.{Seen, Loads}
+use Rattle.mc_flash.specs.Spends.{Spent}
+use Rattle.mc_flash.specs.declared.flash.Grain.{Grain}
+use Rattle.mc_flash.specs.declared.flash.Grain.TheVariants as grains
+use Rattle.mc_trailer.specs.declared.tables.Rules.{Rules}
+use Rattle.mc_walk.specs.Walks.{IsClear, IsFresh, IsOf, Walked, start_of}
+use Rattle.mc_explore.specs.Start.{Begun, start_digest}
+use Rattle.mc_explore.specs.facts.Room.{AreLimits, limits_are}
+use Rattle.mc_campaign.specs.Cursor.{Names}
+use Rattle.mc_campaign.specs.Places.{no_places, pairs_of}
+use Rattle.mc_campaign.specs.Twice.{twice_kind}
+use Rattle.mc_campaign.specs.View.{IsLoaded, IsSound}
+use Rattle.mc_campaign.specs.declared.cursor.CampaignCursor.{CampaignCursor}
+use Rattle.mc_campaign.specs.declared.rounds.Twice.{Twice}
+use Rattle.mc_walk.specs.declared.tour.Phase.TheVariants as phases
+
+-- A boot makes some operation at most.
+some_operations : (grain : Grain) (g : Geometry) → 1 ≤ most_operations grain g
+some_operations grains.Call g = omega arith
+some_operations grains.Unit g = omega arith
+
+module _ (counted : Bool) (g : Geometry) (primary secondary : List ℕ) (f : Seen) where
+  -- It serves for a walk of three cuts fewer than there are boots.
+  pub clear : (r : Rules) (confirms : Bool) (bound boots : ℕ) → boots ≡ bound + 3 → Loads counted g primary secondary r.grain boots f → IsClear (twice_kind r g confirms) bound f
+  clear r confirms bound boots many l =
+      let limits = limits_are r.grain g boots f.ledger.limits l.room in
+      let some = some_operations r.grain g in
+      let entries : boots * most_operations r.grain g ≡ bound * most_operations r.grain g + 3 * most_operations r.grain g = ap (λ n. n * most_operations r.grain g) many ∙ three bound (most_operations r.grain g) in
+      let saved : boots * most_saved g ≡ bound * most_saved g + 3 * most_saved g = ap (λ n. n * most_saved g) many ∙ three bound (most_saved g) in
+      record {
+        none = l.none;
+        counts = ap (λ (x : Ledger). x.counts) l.ledger_is;
+        layout_is = l.geometry_is;
+        roomy = record {
+          entries = omega (arith, limits.for_entries, entries, some);
+          saved = omega (arith, limits.for_saved, saved);
+          marks = omega (arith, limits.for_marks, many);
+        };
+      }
+    where
+      three : (n m : ℕ) → (n + 3) * m ≡ n * m + 3 * m
+      three n m = omega arith
+
+-- A walk from there.
+pub loaded : (counted : Bool) (start : Begun) (confirms : Bool) (primary secondary : List ℕ) (bound many : ℕ) (f : Seen) (b : Twice) (w : Walked Twice)
+    → Loads counted start.geometry primary secondary start.rules.grain many f
+    → b ≡ record { once = record { rules = start.rules; layout = start.geometry }; confirms = confirms } → start.content ≡ record { primary = primary; secondary = secondary }
+    → IsOf b bound f w → IsFresh (twice_kind b.once.rules b.once.layout b.confirms) w → Spent 0 f w.seen → IsLayout start.geometry
+    → IsLoaded counted start confirms bound w
+loaded counted start confirms primary secondary bound many f b w l is content of fresh spent valid =
+    let at : start_of w.seen ≡ start.content = of.start ∙ l.content_is ∙ sym content in
+    let branches : w.branches ≡ record { once = record { rules = start.rules; layout = start.geometry }; confirms = confirms } = of.branches_are ∙ is in
+    record {
+      start_is = ap (λ (x : Twice). record { geometry = x.once.layout; rules = x.once.rules; content = start_of w.seen }) branches
+          ∙ ap (λ (x : Content). record { geometry = start.geometry; rules = start.rules; content = x }) at;
+      choice_is = ap (λ (x : Twice). x.confirms) branches;
+      bound_is = of.bound_is;
+      fresh = subst (λ (x : Twice). IsFresh (twice_kind x.once.rules x.once.layout x.confirms) w) (sym of.branches_are) fresh;
+      counted_is = ap (λ (x : Limits). x.counted) spent.limits ∙ l.counted_is;
+      idle = omega (arith, spent.applied, ap (λ (x : Ledger). x.applied) l.ledger_is);
+      calm = spent.failed ∙ ap (λ (x : Ledger). x.failed) l.ledger_is;
+      valid = valid;
+    }
+
+-- An explorer at its start.
+pub started : (counted : Bool) (start : Begun) (confirms : Bool) (bound : ℕ) (c : CampaignCursor) (w : Walked Twice) → IsLoaded counted start confirms bound w → Names start confirms bound c
+    → c.campaign ≡ no_places → bound ≤ 16 → IsSound counted (record { walk = w; phase = phases.Fresh }) c
+started counted start confirms bound c w l names none few = λ _. (
+  record {
+    names = record {
+      digest_is = names.digest_is ∙ ap start_digest (sym l.start_is);
+      rules_are = names.rules_are ∙ ap (λ (s : Begun). s.rules) (sym l.start_is);
+      choice_is = names.choice_is ∙ sym l.choice_is;
+      bound_is = names.bound_is ∙ sym l.bound_is;
+    };
+    few = omega (arith, l.bound_is, few);
+    counted_is = l.counted_is;
+  },
+  record {
+    path = [];
+    path_is = record { member = (omega arith, tt); pairs_are = ap pairs_of (sym none) };
+    stands = refl;
+  },
+)

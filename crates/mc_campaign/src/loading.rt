@@ -1,0 +1,59 @@
+//! The walk from a start through two rounds, and the cursors of that start.
+ghost use Rattle.std.specs.Prelude.{◌≡◌, ◌+◌, ◌≤◌, true, IfOk};
+ghost use Rattle.mc_flash.specs.Ledger.{limits_for};
+ghost use Rattle.mc_explore.specs.Start.{begun};
+ghost use Rattle.mc_campaign.specs.Cursor.{cursor_of};
+ghost use Rattle.mc_campaign.specs.View.{IsLoaded};
+
+use crate::campaign::Campaign;
+use crate::cursor::CampaignCursor;
+use crate::rounds::Twice;
+use mc_explore::{Once, Start};
+use mc_flash::{Flash, FlashError};
+use mc_walk::Walk;
+use std::alloc::Global;
+
+/// Loads the flash of a start for three boots more than there are cuts, for a walk from there.
+///
+/// # Errors
+///
+/// `Memory` where an allocation failed.
+pub(crate) fn load<F: Flash>(
+    alloc: Global,
+    start: &Start,
+    bound: u8,
+    confirms: bool,
+) -> Result<Walk<F, Twice>, FlashError>
+    requires { bound ≤ 16 }
+    ensures loaded { IfOk result (IsLoaded F.counted (begun start.now) confirms bound) }
+    ensures exact { IfOk result (λ walk. F.counted ≡ true → walk.seen.ledger.limits
+        ≡ limits_for start.now.rules.grain start.now.geometry (bound + 3)) }
+{
+    let layout = *start.layout();
+    // Each number of a layout tells that it is one.
+    let _sector = layout.sector();
+    let rules = start.rules();
+    let twice = Twice {
+        once: Once { rules, layout },
+        confirms,
+    };
+    let boots = u32::from(bound) + 3;
+    let (primary, secondary) = (start.primary(), start.secondary());
+    let flash = F::load(alloc, &layout, rules.grain, primary, secondary, boots)?;
+    Walk::start(alloc, twice, usize::from(bound), flash)
+}
+
+impl CampaignCursor {
+    /// The cursor that goes on after a campaign, of a start, a choice and at most so many cuts. It takes no memory.
+    pub fn of(start: &Start, bound: u8, confirms: bool, campaign: &Campaign) -> CampaignCursor
+        ensures { result ≡ cursor_of (begun start.now) confirms bound campaign.now }
+    {
+        CampaignCursor {
+            rules: start.rules(),
+            confirms,
+            digest: start.digest(),
+            bound,
+            campaign: *campaign,
+        }
+    }
+}
