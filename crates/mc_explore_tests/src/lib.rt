@@ -5,6 +5,8 @@
 #[cfg(test)]
 mod bounds;
 #[cfg(test)]
+mod campaign_rows;
+#[cfg(test)]
 mod campaigns;
 #[cfg(test)]
 mod cursors;
