@@ -93,6 +93,24 @@ rest 0
 digest good
 ";
 
+/// Zeros, as many as an image has that is one byte too large for the worked layout.
+static ZEROS: [u8; 441] = [0; 441];
+
+/// The bytes above by their names, as tests tell of them.
+pub fn named(name: &str) -> Option<&'static [u8]> {
+    match name {
+        "first" => Some(&FIRST_IMAGE),
+        "second" => Some(&SECOND_IMAGE),
+        "payload" => Some(&PAYLOAD),
+        "padded" => Some(&PADDED),
+        "plain" => Some(&PLAIN_IMAGE),
+        "counted" => Some(&COUNTED_IMAGE),
+        "empty" => Some(&EMPTY_IMAGE),
+        "zeros" => Some(&ZEROS),
+        _ => None,
+    }
+}
+
 /// The worked layout: 4 and 3 sectors of 256 bytes, in units of 8.
 pub fn worked() -> Result<Layout, LayoutError>
     ensures { IfOk result (λ layout. layout ≡ worked) }

@@ -4,7 +4,6 @@ mod creation;
 mod faults;
 mod faulty;
 mod pages;
-mod slots;
 mod support;
 mod tracing;
 mod trailers;

@@ -1,209 +1,165 @@
 //! `create`: the images that it makes, and what it refuses.
-use super::support::{Case, create_words, ends, outcome_of, scratch_path};
-use mc_fixtures::{
-    COUNTED_IMAGE, EMPTY_IMAGE, FIRST_IMAGE, GOOD_LINE, PADDED, PAYLOAD, PLAIN_IMAGE,
-};
-use std::alloc::Global;
+use super::support::{plays, scratch_path, told_of};
+use mc_fixtures::{GOOD_LINE, PAYLOAD, PLAIN_IMAGE};
 use std::fs;
 use std::os::unix::fs::symlink;
-use std::process::Abort;
 use std::test::Fail;
+
+/// What `create` tells of these files.
+fn created(rt: &HostRuntime, infile: &str, outfile: &str) -> Result<String, Fail> {
+    let line = format!(in rt.alloc();
+        "create --version 1.2.3+4 --header-size 32 --pad-header {infile} {outfile}"
+    )?;
+    told_of(rt, line.as_str(), &[])
+}
+
+/// What `verify` tells of a file.
+fn verified(rt: &HostRuntime, infile: &str) -> Result<String, Fail> {
+    let line = format!(in rt.alloc(); "verify {infile}")?;
+    told_of(rt, line.as_str(), &[])
+}
+
+/// Makes an image of the payload. Returns what is told of both, and the bytes of the image.
+fn made(rt: &HostRuntime, payload: &str, image: &str) -> Result<(String, Vec<u8>), Fail> {
+    fs::write(rt, payload, PAYLOAD.as_slice())?;
+    let mut text = created(rt, payload, image)?;
+    text.push_str(verified(rt, image)?.as_str())?;
+    let bytes = fs::read(rt, image)?;
+    fs::remove_file(rt, payload)?;
+    fs::remove_file(rt, image)?;
+    Ok((text, bytes))
+}
 
 #[test]
 fn makes_and_verifies_an_image(rt: HostRuntime) -> Result<(), Fail> {
-    let payload = scratch_path(&rt, "payload")?;
-    let image = scratch_path(&rt, "image")?;
-    fs::write(&rt, payload.as_str(), PAYLOAD.as_slice())?;
-    let words = create_words("1.2.3+4", payload.as_str(), image.as_str());
-    assert_eq!(rt; outcome_of(&rt, &words, &[])?.parts(), (0, "", ""));
-    let bytes = fs::read(&rt, image.as_str())?;
-    assert_eq!(rt; bytes.as_slice(), PLAIN_IMAGE.as_slice());
-    let words = ["mcsim", "verify", image.as_str()];
-    assert_eq!(rt; outcome_of(&rt, &words, &[])?.parts(), (0, GOOD_LINE, ""));
-    fs::remove_file(&rt, payload.as_str())?;
-    fs::remove_file(&rt, image.as_str())?;
+    let payload = scratch_path(&rt, "", "payload")?;
+    let image = scratch_path(&rt, "", "image")?;
+    let (text, bytes) = made(&rt, payload.as_str(), image.as_str())?;
+    assert_eq!(rt;
+        (text.as_str(), bytes.as_slice()),
+        (GOOD_LINE, PLAIN_IMAGE.as_slice())
+    );
     Ok(())
+}
+
+/// What `create` tells of these files, and what INFILE holds afterwards.
+fn left(rt: &HostRuntime, infile: &str, outfile: &str) -> Result<(String, Vec<u8>), Fail> {
+    let text = created(rt, infile, outfile)?;
+    Ok((text, fs::read(rt, infile)?))
 }
 
 /// A file that is to be its own image stays as it is, by whatever path it is named.
 #[test]
 fn keeps_a_payload_that_is_the_output_too(rt: HostRuntime) -> Result<(), Fail> {
-    let payload = scratch_path(&rt, "same")?;
-    let link = scratch_path(&rt, "link")?;
-    let folder = std::env::temp_dir(&rt)?;
-    let dotted = folder.as_path().join(rt.alloc(), ".")?;
-    let name = payload
-        .as_str()
-        .rsplit_once('/')
-        .map_or("", |parts| parts.1);
-    let other = dotted.as_path().join(rt.alloc(), name)?;
-    let other = other.display().to_string(rt.alloc())?;
-    fs::write(&rt, payload.as_str(), PAYLOAD.as_slice())?;
-    symlink(&rt, payload.as_str(), link.as_str())?;
-    for outfile in [payload.as_str(), link.as_str(), other.as_str()] {
-        for (first, second) in [(payload.as_str(), outfile), (outfile, payload.as_str())] {
-            let words = create_words("1.2.3+4", first, second);
-            let ended = outcome_of(&rt, &words, &[])?;
-            assert_eq!(rt; ended.parts(), (2, "", "mcsim: E75 SameFile\n"));
-            let bytes = fs::read(&rt, payload.as_str())?;
-            assert_eq!(rt; bytes.as_slice(), PAYLOAD.as_slice());
-        }
+    let payload = scratch_path(&rt, "", "same")?;
+    let link = scratch_path(&rt, "", "link")?;
+    let other = scratch_path(&rt, "./", "same")?;
+    let payload = payload.as_str();
+    fs::write(&rt, payload, PAYLOAD.as_slice())?;
+    symlink(&rt, payload, link.as_str())?;
+    for (infile, outfile) in [
+        (payload, payload),
+        (payload, link.as_str()),
+        (link.as_str(), payload),
+        (payload, other.as_str()),
+        (other.as_str(), payload),
+    ] {
+        let (text, bytes) = left(&rt, infile, outfile)?;
+        assert_eq!(rt;
+            (text.as_str(), bytes.as_slice()),
+            ("! mcsim: E75 SameFile\nexit 2\n", PAYLOAD.as_slice()),
+            "{outfile}"
+        );
     }
     fs::remove_file(&rt, link.as_str())?;
-    fs::remove_file(&rt, payload.as_str())?;
+    fs::remove_file(&rt, payload)?;
     Ok(())
 }
 
-/// Options of `create` of a header before its input.
-const PADDING: &str = "--version 1.2.3+4 --pad-header --header-size 32";
-
-/// Runs lines of `create` with these options and this input, which are to write these bytes.
-fn make(rt: &impl Abort, alloc: Global, cases: &[(&str, &str, &[u8], &[u8])]) -> Result<(), Fail> {
-    for (start, options, input, written) in cases {
-        let case = Case {
-            command: "create",
-            start,
-            options,
-            words: "in out",
-            input,
-            status: 0,
-            out: "",
-            err: "",
-            written,
-        };
-        ends(rt, alloc, &case)?;
-    }
-    Ok(())
-}
+/// Images of a header before its input, or in its place, by imgtool's short options too; the slots that have just room for
+/// an image and its trailer, and the ends of the ranges; slots that are filled.
+static IMAGES: &str = "\
+$ create PADDING in out < payload
+=> plain
+$ create -v 1.2.3+4 --pad-header -H 0x20 in out < payload
+=> plain
+$ create -v 1.2.3+4 --pad-header -H 0x20 -s 0X7 -S 0xeC -M 4 in out < payload
+=> counted
+$ create PADDING --slot-size +224 --align 0x8 --max-sectors 4 in out < payload
+=> plain
+$ create --version 1.2.3+4 --header-size 32 in out < padded
+=> plain
+$ create PADDING in out
+=> empty
+$ create --version 1 --pad-header --header-size 32 in out < 8:0=0001020304050607
+=> first
+$ create PADDING --security-counter 7 in out < payload
+=> counted
+$ sign PADDING in out < payload
+=> plain
+$ create PADDING --align 8 --max-sectors 4 --slot-size 224 in out < payload
+=> plain
+$ create PADDING --slot-size 3200 in out < payload
+=> plain
+$ create PADDING --security-counter 7 --align 8 --max-sectors 4 --slot-size 236 in out < payload
+=> counted
+$ create PADDING --slot-size 16777216 in out < payload
+=> plain
+$ create PADDING --align 1 in out < payload
+=> plain
+$ create PADDING --align 2 in out < payload
+=> plain
+$ create PADDING --align 4 in out < payload
+=> plain
+$ create PADDING --max-sectors 1 in out < payload
+=> plain
+$ create PADDING --max-sectors 1024 in out < payload
+=> plain
+$ create PADDING --slot-size 768 --align 8 --max-sectors 4 --pad in out < payload
+=> 768:0=plain,752=MAGIC
+$ create PADDING --slot-size 768 --align 8 --max-sectors 4 --confirm in out < payload
+=> 768:0=plain,744=01,752=MAGIC
+$ create PADDING --slot-size 768 --align 8 --max-sectors 4 --pad --confirm in out < payload
+=> 768:0=plain,744=01,752=MAGIC
+$ create PADDING --slot-size 768 --align 8 --max-sectors 4 --confirm --security-counter 7 in out < payload
+=> 768:0=counted,744=01,752=MAGIC
+";
 
 #[test]
 fn makes_images(rt: HostRuntime) -> Result<(), Fail> {
-    let unpadded = "--version 1.2.3+4 --header-size 32";
-    let version = "--version 1 --pad-header --header-size 32";
-    // imgtool's short options, and its way to write numbers.
-    let short = "-v 1.2.3+4 --pad-header -H 0x20";
-    let cases: [(&str, &str, &[u8], &[u8]); 8] = [
-        (PADDING, "", &PAYLOAD, &PLAIN_IMAGE),
-        (short, "", &PAYLOAD, &PLAIN_IMAGE),
-        (short, "-s 0X7 -S 0xeC -M 4", &PAYLOAD, &COUNTED_IMAGE),
-        (
-            PADDING,
-            "--slot-size +224 --align 0x8 --max-sectors 4",
-            &PAYLOAD,
-            &PLAIN_IMAGE,
-        ),
-        (unpadded, "", &PADDED, &PLAIN_IMAGE),
-        (PADDING, "", &[], &EMPTY_IMAGE),
-        (version, "", &[0, 1, 2, 3, 4, 5, 6, 7], &FIRST_IMAGE),
-        (PADDING, "--security-counter 7", &PAYLOAD, &COUNTED_IMAGE),
-    ];
-    make(&rt, rt.alloc(), &cases)?;
-    let case = Case {
-        command: "sign",
-        start: PADDING,
-        options: "",
-        words: "in out",
-        input: &PAYLOAD,
-        status: 0,
-        out: "",
-        err: "",
-        written: &PLAIN_IMAGE,
-    };
-    ends(&rt, rt.alloc(), &case)
+    plays(&rt, rt.alloc(), IMAGES)
 }
+
+/// Slots that are too small, or of no length; then the version, which is checked before the files are opened, INFILE, which is
+/// opened before OUTFILE, and an input that begins with 31 zeros, one fewer than a header has.
+static REFUSED: &str = "\
+$ create PADDING --align 8 --max-sectors 4 --slot-size 223 in out < payload
+! mcsim: E21 SlotTooSmall; exit 1
+$ create PADDING --slot-size 3199 in out < payload
+! mcsim: E21 SlotTooSmall; exit 1
+$ create PADDING --slot-size 1 in out < payload
+! mcsim: E21 SlotTooSmall; exit 1
+$ create PADDING --security-counter 7 --align 8 --max-sectors 4 --slot-size 235 in out < payload
+! mcsim: E21 SlotTooSmall; exit 1
+$ create PADDING --pad in out < payload
+! mcsim: E22 NeedsSlotSize; exit 2
+$ create PADDING --confirm in out < payload
+! mcsim: E22 NeedsSlotSize; exit 2
+$ create --version 01 --header-size 32 missing out
+! mcsim: E15 Syntax; exit 2
+$ create --version 1.2+4 --header-size 32 missing out
+! mcsim: E15 Syntax; exit 2
+$ create --version 256 --header-size 32 missing out
+! mcsim: E16 Range; exit 2
+$ create PADDING missing out
+! mcsim: E71 Open; exit 3
+$ create PADDING in missing
+! mcsim: E71 Open; exit 3
+$ create --version 1 --header-size 32 in out < 39:0=zeros,31=0102030405060708
+! mcsim: E20 NotZeros; exit 1
+";
 
 #[test]
-fn leaves_room_for_a_trailer(rt: HostRuntime) -> Result<(), Fail> {
-    let room = "--align 8 --max-sectors 4 --slot-size 224";
-    let counted = "--security-counter 7 --align 8 --max-sectors 4 --slot-size 236";
-    let cases: [(&str, &str, &[u8], &[u8]); 9] = [
-        (PADDING, room, &PAYLOAD, &PLAIN_IMAGE),
-        (PADDING, "--slot-size 3200", &PAYLOAD, &PLAIN_IMAGE),
-        (PADDING, counted, &PAYLOAD, &COUNTED_IMAGE),
-        // The ends of the ranges.
-        (PADDING, "--slot-size 16777216", &PAYLOAD, &PLAIN_IMAGE),
-        (PADDING, "--align 1", &PAYLOAD, &PLAIN_IMAGE),
-        (PADDING, "--align 2", &PAYLOAD, &PLAIN_IMAGE),
-        (PADDING, "--align 4", &PAYLOAD, &PLAIN_IMAGE),
-        (PADDING, "--max-sectors 1", &PAYLOAD, &PLAIN_IMAGE),
-        (PADDING, "--max-sectors 1024", &PAYLOAD, &PLAIN_IMAGE),
-    ];
-    make(&rt, rt.alloc(), &cases)
-}
-
-/// Runs lines of `create` with these options and files, which are refused with this status and line.
-fn refuse(
-    rt: &impl Abort,
-    alloc: Global,
-    input: &[u8],
-    cases: &[(&str, &str, &str, u8, &str)],
-) -> Result<(), Fail> {
-    for (start, options, words, status, err) in cases {
-        let case = Case {
-            command: "create",
-            start,
-            options,
-            words,
-            input,
-            status: *status,
-            out: "",
-            err,
-            written: &[],
-        };
-        ends(rt, alloc, &case)?;
-    }
-    Ok(())
-}
-
-#[test]
-fn refuses_slots(rt: HostRuntime) -> Result<(), Fail> {
-    let small = "--align 8 --max-sectors 4 --slot-size 223";
-    let counted = "--security-counter 7 --align 8 --max-sectors 4 --slot-size 235";
-    let too_small = "mcsim: E21 SlotTooSmall\n";
-    let needs_size = "mcsim: E22 NeedsSlotSize\n";
-    let cases = [
-        (PADDING, small, "in out", 1, too_small),
-        (PADDING, "--slot-size 3199", "in out", 1, too_small),
-        (PADDING, "--slot-size 1", "in out", 1, too_small),
-        (PADDING, counted, "in out", 1, too_small),
-        (PADDING, "--pad", "in out", 2, needs_size),
-        (PADDING, "--confirm", "in out", 2, needs_size),
-    ];
-    refuse(&rt, rt.alloc(), &PAYLOAD, &cases)
-}
-
-#[test]
-fn judges_in_order(rt: HostRuntime) -> Result<(), Fail> {
-    let not_zeros = "mcsim: E20 NotZeros\n";
-    let syntax = "mcsim: E15 Syntax\n";
-    let open = "mcsim: E71 Open\n";
-    let cases = [
-        // The version is checked before the files are opened, and INFILE is opened before OUTFILE.
-        (
-            "--version 01 --header-size 32",
-            "",
-            "missing out",
-            2,
-            syntax,
-        ),
-        (
-            "--version 1.2+4 --header-size 32",
-            "",
-            "missing out",
-            2,
-            syntax,
-        ),
-        (
-            "--version 256 --header-size 32",
-            "",
-            "missing out",
-            2,
-            "mcsim: E16 Range\n",
-        ),
-        (PADDING, "", "missing out", 3, open),
-        (PADDING, "", "in missing", 3, open),
-        // The input begins with 31 zeros, one fewer than a header has.
-        ("--version 1 --header-size 32", "", "in out", 1, not_zeros),
-    ];
-    refuse(&rt, rt.alloc(), &PADDED[1..], &cases)
+fn refuses_slots_and_inputs(rt: HostRuntime) -> Result<(), Fail> {
+    plays(&rt, rt.alloc(), REFUSED)
 }

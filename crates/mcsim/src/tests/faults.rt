@@ -1,108 +1,103 @@
 //! Command lines whose reads and writes fail, each at each call.
-use super::faulty::{Fault, FaultyFile, FaultyFiles};
-use super::support::{create_words, outcome_over, owned};
+use super::faulty::{Fault, FaultyFile};
+use super::support::{ran_over, words_of};
 use mc_command::run;
 use mc_fixtures::{PAYLOAD, PLAIN_IMAGE};
 use std::alloc::Global;
 use std::cell::RefCell;
+use std::process::Abort;
 use std::test::Fail;
 
 static FAULTS: [Fault; 3] = [Fault::Error, Fault::Interruption, Fault::NoBytes];
 
-/// Runs `create` over two files that fail once, and returns the status, what is written to `out`, and the text on
-/// standard error.
-fn create_over(
+/// A command line that makes an image of the payload.
+static CREATE: &str = "create --version 1.2.3+4 --header-size 32 --pad-header in out";
+
+/// Runs `create` over two files that fail so, and looks at what it tells and writes.
+fn ends(
+    rt: &impl Abort,
     alloc: Global,
-    reads: u32,
-    writes: u32,
-    fault: Fault,
-) -> Result<(u8, Vec<u8>, String), Fail> {
-    let written = RefCell::new(Vec::new(alloc));
-    let files = FaultyFiles {
-        input: &PAYLOAD,
-        written: &written,
-        reads,
-        writes,
-        fault,
-    };
-    let words = create_words("1.2.3+4", "in", "out");
-    let ended = outcome_over(alloc, &files, &words, &mut [].as_slice())?;
-    Ok((ended.status, written.into_inner(), ended.err))
+    calls: (u32, u32, Fault),
+    text: &str,
+    written: &[u8],
+) -> Result<(), Fail> {
+    let ended = ran_over(alloc, CREATE, &PAYLOAD, calls)?;
+    let told = ended.text(alloc)?;
+    assert_eq!(rt;
+        (told.as_str(), ended.written.as_slice()),
+        (text, written),
+        "{calls:?}"
+    );
+    Ok(())
 }
 
 #[test]
 fn create_meets_failing_reads(rt: HostRuntime) -> Result<(), Fail> {
     // 8 reads of one byte, and one that finds the end.
+    let text = "! mcsim: E24 Read\nexit 3\n";
     for reads in 0..9 {
-        for fault in [Fault::Error, Fault::Interruption] {
-            let (status, out, err) = create_over(rt.alloc(), reads, 1000, fault)?;
-            assert_eq!(rt; status, 3, "{reads} {fault:?}");
-            assert_eq!(rt; err.as_str(), "mcsim: E24 Read\n");
-            assert_eq!(rt; out.len(), 0, "{reads} {fault:?}");
-        }
+        ends(&rt, rt.alloc(), (reads, 1000, Fault::Error), text, &[])?;
+        ends(
+            &rt,
+            rt.alloc(),
+            (reads, 1000, Fault::Interruption),
+            text,
+            &[],
+        )?;
     }
     Ok(())
 }
 
 #[test]
 fn create_meets_failing_writes(rt: HostRuntime) -> Result<(), Fail> {
+    let text = "! mcsim: E25 Write\nexit 3\n";
     for place in 0..80 {
         for fault in FAULTS {
-            let (status, out, err) = create_over(rt.alloc(), 1000, place, fault)?;
-            assert_eq!(rt; status, 3, "{place} {fault:?}");
-            assert_eq!(rt; err.as_str(), "mcsim: E25 Write\n");
-            assert_eq!(rt; out.len(), place as usize, "{fault:?}");
-            assert!(rt;
-                PLAIN_IMAGE.starts_with(out.as_slice()),
-                "{place} {fault:?}"
-            );
+            let prefix = &PLAIN_IMAGE[..place as usize];
+            ends(&rt, rt.alloc(), (1000, place, fault), text, prefix)?;
         }
     }
-    let (status, out, err) = create_over(rt.alloc(), 1000, 1000, Fault::Error)?;
-    assert_eq!(rt; status, 0);
-    assert_eq!(rt; out.as_slice(), PLAIN_IMAGE.as_slice());
-    assert_eq!(rt; err.as_str(), "");
-    Ok(())
-}
-
-/// Runs a command line with these two streams, and no input, and returns the status.
-fn status_of(
-    rt: &HostRuntime,
-    words: &[&str],
-    out: &mut FaultyFile<'_>,
-    err: &mut FaultyFile<'_>,
-) -> Result<u8, Fail> {
-    let words = owned(rt.alloc(), words)?;
-    Ok(run(
-        rt,
+    ends(
+        &rt,
         rt.alloc(),
-        words.as_slice(),
-        &mut [].as_slice(),
-        out,
-        err,
-    ))
+        (1000, 1000, Fault::Error),
+        "",
+        &PLAIN_IMAGE,
+    )
 }
 
-#[test]
-fn statuses_stand_where_no_text_can_be_written(rt: HostRuntime) -> Result<(), Fail> {
-    let unused = RefCell::new(Vec::new(rt.alloc()));
+/// The status of a command line whose streams fail at each call.
+fn status_of(rt: &HostRuntime, line: &str) -> Result<u8, Fail> {
+    let alloc = rt.alloc();
+    let words = words_of(alloc, line)?;
+    let unused = RefCell::new(Vec::new(alloc));
     let failing = || FaultyFile {
         rest: &[],
         written: &unused,
         calls: 0,
         fault: Fault::Error,
     };
-    let cases: [(&[&str], u8); 5] = [
-        (&["mcsim", "verify"], 1),
-        (&["mcsim", "dumpinfo"], 1),
-        (&["mcsim", "nonsense"], 2),
-        (&["mcsim"], 2),
-        // The help cannot be written.
-        (&["mcsim", "--help"], 3),
-    ];
-    for (words, want) in cases {
-        let status = status_of(&rt, words, &mut failing(), &mut failing())?;
-        assert_eq!(rt; status, want);
+    Ok(run(
+        rt,
+        alloc,
+        words.as_slice(),
+        &mut [].as_slice(),
+        &mut failing(),
+        &mut failing(),
+    ))
+}
+
+/// The help cannot be written.
+#[test]
+fn statuses_stand_where_no_text_can_be_written(rt: HostRuntime) -> Result<(), Fail> {
+    for (line, want) in [
+        ("verify", 1),
+        ("dumpinfo", 1),
+        ("nonsense", 2),
+        ("", 2),
+        ("--help", 3),
+    ] {
+        assert_eq!(rt; status_of(&rt, line)?, want, "{line}");
     }
     Ok(())
 }

@@ -1,7 +1,7 @@
 //! Files and streams that fail once.
 ghost use Rattle.std.specs.Prelude.{◌≡◌, IfOk};
 
-use mc_fixtures::SECOND_IMAGE;
+use mc_fixtures::named;
 use std::alloc::Allocator;
 use std::cell::RefCell;
 use std::fs::{Metadata, OpenFile, OpenOptions};
@@ -117,7 +117,7 @@ impl OpenFile for FaultyFile<'_> {
     }
 }
 
-/// Two files, `in` and `out`, each of which fails once, and an image in the file `second`.
+/// Two files, `in` and `out`, each of which fails once, and those that `named` knows.
 #[derive(Drop)]
 pub struct FaultyFiles<'a> {
     /// What `in` holds.
@@ -139,9 +139,11 @@ impl<'a> Files for FaultyFiles<'a> {
     fn open_file(&self, _how: &OpenOptions, path: &str) -> io::Result<FaultyFile<'a>> {
         let (rest, calls) = match path {
             "in" => (self.input, self.reads),
-            "second" => (&SECOND_IMAGE as &[u8], u32::MAX),
             "out" => (&[] as &[u8], self.writes),
-            _ => return Err(io::Error::from(io::ErrorKind::NotFound)),
+            _ => match named(path) {
+                Some(bytes) => (bytes, u32::MAX),
+                None => return Err(io::Error::from(io::ErrorKind::NotFound)),
+            },
         };
         Ok(FaultyFile {
             rest,

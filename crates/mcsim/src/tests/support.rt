@@ -1,6 +1,7 @@
-//! What the tests of command lines share.
+//! What the tests of command lines share: files in memory, and sessions over them.
 use super::faulty::{Fault, FaultyFiles};
 use mc_command::run;
+use mc_fixtures::{FIRST_TOLD, GOOD_LINE, SECOND_TOLD, named};
 use std::alloc::{AllocError, Global};
 use std::cell::RefCell;
 use std::io::Read;
@@ -15,114 +16,244 @@ pub struct Outcome {
     pub status: u8,
     pub out: String,
     pub err: String,
+    /// What it wrote to the file `out`.
+    pub written: Vec<u8>,
 }
 
 impl Outcome {
-    /// The status, and the texts on the two streams.
-    pub fn parts(&self) -> (u8, &str, &str) {
-        (self.status, self.out.as_str(), self.err.as_str())
+    /// The text on standard output; where all is not well, also `! `, the text on standard error, and the status.
+    pub fn text(&self, alloc: Global) -> Result<String, AllocError> {
+        let mut text = String::from_str(alloc, self.out.as_str())?;
+        let err = self.err.as_str();
+        let status = self.status;
+        if status != 0 || !err.is_empty() {
+            let end = format!(in alloc; "! {err}exit {status}\n")?;
+            text.push_str(end.as_str())?;
+        }
+        Ok(text)
     }
 }
 
-/// The words as `run` takes them.
-pub fn owned(alloc: Global, words: &[&str]) -> Result<Vec<String>, AllocError> {
-    let mut copies = Vec::new(alloc);
-    for word in words {
-        copies.push(String::from_str(alloc, word)?)?;
+/// The words of a command line, with the program's name before them.
+pub fn words_of(alloc: Global, line: &str) -> Result<Vec<String>, AllocError> {
+    let mut words = Vec::new(alloc);
+    words.push(String::from_str(alloc, "mcsim")?)?;
+    if line.is_empty() {
+        return Ok(words);
     }
-    Ok(copies)
+    for word in line.split(' ') {
+        words.push(String::from_str(alloc, word)?)?;
+    }
+    Ok(words)
 }
 
 /// Runs a command line.
 pub fn outcome_over<F: Files, R: Read>(
     alloc: Global,
     files: &F,
-    words: &[&str],
+    words: &[String],
     input: &mut R,
 ) -> Result<Outcome, Fail> {
-    let words = owned(alloc, words)?;
     let mut out = Vec::new(alloc);
     let mut err = Vec::new(alloc);
-    let status = run(files, alloc, words.as_slice(), input, &mut out, &mut err);
+    let status = run(files, alloc, words, input, &mut out, &mut err);
     Ok(Outcome {
         status,
         out: String::from_utf8(out).map_err(|_| "the output is no text")?,
         err: String::from_utf8(err).map_err(|_| "the refusal is no text")?,
+        written: Vec::new(alloc),
     })
 }
 
-/// Runs a command line over the real files, with these bytes as standard input.
-pub fn outcome_of(rt: &HostRuntime, words: &[&str], mut input: &[u8]) -> Result<Outcome, Fail> {
-    outcome_over(rt.alloc(), rt, words, &mut input)
+/// What a command line tells over the real files, with these bytes as standard input.
+pub fn told_of(rt: &HostRuntime, line: &str, mut input: &[u8]) -> Result<String, Fail> {
+    let words = words_of(rt.alloc(), line)?;
+    let ended = outcome_over(rt.alloc(), rt, words.as_slice(), &mut input)?;
+    Ok(ended.text(rt.alloc())?)
 }
 
-/// A path in the folder for temporary files, of this test alone.
-pub fn scratch_path(rt: &HostRuntime, name: &str) -> Result<String, Fail> {
-    let alloc = rt.alloc();
-    let id = process::id(rt.process());
-    let file = format!(in alloc; "mcsim-{id}-{name}")?;
-    let folder = env::temp_dir(rt)?;
-    let path = folder.as_path().join(alloc, file.as_str())?;
-    Ok(path.display().to_string(alloc)?)
+/// Runs a command line over files in memory, with these bytes in the file `in` and on standard input. So many reads of `in`
+/// and writes of `out` come before the one that fails.
+pub fn ran_over(
+    alloc: Global,
+    line: &str,
+    mut input: &[u8],
+    calls: (u32, u32, Fault),
+) -> Result<Outcome, Fail> {
+    let written = RefCell::new(Vec::new(alloc));
+    let (reads, writes, fault) = calls;
+    let files = FaultyFiles {
+        input,
+        written: &written,
+        reads,
+        writes,
+        fault,
+    };
+    let words = words_of(alloc, line)?;
+    let mut ended = outcome_over(alloc, &files, words.as_slice(), &mut input)?;
+    ended.written = written.into_inner();
+    Ok(ended)
 }
 
-/// The words of a `create` that puts a header of 32 bytes before its input.
-pub fn create_words<'a>(version: &'a str, infile: &'a str, outfile: &'a str) -> [&'a str; 9] {
+/// The same where no call fails.
+pub fn ran(alloc: Global, line: &str, input: &[u8]) -> Result<Outcome, Fail> {
+    ran_over(alloc, line, input, (u32::MAX, u32::MAX, Fault::Error))
+}
+
+/// What a command line tells over files in memory, with no bytes on standard input.
+pub fn told(alloc: Global, line: &str) -> Result<String, Fail> {
+    let ended = ran(alloc, line, &[])?;
+    Ok(ended.text(alloc)?)
+}
+
+/// Runs a command line over files in memory, and looks at what it tells.
+pub fn tells(
+    rt: &impl Abort,
+    alloc: Global,
+    line: &str,
+    input: &[u8],
+    want: &str,
+) -> Result<Outcome, Fail> {
+    let ended = ran(alloc, line, input)?;
+    let text = ended.text(alloc)?;
+    assert_eq!(rt; text.as_str(), want, "{line}");
+    Ok(ended)
+}
+
+/// What is told of the image `counted`, but for what comes after it and how its digest is.
+static FIELDS: &str = "\
+magic 0x96f3b83d
+load 0x00000000
+header-size 32
+protected-size 12
+image-size 8
+flags 0x00000000
+version 1.2.3+4
+padding 0x00000000
+protected 0x0050 4 07000000
+plain 0x0010 32 4dcc5778bca9c831b86de779361dfbc68a9740b5fcc3297188767c3aa8cba2e4
+total 92";
+
+/// What stands for what in a session.
+fn words_in_full() -> [(&'static str, &'static str); 18] {
     [
-        "mcsim",
-        "create",
-        "--version",
-        version,
-        "--header-size",
-        "32",
-        "--pad-header",
-        infile,
-        outfile,
+        ("; ", "\n"),
+        (
+            "WORKED",
+            "--sector 256 --unit 8 --max-sectors 4 --chunk 128 --primary 4 --secondary 3",
+        ),
+        (
+            "THREE",
+            "--sector 256 --unit 8 --max-sectors 4 --chunk 128 --primary 3 --secondary 3",
+        ),
+        (
+            "SMALL",
+            "--sector 64 --unit 1 --max-sectors 4 --chunk 32 --primary 4 --secondary 3",
+        ),
+        (
+            "TWO",
+            "--sector 128 --unit 8 --max-sectors 4 --chunk 128 --primary 5 --secondary 4",
+        ),
+        ("IMAGES", "--image-a first --image-b second"),
+        ("SWAPPED", "primary SECOND\nsecondary FIRST"),
+        ("PADDING", "--version 1.2.3+4 --pad-header --header-size 32"),
+        ("REPORT", FIELDS),
+        ("GOOD\n", GOOD_LINE),
+        ("KEPT", "primary FIRST\nsecondary SECOND"),
+        ("FIRST", FIRST_TOLD),
+        ("SECOND", SECOND_TOLD),
+        (
+            "START",
+            "9b07a99687c30f1c748c995c0d4df48a8af881b571e209fd613b03ba09e2b5b7",
+        ),
+        ("BEGUN", "1792:1008=MAGIC"),
+        (
+            "UNSET",
+            "magic=unset image-ok=unset copy-done=unset swap-info=0xff swap-size=4294967295",
+        ),
+        (
+            "LARGER",
+            "31e51cada910d18be541c1fed45924a8449c611617190bed4e31ca876b3385ce",
+        ),
+        ("MAGIC", "77c295f360d2ef7f3552500f2cb67980"),
     ]
 }
 
-/// A command line over the files `in`, `second` and `out`, and how it is to end. Other files are missing.
-#[derive(Clone, Copy)]
-pub struct Case<'a> {
-    pub command: &'a str,
-    /// The words after the command: first options, further ones, and the rest.
-    pub start: &'a str,
-    pub options: &'a str,
-    pub words: &'a str,
-    /// What the file `in` and standard input hold.
-    pub input: &'a [u8],
-    pub status: u8,
-    pub out: &'a str,
-    pub err: &'a str,
-    /// What is written to the file `out`.
-    pub written: &'a [u8],
+/// A text with its words in full.
+pub fn in_full(alloc: Global, text: &str) -> Result<String, AllocError> {
+    let mut whole = String::from_str(alloc, text)?;
+    for (word, full) in words_in_full() {
+        whole = whole.as_str().replace(alloc, word, full)?;
+    }
+    Ok(whole)
 }
 
-/// Runs a command line, and looks at how it ends.
-pub fn ends(rt: &impl Abort, alloc: Global, case: &Case<'_>) -> Result<(), Fail> {
-    let written = writes(rt, alloc, case)?;
-    assert_eq!(rt; written.as_slice(), case.written);
+/// A text with the fields of a line in the place of their names. The last field is the rest of the line.
+pub fn filled(alloc: Global, text: &str, names: &[&str], line: &str) -> Result<String, AllocError> {
+    let mut whole = String::from_str(alloc, text)?;
+    for (name, field) in names.iter().zip(line.splitn(names.len(), ' ')) {
+        whole = whole.as_str().replace(alloc, *name, field)?;
+    }
+    Ok(whole)
+}
+
+/// The bytes of a file: a named one, or one of so many bytes `0xff` but for those at some places, as in `1792:0=first,984=02`.
+pub fn contents(alloc: Global, told: &str) -> Result<Vec<u8>, Fail> {
+    let Some((length, changes)) = told.split_once(':') else {
+        return Ok(named(told).unwrap_or_default().to_vec(alloc)?);
+    };
+    let mut bytes = vec![in alloc; 0xffu8; length.parse::<usize>()?]?;
+    for change in changes.split(',') {
+        let (place, told) = change.split_once('=').ok_or("a place and bytes")?;
+        let change = match named(told) {
+            Some(file) => file.to_vec(alloc)?,
+            None => hex::decode(alloc, told)?,
+        };
+        let cells = bytes.iter_mut().skip(place.parse::<usize>()?);
+        for (cell, byte) in cells.zip(change.as_slice()) {
+            *cell = *byte;
+        }
+    }
+    Ok(bytes)
+}
+
+/// Plays a session. A step is `$ `, a command line, perhaps ` < ` and what the file `in` and standard input hold, `out` for
+/// what the last step wrote; then what it tells, and perhaps `=> ` and what it writes to the file `out`, or how many bytes.
+pub fn plays(rt: &impl Abort, alloc: Global, session: &str) -> Result<(), Fail> {
+    let session = in_full(alloc, session)?;
+    let mut written = Vec::new(alloc);
+    for step in session.as_str().split("$ ").skip(1) {
+        written = ends(rt, alloc, step, written.as_slice())?;
+    }
     Ok(())
 }
 
-/// Runs a command line, looks at its status and texts, and gives what it wrote to the file `out`.
-pub fn writes(rt: &impl Abort, alloc: Global, case: &Case<'_>) -> Result<Vec<u8>, Fail> {
-    let written = RefCell::new(Vec::new(alloc));
-    let files = FaultyFiles {
-        input: case.input,
-        written: &written,
-        reads: u32::MAX,
-        writes: u32::MAX,
-        fault: Fault::Error,
+/// Plays a step of a session after one that wrote these bytes, and returns those that it wrote.
+fn ends(rt: &impl Abort, alloc: Global, step: &str, last: &[u8]) -> Result<Vec<u8>, Fail> {
+    let (line, want) = step.split_once('\n').ok_or("a command line")?;
+    let (line, input) = line.split_once(" < ").unwrap_or((line, ""));
+    let (want, file) = want.split_once("=> ").unwrap_or((want, ""));
+    let input = match input {
+        "out" => last.to_vec(alloc)?,
+        told => contents(alloc, told)?,
     };
-    let mut words = Vec::new(alloc);
-    for part in ["mcsim", case.command, case.start, case.options, case.words] {
-        for word in part.split_whitespace() {
-            words.push(word)?;
+    let ended = tells(rt, alloc, line, input.as_slice(), want)?;
+    let written = ended.written.as_slice();
+    match file.trim_end().strip_suffix(" bytes") {
+        Some(length) => assert_eq!(rt; written.len(), length.parse::<usize>()?),
+        None => {
+            let file = contents(alloc, file.trim_end())?;
+            assert_eq!(rt; written, file.as_slice(), "{line}");
         }
     }
-    let mut input = case.input;
-    let ended = outcome_over(alloc, &files, words.as_slice(), &mut input)?;
-    assert_eq!(rt; ended.parts(), (case.status, case.out, case.err));
-    Ok(written.into_inner())
+    Ok(written.to_vec(alloc)?)
+}
+
+/// A path in the folder for temporary files, of this test alone, with these words before its last part.
+pub fn scratch_path(rt: &HostRuntime, before: &str, name: &str) -> Result<String, Fail> {
+    let alloc = rt.alloc();
+    let id = process::id(rt.process());
+    let folder = env::temp_dir(rt)?;
+    let folder = folder.as_str();
+    Ok(format!(in alloc; "{folder}/{before}mcsim-{id}-{name}")?)
 }

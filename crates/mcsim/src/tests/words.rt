@@ -1,147 +1,186 @@
 //! Command lines that are refused, and those that ask for help.
-use super::support::outcome_of;
+use super::support::{in_full, outcome_over, plays, told, words_of};
 use mc_command::Refusal;
+use std::alloc::Global;
 use std::test::Fail;
 
 /// Command lines that clap refuses.
 static REFUSED: &str = "\
-mcsim nonsense
-mcsim --nonsense
-mcsim verify a b
-mcsim verify --nonsense
-mcsim dumpinfo a b
-mcsim dumpinfo --nonsense
-mcsim create
-mcsim create --header-size 32 a b
-mcsim create --version 1 a b
-mcsim create --version 1 --header-size 32 a
-mcsim create --version 1 --header-size 32 a b c
-mcsim create --version 1 --header-size 32 --header-size 32 a b
-mcsim create --version 1 --header-size 32 --align 8 --align 8 a b
-mcsim create --version 1 --header-size 32 --pad --pad a b
-mcsim create --version 1 --header-size 32 --nonsense a b
-mcsim create --version 1 --header-size -1 a b
-mcsim create --version 1 --header-size 32 --security-counter -1 a b
-mcsim type --flash a
-mcsim type --sector 256 --unit 8 --max-sectors 4 --chunk 128 --primary 4 --flash a
-mcsim type --sector 256 --unit 8 --max-sectors 4 --chunk 128 --primary 4 --secondary 3 --kind swap --image-a a --image-b b
-mcsim type --sector 256 --unit 8 --max-sectors 4 --chunk 128 --primary 4 --secondary 3 --flash a --flash b
-mcsim type --sector 256 --unit 8 --max-sectors 4 --chunk 128 --primary 4 --secondary 3 --flash a --grain call
-mcsim type --sector 256 --unit 8 --max-sectors 4 --chunk 128 --primary 4 --secondary 3 --flash a --profile 3
-mcsim boot --sector 256 --unit 8 --max-sectors 4 --chunk 128 --primary 4 --secondary 3 --flash a --grain word
-mcsim boot --sector 256 --unit 8 --max-sectors 4 --chunk 128 --primary 4 --secondary 3 --flash a --profile 0
+nonsense
+--nonsense
+verify a b
+verify --nonsense
+dumpinfo a b
+dumpinfo --nonsense
+create
+create --header-size 32 a b
+create --version 1 a b
+create --version 1 --header-size 32 a
+create --version 1 --header-size 32 a b c
+create --version 1 --header-size 32 --header-size 32 a b
+create --version 1 --header-size 32 --align 8 --align 8 a b
+create --version 1 --header-size 32 --pad --pad a b
+create --version 1 --header-size 32 --nonsense a b
+create --version 1 --header-size -1 a b
+create --version 1 --header-size 32 --security-counter -1 a b
+type --flash a
+type --sector 256 --unit 8 --max-sectors 4 --chunk 128 --primary 4 --flash a
+type WORKED --kind swap --image-a a --image-b b
+type WORKED --flash a --flash b
+type WORKED --flash a --grain call
+type WORKED --flash a --profile 3
+boot WORKED --flash a --grain word
+boot WORKED --flash a --profile 0
 ";
+
+/// Whether a command line is refused in clap's words.
+fn is_refused(alloc: Global, line: &str) -> Result<bool, Fail> {
+    let text = told(alloc, line)?;
+    let text = text.as_str();
+    Ok(text.starts_with("! error: ") && text.ends_with("\nexit 2\n"))
+}
 
 #[test]
 fn refuses_command_lines(rt: HostRuntime) -> Result<(), Fail> {
-    for line in REFUSED.lines() {
-        let words: Vec<&str> = line.split_whitespace().collect(rt.alloc())?;
-        let ended = outcome_of(&rt, words.as_slice(), &[])?;
-        assert_eq!(rt; ended.status, 2, "{line}");
-        assert_eq!(rt; ended.out.as_str(), "", "{line}");
-        let text = ended.err.as_str();
-        assert!(rt; text.starts_with("error: "), "{line}: {text}");
+    let lines = in_full(rt.alloc(), REFUSED)?;
+    for line in lines.as_str().lines() {
+        assert!(rt; is_refused(rt.alloc(), line)?, "{line}");
     }
     Ok(())
 }
 
 /// Command lines with a number that its option does not take, and what is said of it.
 static NUMBERS: &str = "\
-create --version 1 --header-size 31 a b: --header-size takes a number from 32 to 65535
-create --version 1 --header-size 65536 a b: --header-size takes a number from 32 to 65535
-create --version 1 --header-size x a b: --header-size takes a number from 32 to 65535
-create --version 1 --header-size 32 --slot-size 0 a b: --slot-size takes a number from 1 to 16777216
-create --version 1 --header-size 32 --slot-size 16777217 a b: --slot-size takes a number from 1 to 16777216
-create --version 1 --header-size 32 --align 0 a b: --align takes 1, 2, 4 or 8
-create --version 1 --header-size 32 --align 3 a b: --align takes 1, 2, 4 or 8
-create --version 1 --header-size 32 --align 16 a b: --align takes 1, 2, 4 or 8
-create --version 1 --header-size 32 --max-sectors 0 a b: --max-sectors takes a number from 1 to 1024
-create --version 1 --header-size 32 --max-sectors 1025 a b: --max-sectors takes a number from 1 to 1024
-create --version 1 --header-size 32 --security-counter 4294967296 a b: --security-counter takes a number from 0 to 4294967295
-create --version 1 --header-size 0x1f a b: --header-size takes a number from 32 to 65535
-create --version 1 --header-size 0x a b: --header-size takes a number from 32 to 65535
-create --version 1 --header-size 0x+20 a b: --header-size takes a number from 32 to 65535
-create --version 1 --header-size 200h a b: --header-size takes a number from 32 to 65535
-create --version 1 --header-size 0x100000200 a b: --header-size takes a number from 32 to 65535
-type --sector 4294967296 --unit 8 --max-sectors 4 --chunk 128 --primary 4 --secondary 3 --flash a: --sector takes a number from 0 to 4294967295
-explore --sector 256 --unit 8 --max-sectors 4 --chunk 128 --primary 4 --secondary 3 --flash a --cuts 17: --cuts takes a number from 0 to 16
-explore --sector 256 --unit 8 --max-sectors 4 --chunk 128 --primary 4 --secondary 3 --flash a --cuts 0 --limit 0: --limit takes a number from 1 to 4294967295
-explain 17: no refusal has this number
-explain 300: no refusal has this number
-explain Counts: no refusal has this number
+$ create --version 1 --header-size 31 a b
+! mcsim: --header-size takes a number from 32 to 65535; exit 2
+$ create --version 1 --header-size 65536 a b
+! mcsim: --header-size takes a number from 32 to 65535; exit 2
+$ create --version 1 --header-size x a b
+! mcsim: --header-size takes a number from 32 to 65535; exit 2
+$ create --version 1 --header-size 32 --slot-size 0 a b
+! mcsim: --slot-size takes a number from 1 to 16777216; exit 2
+$ create --version 1 --header-size 32 --slot-size 16777217 a b
+! mcsim: --slot-size takes a number from 1 to 16777216; exit 2
+$ create --version 1 --header-size 32 --align 0 a b
+! mcsim: --align takes 1, 2, 4 or 8; exit 2
+$ create --version 1 --header-size 32 --align 3 a b
+! mcsim: --align takes 1, 2, 4 or 8; exit 2
+$ create --version 1 --header-size 32 --align 16 a b
+! mcsim: --align takes 1, 2, 4 or 8; exit 2
+$ create --version 1 --header-size 32 --max-sectors 0 a b
+! mcsim: --max-sectors takes a number from 1 to 1024; exit 2
+$ create --version 1 --header-size 32 --max-sectors 1025 a b
+! mcsim: --max-sectors takes a number from 1 to 1024; exit 2
+$ create --version 1 --header-size 32 --security-counter 4294967296 a b
+! mcsim: --security-counter takes a number from 0 to 4294967295; exit 2
+$ create --version 1 --header-size 0x1f a b
+! mcsim: --header-size takes a number from 32 to 65535; exit 2
+$ create --version 1 --header-size 0x a b
+! mcsim: --header-size takes a number from 32 to 65535; exit 2
+$ create --version 1 --header-size 0x+20 a b
+! mcsim: --header-size takes a number from 32 to 65535; exit 2
+$ create --version 1 --header-size 200h a b
+! mcsim: --header-size takes a number from 32 to 65535; exit 2
+$ create --version 1 --header-size 0x100000200 a b
+! mcsim: --header-size takes a number from 32 to 65535; exit 2
+$ type --sector 4294967296 --unit 8 --max-sectors 4 --chunk 128 --primary 4 --secondary 3 --flash a
+! mcsim: --sector takes a number from 0 to 4294967295; exit 2
+$ explore WORKED --flash a --cuts 17
+! mcsim: --cuts takes a number from 0 to 16; exit 2
+$ explore WORKED --flash a --cuts 0 --limit 0
+! mcsim: --limit takes a number from 1 to 4294967295; exit 2
+$ explain 17
+! mcsim: no refusal has this number; exit 2
+$ explain 300
+! mcsim: no refusal has this number; exit 2
+$ explain Counts
+! mcsim: no refusal has this number; exit 2
+";
+
+/// What a number, or a name, of a refusal means.
+static EXPLANATIONS: &str = "\
+$ explain 22
+E22 NeedsSlotSize, exit status 2
+--pad and --confirm need the length of the slot.
+Give --slot-size.
+$ explain E22
+E22 NeedsSlotSize, exit status 2
+--pad and --confirm need the length of the slot.
+Give --slot-size.
+$ explain 40
+E40 NotErased, no exit status
+A write met bytes that are not 0xff.
+No command ends with it: the boot's result is fault.
 ";
 
 #[test]
 fn refuses_numbers(rt: HostRuntime) -> Result<(), Fail> {
-    for row in NUMBERS.lines() {
-        let (line, want) = row.split_once(": ").ok_or("two columns")?;
-        let line = format!(in rt.alloc(); "mcsim {line}")?;
-        let words: Vec<&str> = line.as_str().split_whitespace().collect(rt.alloc())?;
-        let ended = outcome_of(&rt, words.as_slice(), &[])?;
-        let text = format!(in rt.alloc(); "mcsim: {want}\n")?;
-        assert_eq!(rt; ended.parts(), (2, "", text.as_str()));
-    }
-    Ok(())
+    plays(&rt, rt.alloc(), NUMBERS)
 }
 
 #[test]
 fn explains_refusals(rt: HostRuntime) -> Result<(), Fail> {
-    let slot =
-        "E22 NeedsSlotSize, exit status 2\n--pad and --confirm need the length of the slot.\nGive --slot-size.\n";
-    let erased =
-        "E40 NotErased, no exit status\nA write met bytes that are not 0xff.\nNo command ends with it: the boot's result is fault.\n";
-    for (number, want) in [("22", slot), ("E22", slot), ("40", erased)] {
-        let ended = outcome_of(&rt, &["mcsim", "explain", number], &[])?;
-        assert_eq!(rt; ended.parts(), (0, want, ""));
-    }
-    Ok(())
+    plays(&rt, rt.alloc(), EXPLANATIONS)
+}
+
+/// Whether a command line prints these words alone on standard output, in lines of at most 100 bytes.
+fn helps(alloc: Global, line: &str, want: &str) -> Result<bool, Fail> {
+    let text = told(alloc, line)?;
+    let text = text.as_str();
+    let is_narrow = text.lines().all(|row| row.len() <= 100);
+    Ok(is_narrow && text.contains(want) && !text.contains("! "))
 }
 
 #[test]
 fn prints_help(rt: HostRuntime) -> Result<(), Fail> {
-    let lines = [
-        ("mcsim --help", "Usage: mcsim <COMMAND>"),
-        ("mcsim create --help", "Usage: mcsim create "),
-        ("mcsim verify -h", "Usage: mcsim verify "),
-        ("mcsim dumpinfo -h", "Usage: mcsim dumpinfo "),
-        ("mcsim type --help", "Usage: mcsim type "),
-        ("mcsim explore --help", "Usage: mcsim explore "),
-        ("mcsim sign --help", "Usage: mcsim "),
-        ("mcsim --version", "mcsim 0.1.0 (proved by rattle-kit-"),
-    ];
-    for (line, want) in lines {
-        let words: Vec<&str> = line.split_whitespace().collect(rt.alloc())?;
-        let ended = outcome_of(&rt, words.as_slice(), &[])?;
-        assert_eq!(rt; ended.status, 0, "{line}");
-        let text = ended.out.as_str();
-        assert!(rt; text.contains(want), "{line}: {text}");
-        assert!(rt; text.lines().all(|row| row.len() <= 100), "{line}: {text}");
-        assert_eq!(rt; ended.err.as_str(), "", "{line}");
+    for (line, want) in [
+        ("--help", "Usage: mcsim <COMMAND>"),
+        ("create --help", "Usage: mcsim create "),
+        ("verify -h", "Usage: mcsim verify "),
+        ("dumpinfo -h", "Usage: mcsim dumpinfo "),
+        ("type --help", "Usage: mcsim type "),
+        ("explore --help", "Usage: mcsim explore "),
+        ("sign --help", "Usage: mcsim "),
+        ("--version", "mcsim 0.1.0 (proved by rattle-kit-"),
+    ] {
+        assert!(rt; helps(rt.alloc(), line, want)?, "{line}");
     }
     Ok(())
 }
 
+/// Whether words are refused with the usage.
+fn tells_usage(rt: &HostRuntime, words: &[String]) -> Result<bool, Fail> {
+    let ended = outcome_over(rt.alloc(), rt, words, &mut [].as_slice())?;
+    let text = ended.text(rt.alloc())?;
+    let text = text.as_str();
+    let has_usage = text.contains("Usage: mcsim <COMMAND>");
+    Ok(has_usage && text.starts_with("! ") && text.ends_with("exit 2\n"))
+}
+
 #[test]
 fn refuses_no_words(rt: HostRuntime) -> Result<(), Fail> {
-    for words in [&[] as &[&str], &["mcsim"]] {
-        let ended = outcome_of(&rt, words, &[])?;
-        assert_eq!(rt; ended.status, 2);
-        assert_eq!(rt; ended.out.as_str(), "");
-        let text = ended.err.as_str();
-        assert!(rt; text.contains("Usage: mcsim <COMMAND>"), "{text}");
+    let words = words_of(rt.alloc(), "")?;
+    for count in 0..2usize {
+        let words = words.as_slice().get(..count).unwrap_or_default();
+        assert!(rt; tells_usage(&rt, words)?, "{count}");
     }
     Ok(())
+}
+
+/// Whether a refusal is one line with the program's name, and has the status 2.
+fn is_one_line(alloc: Global, refusal: Refusal) -> Result<bool, Fail> {
+    let mut err = Vec::new(alloc);
+    let status = refusal.report(&mut err);
+    let text = String::from_utf8(err).map_err(|_| "the refusal is no text")?;
+    let text = text.as_str();
+    let is_line = text.lines().count() == 1 && text.ends_with("\n");
+    Ok(status == 2 && is_line && text.starts_with("mcsim: "))
 }
 
 #[test]
 fn refuses_words_in_one_line(rt: HostRuntime) -> Result<(), Fail> {
     for refusal in [Refusal::NotText, Refusal::Argument] {
-        let mut err = Vec::new(rt.alloc());
-        assert_eq!(rt; refusal.report(&mut err), 2);
-        let text = String::from_utf8(err).map_err(|_| "the refusal is no text")?;
-        let lines = text.as_str().strip_prefix("mcsim: ").ok_or("no prefix")?;
-        assert_eq!(rt; lines.lines().count(), 1);
-        assert!(rt; lines.ends_with("\n"));
+        assert!(rt; is_one_line(rt.alloc(), refusal)?);
     }
     Ok(())
 }
