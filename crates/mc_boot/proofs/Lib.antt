@@ -46,3 +46,4 @@ pub mod AfterCut
 pub mod NewPlans
 pub mod SetupKeeps
 pub mod StillValid
+pub mod WholeSwaps

@@ -19,6 +19,7 @@ pub mod After
 pub mod Texts
 pub mod Start
 pub mod Restart
+pub mod WholeSwap
 pub mod Confirm
 pub mod ConfirmFacts
 pub mod Rounds

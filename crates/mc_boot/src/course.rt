@@ -159,7 +159,7 @@ fn swap_op(
 }
 
 /// How many operations a swap has from its start.
-fn new_len(layout: &Layout, grain: Grain, kind: SwapType, sectors: u32) -> u32
+pub fn new_len(layout: &Layout, grain: Grain, kind: SwapType, sectors: u32) -> u32
     requires { sectors ≤ greatest_sectors layout.now }
     ensures len { (size : ℕ) → length (new_list grain layout.now kind size sectors) ≡ result }
     ensures few { result ≤ 204000000 }

@@ -10,6 +10,7 @@ pub mod Reserve
 pub mod Journal
 pub mod Snap
 pub mod Facts
+pub mod Largest
 pub mod LedgerFacts
 pub mod Changes
 pub mod Pieces

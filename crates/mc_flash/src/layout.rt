@@ -1,7 +1,8 @@
 //! The layout of two slots: six numbers that go together.
-ghost use Rattle.std.specs.Prelude.{◌≡◌, ℕ, ◌≤◌, ◌<◌, ◌*◌, ◌^◌, ◌-◌, ◌==◌, min, pos, int_lt, Some, None, MatchResult};
-ghost use Rattle.mc_flash.specs.Geometry.{Geometry, IsLayout, trailer_sectors, count_beside, greatest_count, greatest_sectors, fits, refusal_of};
+ghost use Rattle.std.specs.Prelude.{◌≡◌, ℕ, ◌≤◌, ◌<◌, ◌+◌, ◌*◌, ◌^◌, ◌-◌, ◌==◌, min, pos, int_lt, true, ◌↔◌, Some, None, MatchResult};
+ghost use Rattle.mc_flash.specs.Geometry.{Geometry, IsLayout, trailer_bytes, trailer_sectors, count_beside, greatest_count, greatest_sectors, fits, refusal_of};
 ghost use Rattle.mc_flash.specs.Content.{sectors_of, size_of};
+ghost use Rattle.mc_flash.specs.Largest.{largest_image};
 ghost use Rattle.mc_flash.specs.Pieces.{in_pieces};
 
 use crate::flash::Grain;
@@ -68,6 +69,15 @@ impl Model for Layout {
     ghost inverse = { λ g. record { sector = g.sector; unit = g.unit; max_sectors = g.max_sectors; chunk = g.chunk; primary = g.primary; secondary = g.secondary } };
 }
 
+// The bytes of a trailer, of numbers that a layout may have.
+fn trailer_len(unit: u32, max_sectors: u32) -> u32
+    requires unit { unit ≤ 8 }
+    requires max_sectors { max_sectors ≤ 1024 }
+    ensures { result ≡ 3 * max_sectors * unit + 48 }
+{
+    3 * max_sectors * unit + 48
+}
+
 // The sectors that a trailer takes, of numbers that a layout may have.
 fn trailer_count(sector: u32, unit: u32, max_sectors: u32) -> u32
     requires sector { (64 ≤ sector) × (sector ≤ 65536) }
@@ -83,7 +93,7 @@ fn trailer_count(sector: u32, unit: u32, max_sectors: u32) -> u32
           = 0;
     } in result ≡ trailer_sectors g }
 {
-    (3 * max_sectors * unit + 48).div_ceil(sector)
+    trailer_len(unit, max_sectors).div_ceil(sector)
 }
 
 // The most sectors of an image beside a trailer of so many sectors, or 0 where there is no room for one.
@@ -235,6 +245,14 @@ impl Layout {
         }
     }
 
+    /// The bytes of a slot's trailer, at the slot's end.
+    pub fn trailer_bytes(&self) -> u32
+        ensures value { result ≡ trailer_bytes self.now }
+        ensures valid { IsLayout self.now }
+    {
+        trailer_len(self.unit, self.max_sectors)
+    }
+
     /// The sectors that a slot's trailer takes, at the slot's end.
     pub fn trailer_sectors(&self) -> u32
         ensures value { result ≡ trailer_sectors self.now }
@@ -263,5 +281,15 @@ impl Layout {
         ensures valid { IsLayout self.now }
     {
         size.div_ceil(self.sector as u64) <= self.greatest_sectors() as u64
+    }
+
+    /// The bytes of the largest image that fits both slots, its header and areas included.
+    #[tactic(auto, using(crate::specs::Largest::largest_inside, crate::specs::Largest::fits_largest))]
+    pub fn largest_image(&self) -> u32
+        ensures value { result ≡ largest_image self.now }
+        ensures fits { (size : ℕ) → (fits self.now size ≡ true) ↔ (size ≤ result) }
+        ensures valid { IsLayout self.now }
+    {
+        self.greatest_sectors() * self.sector
     }
 }

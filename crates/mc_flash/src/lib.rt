@@ -18,4 +18,5 @@ pub use flash::{Flash, FlashError, Grain};
 pub use journal::JournalFlash;
 pub use layout::{Layout, LayoutError};
 pub use op::{Bytes16, Op, Slot};
+pub use reserve::most_operations;
 pub use snap::SnapFlash;

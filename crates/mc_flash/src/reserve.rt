@@ -24,8 +24,8 @@ fn transfer_operations(sectors: u32, pieces: u32) -> u64
     3 * sectors as u64 * (pieces as u64 + 2)
 }
 
-// The most operations of a boot: those of its transfers, and those on the trailers.
-fn most_operations(layout: &Layout, grain: Grain) -> u64
+/// The most operations of a boot: those of its transfers, and those on the trailers. It takes no memory.
+pub fn most_operations(layout: &Layout, grain: Grain) -> u64
     ensures value { result ≡ most_operations grain layout.now }
     ensures few { result ≤ 204000000 }
 {

@@ -1,0 +1,21 @@
+//! How long the whole swap of the largest images is.
+ghost use Rattle.std.specs.Prelude.{◌≡◌};
+ghost use Rattle.mc_boot.specs.WholeSwap.{swap_operations, MakesSwap};
+
+use crate::course::new_len;
+use mc_flash::{Grain, Layout};
+use mc_image::{one_reading, same_front};
+use mc_trailer::SwapType;
+
+/// How many operations the whole swap for a test has of two images that fit, the larger of which takes as many sectors as an
+/// image may have. It takes no memory.
+pub fn swap_operations(layout: &Layout, grain: Grain) -> u32
+    ensures value { result ≡ swap_operations grain layout.now }
+    // The boot from the start of such images makes so many.
+    ensures made { MakesSwap grain layout.now result }
+{
+    one_reading();
+    same_front();
+    let pieces = layout.in_pieces(grain);
+    new_len(&pieces, grain, SwapType::Test, layout.greatest_sectors())
+}
