@@ -32,6 +32,7 @@ pub fn parse<'a>(alloc: Global, words: &'a [String]) -> Result<ArgMatches<'a>, E
         .subcommand(create_command(alloc)?)?
         .subcommand(verify_command(alloc)?)?
         .subcommand(dumpinfo_command(alloc)?)?
+        .subcommand(layout_command(alloc)?)?
         .subcommand(type_command(alloc)?)?
         .subcommand(boot_command(alloc)?)?
         .subcommand(replay_command(alloc)?)?
@@ -170,6 +171,24 @@ fn dumpinfo_command<'a>(alloc: Global) -> Result<Command<'a>, AllocError> {
 
 fn image_file<'a>(alloc: Global) -> Arg<'a> {
     Arg::new(alloc, "INFILE").help("The image; standard input if left out")
+}
+
+static AFTER_LAYOUT: &str = "\
+The sizes of a trailer and of the largest image, header and TLV area included; then the first byte of
+the first and last status entry and of each field, as trace names them; then, for cuts between write
+calls and between write units, the operations of a test swap of the largest images, and a bound for
+any boot:
+  image-bytes 512
+  primary 984 swap-info
+  call swap-ops 30";
+
+/// `layout`: what follows from six numbers.
+fn layout_command<'a>(alloc: Global) -> Result<Command<'a>, AllocError> {
+    let command = Command::new(alloc, "layout")
+        .override_usage("mcsim layout <LAYOUT>")
+        .about("Print the sizes and places that follow from a layout, and how long its boots are")
+        .after_help(AFTER_LAYOUT);
+    with_layout(alloc, command)
 }
 
 /// `type`: what the trailers of a flash ask for.

@@ -4,6 +4,7 @@ pub mod dumpinfo;
 pub mod explain;
 pub mod explore;
 mod infile;
+pub mod layout;
 pub mod replay;
 mod schedule;
 pub mod trace;

@@ -75,6 +75,7 @@ fn run_command<F: Files, R: Read, O: Write>(
         Some(("dumpinfo", arguments)) => {
             commands::dumpinfo::run(files, alloc, arguments, input, out)
         }
+        Some(("layout", arguments)) => commands::layout::run(arguments, out),
         Some(("type", arguments)) => commands::trailers::run(files, alloc, arguments, out),
         Some(("boot", arguments)) => commands::replay::boot(files, alloc, arguments, out),
         Some(("replay", arguments)) => commands::replay::run(files, alloc, arguments, out),

@@ -76,7 +76,7 @@ pub fn create_options(arguments: &ArgMatches<'_>) -> Result<CreateOptions, Refus
 ///
 /// `Layout` with the first check that the numbers fail; `Number` where a text says no number below 2^32; `Argument`
 /// where one is missing.
-fn layout_options(arguments: &ArgMatches<'_>) -> Result<Layout, Refusal>
+pub fn layout_options(arguments: &ArgMatches<'_>) -> Result<Layout, Refusal>
     ensures told { IfOk result (λ l. TellsLayout (found_of arguments.now) l) }
     ensures judged { (g : Geometry) → TellsLayout (found_of arguments.now) g
         → Judges (refusal_of g) result }

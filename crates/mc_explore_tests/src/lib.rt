@@ -15,6 +15,8 @@ mod exploring;
 #[cfg(test)]
 mod hostile;
 #[cfg(test)]
+mod layouts;
+#[cfg(test)]
 mod paging;
 #[cfg(test)]
 mod pictures;

@@ -3,3 +3,4 @@ pub mod Trace
 pub mod Refused
 pub mod Sectors
 pub mod Pictures
+pub mod LayoutText

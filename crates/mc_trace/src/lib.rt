@@ -1,12 +1,14 @@
-//! What power cuts do to a boot, told operation by operation, and what lies in each sector then.
+//! What power cuts do to a boot, told operation by operation; what lies in each sector then; and a layout in numbers.
 #![tactic(auto)]
 
 mod boots;
 mod error;
+mod layout;
 mod operation;
 mod sectors;
 mod trace;
 
 pub use error::TraceError;
+pub use layout::write_layout;
 pub use sectors::write_sectors;
 pub use trace::write_trace;

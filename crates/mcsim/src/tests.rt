@@ -3,6 +3,7 @@ mod boots;
 mod creation;
 mod faults;
 mod faulty;
+mod layouts;
 mod pages;
 mod support;
 mod tracing;

@@ -1,0 +1,55 @@
+//! `layout`, of a board's layout and of refused ones.
+use super::support::{Case, ends};
+use std::test::Fail;
+
+/// Slots of 118 sectors of 4096 bytes, worked out by hand.
+static BOARD: &str = "\
+trailer-bytes 1584
+trailer-sectors 1
+image-sectors 116
+image-bytes 475136
+primary 481744 entry 0
+primary 483276 entry 383
+primary 483280 swap-size
+primary 483288 swap-info
+primary 483296 copy-done
+primary 483304 image-ok
+primary 483312 magic
+secondary 483280 swap-size
+secondary 483288 swap-info
+secondary 483296 copy-done
+secondary 483304 image-ok
+secondary 483312 magic
+call swap-ops 2094
+call most-ops 2100
+unit swap-ops 357057
+unit most-ops 357066
+";
+
+#[test]
+fn prints_the_numbers_of_a_layout(rt: HostRuntime) -> Result<(), Fail> {
+    for (secondary, status, out, err) in [
+        ("118", 0, BOARD, ""),
+        ("116", 2, "", "mcsim: E33 Counts\n"),
+        (
+            "x",
+            2,
+            "",
+            "mcsim: --secondary takes a number from 0 to 4294967295\n",
+        ),
+    ] {
+        let case = Case {
+            command: "layout",
+            start: "--sector 4096 --unit 4 --max-sectors 128 --chunk 1024",
+            options: "--primary 118 --secondary",
+            words: secondary,
+            input: &[],
+            status,
+            out,
+            err,
+            written: &[],
+        };
+        ends(&rt, rt.alloc(), &case)?;
+    }
+    Ok(())
+}
