@@ -1,16 +1,9 @@
 //! What explorations take of a flash with a journal.
-use mc_explore::{Cursor, Explorer, Kind, Schedule, Start};
-use mc_fixtures::{FIRST_IMAGE, SECOND_IMAGE, worked};
+use crate::common::swap;
+use mc_explore::{Cursor, Explorer, Kind, Schedule};
 use mc_flash::JournalFlash;
-use std::alloc::Global;
 use std::process::Abort;
 use std::test::Fail;
-
-/// The start of a test swap.
-fn start(alloc: Global) -> Result<Start, Fail> {
-    let layout = worked()?;
-    Ok(Start::from_images(alloc, &layout, Kind::Test, &FIRST_IMAGE, &SECOND_IMAGE)?)
-}
 
 /// The journal has no more than three boots of 36 operations and 2304 saved bytes leave there, and four marks.
 fn assert_bounds(rt: &impl Abort, flash: &JournalFlash) {
@@ -19,28 +12,34 @@ fn assert_bounds(rt: &impl Abort, flash: &JournalFlash) {
     assert!(rt; flash.marks() <= 4);
 }
 
+/// Goes on to the next row, if there is one.
+fn goes_on(rt: &impl Abort, explorer: &mut Explorer<JournalFlash>) -> Result<bool, Fail> {
+    let goes_on = explorer.next_row()?.is_some();
+    assert_bounds(rt, explorer.flash());
+    Ok(goes_on)
+}
+
 #[test]
 fn a_walk_keeps_its_bounds(rt: HostRuntime) -> Result<(), Fail> {
-    let start = start(rt.alloc())?;
+    let start = swap(rt.alloc(), Kind::Test)?;
     let mut explorer = Explorer::<JournalFlash>::start(rt.alloc(), &start, 2)?;
     assert_eq!(rt; explorer.flash().applied(), 0);
     let mut rows = 1000;
     for place in 0u32..1000 {
-        if explorer.next_row()?.is_none() {
+        if !goes_on(&rt, &mut explorer)? {
             rows = place;
             break;
         }
-        assert_bounds(&rt, explorer.flash());
     }
-    assert_eq!(rt; rows, 222);
     // 38 operations a row.
-    assert!(rt; explorer.flash().applied() <= 8436);
+    let applied = explorer.flash().applied();
+    assert!(rt; rows == 222 && applied <= 8436, "{rows} {applied}");
     Ok(())
 }
 
 #[test]
 fn a_resume_goes_straight_down(rt: HostRuntime) -> Result<(), Fail> {
-    let start = start(rt.alloc())?;
+    let start = swap(rt.alloc(), Kind::Test)?;
     let cursor = Cursor::of(&start, 2, &Schedule::read("17.0")?);
     let mut explorer = Explorer::<JournalFlash>::resume(rt.alloc(), &start, 2, &cursor)?;
     assert_bounds(&rt, explorer.flash());

@@ -1,8 +1,8 @@
 //! Texts of campaigns, and campaigns of a test swap that are replayed.
+use crate::common::swap;
 use mc_boot::{BootResult, Outcome};
 use mc_campaign::{Campaign, CampaignError, Round, replay_campaign};
-use mc_explore::{Kind, ReplayError, Start};
-use mc_fixtures::{FIRST_IMAGE, SECOND_IMAGE, worked};
+use mc_explore::{Kind, ReplayError};
 use mc_flash::SnapFlash;
 use mc_trailer::SwapType;
 use std::alloc::Global;
@@ -37,25 +37,28 @@ fn campaigns_are_read(rt: HostRuntime) -> Result<(), Fail> {
     Ok(())
 }
 
+/// Texts that are no campaigns, the first of them empty.
+static REFUSED: &str = "\
+
+2.0,1.0
+3.0
+0.0
+1
+1.0,
+,1.0
+1.0.0
+01.0
+1.00
+1.+0
+1.4294967296
+1.0, 2.0
+-,1.0
+";
+
 #[test]
 fn other_texts_are_refused(rt: HostRuntime) -> Result<(), Fail> {
-    for text in [
-        "",
-        "2.0,1.0",
-        "3.0",
-        "0.0",
-        "1",
-        "1.0,",
-        ",1.0",
-        "1.0.0",
-        "01.0",
-        "1.00",
-        "1.+0",
-        "1.4294967296",
-        "1.0, 2.0",
-        "-,1.0",
-    ] {
-        assert_eq!(rt; Campaign::read(text).err(), Some(CampaignError));
+    for text in REFUSED.lines() {
+        assert!(rt; Campaign::read(text).is_err(), "{text}");
     }
     let text = format!(in rt.alloc(); "{CampaignError}")?;
     assert_eq!(rt; text.as_str(), "E62 CampaignSyntax");
@@ -77,8 +80,7 @@ fn rounds(
     text: &str,
     confirms: bool,
 ) -> Result<Result<(Outcome, Outcome), ReplayError>, Fail> {
-    let layout = worked()?;
-    let start = Start::from_images(alloc, &layout, Kind::Test, &FIRST_IMAGE, &SECOND_IMAGE)?;
+    let start = swap(alloc, Kind::Test)?;
     let campaign = Campaign::read(text)?;
     match replay_campaign::<SnapFlash>(alloc, &start, &campaign, confirms) {
         Ok((one, two, _)) => Ok(Ok((one, two))),
@@ -87,25 +89,38 @@ fn rounds(
     }
 }
 
+/// The result, the type and the number of operations of each round, and the type that is next.
+fn told(
+    alloc: Global,
+    text: &str,
+    confirms: bool,
+) -> Result<
+    (
+        (BootResult, SwapType, u32),
+        (BootResult, SwapType, u32),
+        SwapType,
+    ),
+    Fail,
+> {
+    let (one, two) = rounds(alloc, text, confirms)??;
+    Ok((
+        (one.result, one.kind, one.ops),
+        (two.result, two.kind, two.ops),
+        two.next,
+    ))
+}
+
 #[test]
 fn both_rounds_are_told(rt: HostRuntime) -> Result<(), Fail> {
-    let alloc = rt.alloc();
+    let first = (BootResult::Boot, SwapType::Test, 18);
     for (text, confirms, kind, ops) in [
         ("-", false, SwapType::Revert, 23),
         ("-", true, SwapType::None, 0),
         ("2.4", false, SwapType::Perm, 19),
     ] {
-        let (one, two) = rounds(alloc, text, confirms)??;
-        assert_eq!(rt;
-            (one.result, one.kind, one.ops),
-            (BootResult::Boot, SwapType::Test, 18)
-        );
-        assert_eq!(rt;
-            (two.result, two.kind, two.ops),
-            (BootResult::Boot, kind, ops),
-            "{text}"
-        );
-        assert_eq!(rt; two.next, SwapType::None);
+        let second = (BootResult::Boot, kind, ops);
+        let told = told(rt.alloc(), text, confirms)?;
+        assert_eq!(rt; told, (first, second, SwapType::None), "{text}");
     }
     Ok(())
 }

@@ -1,9 +1,8 @@
 //! The rows of a test swap of two small images.
 ghost use Rattle.std.specs.Prelude.{◌≤◌};
 
-use mc_explore::{Explorer, Kind, Row, Start};
-use mc_fixtures::{FIRST_IMAGE, SECOND_IMAGE, worked};
-use mc_flash::SnapFlash;
+use crate::common::explorer;
+use mc_explore::Row;
 use std::alloc::Global;
 use std::test::Fail;
 
@@ -11,9 +10,7 @@ use std::test::Fail;
 fn rows(alloc: Global, bound: u8) -> Result<Vec<Row>, Fail>
     requires { bound ≤ 16 }
 {
-    let layout = worked()?;
-    let start = Start::from_images(alloc, &layout, Kind::Test, &FIRST_IMAGE, &SECOND_IMAGE)?;
-    let mut explorer = Explorer::<SnapFlash>::start(alloc, &start, bound)?;
+    let mut explorer = explorer(alloc, bound)?;
     let mut rows = Vec::new(alloc);
     for _ in 0..1000 {
         match explorer.next_row()? {

@@ -1,8 +1,9 @@
 //! Flashes that no swap left, explored. The pages are those of a model that shares no code with this repository.
+use crate::common::rules_of;
 use mc_explore::{Explorer, Start, write_page};
 use mc_fixtures::worked;
-use mc_flash::{Grain, JournalFlash};
-use mc_trailer::{MAGIC, Profile, Rules};
+use mc_flash::JournalFlash;
+use mc_trailer::{MAGIC, Rules};
 use sha2::{Digest, Sha256};
 use std::alloc::Global;
 use std::test::Fail;
@@ -61,22 +62,6 @@ pub fn flash_of(changes: &str) -> Result<[u8; 1792], Fail> {
         }
     }
     Ok(flash)
-}
-
-/// The rules of two words.
-pub fn rules_of(grain: &str, profile: &str) -> Rules {
-    Rules {
-        grain: if grain == "unit" {
-            Grain::Unit
-        } else {
-            Grain::Call
-        },
-        profile: if profile == "2" {
-            Profile::Two
-        } else {
-            Profile::One
-        },
-    }
 }
 
 /// The page of all rows of a flash.

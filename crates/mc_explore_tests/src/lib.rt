@@ -9,6 +9,8 @@ mod campaign_rows;
 #[cfg(test)]
 mod campaigns;
 #[cfg(test)]
+mod common;
+#[cfg(test)]
 mod cursors;
 #[cfg(test)]
 mod exploring;

@@ -1,64 +1,45 @@
 //! The pages of a test swap of two small images.
 ghost use Rattle.std.specs.Prelude.{◌≤◌};
 
-use mc_explore::{Explorer, Kind, Schedule, Start, write_page, write_page_until};
-use mc_fixtures::{FIRST_IMAGE, SECOND_IMAGE, worked};
-use mc_flash::SnapFlash;
-use std::alloc::Global;
+use crate::common::{explorer, is_between, page};
+use mc_explore::{Schedule, write_page_until};
+use std::alloc::{AllocError, Global};
 use std::test::Fail;
-
-/// An explorer of a test swap with at most so many cuts.
-pub fn explorer(alloc: Global, bound: u8) -> Result<Explorer<SnapFlash>, Fail>
-    requires { bound ≤ 16 }
-{
-    let layout = worked()?;
-    let start = Start::from_images(alloc, &layout, Kind::Test, &FIRST_IMAGE, &SECOND_IMAGE)?;
-    Ok(Explorer::start(alloc, &start, bound)?)
-}
 
 #[test]
 fn a_full_page_ends_with_a_cursor(rt: HostRuntime) -> Result<(), Fail> {
     let mut explorer = explorer(rt.alloc(), 0)?;
-    let mut page = Vec::with_capacity(rt.alloc(), 2048)?;
-    write_page(&mut explorer, 1, &mut page)?;
-    let page = String::from_utf8(page)?;
+    let first = page(rt.alloc(), &mut explorer, 1)?;
     let row = "- boot test 18 2.0.0+0/80 1.0.0+0/80 revert\nnext mc1:";
-    assert!(rt; page.as_str().starts_with(row));
-    assert!(rt; page.as_str().ends_with(":0:-\n"));
-    let mut last = Vec::with_capacity(rt.alloc(), 2048)?;
-    write_page(&mut explorer, 1, &mut last)?;
-    assert_eq!(rt; last.as_slice(), b"end\n".as_slice());
+    assert!(rt; is_between(first.as_str(), row, ":0:-\n"));
+    let last = page(rt.alloc(), &mut explorer, 1)?;
+    assert_eq!(rt; last.as_str(), "end\n");
     Ok(())
 }
 
 #[test]
 fn a_page_with_room_left_ends(rt: HostRuntime) -> Result<(), Fail> {
-    let mut explorer = explorer(rt.alloc(), 1)?;
-    let mut page = Vec::with_capacity(rt.alloc(), 2048)?;
-    write_page(&mut explorer, 20, &mut page)?;
-    let page = String::from_utf8(page)?;
-    assert_eq!(rt; page.as_str().lines().count(), 20);
-    assert!(rt;
-        page.as_str()
-            .ends_with("\n17 boot test 1 2.0.0+0/80 1.0.0+0/80 revert\nend\n")
-    );
+    let page = page(rt.alloc(), &mut explorer(rt.alloc(), 1)?, 20)?;
+    let page = page.as_str();
+    let row = "\n17 boot test 1 2.0.0+0/80 1.0.0+0/80 revert\nend\n";
+    assert!(rt; page.lines().count() == 20 && page.ends_with(row));
     Ok(())
 }
 
-/// The schedules of the rows of a page up to one, and the first word after them.
-fn words_until(alloc: Global, until: &str, limit: u32) -> Result<String, Fail>
+/// The page of at most so many rows up to a schedule.
+fn page_until(alloc: Global, until: &str, limit: u32) -> Result<String, Fail>
     requires { 1 ≤ limit }
 {
-    let mut explorer = explorer(alloc, 1)?;
+    let until = Schedule::read(until)?;
     let mut page = Vec::with_capacity(alloc, 2048)?;
-    write_page_until(
-        &mut explorer,
-        Some(Schedule::read(until)?),
-        limit,
-        &mut page,
-    )?;
+    write_page_until(&mut explorer(alloc, 1)?, Some(until), limit, &mut page)?;
+    Ok(String::from_utf8(page)?)
+}
+
+/// The schedules of the rows of a page, and the first word after them.
+fn words_of(alloc: Global, page: &str) -> Result<String, AllocError> {
     let mut words = String::new(alloc);
-    for line in String::from_utf8(page)?.as_str().lines() {
+    for line in page.lines() {
         words.push_str(line.split_whitespace().next().unwrap_or(""))?;
         words.push_str(" ")?;
     }
@@ -81,7 +62,8 @@ fn a_page_stops_before_a_schedule(rt: HostRuntime) -> Result<(), Fail> {
             "- 0 1 2 3 4 5 6 7 8 9 10 11 12 13 14 15 16 17 end ",
         ),
     ] {
-        let words = words_until(rt.alloc(), until, limit)?;
+        let page = page_until(rt.alloc(), until, limit)?;
+        let words = words_of(rt.alloc(), page.as_str())?;
         assert_eq!(rt; words.as_str(), want, "{until} {limit}");
     }
     Ok(())

@@ -1,39 +1,42 @@
 //! Pictures and traces of the worked start.
-use mc_explore::{Kind, Schedule, Start};
-use mc_fixtures::{FIRST_IMAGE, SECOND_IMAGE, worked};
+use crate::common::swap;
+use mc_explore::{Kind, Schedule};
 use mc_flash::{Grain, SnapFlash};
 use mc_trace::{TraceError, write_sectors, write_trace};
 use mc_trailer::{Profile, Rules};
+use std::alloc::Global;
 use std::test::Fail;
+
+/// What is written of the sectors at the last cut of a schedule of a test swap.
+fn picture(alloc: Global, schedule: &str) -> Result<Vec<u8>, Fail> {
+    let start = swap(alloc, Kind::Test)?;
+    let schedule = Schedule::read(schedule)?;
+    let mut out = Vec::new(alloc);
+    write_sectors::<SnapFlash, Vec<u8>>(alloc, &start, &schedule, &mut out)?;
+    Ok(out)
+}
 
 #[test]
 fn sectors_at_the_last_cut(rt: HostRuntime) -> Result<(), Fail> {
-    let layout = worked()?;
-    let start = Start::from_images(rt.alloc(), &layout, Kind::Test, &FIRST_IMAGE, &SECOND_IMAGE)?;
-    for (schedule, picture) in [
+    for (schedule, text) in [
         ("-", "primary a0 - - -\nsecondary b0 - b2\n"),
         ("9", "primary a0 a0 - *\nsecondary b0 - -\n"),
         ("10", "primary - a0 - *\nsecondary b0 - -\n"),
         ("9.4", "primary b0 a0 - *\nsecondary b0 - -\n"),
     ] {
-        let mut out = Vec::new(rt.alloc());
-        write_sectors::<SnapFlash, Vec<u8>>(
-            rt.alloc(),
-            &start,
-            &Schedule::read(schedule)?,
-            &mut out,
-        )?;
-        assert_eq!(rt; out.as_slice(), picture.as_bytes(), "{schedule}");
+        let out = picture(rt.alloc(), schedule)?;
+        assert_eq!(rt; out.as_slice(), text.as_bytes(), "{schedule}");
     }
+    Ok(())
+}
+
+#[test]
+fn no_sectors_at_a_cut_that_cannot_occur(rt: HostRuntime) -> Result<(), Fail> {
+    let start = swap(rt.alloc(), Kind::Test)?;
+    let schedule = Schedule::read("18")?;
     let mut out = Vec::new(rt.alloc());
-    let refused = write_sectors::<SnapFlash, Vec<u8>>(
-        rt.alloc(),
-        &start,
-        &Schedule::read("18")?,
-        &mut out,
-    );
-    assert_eq!(rt; refused, Err(TraceError::CannotOccur(0)));
-    assert!(rt; out.is_empty());
+    let refused = write_sectors::<SnapFlash, Vec<u8>>(rt.alloc(), &start, &schedule, &mut out);
+    assert_eq!(rt; (refused, out.len()), (Err(TraceError::CannotOccur(0)), 0));
     Ok(())
 }
 
@@ -50,8 +53,7 @@ boot 0 test
 
 #[test]
 fn units_by_themselves(rt: HostRuntime) -> Result<(), Fail> {
-    let layout = worked()?;
-    let start = Start::from_images(rt.alloc(), &layout, Kind::Test, &FIRST_IMAGE, &SECOND_IMAGE)?;
+    let start = swap(rt.alloc(), Kind::Test)?;
     let start = start.with_rules(Rules {
         grain: Grain::Unit,
         profile: Profile::One,

@@ -47,20 +47,31 @@ fn a_large_flash_is_explored(rt: HostRuntime) -> Result<(), Fail> {
     Ok(())
 }
 
+/// A schedule of 16 cuts.
+static CUTS: &str = "9.9.9.9.9.9.9.9.9.9.9.9.9.9.9.9";
+
+/// Replays it from a start, and returns whether the images are swapped then.
+fn is_swapped<F: Flash + Drop>(alloc: Global, start: &Start) -> Result<bool, Fail> {
+    let (outcome, flash): (Outcome, F) = replay(alloc, start, &Schedule::read(CUTS)?)?;
+    let primary = holds(flash.read(Slot::Primary), 2);
+    let secondary = holds(flash.read(Slot::Secondary), 1);
+    Ok(matches!(outcome.result, BootResult::Boot) && primary && secondary)
+}
+
+/// Returns whether the row after it has the next schedule, and boots.
+fn goes_on<F: Flash + Drop>(alloc: Global, start: &Start) -> Result<bool, Fail> {
+    let cursor = Cursor::of(start, 16, &Schedule::read(CUTS)?);
+    let mut explorer = Explorer::<F>::resume(alloc, start, 16, &cursor)?;
+    let row = explorer.next_row()?.ok_or("a row")?;
+    let next = Schedule::read("9.9.9.9.9.9.9.9.9.9.9.9.9.9.9.10")?;
+    Ok(matches!(row.outcome.result, BootResult::Boot) && row.schedule.cuts() == next.cuts())
+}
+
 /// Replays a schedule of 16 cuts of a swap of large images, and goes on after it.
 fn many_cuts_are_replayed<F: Flash + Drop>(rt: &impl Abort, alloc: Global) -> Result<(), Fail> {
     let start = large(alloc, Kind::Test)?;
-    let schedule = Schedule::read("9.9.9.9.9.9.9.9.9.9.9.9.9.9.9.9")?;
-    let (outcome, flash): (Outcome, F) = replay(alloc, &start, &schedule)?;
-    assert_eq!(rt; outcome.result, BootResult::Boot);
-    assert!(rt; holds(flash.read(Slot::Primary), 2));
-    assert!(rt; holds(flash.read(Slot::Secondary), 1));
-    let cursor = Cursor::of(&start, 16, &schedule);
-    let mut explorer = Explorer::<F>::resume(alloc, &start, 16, &cursor)?;
-    let next = Schedule::read("9.9.9.9.9.9.9.9.9.9.9.9.9.9.9.10")?;
-    let row = explorer.next_row()?.ok_or("a row")?;
-    assert_eq!(rt; row.schedule.cuts(), next.cuts());
-    assert_eq!(rt; row.outcome.result, BootResult::Boot);
+    assert!(rt; is_swapped::<F>(alloc, &start)?);
+    assert!(rt; goes_on::<F>(alloc, &start)?);
     Ok(())
 }
 

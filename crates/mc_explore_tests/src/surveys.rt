@@ -1,20 +1,13 @@
 //! What the rows of an exploration come to. The tallies are those of a model that shares no code with this repository.
 ghost use Rattle.std.specs.Prelude.{◌≤◌};
 
-use crate::hostile::{flash_of, rules_of};
+use crate::common::{rules_of, swap};
+use crate::hostile::flash_of;
 use mc_explore::{Explorer, Kind, Schedule, Start, survey, survey_until};
-use mc_fixtures::{FIRST_IMAGE, SECOND_IMAGE, worked};
+use mc_fixtures::worked;
 use mc_flash::{JournalFlash, SnapFlash};
-use mc_trailer::Rules;
 use std::alloc::Global;
 use std::test::Fail;
-
-/// The start of a swap of two small images.
-fn swap(alloc: Global, kind: Kind, rules: Rules) -> Result<Start, Fail> {
-    let layout = worked()?;
-    let start = Start::from_images(alloc, &layout, kind, &FIRST_IMAGE, &SECOND_IMAGE)?;
-    Ok(start.with_rules(rules))
-}
 
 /// The kind that a word names.
 fn kind_of(word: &str) -> Kind {
@@ -63,7 +56,7 @@ fn the_rows_of_a_page_are_counted(rt: HostRuntime) -> Result<(), Fail> {
         let [kind, grain, profile, bound, limit, want] = fields.as_slice() else {
             return Err(Fail::from("a line has six fields"));
         };
-        let start = swap(alloc, kind_of(kind), rules_of(grain, profile))?;
+        let start = swap(alloc, kind_of(kind))?.with_rules(rules_of(grain, profile));
         let bound = bound.parse::<u8>()?.min(16);
         let told = tally_of(alloc, &start, bound, limit.parse::<u32>()?.max(1))?;
         let want = format!(in alloc; "{want},")?;
@@ -74,7 +67,7 @@ fn the_rows_of_a_page_are_counted(rt: HostRuntime) -> Result<(), Fail> {
 
 #[test]
 fn a_survey_goes_on_where_its_page_would(rt: HostRuntime) -> Result<(), Fail> {
-    let start = swap(rt.alloc(), Kind::Test, Rules::PLAIN)?;
+    let start = swap(rt.alloc(), Kind::Test)?;
     let mut explorer: Explorer<JournalFlash> = Explorer::start(rt.alloc(), &start, 2)?;
     let until = Some(Schedule::read("17.0")?);
     let before = survey_until(&mut explorer, until, 1000)?;

@@ -1,7 +1,7 @@
 //! Pages over writers that take one byte a call, and fail at each call in turn.
 ghost use Rattle.std.specs.Prelude.{◌≡◌, ◌≤◌, IfOk};
 
-use crate::paging::explorer;
+use crate::common::explorer;
 use crate::tearing::PAGE;
 use mc_explore::{ExploreError, Explorer, write_page};
 use mc_flash::SnapFlash;
