@@ -1,24 +1,23 @@
 //! Rows of campaigns of the worked swaps, and what they take of a flash with a journal.
+use crate::common::swap;
 use mc_boot::BootResult;
 use mc_campaign::{CampaignExplorer, CampaignRow};
-use mc_explore::{Kind, Start};
-use mc_fixtures::{FIRST_IMAGE, SECOND_IMAGE, worked};
+use mc_explore::Kind;
 use mc_flash::JournalFlash;
 use mc_trailer::SwapType;
 use std::alloc::Global;
 use std::process::Abort;
 use std::test::Fail;
 
-/// An explorer of the campaigns of a swap of both images.
+/// An explorer of the campaigns of a swap of both images, of at most 16 cuts.
 fn explorer(
     alloc: Global,
     kind: Kind,
     confirms: bool,
     bound: u8,
 ) -> Result<CampaignExplorer<JournalFlash>, Fail> {
-    let layout = worked()?;
-    let start = Start::from_images(alloc, &layout, kind, &FIRST_IMAGE, &SECOND_IMAGE)?;
-    Ok(CampaignExplorer::start(alloc, &start, bound, confirms)?)
+    let start = swap(alloc, kind)?;
+    Ok(CampaignExplorer::start(alloc, &start, bound.min(16), confirms)?)
 }
 
 #[test]
