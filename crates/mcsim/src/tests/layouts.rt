@@ -1,9 +1,10 @@
 //! `layout`, of a board's layout and of refused ones.
-use super::support::{Case, ends};
+use super::support::plays;
 use std::test::Fail;
 
-/// Slots of 118 sectors of 4096 bytes, worked out by hand.
-static BOARD: &str = "\
+/// Slots of 118 sectors of 4096 bytes, worked out by hand; then one whose secondary is too small, and a word that is no number.
+static LAYOUTS: &str = "\
+$ layout --sector 4096 --unit 4 --max-sectors 128 --chunk 1024 --primary 118 --secondary 118
 trailer-bytes 1584
 trailer-sectors 1
 image-sectors 116
@@ -24,32 +25,13 @@ call swap-ops 2094
 call most-ops 2100
 unit swap-ops 357057
 unit most-ops 357066
+$ layout --sector 4096 --unit 4 --max-sectors 128 --chunk 1024 --primary 118 --secondary 116
+! mcsim: E33 Counts; exit 2
+$ layout --sector 4096 --unit 4 --max-sectors 128 --chunk 1024 --primary 118 --secondary x
+! mcsim: --secondary takes a number from 0 to 4294967295; exit 2
 ";
 
 #[test]
 fn prints_the_numbers_of_a_layout(rt: HostRuntime) -> Result<(), Fail> {
-    for (secondary, status, out, err) in [
-        ("118", 0, BOARD, ""),
-        ("116", 2, "", "mcsim: E33 Counts\n"),
-        (
-            "x",
-            2,
-            "",
-            "mcsim: --secondary takes a number from 0 to 4294967295\n",
-        ),
-    ] {
-        let case = Case {
-            command: "layout",
-            start: "--sector 4096 --unit 4 --max-sectors 128 --chunk 1024",
-            options: "--primary 118 --secondary",
-            words: secondary,
-            input: &[],
-            status,
-            out,
-            err,
-            written: &[],
-        };
-        ends(&rt, rt.alloc(), &case)?;
-    }
-    Ok(())
+    plays(&rt, rt.alloc(), LAYOUTS)
 }
