@@ -11,7 +11,7 @@ use Rattle.mc_flash.specs.declared.flash.Grain.TheVariants as grains
 use Rattle.mc_trailer.specs.declared.tables.Rules.{Rules}
 use Rattle.mc_walk.specs.Walks.{IsClear, IsFresh, IsOf, Walked, start_of}
 use Rattle.mc_explore.specs.Start.{Begun, start_digest}
-use Rattle.mc_explore.specs.facts.Room.{AreLimits, limits_are}
+use Rattle.mc_explore.specs.facts.Room.{limits_are}
 use Rattle.mc_campaign.specs.Cursor.{Names}
 use Rattle.mc_campaign.specs.Places.{no_places, pairs_of}
 use Rattle.mc_campaign.specs.Twice.{twice_kind}

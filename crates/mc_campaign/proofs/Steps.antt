@@ -23,7 +23,7 @@ use Rattle.mc_explore.specs.facts.Occurring.{at_zero}
 use Rattle.mc_explore.specs.facts.Telling.{first_left, first_on, width_is}
 use Rattle.mc_explore.specs.declared.once.Told.{Told}
 use Rattle.mc_campaign.specs.Boots.{second_start}
-use Rattle.mc_campaign.specs.Twice.{AreTold, began_at, content_at, later_from, later_number, left_of_way, most_of_both, owed_at, twice_kind}
+use Rattle.mc_campaign.specs.Twice.{AreTold, content_at, later_from, later_number, left_of_way, owed_at, twice_kind}
 use Rattle.mc_campaign.specs.declared.campaign.Round.TheVariants as rounds_of
 use Rattle.mc_campaign.specs.declared.rounds.Both.{Both}
 use Rattle.mc_campaign.specs.declared.rounds.OnWay.{OnWay}

@@ -1,5 +1,5 @@
 -- The rows of a tour through two rounds.
-use Rattle.std.specs.Prelude.{◌≡◌, ◌≢◌, ◌↔◌, ℕ, ◌≤◌, Bool, List, [], length, Option, Some, None, refl}
+use Rattle.std.specs.Prelude.{◌≡◌, ◌≢◌, ℕ, ◌≤◌, Bool, List, [], Some, None, refl}
 use Rattle.std.proofs.Common.{arith, sym, ap, subst, ◌∙◌}
 use Rattle.mc_tree.specs.Tree as tree
 use Rattle.mc_tree.specs.Tree.{Allowed, landed}
@@ -17,7 +17,7 @@ use Rattle.mc_boot.specs.declared.outcome.Outcome.{Outcome}
 use Rattle.mc_boot.specs.RunFacts.{left_defined}
 use Rattle.mc_walk.specs.Kind.{Kind}
 use Rattle.mc_walk.specs.Tours.{Toured, StandsAt, Visits}
-use Rattle.mc_walk.specs.Walks.{Walked, IsPath, IsSame, node_at, start_of}
+use Rattle.mc_walk.specs.Walks.{Walked, IsPath, IsSame, start_of}
 use Rattle.mc_walk.specs.facts.Same.{over_there}
 use Rattle.mc_walk.specs.declared.tour.Phase.{Phase}
 use Rattle.mc_walk.specs.declared.tour.Phase.TheVariants as phases
@@ -29,8 +29,7 @@ use Rattle.mc_explore.specs.View.{position_of}
 use Rattle.mc_explore.specs.facts.Occurring.{allowed_after}
 use Rattle.mc_campaign.specs.Boots.{IsPathOf, pairs_along, rounds, second_start}
 use Rattle.mc_campaign.specs.Campaigns.{IsMember, Precedes}
-use Rattle.mc_campaign.specs.Cursor.{Names}
-use Rattle.mc_campaign.specs.Places.{Places, no_places, pairs_of, placed}
+use Rattle.mc_campaign.specs.Places.{Places, placed}
 use Rattle.mc_campaign.specs.Replay.{AreReplayed}
 use Rattle.mc_campaign.specs.State as states
 use Rattle.mc_campaign.specs.State.{State, Finds, HasOutcomes, moved_to}

@@ -1,5 +1,5 @@
 -- What an explorer of campaigns goes through, where it has come to, and the row that comes next.
-use Rattle.std.specs.Prelude.{◌≡◌, ℕ, Bool, false, Option, Some, None}
+use Rattle.std.specs.Prelude.{ℕ, Bool, false, Option, Some, None}
 use Rattle.mc_tree.specs.Paths.{Position, AtStart, After, Lost, IsNextIn, IsOverIn}
 use Rattle.mc_flash.specs.Content.{Content}
 use Rattle.mc_flash.specs.Ledger.{Ledger}

@@ -5,7 +5,6 @@ use Rattle.std.proofs.Math.Nat.{mul-le-mul_right}
 use Rattle.std.proofs.lemmas.List.{length-take-le, take_all}
 use Rattle.mc_tree.specs.Tree as tree
 use Rattle.mc_tree.specs.Tree.{Allowed, landed}
-use Rattle.mc_tree.specs.Paths as paths
 use Rattle.mc_tree.specs.Paths.{After}
 use Rattle.mc_tree.specs.facts.Order.{allowed_front}
 use Rattle.mc_flash.specs.Content.{Content}
@@ -16,7 +15,7 @@ use Rattle.mc_flash.specs.Spends.{Allows, LeaveRoom, Spent, room_of}
 use Rattle.mc_flash.specs.declared.op.Op.{Op}
 use Rattle.mc_trailer.specs.declared.tables.Rules.{Rules}
 use Rattle.mc_walk.specs.Kind.{telling}
-use Rattle.mc_walk.specs.Walks.{Walked, Begins, Follows, IsSame, IsThere, IsPath, path_cost, start_of}
+use Rattle.mc_walk.specs.Walks.{Walked, Begins, Follows, IsThere, path_cost, start_of}
 use Rattle.mc_boot.specs.Boot.{Progress, progress}
 use Rattle.mc_boot.specs.Bounds.{left_of, ops_few}
 use Rattle.mc_boot.specs.Outcome.{shown}
@@ -29,7 +28,6 @@ use Rattle.mc_explore.specs.Replay.{CannotOccurAt, IsReplayed}
 use Rattle.mc_explore.specs.Resume.{Names, behind}
 use Rattle.mc_explore.specs.Schedules.{IsMember, CanOccur}
 use Rattle.mc_explore.specs.Start.{Begun}
-use Rattle.mc_explore.specs.State.{State}
 use Rattle.mc_walk.specs.declared.tour.Phase.TheVariants as phases
 use Rattle.mc_explore.specs.View.{Followed, IsLoaded, IsSound, begun_of, state_of}
 use Rattle.mc_explore.specs.declared.cursor.Cursor.{Cursor}

@@ -4,10 +4,9 @@ use Rattle.std.proofs.Common.{arith, sym, ap, subst, ◌∙◌}
 use Rattle.std.proofs.Math.Nat.{mul-le-mul_right}
 use Rattle.mc_flash.specs.Content.{Content}
 use Rattle.mc_flash.specs.Geometry.{Geometry, IsLayout}
-use Rattle.mc_flash.specs.Ledger.{Ledger, Limits, IsWithin, limits_for, most_operations, most_saved}
+use Rattle.mc_flash.specs.Ledger.{Ledger, Limits, most_operations, most_saved}
 use Rattle.mc_flash.specs.Seen.{Seen, Loads}
 use Rattle.mc_flash.specs.Spends.{Allows, Spent}
-use Rattle.mc_flash.specs.declared.flash.Grain.{Grain}
 use Rattle.mc_trailer.specs.declared.tables.Rules.{Rules}
 use Rattle.mc_boot.specs.Boot.{Progress}
 use Rattle.mc_boot.specs.Bounds.{left_of}

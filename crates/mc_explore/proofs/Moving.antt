@@ -10,7 +10,7 @@ use Rattle.mc_flash.specs.Content.{Content}
 use Rattle.mc_flash.specs.Ledger.{Limits}
 use Rattle.mc_walk.specs.Kind.{Kind}
 use Rattle.mc_walk.specs.Tours.{Toured, StandsAt, Visits}
-use Rattle.mc_walk.specs.Walks.{Walked, IsPath, IsSame, node_at, start_of}
+use Rattle.mc_walk.specs.Walks.{Walked, IsPath, IsSame, start_of}
 use Rattle.mc_walk.specs.facts.Same.{over_there}
 use Rattle.mc_walk.specs.declared.tour.Phase.{Phase}
 use Rattle.mc_walk.specs.declared.tour.Phase.TheVariants as phases

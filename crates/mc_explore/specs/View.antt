@@ -1,10 +1,10 @@
 -- What an explorer's fields stand for, and what holds of them.
 use Rattle.std.specs.Prelude.{◌≡◌, ◌≢◌, ℕ, ◌+◌, ◌*◌, ◌≤◌, Bool, true, false, List, length}
 use Rattle.mc_tree.specs.Tree as tree
-use Rattle.mc_tree.specs.Paths.{Position, AtStart, After, Lost, IsOver}
+use Rattle.mc_tree.specs.Paths.{Position, AtStart, After, Lost}
 use Rattle.mc_flash.specs.Geometry.{IsLayout}
 use Rattle.mc_flash.specs.Ledger.{most_operations}
-use Rattle.mc_walk.specs.Walks.{Walked, IsFresh, IsPath, start_of}
+use Rattle.mc_walk.specs.Walks.{Walked, IsFresh, start_of}
 use Rattle.mc_explore.specs.Boots.{boots}
 use Rattle.mc_explore.specs.Once.{once}
 use Rattle.mc_explore.specs.Resume.{Names}

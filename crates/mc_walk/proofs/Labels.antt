@@ -1,9 +1,9 @@
 -- The labels of the frames of a walk.
-use Rattle.std.proofs.Common.{◌≡◌, ℕ, zero, suc, ◌+◌, ◌<◌, ◌≤◌, true, false, inl, inr, List, [], ◌∷◌, length, Option, Some, None, IfSome, is_some, refl, sym, ap, subst, ◌∙◌, arith}
+use Rattle.std.proofs.Common.{◌≡◌, ℕ, zero, suc, ◌+◌, ◌<◌, ◌≤◌, true, false, inl, inr, List, [], ◌∷◌, length, Option, Some, None, IfSome, is_some, refl, sym, ap, subst, arith}
 use Rattle.std.specs.List.{slice_get}
 use Rattle.std.proofs.lemmas.Bool.{cases_lt}
 use Rattle.std.proofs.lemmas.Option.{slice_get_past}
-use Rattle.mc_tree.specs.Tree.{Tree, labelled}
+use Rattle.mc_tree.specs.Tree.{labelled}
 use Rattle.mc_flash.specs.Ledger.{Spot}
 use Rattle.mc_flash.specs.Seen.{Seen}
 use Rattle.mc_walk.specs.Kind.{Kind}

@@ -1,11 +1,11 @@
 -- Frames over their marks: one is put on, one is taken off.
-use Rattle.std.proofs.Common.{◌≡◌, ℕ, suc, ◌+◌, ◌*◌, ◌<◌, ◌≤◌, List, [], ◌∷◌, ◌++◌, length, take, Result, Ok, Err, IfOk, OnOk, refl, sym, ap, subst, ◌∙◌, arith, length-append}
+use Rattle.std.proofs.Common.{◌≡◌, ℕ, suc, ◌+◌, ◌*◌, ◌<◌, List, [], ◌∷◌, ◌++◌, length, take, Result, Ok, Err, IfOk, OnOk, refl, sym, ap, subst, ◌∙◌, arith, length-append}
 use Rattle.std.proofs.lemmas.List.{map-append, take_at, get_or_at}
 use Rattle.std.specs.Prelude.{slice_index_or}
 use Rattle.mc_tree.specs.Tree.{landed, Allowed}
 use Rattle.mc_tree.specs.facts.Order.{AllLast, landed-push}
 use Rattle.mc_flash.specs.Content.{Content}
-use Rattle.mc_flash.specs.Ledger.{Counts, Spot, no_counts}
+use Rattle.mc_flash.specs.Ledger.{Counts, Spot}
 use Rattle.mc_flash.specs.Seen.{Seen, no_spot, spot_at, spot_of, went_back, marked}
 use Rattle.mc_flash.specs.Spends.{LeaveRoom, Stays}
 use Rattle.mc_walk.specs.Kind.{Kind, IsAt, IsChild, TellsChild}

@@ -5,7 +5,7 @@ use Rattle.std.proofs.lemmas.List.{map-append, length-map}
 use Rattle.mc_tree.specs.Tree.{Allowed, IsMember}
 use Rattle.mc_tree.specs.facts.Order.{IsNextBeyond, allowed-last, none_beyond, next_beyond}
 use Rattle.mc_flash.specs.Content.{Content}
-use Rattle.mc_flash.specs.Ledger.{Counts, Limits, Spot, no_counts}
+use Rattle.mc_flash.specs.Ledger.{Counts, Limits, Spot}
 use Rattle.mc_flash.specs.Seen.{Seen, Keeps, no_spot, spot_of, went_back, marked}
 use Rattle.mc_flash.specs.Spends.{Spent, Stays, HasRoom, LeaveRoom, plus, room_of}
 use Rattle.mc_flash.specs.SpendsFacts.{spent_back, spent_both, spent_more}

@@ -1,11 +1,11 @@
 -- The first node that a tour visits.
 use Rattle.std.proofs.Common.{◌≡◌, ℕ, List, [], Some, refl, sym, ap, subst, ◌∙◌, arith}
-use Rattle.mc_tree.specs.Tree.{landed, IsMember}
+use Rattle.mc_tree.specs.Tree.{landed}
 use Rattle.mc_tree.specs.Paths.{Position, AtStart, IsNext}
 use Rattle.mc_tree.specs.facts.Order.{none_before_root}
 use Rattle.mc_walk.specs.Kind.{Kind}
 use Rattle.mc_walk.specs.Tours.{Toured, StandsAt, Visits}
-use Rattle.mc_walk.specs.Walks.{Walked, Begins, IsPath, IsSame, node_at, root_of}
+use Rattle.mc_walk.specs.Walks.{Walked, Begins, IsPath, node_at, root_of}
 use Rattle.mc_walk.specs.declared.tour.Phase.TheVariants.{Fresh, Going}
 
 module _ {N A T B : Type 0} (k : Kind N A T) (old : Toured B) (told : T) (new : Walked B) (begins : Begins k old.walk told new) where

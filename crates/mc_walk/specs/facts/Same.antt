@@ -1,5 +1,5 @@
 -- The paths of the same walk, elsewhere.
-use Rattle.std.proofs.Common.{◌≡◌, List, ℕ, sym, subst}
+use Rattle.std.proofs.Common.{List, ℕ, sym, subst}
 use Rattle.mc_tree.specs.Tree.{IsMember}
 use Rattle.mc_tree.specs.Paths.{Position, IsOver}
 use Rattle.mc_walk.specs.Kind.{Kind}

@@ -1,5 +1,5 @@
-use Rattle.std.proofs.Common.{◌≡◌, ℕ, List, [], ◌∷◌, ◌++◌, sym, ap, ◌∙◌, arith}
-use Rattle.mc_campaign.specs.Places.{Places, placed}
+use Rattle.std.proofs.Common.{◌≡◌, [], ◌∷◌, ◌++◌, sym, ap, ◌∙◌, arith}
+use Rattle.mc_campaign.specs.Places.{placed}
 use Rattle.mc_campaign.proofs.Placing.{placed_first, placed_second}
 use Rattle.mc_campaign.proofs.campaign.Campaign.place.Goals as goal
 
