@@ -6,6 +6,7 @@ use mc_explore::{
 };
 use mc_fixtures::{FIRST_IMAGE, SECOND_IMAGE};
 use mc_flash::{Flash, JournalFlash, Slot, SnapFlash};
+use mc_trace::write_slots;
 use std::alloc::Global;
 use std::ops::Range;
 use std::test::Fail;
@@ -137,23 +138,22 @@ fn many_cuts_find_room_in_a_journal(rt: HostRuntime) -> Result<(), Fail> {
     Ok(())
 }
 
-/// The bytes of both slots at the last cut of a schedule of a test swap.
-fn slots_at(alloc: Global, schedule: &str) -> Result<(Vec<u8>, Vec<u8>), Fail> {
+/// The bytes of both slots, one behind the other, at the last cut of a schedule of a test swap.
+fn slots_at(alloc: Global, schedule: &str) -> Result<Vec<u8>, Fail> {
     let start = swap(alloc, Kind::Test)?;
     let schedule = Schedule::read(schedule)?;
     let flash: SnapFlash = flash_at_cut(alloc, &start, &schedule)?;
-    let primary = flash.read(Slot::Primary).to_vec(alloc)?;
-    Ok((primary, flash.read(Slot::Secondary).to_vec(alloc)?))
+    let mut slots = Vec::new(alloc);
+    write_slots(&flash, &mut slots)?;
+    Ok(slots)
 }
 
 #[test]
 fn a_flash_without_a_cut_is_the_start(rt: HostRuntime) -> Result<(), Fail> {
     let start = swap(rt.alloc(), Kind::Test)?;
-    let (primary, secondary) = slots_at(rt.alloc(), "-")?;
-    assert_eq!(rt;
-        (primary.as_slice(), secondary.as_slice()),
-        (start.primary(), start.secondary())
-    );
+    let slots = slots_at(rt.alloc(), "-")?;
+    assert_eq!(rt; part(slots.as_slice(), 0..1024), start.primary());
+    assert_eq!(rt; part(slots.as_slice(), 1024..1792), start.secondary());
     Ok(())
 }
 
@@ -166,16 +166,16 @@ static UNSET: [u8; 16] = [0xff; 16];
 /// The first image stands one sector up, the entry of that transfer is written, and the secondary asks for nothing.
 #[test]
 fn a_flash_at_its_last_cut(rt: HostRuntime) -> Result<(), Fail> {
-    let (primary, secondary) = slots_at(rt.alloc(), "0.9")?;
-    assert_eq!(rt; part(primary.as_slice(), 256..336), FIRST_IMAGE.as_slice());
-    assert_eq!(rt; part(primary.as_slice(), 880..888), ENTRY.as_slice());
-    assert_eq!(rt; part(secondary.as_slice(), 752..768), UNSET.as_slice());
+    let slots = slots_at(rt.alloc(), "0.9")?;
+    assert_eq!(rt; part(slots.as_slice(), 256..336), FIRST_IMAGE.as_slice());
+    assert_eq!(rt; part(slots.as_slice(), 880..888), ENTRY.as_slice());
+    assert_eq!(rt; part(slots.as_slice(), 1776..1792), UNSET.as_slice());
     Ok(())
 }
 
-/// A part of a slot, or nothing where the slot is shorter.
-fn part(slot: &[u8], places: Range<usize>) -> &[u8] {
-    slot.get(places).unwrap_or_default()
+/// A part of some bytes, or nothing where they are fewer.
+fn part(bytes: &[u8], places: Range<usize>) -> &[u8] {
+    bytes.get(places).unwrap_or_default()
 }
 
 #[test]

@@ -3,3 +3,4 @@ mod CutBoots
 mod Tracing
 mod Pictured
 pub mod LayoutOut
+mod SlotsOut

@@ -4,3 +4,4 @@ pub mod Refused
 pub mod Sectors
 pub mod Pictures
 pub mod LayoutText
+pub mod Slots

@@ -1,4 +1,4 @@
-//! What power cuts do to a boot, told operation by operation; what lies in each sector then; and a layout in numbers.
+//! What power cuts do to a boot, told operation by operation; what lies in each sector and slot then; and a layout in numbers.
 #![tactic(auto)]
 
 mod boots;
@@ -6,9 +6,11 @@ mod error;
 mod layout;
 mod operation;
 mod sectors;
+mod slots;
 mod trace;
 
 pub use error::TraceError;
 pub use layout::write_layout;
 pub use sectors::write_sectors;
+pub use slots::write_slots;
 pub use trace::write_trace;

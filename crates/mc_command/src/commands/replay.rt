@@ -4,7 +4,8 @@ use crate::options::required;
 use crate::refusal::Refusal;
 use clap::ArgMatches;
 use mc_explore::{Schedule, Start, flash_at_cut, replay};
-use mc_flash::{Flash, JournalFlash, Slot};
+use mc_flash::{Flash, JournalFlash};
+use mc_trace::write_slots;
 use std::alloc::Global;
 use std::fs;
 use std::io::Write;
@@ -44,7 +45,7 @@ pub fn run<F: Files, O: Write>(
     let (start, schedule) = read_schedule(files, alloc, arguments, schedule)?;
     if let Some(path) = arguments.get_str("at-cut") {
         let flash: JournalFlash = flash_at_cut(alloc, &start, &schedule)?;
-        write_flash(files, path, &flash)?;
+        write_file(files, path, &flash)?;
     }
     tell(files, alloc, arguments, &start, &schedule, out)
 }
@@ -60,17 +61,14 @@ fn tell<F: Files, O: Write>(
 ) -> Result<(), Refusal> {
     let (outcome, flash) = replay::<JournalFlash>(alloc, start, schedule)?;
     if let Some(path) = arguments.get_str("out") {
-        write_flash(files, path, &flash)?;
+        write_file(files, path, &flash)?;
     }
     write!(out, "{outcome}").map_err(|_| Refusal::Write)
 }
 
 // Writes the bytes of both slots, the primary's first, to a file that is made, or emptied first.
-fn write_flash<F: Files, S: Flash>(files: &F, path: &str, flash: &S) -> Result<(), Refusal> {
+fn write_file<F: Files, S: Flash>(files: &F, path: &str, flash: &S) -> Result<(), Refusal> {
     let mut file = fs::create(files, path).map_err(|_| Refusal::Open)?;
-    for slot in [Slot::Primary, Slot::Secondary] {
-        file.write_all(flash.read(slot))
-            .map_err(|_| Refusal::Write)?;
-    }
+    write_slots(flash, &mut file)?;
     Ok(())
 }
