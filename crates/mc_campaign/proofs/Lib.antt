@@ -7,3 +7,7 @@ mod Replays
 mod Placing
 mod Telling
 mod Loaded
+mod InRounds
+mod Followed
+mod Gone
+mod Resumed

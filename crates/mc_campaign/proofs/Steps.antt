@@ -33,7 +33,7 @@ use Rattle.mc_campaign.proofs.Ways.{at_begin, at_first, at_next, between, betwee
 module _ (r : Rules) (g : Geometry) (confirms : Bool) where
   -- ---- how many children
 
-  few_ops : (s : Content) → IsLayout g → length (ops_of r g s) ≤ 204000000
+  pub few_ops : (s : Content) → IsLayout g → length (ops_of r g s) ≤ 204000000
   few_ops s valid =
       let few = ops_few r g s (length (ops_of r g s)) valid in
       omega (arith, few, few_operations r.grain g valid, ap (λ (ops : List Op). length ops) (take_all (length (ops_of r g s)) (ops_of r g s) (omega arith)))

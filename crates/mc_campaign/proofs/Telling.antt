@@ -127,12 +127,12 @@ module _ (r : Rules) (g : Geometry) (confirms : Bool) (s : Content) (bound : ℕ
 
 -- ---- the same start
 
-same_begun : (old new : Walked Twice) → IsSame old new → begun_of new ≡ begun_of old
+pub same_begun : (old new : Walked Twice) → IsSame old new → begun_of new ≡ begun_of old
 same_begun old new s =
     ap (λ (b : Twice). record { geometry = b.once.layout; rules = b.once.rules; content = start_of new.seen }) s.branches
     ∙ ap (λ (c : Content). record { geometry = old.branches.once.layout; rules = old.branches.once.rules; content = c }) s.start
 
-same_state : (old new : Walked Twice) (position : Position Places) → IsSame old new → new.seen.ledger.failed ≡ old.seen.ledger.failed → state_of new position ≡ state_of old position
+pub same_state : (old new : Walked Twice) (position : Position Places) → IsSame old new → new.seen.ledger.failed ≡ old.seen.ledger.failed → state_of new position ≡ state_of old position
 same_state old new position s calm =
     ap (λ (b : Begun). record { start = b; confirms = new.branches.confirms; bound = new.bound; position = position; failed = new.seen.ledger.failed }) (same_begun old new s)
     ∙ ap (λ (b : Twice). record { start = begun_of old; confirms = b.confirms; bound = new.bound; position = position; failed = new.seen.ledger.failed }) s.branches
@@ -140,10 +140,10 @@ same_state old new position s calm =
     ∙ ap (λ (f : Bool). record { start = begun_of old; confirms = old.branches.confirms; bound = old.bound; position = position; failed = f }) calm
 
 -- A path is that of the same campaign.
-abbrev IsPathIn : Walked Twice → List ℕ → Places → Type 0
-IsPathIn w path c = IsPathOf w.branches.once.rules w.branches.once.layout w.branches.confirms (start_of w.seen) w.bound path c
+abbrev pub IsPathFor : Walked Twice → List ℕ → Places → Type 0
+IsPathFor w path c = IsPathOf w.branches.once.rules w.branches.once.layout w.branches.confirms (start_of w.seen) w.bound path c
 
-path_there : (old new : Walked Twice) (path : List ℕ) (c : Places) → IsSame old new → IsPathIn old path c → IsPathIn new path c
+pub path_there : (old new : Walked Twice) (path : List ℕ) (c : Places) → IsSame old new → IsPathFor old path c → IsPathFor new path c
 path_there old new path c s p =
     let at_branches = subst (λ (b : Twice). IsPathOf b.once.rules b.once.layout b.confirms (start_of old.seen) old.bound path c) (sym s.branches) p in
     let at_start = subst (λ x. IsPathOf new.branches.once.rules new.branches.once.layout new.branches.confirms x old.bound path c) (sym s.start) at_branches in
@@ -191,7 +191,7 @@ module _ (counted : Bool) (old new : Toured Twice) (c : CampaignCursor) (works :
     abbrev pub cuts : List (ℕ × ℕ)
     cuts = pairs_along w.branches.once.rules w.branches.once.layout w.branches.confirms (start_of w.seen) new.walk.path
 
-    path_is : IsPathIn w new.walk.path (placed cuts)
+    path_is : IsPathFor w new.walk.path (placed cuts)
     path_is = campaign_of w.branches.once.rules w.branches.once.layout w.branches.confirms (start_of w.seen) w.bound new.walk.path visits.0.listed
 
     pub finds_row : (row : CampaignRow) → row.campaign ≡ placed cuts → row.first ≡ told.first.outcome → row.second ≡ told.second.outcome → Finds (state_of w here) (Some row)
@@ -218,7 +218,7 @@ module _ (counted : Bool) (old new : Toured Twice) (c : CampaignCursor) (works :
       ours_there visits.2 limits l,
       record {
         path = new.walk.path;
-        path_is = path_there w new.walk new.walk.path l visits.2 (subst (IsPathIn w new.walk.path) (sym is) path_is);
+        path_is = path_there w new.walk new.walk.path l visits.2 (subst (IsPathFor w new.walk.path) (sym is) path_is);
         stands = subst (λ p. StandsAt (kind_of new.walk.branches) (record { walk = new.walk; phase = p }) (position_of p new.walk.path)) (sym visits.3) refl;
       },
     )

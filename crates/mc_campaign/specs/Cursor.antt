@@ -1,6 +1,9 @@
--- Where to go on with an exploration of campaigns.
-use Rattle.std.specs.Prelude.{◌≡◌, ℕ, Bool}
+-- Where to go on with an exploration of campaigns, and the first reason why a cursor does not serve.
+use Rattle.std.specs.Prelude.{◌≡◌, ◌≢◌, ◌⊎◌, ℕ, Bool}
 use Rattle.mc_explore.specs.Start.{Begun, start_digest}
+use Rattle.mc_explore.specs.declared.error.ExploreError.{ExploreError}
+use Rattle.mc_explore.specs.declared.error.ExploreError.TheVariants as errors
+use Rattle.mc_campaign.specs.Campaigns.{IsMember}
 use Rattle.mc_campaign.specs.Places.{Places}
 use Rattle.mc_campaign.specs.declared.cursor.CampaignCursor.{CampaignCursor}
 
@@ -15,3 +18,17 @@ pub record Names (start : Begun) (confirms : Bool) (bound : ℕ) (c : CampaignCu
 abbrev pub cursor_of : Begun → Bool → ℕ → Places → CampaignCursor
 cursor_of start confirms bound c =
     record { rules = start.rules; confirms = confirms; digest = start_digest start; bound = bound; campaign = c }
+
+-- Why a cursor is refused: another start; else other rules, or another choice; else another bound; else its campaign is none of those
+-- to go through. Memory is wanted only for a cursor that names them all.
+abbrev pub Refuses : Begun → Bool → ℕ → CampaignCursor → ExploreError → Type 0
+Refuses start confirms bound c errors.OtherStart = c.digest ≢ start_digest start
+Refuses start confirms bound c errors.OtherRules =
+    (c.digest ≡ start_digest start) × ((c.rules ≢ start.rules) ⊎ (c.confirms ≢ confirms))
+Refuses start confirms bound c errors.OtherBound =
+    (c.digest ≡ start_digest start) × (c.rules ≡ start.rules) × (c.confirms ≡ confirms) × (c.bound ≢ bound)
+Refuses start confirms bound c errors.CannotOccur =
+    Names start confirms bound c × (IsMember start.rules start.geometry confirms start.content bound c.campaign → ⊥)
+Refuses start confirms bound c errors.Memory = Names start confirms bound c
+Refuses start confirms bound c errors.Failed = ⊥
+Refuses start confirms bound c errors.Write = ⊥

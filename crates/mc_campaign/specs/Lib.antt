@@ -8,4 +8,5 @@ pub mod Replay
 pub mod Cursor
 pub mod State
 pub mod Explores
+pub mod Resume
 pub mod View

@@ -1,13 +1,15 @@
 -- What the fields of an explorer of campaigns stand for, and what holds of them.
-use Rattle.std.specs.Prelude.{◌≡◌, ◌≢◌, ℕ, ◌≤◌, Bool, false, List, length}
+use Rattle.std.specs.Prelude.{◌≡◌, ◌≢◌, ◌⊎◌, ℕ, ◌+◌, ◌≤◌, ◌^◌, Bool, true, false, List, [], ◌∷◌, ◌++◌, length, take}
 use Rattle.mc_tree.specs.Paths.{Position}
 use Rattle.mc_walk.specs.Tours.{Toured, StandsAt}
 use Rattle.mc_flash.specs.Geometry.{IsLayout}
-use Rattle.mc_walk.specs.Walks.{Walked, IsFresh, start_of}
+use Rattle.mc_flash.specs.Seen.{Seen}
+use Rattle.mc_walk.specs.Walks.{Walked, IsFresh, IsPath, IsSame, start_of}
 use Rattle.mc_walk.specs.declared.tour.Phase.TheVariants.{Broken}
 use Rattle.mc_explore.specs.Start.{Begun}
 use Rattle.mc_explore.specs.View.{position_of}
 use Rattle.mc_campaign.specs.Boots.{IsPathOf}
+use Rattle.mc_campaign.specs.Campaigns.{IsMember}
 use Rattle.mc_campaign.specs.Cursor.{Names}
 use Rattle.mc_campaign.specs.Places.{Places}
 use Rattle.mc_campaign.specs.State.{State, Explored}
@@ -63,3 +65,31 @@ pub record IsLoaded (counted : Bool) (start : Begun) (confirms : Bool) (bound : 
   pub idle : w.seen.ledger.applied ≡ 0
   pub calm : w.seen.ledger.failed ≡ false
   pub valid : IsLayout start.geometry
+
+-- The kind of tree that a walk goes through, and the paths of a walk.
+abbrev pub IsPathIn : Walked Twice → List ℕ → Type 0
+IsPathIn w = IsPath (twice_kind w.branches.once.rules w.branches.once.layout w.branches.confirms) w
+
+-- From where the first round ends, whose boot makes so many operations uncut, a walk went on along cuts of the second round; or their
+-- first number is too great for a path, or a front of the path is none.
+abbrev pub FollowsLater : Walked Twice → ℕ → List ℕ → Bool → Walked Twice → Type 0
+FollowsLater old ops [] went new = (went ≡ true) × (new ≡ old)
+FollowsLater old ops (cut ∷ rest) true new =
+    (new.path ≡ (old.path ++ (ops + cut) ∷ []) ++ rest) × IsPathIn old new.path × IsSame old new × (new.stands ≡ true)
+FollowsLater old ops (cut ∷ rest) false new =
+    (2 ^ 32 ≤ ops + cut)
+    ⊎ (IsPathIn old (old.path ++ (ops + cut) ∷ []) → ⊥)
+    ⊎ ((steps : ℕ) × (IsPathIn old ((old.path ++ (ops + cut) ∷ []) ++ take (steps + 1) rest) → ⊥))
+
+-- From its root a walk went along the path of a campaign; or that is none of those to go through.
+abbrev pub FollowsCampaign : Walked Twice → Places → Bool → Walked Twice → Type 0
+FollowsCampaign old c true new =
+    IsPathOf old.branches.once.rules old.branches.once.layout old.branches.confirms (start_of old.seen) old.bound new.path c
+    × IsSame old new × (new.stands ≡ true)
+FollowsCampaign old c false new =
+    IsMember old.branches.once.rules old.branches.once.layout old.branches.confirms (start_of old.seen) old.bound c → ⊥
+
+-- The limits of a flash stay, and it was refused no memory.
+pub record IsCalm (old new : Seen) : Type 0 where
+  pub limits : new.ledger.limits ≡ old.ledger.limits
+  pub failed : new.ledger.failed ≡ old.ledger.failed

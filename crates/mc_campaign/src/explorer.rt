@@ -7,12 +7,14 @@ ghost use Rattle.mc_explore.specs.Start.{begun};
 ghost use Rattle.mc_campaign.specs.Boots.{pairs_along};
 ghost use Rattle.mc_campaign.specs.Explores.{Explores, row_cost};
 ghost use Rattle.mc_campaign.specs.Places.{placed};
+ghost use Rattle.mc_campaign.specs.Resume.{Resumes};
 ghost use Rattle.mc_campaign.specs.State.{Finds, at_start, state_after};
 ghost use Rattle.mc_campaign.specs.View.{begun_of};
 
 use crate::campaign::Campaign;
 use crate::cursor::CampaignCursor;
-use crate::loading::load;
+use crate::following::follow;
+use crate::loading::{ask, load};
 use crate::rounds::Twice;
 use crate::row::CampaignRow;
 use mc_explore::{ExploreError, Start};
@@ -85,6 +87,37 @@ impl<F: Flash + Drop> CampaignExplorer<F> {
         Ok(CampaignExplorer {
             tour: Tour::fresh(walk),
             cursor: CampaignCursor::of(start, bound, confirms, &Campaign::new()),
+        })
+    }
+
+    /// An explorer that goes on after the campaign of a cursor, straight down along its cuts. It takes memory as one at the start
+    /// does.
+    ///
+    /// # Errors
+    ///
+    /// The first of `OtherStart`, `OtherRules` (also for another choice), `OtherBound` and `CannotOccur` that holds of the cursor;
+    /// `Memory`.
+    pub fn resume(
+        alloc: Global,
+        start: &Start,
+        bound: u8,
+        confirms: bool,
+        cursor: &CampaignCursor,
+    ) -> Result<CampaignExplorer<F>, ExploreError>
+        requires { bound ≤ 16 }
+        ensures resumes { Resumes (begun start.now) confirms bound cursor.now result }
+        ensures exact { IfOk result (λ explorer. F.counted ≡ true → explorer.ledger.limits
+            ≡ limits_for start.now.rules.grain start.now.geometry (bound + 3)) }
+    {
+        ask(start, bound, confirms, cursor)?;
+        let mut walk = load(alloc, start, bound, confirms)?;
+        walk.begin()?;
+        if !follow(&mut walk, &cursor.campaign)? {
+            return Err(ExploreError::CannotOccur);
+        }
+        Ok(CampaignExplorer {
+            tour: Tour::behind(walk),
+            cursor: *cursor,
         })
     }
 

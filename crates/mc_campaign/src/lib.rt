@@ -4,6 +4,7 @@
 mod campaign;
 mod cursor;
 mod explorer;
+mod following;
 mod laws;
 mod loading;
 mod replaying;

@@ -1,14 +1,14 @@
-//! The walk from a start through two rounds, and the cursors of that start.
-ghost use Rattle.std.specs.Prelude.{◌≡◌, ◌+◌, ◌≤◌, true, IfOk};
+//! The walk from a start through two rounds, the cursors of that start, and whether a cursor is one of them.
+ghost use Rattle.std.specs.Prelude.{◌≡◌, ◌+◌, ◌≤◌, true, IfOk, IfErr, OnOk};
 ghost use Rattle.mc_flash.specs.Ledger.{limits_for};
 ghost use Rattle.mc_explore.specs.Start.{begun};
-ghost use Rattle.mc_campaign.specs.Cursor.{cursor_of};
+ghost use Rattle.mc_campaign.specs.Cursor.{Names, Refuses, cursor_of};
 ghost use Rattle.mc_campaign.specs.View.{IsLoaded};
 
 use crate::campaign::Campaign;
 use crate::cursor::CampaignCursor;
 use crate::rounds::Twice;
-use mc_explore::{Once, Start};
+use mc_explore::{ExploreError, Once, Start};
 use mc_flash::{Flash, FlashError};
 use mc_walk::Walk;
 use std::alloc::Global;
@@ -56,4 +56,30 @@ impl CampaignCursor {
             campaign: *campaign,
         }
     }
+}
+
+/// Whether a cursor is one of this start, this choice and this bound.
+///
+/// # Errors
+///
+/// `OtherStart`, `OtherRules` (also for another choice), `OtherBound`: the first that holds.
+pub(crate) fn ask(
+    start: &Start,
+    bound: u8,
+    confirms: bool,
+    cursor: &CampaignCursor,
+) -> Result<(), ExploreError>
+    ensures names { OnOk result (Names (begun start.now) confirms bound cursor.now) }
+    ensures refused { IfErr result (λ e. Refuses (begun start.now) confirms bound cursor.now e) }
+{
+    if cursor.digest != start.digest() {
+        return Err(ExploreError::OtherStart);
+    }
+    if cursor.rules != start.rules() || cursor.confirms != confirms {
+        return Err(ExploreError::OtherRules);
+    }
+    if cursor.bound != bound {
+        return Err(ExploreError::OtherBound);
+    }
+    Ok(())
 }

@@ -1,8 +1,8 @@
 //! Rows of campaigns of the worked swaps, and what they take of a flash with a journal.
 use crate::common::swap;
 use mc_boot::BootResult;
-use mc_campaign::{CampaignExplorer, CampaignRow};
-use mc_explore::Kind;
+use mc_campaign::{Campaign, CampaignCursor, CampaignExplorer, CampaignRow};
+use mc_explore::{ExploreError, Kind};
 use mc_flash::JournalFlash;
 use mc_trailer::SwapType;
 use std::alloc::Global;
@@ -101,6 +101,59 @@ fn both_outcomes_are_told(rt: HostRuntime) -> Result<(), Fail> {
         (two.result, two.kind, two.ops, two.next),
         (BootResult::Boot, SwapType::Perm, 19, SwapType::None)
     );
+    Ok(())
+}
+
+/// The campaign of the first row behind a cursor, as text, or why there is none.
+fn behind(
+    alloc: Global,
+    bound: u8,
+    confirms: bool,
+    text: &str,
+) -> Result<Result<String, ExploreError>, Fail> {
+    let start = swap(alloc, Kind::Test)?;
+    let cursor = CampaignCursor::of(&start, 1, false, &Campaign::read(text)?);
+    let mut explorer = match CampaignExplorer::<JournalFlash>::resume(
+        alloc,
+        &start,
+        bound.min(16),
+        confirms,
+        &cursor,
+    ) {
+        Ok(explorer) => explorer,
+        Err(error) => return Ok(Err(error)),
+    };
+    match explorer.next_row()? {
+        Some(row) => {
+            let campaign = row.campaign;
+            Ok(Ok(format!(in alloc; "{campaign}")?))
+        }
+        None => Ok(Ok(String::from_str(alloc, "end")?)),
+    }
+}
+
+#[test]
+fn rows_go_on_behind_cursors(rt: HostRuntime) -> Result<(), Fail> {
+    for (text, next) in [
+        ("-", "1.0"),
+        ("1.16", "1.17"),
+        ("1.17", "2.0"),
+        ("2.21", "2.22"),
+        ("2.22", "end"),
+    ] {
+        let told = behind(rt.alloc(), 1, false, text)??;
+        assert_eq!(rt; told.as_str(), next, "{text}");
+    }
+    for (bound, confirms, text, refused) in [
+        (1, true, "-", ExploreError::OtherRules),
+        (2, false, "-", ExploreError::OtherBound),
+        (1, false, "1.18", ExploreError::CannotOccur),
+        (1, false, "2.23", ExploreError::CannotOccur),
+        (1, false, "1.0,2.0", ExploreError::CannotOccur),
+    ] {
+        let told = behind(rt.alloc(), bound, confirms, text)?.err();
+        assert_eq!(rt; told, Some(refused), "{text}");
+    }
     Ok(())
 }
 
