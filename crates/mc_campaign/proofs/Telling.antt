@@ -183,8 +183,6 @@ module _ (counted : Bool) (old new : Toured Twice) (c : CampaignCursor) (works :
         counted_is = ap (λ (x : Limits). x.counted) limits ∙ ours.counted_is;
       }
 
-  pub few_there : IsSame old.walk new.walk → new.walk.bound ≤ 16
-  few_there same = omega (arith, (sound works).0.few, same.bound)
 
   -- The next row.
   module _ (told : Both) (visits : Visits (kind_of w.branches) old (position_of old.phase behind.path) (Some told) new) where

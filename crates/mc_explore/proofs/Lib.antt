@@ -4,7 +4,6 @@ mod Bytes
 mod TornPages
 mod Reading
 mod Onwards
-mod Listing
 mod Loaded
 mod Moving
 mod Going

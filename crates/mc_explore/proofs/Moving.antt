@@ -28,7 +28,7 @@ use Rattle.mc_explore.specs.declared.cursor.Cursor.{Cursor}
 use Rattle.mc_explore.specs.declared.once.Once.{Once}
 use Rattle.mc_explore.specs.declared.once.Told.{Told}
 use Rattle.mc_explore.specs.declared.row.Row.{Row}
-use Rattle.mc_explore.proofs.Listing.{lands_told}
+use Rattle.mc_explore.specs.facts.Listed.{lands_told}
 use Rattle.mc_explore.specs.facts.Occurring.{member_of, path_of}
 
 -- The kind of tree that a walk goes through.

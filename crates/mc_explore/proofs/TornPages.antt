@@ -28,7 +28,7 @@ use Rattle.mc_explore.specs.Torn.{AreLines, IsRowLine, AreRowLines, HasRows, IsO
 use Rattle.mc_explore.specs.declared.cursor.Cursor.{Cursor}
 use Rattle.mc_explore.proofs.Bytes.{IsBetween, NoFeed, literal, and, feedless_front, schedule_between, lacks_feed, lacks_literal, row_feedless, cursor_feedless, no_space}
 use Rattle.mc_explore.proofs.Going.{few_ops}
-use Rattle.mc_explore.proofs.Listing.{rest_tail}
+use Rattle.mc_explore.specs.facts.Listed.{rest_tail}
 use Rattle.mc_explore.specs.facts.Occurring.{path_of}
 use Rattle.mc_output.specs.facts.Parting.{Lacks, lacks_each, one_part, no_part, lacks_decimal}
 use Rattle.mc_output.specs.facts.Reading.{dash}

@@ -5,6 +5,8 @@ pub mod Replay
 pub mod Schedules
 pub mod Boots
 pub mod State
+pub mod Listing
+pub mod Pages
 pub mod Rest
 pub mod RowText
 pub mod Once

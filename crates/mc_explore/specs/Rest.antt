@@ -1,19 +1,37 @@
--- The rows to come: a sorted set, without a word of how they are found.
-use Rattle.std.specs.Prelude.{ℕ, List}
-use Rattle.mc_tree.specs.Rows as lists
+-- The rows of schedules, as they are listed.
+use Rattle.std.specs.Prelude.{ℕ, List, []}
+use Rattle.mc_tree.specs.Paths.{Precedes}
+use Rattle.mc_explore.specs.CursorText.{cursor_text}
+use Rattle.mc_explore.specs.Listing as listings
+use Rattle.mc_explore.specs.Listing.{Listing}
+use Rattle.mc_explore.specs.RowText.{row_text}
 use Rattle.mc_explore.specs.Schedules.{IsMember}
-use Rattle.mc_explore.specs.Start.{Begun}
-use Rattle.mc_explore.specs.State.{State, Told, HasOutcome}
+use Rattle.mc_explore.specs.Start.{Begun, start_digest}
+use Rattle.mc_explore.specs.State.{State, Told, HasOutcome, moved_to}
+use Rattle.mc_explore.specs.declared.cursor.Cursor.{Cursor}
 
--- The schedule that a row is found by.
-abbrev pub schedule_of : Told → List ℕ
-schedule_of row = row.schedule
+-- The cursor that goes on behind a schedule.
+abbrev pub cursor_of : Begun → ℕ → List ℕ → Cursor
+cursor_of start bound l = record { rules = start.rules; digest = start_digest start; bound = bound; schedule = l }
 
 -- A row of the whole list: one of the schedules to go through, with its outcome.
 pub record IsRow (start : Begun) (bound : ℕ) (row : Told) : Type 0 where
   pub listed : IsMember start.rules start.geometry start.content bound row.schedule
   pub outcome : HasOutcome start row
 
+abbrev pub schedules : Listing State (List ℕ) Told Cursor
+schedules = record {
+  IsRow = λ state. IsRow state.start state.bound;
+  key = λ row. row.schedule;
+  Before = Precedes;
+  row_text = row_text;
+  position = λ state. state.position;
+  moved_to = moved_to;
+  cursor = λ state. cursor_of state.start state.bound;
+  cursor_text = cursor_text;
+  no_key = [];
+}
+
 -- The rows past the position, each of them and no others, in their order.
 abbrev pub IsRest : State → List Told → Type 0
-IsRest state rows = lists.IsRest schedule_of (IsRow state.start state.bound) state.position rows
+IsRest = listings.IsRest schedules

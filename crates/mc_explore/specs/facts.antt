@@ -2,3 +2,4 @@
 pub mod Occurring
 pub mod Telling
 pub mod Room
+pub mod Listed

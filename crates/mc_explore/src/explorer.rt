@@ -1,25 +1,28 @@
 //! Goes through the schedules of power cuts, one after another.
-ghost use Rattle.std.specs.Prelude.{◌≡◌, ◌≢◌, ◌+◌, ◌*◌, ◌≤◌, true, length, IfOk, IfErr, IfSome, OnOk, OnErr, IsErrOf, ◌⊎◌};
+ghost use Rattle.std.specs.Prelude.{◌≡◌, ℕ, List, ◌+◌, ◌*◌, ◌≤◌, true, length, IfOk, IfErr, IfSome, OnOk, OnErr, IsErrOf, ◌⊎◌};
 ghost use Rattle.mc_flash.specs.Ledger.{limits_for, most_operations};
 ghost use Rattle.mc_explore.specs.Bounds.{row_cost};
-ghost use Rattle.mc_explore.specs.Page.{cursor_of};
+ghost use Rattle.mc_explore.specs.Rest.{cursor_of};
 ghost use Rattle.mc_explore.specs.Resume.{Resumes};
 ghost use Rattle.mc_explore.specs.Restarts.{RowRestarts};
 ghost use Rattle.mc_explore.specs.Start.{begun};
-ghost use Rattle.mc_explore.specs.State.{State, Finds, told, state_after, lost_at, at_start};
+ghost use Rattle.mc_explore.specs.State.{State, Finds, told, state_after, at_start};
 ghost use Rattle.mc_explore.specs.Explores.{Explores};
-ghost use Rattle.mc_tree.specs.Paths.{Lost};
+ghost use Rattle.mc_tree.specs.Paths.{After};
 
 use crate::cursor::Cursor;
 use crate::error::ExploreError;
 use crate::loading::{ask, load};
 use crate::once::Once;
+use crate::output::write_line;
 use crate::row::Row;
+use crate::source::RowSource;
 use crate::{Schedule, Start};
 use mc_boot::restart_law;
 use mc_flash::Flash;
 use mc_walk::Tour;
 use std::alloc::Global;
+use std::io::Write;
 use std::marker::Model;
 
 /// Goes through all schedules of at most so many cuts that can occur, in their order, each with its outcome, over one
@@ -142,24 +145,73 @@ impl<F: Flash + Drop> Explorer<F> {
         self.tour.walk().flash()
     }
 
-    /// Where to go on after a schedule.
-    pub(crate) fn cursor(&self, schedule: &Schedule) -> Cursor
-        ensures { self.now.state.position ≢ Lost → result
-            ≡ cursor_of self.now.state.start self.now.state.bound schedule.now }
+    /// Where to go on behind the last row.
+    pub(crate) fn cursor(&self) -> Cursor
+        ensures { (last : List ℕ) → self.now.state.position ≡ After last → result
+            ≡ cursor_of self.now.state.start self.now.state.bound last }
     {
-        Cursor {
-            schedule: *schedule,
-            ..self.cursor
+        self.cursor
+    }
+}
+
+impl<F: Flash + Drop> RowSource for Explorer<F> {
+    ghost use Rattle.std.specs.Prelude.{List, ℕ, refl};
+    ghost use Rattle.mc_explore.specs.Bounds.{most_for_row};
+    ghost use Rattle.mc_explore.specs.Rest.{schedules};
+    ghost use Rattle.mc_explore.specs.State as states;
+    ghost use Rattle.mc_explore.specs.declared.cursor.Cursor as cursors;
+    ghost use Rattle.mc_explore.specs.facts.Listed.{schedules_are_lawful};
+
+    ghost State = { states.State };
+
+    ghost Key = { List ℕ };
+
+    ghost Shown = { states.Told };
+
+    ghost Cursor = { cursors.Cursor };
+
+    type Row = Row;
+
+    type Until = Option<Schedule>;
+
+    ghost listing = { schedules };
+
+    ghost laws = { schedules_are_lawful };
+
+    ghost state = { λ explorer. explorer.state };
+
+    ghost ledger = { λ explorer. explorer.ledger };
+
+    ghost counted = { F.counted };
+
+    ghost shown = { states.told };
+
+    ghost until_of = { λ until. until };
+
+    ghost most_for_row = { λ s. most_for_row s.start.rules s.start.geometry };
+
+    ghost cost_stays = { λ s k. refl };
+
+    fn next_before(&mut self, until: &Option<Schedule>) -> Result<Option<Row>, ExploreError> {
+        let Some(until) = until else {
+            return self.next_row();
+        };
+        match self.next_row()? {
+            Some(row) if !row.schedule.is_before(until) => Ok(None),
+            found => Ok(found),
         }
     }
 
-    /// Makes it one that failed, for a caller that could not write a row.
-    pub(crate) fn give_up(&mut self)
-        ensures state { self.new.state ≡ lost_at self.old.state }
-        ensures content { self.new.content ≡ self.old.content }
-        ensures ledger { self.new.ledger ≡ self.old.ledger }
-        ensures marked { self.new.marked ≡ self.old.marked }
-    {
+    fn write_row<W: Write>(row: Row, writer: &mut W) -> Result<(), ExploreError> {
+        write_line(writer, row)
+    }
+
+    fn write_next<W: Write>(&self, writer: &mut W) -> Result<(), ExploreError> {
+        let cursor = self.cursor();
+        write_line(writer, format_args!("next {cursor}"))
+    }
+
+    fn give_up(&mut self) {
         self.tour.give_up();
     }
 }

@@ -3,7 +3,7 @@ ghost use Rattle.std.specs.Prelude.{◌≡◌, ◌+◌, ◌≤◌, true, length,
 ghost use Rattle.mc_flash.specs.Content.{size_of};
 ghost use Rattle.mc_flash.specs.declared.op.Slot.TheVariants.{Primary, Secondary};
 ghost use Rattle.mc_flash.specs.Ledger.{limits_for};
-ghost use Rattle.mc_explore.specs.Page.{cursor_of};
+ghost use Rattle.mc_explore.specs.Rest.{cursor_of};
 ghost use Rattle.mc_explore.specs.Resume.{Names, Refuses};
 ghost use Rattle.mc_explore.specs.Start.{begun};
 ghost use Rattle.mc_explore.specs.View.{IsLoaded, begun_with};

@@ -10,6 +10,7 @@ use crate::error::ExploreError;
 use crate::explorer::Explorer;
 use crate::row::Row;
 use crate::schedule::Schedule;
+use crate::source::RowSource;
 use mc_boot::BootResult;
 use mc_flash::Flash;
 use std::fmt;
@@ -108,19 +109,13 @@ pub fn survey_until<F: Flash + Drop>(
     ensures err { IfErr result (λ e. (e ≡ ExploreError.Memory) ⊎ (e ≡ ExploreError.Failed)) }
 {
     let mut tally = Tally::new();
-    let mut last = Schedule::new();
     'rows: while tally.rows < limit {
         match explorer.next_before(&until)? {
-            Some(row) => {
-                last = row.schedule;
-                tally.add(&row);
-            }
-            None => {
-                return Ok(tally);
-            }
+            Some(row) => tally.add(&row),
+            None => return Ok(tally),
         }
     }
-    tally.next = Some(explorer.cursor(&last));
+    tally.next = Some(explorer.cursor());
     Ok(tally)
 }
 

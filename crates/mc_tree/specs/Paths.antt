@@ -1,12 +1,16 @@
 -- The order of paths, and which of them comes next.
 use Rattle.std.specs.Prelude.{◌≡◌, ℕ, ◌<◌, ◌⊎◌, List, [], ◌∷◌}
 
--- A proper front of a path comes before it, else the first number that differs decides.
+-- A proper front of a list comes before it, else the first element that differs decides.
+abbrev pub PrecedesIn : {X : Type 0} → (X → X → Type 0) → List X → List X → Type 0
+PrecedesIn Less [] [] = ⊥
+PrecedesIn Less [] (y ∷ ys) = Unit {0}
+PrecedesIn Less (x ∷ xs) [] = ⊥
+PrecedesIn Less (x ∷ xs) (y ∷ ys) = Less x y ⊎ ((x ≡ y) × PrecedesIn Less xs ys)
+
+-- So it is of paths.
 abbrev pub Precedes : List ℕ → List ℕ → Type 0
-Precedes [] [] = ⊥
-Precedes [] (y ∷ ys) = Unit {0}
-Precedes (x ∷ xs) [] = ⊥
-Precedes (x ∷ xs) (y ∷ ys) = (x < y) ⊎ ((x ≡ y) × Precedes xs ys)
+Precedes = PrecedesIn (λ x y. x < y)
 
 -- After a path and after all that go on from it.
 abbrev pub Beyond : List ℕ → List ℕ → Type 0

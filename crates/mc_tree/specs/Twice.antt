@@ -1,6 +1,7 @@
 -- The tree of two rounds over a tree.
 use Rattle.std.specs.Prelude.{◌≡◌, ℕ, ◌+◌, ◌-◌, ◌<◌, ◌⊎◌, nat_lt, if◌then◌else◌, List, [], ◌∷◌, ◌++◌, map}
 use Rattle.mc_tree.specs.Tree.{Tree, labelled}
+use Rattle.mc_tree.specs.Paths.{PrecedesIn}
 
 -- A node of the first round; or one of the second, with the node of the first behind which its round began.
 pub data Place (N : Type 0) : Type 0 where
@@ -44,9 +45,6 @@ pairs path later = map (λ i. (1, i)) path ++ map (λ j. (2, j)) later
 abbrev pub Before : ℕ × ℕ → ℕ × ℕ → Type 0
 Before x y = (x.0 < y.0) ⊎ ((x.0 ≡ y.0) × (x.1 < y.1))
 
--- A proper front comes before a list, else the first pair that differs decides.
+-- Lists of pairs in their order.
 abbrev pub PairsPrecede : List (ℕ × ℕ) → List (ℕ × ℕ) → Type 0
-PairsPrecede [] [] = ⊥
-PairsPrecede [] (y ∷ ys) = Unit {0}
-PairsPrecede (x ∷ xs) [] = ⊥
-PairsPrecede (x ∷ xs) (y ∷ ys) = Before x y ⊎ ((x ≡ y) × PairsPrecede xs ys)
+PairsPrecede = PrecedesIn Before

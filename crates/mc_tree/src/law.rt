@@ -4,7 +4,7 @@ ghost use Rattle.mc_tree.specs.Paths.{Precedes};
 
 /// Of two paths that differ one comes before the other, and not the other before it; a path before another, which comes before
 /// a third, comes before the third.
-#[tactic(auto, using(crate::specs::facts::Precedence::precedes_trans, crate::specs::facts::Precedence::precedes_asym, crate::specs::facts::Precedence::precedes_total))]
+#[tactic(auto, using(crate::specs::facts::Precedence::paths_in_order))]
 pub fn paths_are_ordered()
     ensures trans { (x y z : List ℕ) → Precedes x y → Precedes y z → Precedes x z }
     ensures never { (x y : List ℕ) → Precedes x y → Precedes y x → ⊥ }

@@ -119,13 +119,6 @@ impl<F: Flash, B: Branches> Tour<F, B> {
         &self.walk
     }
 
-    /// How it stands with its walk.
-    pub fn phase(&self) -> Phase
-        ensures { result ≡ self.now.phase }
-    {
-        self.phase
-    }
-
     /// Makes it one that failed.
     pub fn give_up(&mut self)
         ensures { self.new ≡ record { walk = self.old.walk; phase = Phase.Broken } }

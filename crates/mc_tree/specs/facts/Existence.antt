@@ -1,13 +1,13 @@
 -- There is a list of the rows to come: of all paths within the bound those past the position, each with its row.
-use Rattle.std.proofs.Common.{◌≡◌, ℕ, suc, zero, ◌<◌, List, [], ◌∷◌, ◌++◌, get_or, map, inl, inr, refl, sym, ap, subst, ◌∙◌, arith}
+use Rattle.std.proofs.Common.{◌≡◌, ℕ, suc, zero, ◌<◌, List, [], ◌∷◌, ◌++◌, map, inl, inr, refl, sym, subst, arith}
 use Rattle.std.specs.Prelude.{AllPairs, Contains}
 use Rattle.std.proofs.lemmas.Bool.{cases_lt}
 use Rattle.std.proofs.lemmas.List.Elements.{Contains-append_cases, Contains-append_left, Contains-append_right}
 use Rattle.mc_tree.specs.Tree.{Tree, IsMember}
-use Rattle.mc_tree.specs.Paths.{Precedes, Position, AtStart, After, Lost, IsPast}
-use Rattle.mc_tree.specs.Rows.{IsRest}
-use Rattle.mc_tree.specs.facts.Precedence.{precedes_cases}
-use Rattle.mc_tree.specs.facts.Lists.{no_element, at_front, behind, front_or_behind, no_pairs, pairs_behind, pairs_front, more_pairs, pairs_append, in_map, map_in, pairs_map}
+use Rattle.mc_tree.specs.Paths.{Precedes, Position, AtStart, After, Lost}
+use Rattle.mc_tree.specs.Rows.{Ascends, IsRest}
+use Rattle.mc_tree.specs.facts.Precedence.{IsOrder, cases_of}
+use Rattle.mc_tree.specs.facts.Lists.{no_element, at_front, behind, front_or_behind, no_pairs, pairs_behind, pairs_front, more_pairs, pairs_append, in_map, map_in, pairs_mapped}
 
 -- Each path comes before all that stand behind it.
 abbrev pub PathsAscend : List (List ℕ) → Type 0
@@ -43,41 +43,11 @@ unfolding beginning
 beginning_ascends f zero up = no_pairs Precedes
 beginning_ascends f (suc n) up =
     pairs_append Precedes (beginning f n) (map (λ l. n ∷ l) (f n)) (beginning_ascends f n up)
-    (pairs_map (λ l. n ∷ l) Precedes (f n) (λ i j d lt within. inr (refl, up n i j d lt within))) (λ x y i j.
+    (pairs_mapped (λ l. n ∷ l) Precedes Precedes (f n) (λ a b i j before. inr (refl, before)) (up n)) (λ x y i j.
     let a = in_beginning f n x i in
     let b = in_map (λ l. n ∷ l) y (f n) j in
     let before : Precedes (a.0 ∷ a.1) (n ∷ b.0) = inl a.2 in
     subst (λ z. Precedes z y) (sym a.3) (subst (Precedes (a.0 ∷ a.1)) (sym b.1) before))
-
--- The paths of a list past one.
-past_of : (l : List ℕ) (ls : List (List ℕ)) → PathsAscend ls → (past : List (List ℕ)) × PathsAscend past
-    × ((m : List ℕ) → Contains past m → Contains ls m × Precedes l m) × ((m : List ℕ) → Contains ls m → Precedes l m → Contains past m)
-past_of l [] up = ([], no_pairs Precedes, λ m i. absurd (no_element m i), λ m i p. i)
-past_of l (x ∷ xs) up =
-    let rest = past_of l xs (pairs_behind Precedes x xs up) in
-    elim (precedes_cases l x) [
-      | inl before ↦ (
-        x ∷ rest.0,
-        more_pairs Precedes x rest.0 (λ m i. pairs_front Precedes x m xs up (rest.2 m i).0) rest.1,
-        λ m i. elim (front_or_behind x m rest.0 i) [
-          | inl e ↦ (subst (Contains (x ∷ xs)) (sym e) (at_front x xs), subst (Precedes l) (sym e) before)
-          | inr j ↦ (behind x m xs (rest.2 m j).0, (rest.2 m j).1)
-        ],
-        λ m i after. elim (front_or_behind x m xs i) [
-          | inl e ↦ subst (Contains (x ∷ rest.0)) (sym e) (at_front x rest.0)
-          | inr j ↦ behind x m rest.0 (rest.3 m j after)
-        ],
-      )
-      | inr not ↦ (
-        rest.0,
-        rest.1,
-        λ m i. (behind x m xs (rest.2 m i).0, (rest.2 m i).1),
-        λ m i after. elim (front_or_behind x m xs i) [
-          | inl e ↦ absurd (not (subst (Precedes l) e after))
-          | inr j ↦ rest.3 m j after
-        ],
-      )
-    ]
 
 module _ {N : Type 0} (t : Tree N) where
   -- All paths of at most k steps.
@@ -120,55 +90,65 @@ module _ {N : Type 0} (t : Tree N) where
       behind [] (x ∷ xs) (beginning f (t.width s))
       (beginning_in f (t.width s) x xs mem.1.0 (all_in k (t.child s x) xs (omega (arith, mem.0), mem.1.1)))
 
-  -- The members past a position.
-  pub record ArePast (s : N) (bound : ℕ) (position : Position (List ℕ)) (ls : List (List ℕ)) : Type 0 where
-    pub ascends : PathsAscend ls
-    pub only : (l : List ℕ) → Contains ls l → IsMember t s bound l × IsPast position l
-    pub all : (l : List ℕ) → IsMember t s bound l → IsPast position l → Contains ls l
+module _ {K R : Type 0} (Before : K → K → Type 0) (order : IsOrder Before) (key : R → K) where
+  abbrev RowsBefore : R → R → Type 0
+  RowsBefore a b = Before (key a) (key b)
 
-  past_from : (s : N) (bound : ℕ) (position : Position (List ℕ)) → (ls : List (List ℕ)) × ArePast s bound position ls
-  past_from s bound AtStart = (
-    all_from bound s,
-    record {
-      ascends = ascends_all bound s;
-      only = λ l i. (in_all bound s l i, tt);
-      all = λ l mem past. all_in bound s l mem;
-    },
-  )
-  past_from s bound (After last) =
-      let q = past_of last (all_from bound s) (ascends_all bound s) in (
-        q.0,
-        record {
-          ascends = q.1;
-          only = λ l i. (in_all bound s l (q.2 l i).0, (q.2 l i).1);
-          all = λ l mem past. q.3 l (all_in bound s l mem) past;
-        },
-      )
-  past_from s bound Lost = ([], record { ascends = no_pairs Precedes; only = λ l i. absurd (no_element l i); all = λ l mem past. absurd past })
+  -- The rows of a list past a key.
+  past_of : (last : K) (rows : List R) → Ascends Before key rows → (past : List R) × Ascends Before key past
+      × ((m : R) → Contains past m → Contains rows m × Before last (key m)) × ((m : R) → Contains rows m → Before last (key m) → Contains past m)
+  past_of last [] up = ([], no_pairs RowsBefore, λ m i. absurd (no_element m i), λ m i p. i)
+  past_of last (x ∷ xs) up =
+      let rest = past_of last xs (pairs_behind RowsBefore x xs up) in
+      elim (cases_of Before order last (key x)) [
+        | inl before ↦ (
+          x ∷ rest.0,
+          more_pairs RowsBefore x rest.0 (λ m i. pairs_front RowsBefore x m xs up (rest.2 m i).0) rest.1,
+          λ m i. elim (front_or_behind x m rest.0 i) [
+            | inl e ↦ (subst (Contains (x ∷ xs)) (sym e) (at_front x xs), subst (λ y. Before last (key y)) (sym e) before)
+            | inr j ↦ (behind x m xs (rest.2 m j).0, (rest.2 m j).1)
+          ],
+          λ m i after. elim (front_or_behind x m xs i) [
+            | inl e ↦ subst (Contains (x ∷ rest.0)) (sym e) (at_front x rest.0)
+            | inr j ↦ behind x m rest.0 (rest.3 m j after)
+          ],
+        )
+        | inr not ↦ (
+          rest.0,
+          rest.1,
+          λ m i. (behind x m xs (rest.2 m i).0, (rest.2 m i).1),
+          λ m i after. elim (front_or_behind x m xs i) [
+            | inl e ↦ absurd (not (subst (λ y. Before last (key y)) e after))
+            | inr j ↦ rest.3 m j after
+          ],
+        )
+      ]
 
--- A row for each member, and no others.
-pub record AreRows {N R : Type 0} (t : Tree N) (s : N) (bound : ℕ) (path : R → List ℕ) (IsRow : R → Type 0) (row_of : List ℕ → R) : Type 0 where
-  pub path_is : (l : List ℕ) → path (row_of l) ≡ l
-  pub is_row : (l : List ℕ) → IsMember t s bound l → IsRow (row_of l)
-  pub member : (row : R) → IsRow row → IsMember t s bound (path row)
-  pub only : (row : R) → IsRow row → row ≡ row_of (path row)
+  module _ (IsRow : R → Type 0) where
+    -- All rows, in their order.
+    record AreAll (rows : List R) : Type 0 where
+      pub ascends : Ascends Before key rows
+      pub only : (row : R) → Contains rows row → IsRow row
+      pub all : (row : R) → IsRow row → Contains rows row
 
-pub some_rest : {N R : Type 0} (t : Tree N) (s : N) (bound : ℕ) (path : R → List ℕ) (IsRow : R → Type 0) (row_of : List ℕ → R) → AreRows t s bound path IsRow row_of
-    → (position : Position (List ℕ)) → (rows : List R) × IsRest path IsRow position rows
-some_rest t s bound path IsRow row_of are position =
-    let past = past_from t s bound position in (
-      map row_of past.0,
-      record {
-        ascends = pairs_map row_of (λ x y. Precedes (path x) (path y)) past.0 (λ i j d lt within.
-            let x = get_or past.0 i d in
-            let y = get_or past.0 j d in
-            let before : Precedes x y = past.1.ascends i j d lt within in
-            subst (λ z. Precedes z (path (row_of y))) (sym (are.path_is x)) (subst (Precedes x) (sym (are.path_is y)) before));
-        only = λ row i.
-            let q = in_map row_of row past.0 i in
-            let o = past.1.only q.0 q.2 in
-            (subst IsRow (sym q.1) (are.is_row q.0 o.0), subst (IsPast position) (sym (are.path_is q.0) ∙ ap path (sym q.1)) o.1);
-        all = λ row is after.
-            subst (Contains (map row_of past.0)) (sym (are.only row is)) (map_in row_of (path row) past.0 (past.1.all (path row) (are.member row is) after));
-      },
-    )
+    past_from : (rows : List R) → AreAll rows → (position : Position K) → (past : List R) × IsRest Before key IsRow position past
+    past_from rows are AtStart = (rows, record { ascends = are.ascends; only = λ row i. (are.only row i, tt); all = λ row is past. are.all row is })
+    past_from rows are (After last) =
+        let q = past_of last rows are.ascends in
+        (q.0, record { ascends = q.1; only = λ row i. (are.only row (q.2 row i).0, (q.2 row i).1); all = λ row is past. q.3 row (are.all row is) past })
+    past_from rows are Lost = ([], record { ascends = no_pairs RowsBefore; only = λ row i. absurd (no_element row i); all = λ row is past. absurd past })
+
+    -- A row for each path of the tree, in the order of these, and no others.
+    pub record AreRows {N : Type 0} (t : Tree N) (s : N) (bound : ℕ) (row_of : List ℕ → R) : Type 0 where
+      pub in_order : (l m : List ℕ) → IsMember t s bound l → IsMember t s bound m → Precedes l m → RowsBefore (row_of l) (row_of m)
+      pub is_row : (l : List ℕ) → IsMember t s bound l → IsRow (row_of l)
+      pub only : (row : R) → IsRow row → (l : List ℕ) × IsMember t s bound l × (row ≡ row_of l)
+
+    pub some_rest : {N : Type 0} (t : Tree N) (s : N) (bound : ℕ) (row_of : List ℕ → R) → AreRows t s bound row_of
+        → (position : Position K) → (rows : List R) × IsRest Before key IsRow position rows
+    some_rest t s bound row_of are = past_from (map row_of (all_from t bound s)) (record {
+      ascends = pairs_mapped row_of Precedes RowsBefore (all_from t bound s) (λ l m i j. are.in_order l m (in_all t bound s l i) (in_all t bound s m j)) (ascends_all t bound s);
+      only = λ row i. let q = in_map row_of row (all_from t bound s) i in subst IsRow (sym q.1) (are.is_row q.0 (in_all t bound s q.0 q.2));
+      all = λ row is. let q = are.only row is in
+          subst (Contains (map row_of (all_from t bound s))) (sym q.2) (map_in row_of q.0 (all_from t bound s) (all_in t bound s q.0 q.1));
+    })

@@ -6,8 +6,9 @@ use Rattle.std.proofs.lemmas.List.{length-take, take-append-drop, take_all}
 use Rattle.std.proofs.lemmas.List.Elements.{All-head, All-tail}
 use Rattle.mc_tree.specs.Paths.{Position, After}
 use Rattle.mc_tree.specs.Rows.{IsRest}
-use Rattle.mc_tree.specs.Chain.{last_path, Chain, JoinUp}
+use Rattle.mc_tree.specs.Chain.{last_key, Chain, JoinUp}
 use Rattle.mc_tree.specs.facts.OneList.{one_rest, rest_tail}
+use Rattle.mc_tree.specs.facts.Precedence.{IsOrder}
 
 module _ {R : Type 0} where
   -- Behind a full page the rest of the chain is a front of the others.
@@ -30,37 +31,44 @@ module _ {R : Type 0} where
       let all : rows ≡ whole = joined ∙ ap (λ (xs : List R). page ++ xs) none ∙ append-nil page ∙ first ∙ take_all limit whole few in
       record { front = (limit, all ∙ sym (take_all limit whole few)); all = λ _. all }
 
-module _ {R : Type 0} (path : R → List ℕ) where
-  -- The last of some rows is so from wherever one begins.
-  pub last_same : (a b : List ℕ) (rows : List R) → 0 < length rows → last_path path a rows ≡ last_path path b rows
-  last_same a b [] some = absurd (omega (arith, some))
-  last_same a b (row ∷ rows) some = refl
+-- The last of some rows is so from wherever one begins.
+pub last_same : {K R : Type 0} (key : R → K) (a b : K) (rows : List R) → 0 < length rows → last_key key a rows ≡ last_key key b rows
+last_same key a b [] some = absurd (omega (arith, some))
+last_same key a b (row ∷ rows) some = refl
 
-module _ {R : Type 0} (path : R → List ℕ) (IsRow : R → Type 0) where
+module _ {K R : Type 0} (Before : K → K → Type 0) (order : IsOrder Before) (key : R → K) (no_key : K) (IsRow : R → Type 0) where
+  -- Where one is past a page.
+  abbrev past_page : List R → Position K
+  past_page page = After (last_key key no_key page)
+
+  -- A chain goes on past a page.
+  abbrev GoesOn : List ℕ → List R → Bool → List R → Type 0
+  GoesOn limits page ended more = Chain Before key no_key IsRow (past_page page) limits ended more
+
   -- Past a full page the others are to come.
-  pub rest_past : (limit : ℕ) (position : Position (List ℕ)) (rows : List R) → 0 < limit → length (take limit rows) ≡ limit
-      → IsRest path IsRow position rows → IsRest path IsRow (After (last_path path [] (take limit rows))) (drop limit rows)
+  pub rest_past : (limit : ℕ) (position : Position K) (rows : List R) → 0 < limit → length (take limit rows) ≡ limit
+      → IsRest Before key IsRow position rows → IsRest Before key IsRow (past_page (take limit rows)) (drop limit rows)
   rest_past zero position rows some full rest = absurd (omega (arith, some))
   rest_past (suc k) position [] some full rest = absurd (omega (arith, full))
-  rest_past (suc zero) position (row ∷ rows) some full rest = rest_tail path IsRow position row rows rest
+  rest_past (suc zero) position (row ∷ rows) some full rest = rest_tail Before order key IsRow position row rows rest
   rest_past (suc (suc k)) position (row ∷ rows) some full rest =
-      let on = rest_past (suc k) (After (path row)) rows (omega arith) (omega (arith, full)) (rest_tail path IsRow position row rows rest) in
-      let last = last_same path [] (path row) (take (suc k) rows) (omega (arith, full)) in
-      subst (λ l. IsRest path IsRow (After l) (drop (suc k) rows)) last on
+      let on = rest_past (suc k) (After (key row)) rows (omega arith) (omega (arith, full)) (rest_tail Before order key IsRow position row rows rest) in
+      let last = last_same key no_key (key row) (take (suc k) rows) (omega (arith, full)) in
+      subst (λ l. IsRest Before key IsRow (After l) (drop (suc k) rows)) last on
 
-  pub pages_join : (limits : List ℕ) (position : Position (List ℕ)) (whole rows : List R) (ended : Bool) → All (λ n. 0 < n) limits
-      → IsRest path IsRow position whole → Chain path IsRow position limits ended rows → JoinUp whole rows ended
+  pub pages_join : (limits : List ℕ) (position : Position K) (whole rows : List R) (ended : Bool) → All (λ n. 0 < n) limits
+      → IsRest Before key IsRow position whole → Chain Before key no_key IsRow position limits ended rows → JoinUp whole rows ended
   pages_join [] position whole rows ended some rest chain =
       record { front = (0, chain.0); all = λ is. let no : true ≡ false = sym is ∙ chain.1 in absurd cc }
   pages_join (limit ∷ limits) position whole rows ended some rest (page, more, is_page, joined, on) =
-      let first : page ≡ take limit whole = is_page.first ∙ ap (take limit) (one_rest path IsRow position is_page.all whole is_page.rest rest) in
-      by (pages_join limits (After (last_path path [] page)) (drop limit whole) more ended (All-tail (λ n. 0 < n) limit limits some)) on first
+      let first : page ≡ take limit whole = is_page.first ∙ ap (take limit) (one_rest Before order key IsRow position is_page.all whole is_page.rest rest) in
+      by (pages_join limits (past_page page) (drop limit whole) more ended (All-tail (λ n. 0 < n) limit limits some)) on first
     where
-      by : (IsRest path IsRow (After (last_path path [] page)) (drop limit whole) → Chain path IsRow (After (last_path path [] page)) limits ended more → JoinUp (drop limit whole) more ended)
-          → ((length page ≡ limit) × Chain path IsRow (After (last_path path [] page)) limits ended more) ⊎ ((length page < limit) × (limits ≡ []) × (ended ≡ true) × (more ≡ []))
+      by : (IsRest Before key IsRow (past_page page) (drop limit whole) → GoesOn limits page ended more → JoinUp (drop limit whole) more ended)
+          → ((length page ≡ limit) × GoesOn limits page ended more) ⊎ ((length page < limit) × (limits ≡ []) × (ended ≡ true) × (more ≡ []))
           → page ≡ take limit whole → JoinUp whole rows ended
       by go (inr last) first = short_page limit whole page more rows ended joined first last.0 last.3
       by go (inl next) first =
           let full : length (take limit whole) ≡ limit = sym (ap (λ (xs : List R). length xs) first) ∙ next.0 in
           let past = rest_past limit position whole (All-head (λ n. 0 < n) limit limits some) full rest in
-          full_page limit whole page more rows ended joined first (go (subst (λ xs. IsRest path IsRow (After (last_path path [] xs)) (drop limit whole)) (sym first) past) next.1)
+          full_page limit whole page more rows ended joined first (go (subst (λ xs. IsRest Before key IsRow (past_page xs) (drop limit whole)) (sym first) past) next.1)

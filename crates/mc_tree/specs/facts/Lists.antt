@@ -58,8 +58,10 @@ module _ {X Y : Type 0} (f : X → Y) where
     | inr i ↦ behind (f y) (f x) (map f ys) (map_in x ys i)
   ]
 
-  pub pairs_map : (P : Y → Y → Type 0) (xs : List X) → AllPairs (λ a b. P (f a) (f b)) xs → AllPairs P (map f xs)
-  pairs_map P [] all = no_pairs P
-  pairs_map P (x ∷ xs) all = more_pairs P (f x) (map f xs) (λ y c.
-      let q = in_map y xs c in subst (P (f x)) (sym q.1) (pairs_front (λ a b. P (f a) (f b)) x q.0 xs all q.2))
-      (pairs_map P xs (pairs_behind (λ a b. P (f a) (f b)) x xs all))
+  -- Pairs of which one thing holds are mapped to pairs of which another does.
+  pub pairs_mapped : (P : X → X → Type 0) (Q : Y → Y → Type 0) (xs : List X) → ((a b : X) → Contains xs a → Contains xs b → P a b → Q (f a) (f b))
+      → AllPairs P xs → AllPairs Q (map f xs)
+  pairs_mapped P Q [] on all = no_pairs Q
+  pairs_mapped P Q (x ∷ xs) on all = more_pairs Q (f x) (map f xs) (λ y c.
+      let q = in_map y xs c in subst (Q (f x)) (sym q.1) (on x q.0 (at_front x xs) (behind x q.0 xs q.2) (pairs_front P x q.0 xs all q.2)))
+      (pairs_mapped P Q xs (λ a b i j. on a b (behind x a xs i) (behind x b xs j)) (pairs_behind P x xs all))

@@ -1,12 +1,12 @@
 -- What is past a position, and what is next there.
 use Rattle.std.proofs.Common.{ℕ, List}
-use Rattle.mc_tree.specs.Paths.{Precedes, Position, AtStart, After, Lost, IsPast, IsNext, IsOver}
-use Rattle.mc_tree.specs.facts.Precedence.{precedes_trans}
+use Rattle.mc_tree.specs.Paths.{Position, AtStart, After, Lost, IsPastIn, IsNext, IsOver}
+use Rattle.mc_tree.specs.facts.Precedence.{IsOrder}
 
-pub past_on : (p : Position (List ℕ)) (l m : List ℕ) → IsPast p l → Precedes l m → IsPast p m
-past_on AtStart l m p q = tt
-past_on (After last) l m p q = precedes_trans last l m p q
-past_on Lost l m p q = p
+pub past_on : {K : Type 0} (Before : K → K → Type 0) → IsOrder Before → (p : Position K) (l m : K) → IsPastIn Before p l → Before l m → IsPastIn Before p m
+past_on Before order AtStart l m p q = tt
+past_on Before order (After last) l m p q = order.trans last l m p q
+past_on Before order Lost l m p q = p
 
 -- Where two lists have the same paths, they have the same next one.
 module _ (P Q : List ℕ → Type 0) (there : (l : List ℕ) → P l → Q l) (back : (l : List ℕ) → Q l → P l) where

@@ -5,28 +5,9 @@ use Rattle.std.proofs.lemmas.Bool.Decides.{nat_tests}
 use Rattle.mc_tree.specs.Tree.{Tree, landed, Allowed}
 use Rattle.mc_tree.specs.Paths.{Precedes}
 use Rattle.mc_tree.specs.Twice.{Place, first, second, twice, twice_child, label, labels, in_both, pairs, Before, PairsPrecede}
-use Rattle.mc_tree.specs.facts.Precedence.{precedes_total}
+use Rattle.mc_tree.specs.facts.Precedence.{not_same, paths_in_order, pairs_in_order}
 
 -- ---- the order
-
-before_asym : (x y : ℕ × ℕ) → Before x y → Before y x → ⊥
-before_asym x y (inl p) (inl q) = omega (arith, p, q)
-before_asym x y (inl p) (inr q) = omega (arith, p, q.0)
-before_asym x y (inr p) (inl q) = omega (arith, p.0, q)
-before_asym x y (inr p) (inr q) = omega (arith, p.1, q.1)
-
-never_before : (x y : ℕ × ℕ) → x ≡ y → Before x y → ⊥
-never_before x y e (inl p) = omega (arith, p, ap (λ (z : ℕ × ℕ). z.0) e)
-never_before x y e (inr p) = omega (arith, p.1, ap (λ (z : ℕ × ℕ). z.1) e)
-
-pub pairs_asym : (xs ys : List (ℕ × ℕ)) → PairsPrecede xs ys → PairsPrecede ys xs → ⊥
-pairs_asym [] [] p q = p
-pairs_asym [] (y ∷ ys) p q = q
-pairs_asym (x ∷ xs) [] p q = p
-pairs_asym (x ∷ xs) (y ∷ ys) (inl p) (inl q) = before_asym x y p q
-pairs_asym (x ∷ xs) (y ∷ ys) (inl p) (inr q) = never_before x y (sym q.0) p
-pairs_asym (x ∷ xs) (y ∷ ys) (inr p) (inl q) = never_before y x (sym p.0) q
-pairs_asym (x ∷ xs) (y ∷ ys) (inr p) (inr q) = pairs_asym xs ys p.1 q.1
 
 by_tests : (w i j : ℕ) (b c : Bool) → nat_lt i w ≡ b → nat_lt j w ≡ c → i < j
     → Before (if b then (1, i) else (2, i - w)) (if c then (1, j) else (2, j - w))
@@ -61,14 +42,11 @@ module _ {N : Type 0} (t : Tree N) (next : N → N) where
       let same : labels t next (twice_child t next p x) ys ≡ labels t next (twice_child t next p y) ys = ap (λ z. labels t next (twice_child t next p z) ys) h.0 in
       inr (ap (label t next p) h.0, subst (PairsPrecede (labels t next (twice_child t next p x) xs)) same (pairs_precede (twice_child t next p x) xs ys h.1))
 
-  never_itself : (xs ys : List (ℕ × ℕ)) → xs ≡ ys → PairsPrecede xs ys → ⊥
-  never_itself xs ys e p = pairs_asym xs ys p (subst (λ z. PairsPrecede z xs) e (subst (PairsPrecede xs) (sym e) p))
-
   pub paths_precede : (p : Place N) (l m : List ℕ) → PairsPrecede (labels t next p l) (labels t next p m) → Precedes l m
-  paths_precede p l m h = elim (precedes_total l m) [
+  paths_precede p l m h = elim (paths_in_order.total l m) [
     | inl before ↦ before
-    | inr (inl same) ↦ absurd (never_itself (labels t next p l) (labels t next p m) (ap (labels t next p) same) h)
-    | inr (inr after) ↦ absurd (pairs_asym (labels t next p l) (labels t next p m) h (pairs_precede p m l after))
+    | inr (inl same) ↦ absurd (not_same PairsPrecede pairs_in_order (labels t next p l) (labels t next p m) (ap (labels t next p) same) h)
+    | inr (inr after) ↦ absurd (pairs_in_order.asym (labels t next p l) (labels t next p m) h (pairs_precede p m l after))
   ]
 
   -- ---- a child of a node of the first round

@@ -1,4 +1,4 @@
-use Rattle.mc_explore.proofs.Listing.{some_rest, one_rest, rest_tail, in_order, longer_first}
+use Rattle.mc_explore.specs.facts.Listed.{some_rest, one_rest, rest_tail, in_order, longer_first}
 use Rattle.mc_explore.proofs.laws.one_list_of_rows.Goals as goal
 
 pub returns-clause-some : goal.returns-clause-some

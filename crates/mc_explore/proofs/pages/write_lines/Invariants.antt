@@ -1,21 +1,22 @@
-use Rattle.std.proofs.Common.{◌≡◌, ◌+◌, ◌*◌, ◌<◌, ◌≤◌, ◌⊎◌}
-use Rattle.mc_explore.specs.Bounds.{most_for_row}
+use Rattle.std.proofs.Common.{◌≡◌, ◌+◌, ◌*◌, ◌<◌, ◌≤◌}
 use Rattle.mc_tree.specs.Paths.{Lost}
 use Rattle.mc_explore.proofs.PageText.{AreOut}
 use Rattle.mc_explore.proofs.pages.write_lines.Given as goal
 
 abbrev pub invariant-fill : goal.invariant-fill
 invariant-fill g l =
+    let state = g.S.RowSource.state in
+    let ledger = g.S.RowSource.ledger in
+    let cost = g.S.RowSource.most_for_row in
+    let position = g.S.RowSource.listing.position in
     record {
-      page : AreOut l.until l.fn.explorer.state l.limit (g.W.Write.contents l.fn.writer) l.explorer.state l.room l.last (g.W.Write.contents l.writer);
-      not_lost : l.explorer.state.position ≡ Lost → l.fn.explorer.state.position ≡ Lost;
-      stuck : l.fn.explorer.state.position ≡ Lost → (l.explorer.state.position ≡ Lost) × (0 < l.room);
-      unwritten : l.explorer.state.position ≡ Lost → (l.explorer ≡ l.fn.explorer) × (l.writer ≡ l.fn.writer);
-      start : l.explorer.state.start ≡ l.fn.explorer.state.start;
-      limits : l.explorer.ledger.limits ≡ l.fn.explorer.ledger.limits;
-      applied : l.explorer.ledger.applied + l.room * most_for_row l.fn.explorer.state.start.rules l.fn.explorer.state.start.geometry ≤ l.fn.explorer.ledger.applied + l.limit
-          * most_for_row l.fn.explorer.state.start.rules l.fn.explorer.state.start.geometry;
-      full : (0 < l.room) ⊎ (l.explorer.state.position ≡ Lost → ⊥);
+      page : AreOut g.S.RowSource.listing g.S.RowSource.laws (g.S.RowSource.until_of l.until) (state l.fn.source) l.limit (g.W.Write.contents l.fn.writer) (state l.source) l.room (g.W.Write.contents l.writer);
+      not_lost : position (state l.source) ≡ Lost → position (state l.fn.source) ≡ Lost;
+      stuck : position (state l.fn.source) ≡ Lost → (position (state l.source) ≡ Lost) × (0 < l.room);
+      unwritten : position (state l.source) ≡ Lost → (l.source ≡ l.fn.source) × (l.writer ≡ l.fn.writer);
+      cost_is : cost (state l.source) ≡ cost (state l.fn.source);
+      limits : (ledger l.source).limits ≡ (ledger l.fn.source).limits;
+      applied : (ledger l.source).applied + l.room * cost (state l.fn.source) ≤ (ledger l.fn.source).applied + l.limit * cost (state l.fn.source);
     }
 
 abbrev pub decreases-fill : goal.decreases-fill

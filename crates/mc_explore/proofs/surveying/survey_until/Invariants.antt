@@ -1,4 +1,4 @@
-use Rattle.std.proofs.Common.{◌≡◌, ◌+◌, ◌-◌, ◌*◌, ◌<◌, ◌≤◌, ◌⊎◌}
+use Rattle.std.proofs.Common.{◌≡◌, ◌+◌, ◌-◌, ◌*◌, ◌<◌, ◌≤◌}
 use Rattle.mc_explore.specs.Bounds.{most_for_row}
 use Rattle.mc_tree.specs.Paths.{Lost}
 use Rattle.mc_explore.proofs.Counted.{AreCounted}
@@ -7,14 +7,13 @@ use Rattle.mc_explore.proofs.surveying.survey_until.Given as goal
 abbrev pub invariant-rows : goal.invariant-rows
 invariant-rows g l =
     record {
-      counted : AreCounted l.until l.fn.explorer.state l.limit l.explorer.state l.tally l.last;
+      counted : AreCounted l.until l.fn.explorer.state l.limit l.explorer.state l.tally;
       not_lost : l.explorer.state.position ≡ Lost → l.fn.explorer.state.position ≡ Lost;
       stuck : l.fn.explorer.state.position ≡ Lost → (l.explorer.state.position ≡ Lost) × (l.tally.rows < l.limit);
       still : l.explorer.state.position ≡ Lost → l.explorer ≡ l.fn.explorer;
       start : l.explorer.state.start ≡ l.fn.explorer.state.start;
       limits : l.explorer.ledger.limits ≡ l.fn.explorer.ledger.limits;
       applied : l.explorer.ledger.applied + (l.limit - l.tally.rows) * most_for_row l.fn.explorer.state.start.rules l.fn.explorer.state.start.geometry ≤ l.fn.explorer.ledger.applied + l.limit * most_for_row l.fn.explorer.state.start.rules l.fn.explorer.state.start.geometry;
-      full : (l.tally.rows < l.limit) ⊎ (l.explorer.state.position ≡ Lost → ⊥);
     }
 
 abbrev pub decreases-rows : goal.decreases-rows

@@ -1,4 +1,4 @@
--- The one list of the rows to come, as that of a tree.
+-- The rows of schedules are listed as those of a tree.
 use Rattle.std.proofs.Common.{◌≡◌, ℕ, List, [], ◌∷◌, ◌++◌, Option, Some, option_and_then, inl, inr, refl, ap, subst, ◌∙◌, arith}
 use Rattle.mc_flash.specs.Content.{Content}
 use Rattle.mc_boot.specs.RunFacts.{outcome_defined}
@@ -8,11 +8,12 @@ use Rattle.mc_tree.specs.Paths.{Precedes}
 use Rattle.mc_tree.specs.facts.OneList as lists_facts
 use Rattle.mc_tree.specs.facts.Existence as existence
 use Rattle.mc_tree.specs.facts.Existence.{AreRows}
+use Rattle.mc_tree.specs.facts.Precedence.{paths_in_order}
 use Rattle.mc_explore.specs.Boots.{boots}
-use Rattle.mc_explore.specs.Rest.{schedule_of, IsRow, IsRest}
+use Rattle.mc_explore.specs.Listing.{IsLawful}
+use Rattle.mc_explore.specs.Rest.{IsRow, IsRest, schedules}
 use Rattle.mc_explore.specs.Start.{Begun}
-use Rattle.mc_explore.specs.State as states
-use Rattle.mc_explore.specs.State.{State, Told, told, HasOutcome, Finds, outcome_after, moved_to}
+use Rattle.mc_explore.specs.State.{State, Told, HasOutcome, outcome_after, moved_to}
 use Rattle.mc_explore.specs.facts.Occurring.{allowed_after, member_of, path_of}
 
 one_outcome : (a b : List ℕ) (x y : Report) (o : List ℕ → Option Report) → a ≡ b → o a ≡ Some x → o b ≡ Some y → x ≡ y
@@ -45,42 +46,30 @@ module _ (start : Begun) where
   unfolding row_at
   has_outcome l a = lands_told l a ∙ (outcome_defined start.rules start.geometry (landed (boots start.rules start.geometry) start.content l)).1
 
-  are_rows : (bound : ℕ) → AreRows (boots start.rules start.geometry) start.content bound schedule_of (IsRow start bound) row_at
+  are_rows : (bound : ℕ) → AreRows Precedes paths_in_order (λ row. row.schedule) (IsRow start bound) (boots start.rules start.geometry) start.content bound row_at
   unfolding row_at
   are_rows bound = record {
-    path_is = λ l. refl;
+    in_order = λ l m i j before. before;
     is_row = λ l m. record { listed = member_of start.rules start.geometry start.content bound l m; outcome = has_outcome l m.1 };
-    member = λ row is. path_of start.rules start.geometry start.content bound row.schedule is.listed;
     only = λ row is.
-        let a = (path_of start.rules start.geometry start.content bound row.schedule is.listed).1 in
-        same_row row (row_at row.schedule) is.outcome (has_outcome row.schedule a) refl;
+        let m = path_of start.rules start.geometry start.content bound row.schedule is.listed in
+        (row.schedule, m, same_row row (row_at row.schedule) is.outcome (has_outcome row.schedule m.1) refl);
   }
 
 module _ (state : State) where
   pub some_rest : (rows : List Told) × IsRest state rows
   some_rest =
-      existence.some_rest (boots state.start.rules state.start.geometry) state.start.content state.bound schedule_of (IsRow state.start state.bound) (row_at state.start)
-      (are_rows state.start state.bound) state.position
+      existence.some_rest Precedes paths_in_order (λ row. row.schedule) (IsRow state.start state.bound) (boots state.start.rules state.start.geometry) state.start.content state.bound
+      (row_at state.start) (are_rows state.start state.bound) state.position
 
   pub one_rest : (xs ys : List Told) → IsRest state xs → IsRest state ys → xs ≡ ys
-  one_rest = lists_facts.one_rest schedule_of (IsRow state.start state.bound) state.position
+  one_rest = lists_facts.one_rest Precedes paths_in_order (λ row. row.schedule) (IsRow state.start state.bound) state.position
 
   pub rest_tail : (row : Told) (rows : List Told) → IsRest state (row ∷ rows) → IsRest (moved_to state row.schedule) rows
-  rest_tail = lists_facts.rest_tail schedule_of (IsRow state.start state.bound) state.position
+  rest_tail = lists_facts.rest_tail Precedes paths_in_order (λ row. row.schedule) (IsRow state.start state.bound) state.position
 
   pub in_order : (front between rest : List Told) (first later : Told) → IsRest state (front ++ first ∷ (between ++ later ∷ rest)) → Precedes first.schedule later.schedule
-  in_order = lists_facts.in_order schedule_of (IsRow state.start state.bound) state.position
-
-  -- The next row is the first of them.
-  pub rest_next : (row : Told) (rows : List Told) → states.IsNext state row.schedule → HasOutcome state.start row → IsRest state rows
-      → (rest : List Told) × (rows ≡ row ∷ rest) × IsRest (moved_to state row.schedule) rest
-  rest_next row rows n o r =
-      lists_facts.rest_next schedule_of (IsRow state.start state.bound) state.position (states.IsListed state) (λ x is. is.listed) row rows n
-      (record { listed = n.listed; outcome = o }) r
-
-  -- Where no schedule is past the position there are none.
-  pub rest_over : (rows : List Told) → states.IsOver state → IsRest state rows → rows ≡ []
-  rest_over = lists_facts.rest_over schedule_of (IsRow state.start state.bound) state.position (states.IsListed state) (λ x is. is.listed)
+  in_order = lists_facts.in_order Precedes paths_in_order (λ row. row.schedule) (IsRow state.start state.bound) state.position
 
   one_is_later : Precedes (1 ∷ []) (0 ∷ 17 ∷ []) → ⊥
   one_is_later (inl less) = omega (arith, less)
@@ -91,3 +80,13 @@ module _ (state : State) where
   longer_first front between rest first later one two r =
       let before = in_order front between rest first later r in
       one_is_later (subst (Precedes (1 ∷ [])) two (subst (λ l. Precedes l later.schedule) one before))
+
+pub schedules_are_lawful : IsLawful schedules
+schedules_are_lawful = record {
+  order = paths_in_order;
+  some_rest = some_rest;
+  position_is = λ state k. refl;
+  rows_stay = λ state k row is. is;
+  rows_stayed = λ state k row is. is;
+  cursor_stays = λ state k m. refl;
+}

@@ -1,0 +1,102 @@
+-- A page: rows, and where to go on, as a value and as text.
+use Rattle.std.specs.Prelude.{◌≡◌, ◌⊎◌, ℕ, zero, suc, nat_le, if◌then◌else◌, List, [], ◌∷◌, ◌++◌, length, take, drop, flat_map, All, codes, Option, Some, None}
+use Rattle.std.specs.Io.KnownBytes.{Appends}
+use Rattle.mc_output.specs.Fronts.{AppendsFront}
+use Rattle.mc_tree.specs.Chain.{last_key}
+use Rattle.mc_explore.specs.Listing.{Listing, IsRest, FindsRow}
+
+-- A page: its rows, and where to go on, or that there are no more.
+pub record Page (R C : Type 0) : Type 0 where
+  pub rows : List R
+  pub goes_on : Option C
+
+module _ {S K R C : Type 0} (l : Listing S K R C) where
+  -- The page of at most so many of the rows to come. A full one goes on behind its last row.
+  abbrev pub page_at : S → ℕ → List R → Page R C
+  page_at state limit rows = record {
+    rows = take limit rows;
+    goes_on = if nat_le limit (length rows) then Some (l.cursor state (last_key l.key l.no_key (take limit rows))) else None;
+  }
+
+  -- The lines of a page. The last is that of a cursor where the page is full, and `end` where it is not.
+  abbrev pub row_line : R → List ℕ
+  row_line row = l.row_text row ++ 10 ∷ []
+
+  abbrev pub last_line : Option C → List ℕ
+  last_line (Some cursor) = (codes "next " ++ l.cursor_text cursor) ++ 10 ∷ []
+  last_line None = codes "end" ++ 10 ∷ []
+
+  abbrev pub page_text : Page R C → List ℕ
+  page_text page = flat_map row_line page.rows ++ last_line page.goes_on
+
+  -- Where one is after the first so many of the rows to come.
+  unfoldable pub state_past : S → ℕ → List R → S
+  state_past state zero rows = state
+  state_past state (suc room) [] = state
+  state_past state (suc room) (row ∷ rows) = state_past (l.moved_to state (l.key row)) room rows
+
+  -- The page of the rows to come is out, of which there is one list, and its rows are taken.
+  pub record PageIsOut (old new : S) (limit : ℕ) (before after : Option (List ℕ)) : Type 0 where
+    pub rows : List R
+    pub rest : IsRest l old rows
+    pub out : Appends before after (page_text (page_at old limit rows))
+    pub left : IsRest l new (drop limit rows)
+    pub past : new ≡ state_past old limit rows
+
+  -- A beginning of that page is out.
+  pub record PageBegan (old : S) (limit : ℕ) (before after : Option (List ℕ)) : Type 0 where
+    pub rows : List R
+    pub rest : IsRest l old rows
+    pub out : AppendsFront before after (page_text (page_at old limit rows))
+
+  -- ---- a page of the rows before a key
+
+  -- It comes before that one. Where none is told, each does.
+  abbrev pub IsBefore : Option K → K → Type 0
+  IsBefore None k = Unit {0}
+  IsBefore (Some until) k = l.Before k until
+
+  -- The rows before a key, and the others.
+  pub record AreBefore (until : Option K) (rows shown : List R) : Type 0 where
+    pub others : List R
+    pub parted : rows ≡ shown ++ others
+    pub before : All (λ row. IsBefore until (l.key row)) shown
+    pub none : All (λ row. IsBefore until (l.key row) → ⊥) others
+
+  -- The rows to come, and those of them before the key: these are what a page shows.
+  pub record Shown (until : Option K) (state : S) : Type 0 where
+    pub rows : List R
+    pub rest : IsRest l state rows
+    pub shown : List R
+    pub are : AreBefore until rows shown
+
+  -- How many rows are taken for a page of at most so many of the shown ones: those on it; and where it is not full, also the one
+  -- after them, if there is one, since it is not known before that it is not shown.
+  abbrev pub rows_taken : ℕ → List R → ℕ
+  rows_taken limit shown = if nat_le limit (length shown) then limit else suc (length shown)
+
+  -- The rows of that page are taken, and the others stay to come.
+  pub record TakesPage (until : Option K) (old new : S) (limit : ℕ) (page : Page R C) : Type 0 where
+    pub of : Shown until old
+    pub page_is : page ≡ page_at old limit of.shown
+    pub left : IsRest l new (drop (rows_taken limit of.shown) of.rows)
+    pub past : new ≡ state_past old (rows_taken limit of.shown) of.rows
+
+  -- And the page is out.
+  pub record ShownIsOut (until : Option K) (old new : S) (limit : ℕ) (before after : Option (List ℕ)) : Type 0 where
+    pub page : Page R C
+    pub taken : TakesPage until old new limit page
+    pub out : Appends before after (page_text page)
+
+  -- A beginning of that page is out.
+  pub record ShownBegan (until : Option K) (old : S) (limit : ℕ) (before after : Option (List ℕ)) : Type 0 where
+    pub of : Shown until old
+    pub out : AppendsFront before after (page_text (page_at old limit of.shown))
+
+  -- The next row that is shown. There is none where none is past the position, or where the next row, which is taken all the same,
+  -- does not come before the key.
+  abbrev pub FindsBefore : Option K → S → Option R → S → Type 0
+  FindsBefore until old (Some row) new = FindsRow l old (Some row) × IsBefore until (l.key row) × (new ≡ l.moved_to old (l.key row))
+  FindsBefore until old None new =
+      (FindsRow l old None × (new ≡ old))
+      ⊎ ((row : R) × FindsRow l old (Some row) × (IsBefore until (l.key row) → ⊥) × (new ≡ l.moved_to old (l.key row)))

@@ -1,0 +1,95 @@
+//! What gives rows one after another.
+use crate::error::ExploreError;
+use std::io::Write;
+
+/// Gives rows, one after another and each as a line, and says where to go on behind the last: what pages are made of.
+pub trait RowSource {
+    ghost use Rattle.std.specs.Prelude.{◌≡◌, ℕ, Bool, Option, Some, ◌+◌, ◌≤◌, ◌⊎◌, IfOk, IfErr, OnOk, OnErr, option_map};
+    ghost use Rattle.std.specs.Io.KnownBytes.{Appends};
+    ghost use Rattle.mc_flash.specs.Ledger.{Ledger};
+    ghost use Rattle.mc_output.specs.Fronts.{AppendsFront};
+    ghost use Rattle.mc_tree.specs.Paths.{After, Lost};
+    ghost use Rattle.mc_explore.specs.Explores.{ExploresOn};
+    ghost use Rattle.mc_explore.specs.Listing.{Listing, IsLawful};
+    ghost use Rattle.mc_explore.specs.Pages.{FindsBefore, row_line, last_line};
+
+    ghost State: { Type 0 };
+
+    ghost Key: { Type 0 };
+
+    ghost Shown: { Type 0 };
+
+    ghost Cursor: { Type 0 };
+
+    /// A row.
+    type Row: Copy;
+
+    /// What the rows of a page must come before, if anything.
+    type Until;
+
+    ghost listing: { Listing State Key Shown Cursor };
+
+    ghost laws: { IsLawful listing };
+
+    ghost state: { Self → State };
+
+    ghost ledger: { Self → Ledger };
+
+    ghost counted: { Bool };
+
+    ghost shown: { Self.Row → Shown };
+
+    ghost until_of: { Self.Until → Option Key };
+
+    ghost most_for_row: { State → ℕ };
+
+    ghost cost_stays: { (s : State) (k : Key) → most_for_row (listing.moved_to s k)
+        ≡ most_for_row s };
+
+    /// The next row, where it comes before that one, if one is told; none where it does not, or where there is no further
+    /// row.
+    ///
+    /// # Errors
+    ///
+    /// `Memory` where the flash was refused memory; from then on always `Failed`.
+    fn next_before(&mut self, until: &Self::Until) -> Result<Option<Self::Row>, ExploreError>
+        ensures found { IfOk result (λ found. FindsBefore listing (until_of until.now)
+            (state self.old) (option_map shown found) (state self.new)) }
+        ensures applied { IfOk result (λ _. (ledger self.new).applied
+            ≤ (ledger self.old).applied + most_for_row (state self.old)) }
+        ensures explores { ExploresOn ledger (λ e. listing.position (state e) ≡ Lost) counted
+            self.old result self.new }
+        ensures err { IfErr result (λ e. (e ≡ ExploreError.Memory) ⊎ (e ≡ ExploreError.Failed)) };
+
+    /// Writes the line of a row, or a prefix of it.
+    ///
+    /// # Errors
+    ///
+    /// `Write` where a write fails or takes no bytes.
+    fn write_row<W: Write>(row: Self::Row, writer: &mut W) -> Result<(), ExploreError>
+        ensures whole { OnOk result (Appends (W.contents writer.old) (W.contents writer.new)
+            (row_line listing (shown row))) }
+        ensures front { OnErr result (AppendsFront (W.contents writer.old) (W.contents writer.new)
+            (row_line listing (shown row))) }
+        ensures err { IfErr result (λ e. e ≡ ExploreError.Write) };
+
+    /// Writes the line that says where to go on behind the last row, or a prefix of it.
+    ///
+    /// # Errors
+    ///
+    /// `Write` where a write fails or takes no bytes.
+    fn write_next<W: Write>(&self, writer: &mut W) -> Result<(), ExploreError>
+        ensures whole { (last : Key) → listing.position (state self.now) ≡ After last
+            → OnOk result (Appends (W.contents writer.old) (W.contents writer.new)
+            (last_line listing (Some (listing.cursor (state self.now) last)))) }
+        ensures front { (last : Key) → listing.position (state self.now) ≡ After last
+            → OnErr result (AppendsFront (W.contents writer.old) (W.contents writer.new)
+            (last_line listing (Some (listing.cursor (state self.now) last)))) }
+        ensures err { IfErr result (λ e. e ≡ ExploreError.Write) };
+
+    /// Makes it one that failed, for a caller that could not write a row.
+    fn give_up(&mut self)
+        ensures lost { listing.position (state self.new) ≡ Lost }
+        ensures ledger { ledger self.new ≡ ledger self.old }
+        ensures still { listing.position (state self.old) ≡ Lost → self.new ≡ self.old };
+}
