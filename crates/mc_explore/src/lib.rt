@@ -32,6 +32,7 @@ pub use once::{Once, Told};
 pub use pages::{write_page, write_page_until, write_rows};
 pub use replaying::{ReplayError, flash_at_cut, replay, replay_on};
 pub use row::Row;
+pub use row_text::{OutcomeWords, SlotWords};
 pub use schedule::{MOST_CUTS, Schedule, ScheduleError};
 pub use source::RowSource;
 pub use start::{Start, StartError};
