@@ -1,28 +1,23 @@
 -- Where to go on with an exploration, as text: this project's own.
-use Rattle.std.specs.Prelude.{◌≡◌, ℕ, ◌≤◌, List, ◌++◌, length, codes, decimal, Result, Ok, Err}
-use Rattle.hex.specs.Hex.{IsBytes, encode_lower}
+use Rattle.std.specs.Prelude.{◌≡◌, ℕ, ◌≤◌, List, ◌++◌, length, codes, Result, Ok, Err}
+use Rattle.hex.specs.Hex.{IsBytes}
 use Rattle.mc_flash.specs.declared.flash.Grain.{Grain}
 use Rattle.mc_flash.specs.declared.flash.Grain.TheVariants as grains
-use Rattle.mc_flash.specs.Texts.{grain_text}
-use Rattle.mc_trailer.specs.Texts.{profile_text}
 use Rattle.mc_trailer.specs.declared.tables.Profile.{Profile}
 use Rattle.mc_trailer.specs.declared.tables.Profile.TheVariants as profiles
+use Rattle.mc_explore.specs.CursorFields.{rules_text, start_text}
 use Rattle.mc_explore.specs.Texts.{IsSchedule, schedule_text}
 use Rattle.mc_explore.specs.declared.cursor.Cursor.{Cursor}
 use Rattle.mc_explore.specs.declared.cursor.CursorError.{CursorError}
 
 -- The rules. Whole calls and the first profile have a form of their own.
-abbrev pub rules_text : Grain → Profile → List ℕ
-rules_text grain profile = grain_text grain ++ (codes ":" ++ (profile_text profile ++ codes ":"))
-
 abbrev pub head_text : Grain → Profile → List ℕ
 head_text grains.Call profiles.One = codes "mc1:"
 head_text grain profile = codes "mc2:" ++ rules_text grain profile
 
 -- Then the digest of the start in 64 digits, the most cuts, and the schedule.
 abbrev pub cursor_text : Cursor → List ℕ
-cursor_text c =
-    head_text c.rules.grain c.rules.profile ++ (encode_lower c.digest ++ (codes ":" ++ (decimal c.bound ++ (codes ":" ++ schedule_text c.schedule))))
+cursor_text c = head_text c.rules.grain c.rules.profile ++ start_text c.digest c.bound (schedule_text c.schedule)
 
 -- A cursor of 32 bytes, at most 16 cuts, and a schedule that can be told.
 pub record IsCursor (c : Cursor) : Type 0 where

@@ -14,6 +14,7 @@ pub mod View
 pub mod Want
 pub mod Explores
 pub mod Bounds
+pub mod CursorFields
 pub mod CursorText
 pub mod Page
 pub mod Torn

@@ -2,6 +2,7 @@
 #![tactic(auto)]
 
 mod cursor;
+mod cursor_fields;
 mod cursor_reading;
 mod cursor_text;
 mod error;
@@ -23,6 +24,7 @@ mod surveying;
 mod torn;
 
 pub use cursor::{Cursor, CursorError};
+pub use cursor_fields::{RulesField, StartField, next_field};
 pub use error::ExploreError;
 pub use explorer::Explorer;
 pub use kind::Kind;

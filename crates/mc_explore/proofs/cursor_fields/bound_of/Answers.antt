@@ -2,7 +2,7 @@ use Rattle.std.specs.Prelude.{◌≡◌, ℕ, Some, true, false}
 use Rattle.std.proofs.Common.{ap, ◌∙◌, arith}
 use Rattle.std.proofs.lemmas.Slice.Eq.{bytes_eq-Decides}
 use Rattle.mc_explore.proofs.Cursors.{read_byte}
-use Rattle.mc_explore.proofs.cursor_reading.bound_of.Goals as goal
+use Rattle.mc_explore.proofs.cursor_fields.bound_of.Goals as goal
 
 pub returns-in-Ok-clause-only : goal.returns-in-Ok-clause-only
 returns-in-Ok-clause-only c = λ n small is.

@@ -3,7 +3,7 @@ use Rattle.std.proofs.Common.{refl, sym, ap, ◌∙◌}
 use Rattle.std.proofs.lemmas.Slice.Eq.{bytes_eq-Decides}
 use Rattle.hex.specs.Hex.{encode_lower}
 use Rattle.mc_explore.proofs.Cursors.{apart, no_error, digest_reads}
-use Rattle.mc_explore.proofs.cursor_reading.digest_of.Goals as goal
+use Rattle.mc_explore.proofs.cursor_fields.digest_of.Goals as goal
 
 pub returns-then-is_err-clause-only : goal.returns-then-is_err-clause-only
 returns-then-is_err-clause-only c = λ d len bytes is.
