@@ -10,6 +10,7 @@ mod loading;
 mod replaying;
 mod rounds;
 mod row;
+mod row_text;
 mod twice;
 
 pub use campaign::{Campaign, CampaignError, Round};
