@@ -11,3 +11,4 @@ mod InRounds
 mod Followed
 mod Gone
 mod Resumed
+mod Cursors

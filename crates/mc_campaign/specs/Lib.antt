@@ -8,6 +8,7 @@ pub mod Replay
 pub mod Cursor
 pub mod State
 pub mod RowText
+pub mod CursorText
 pub mod Explores
 pub mod Resume
 pub mod View

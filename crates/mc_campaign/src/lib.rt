@@ -3,6 +3,8 @@
 
 mod campaign;
 mod cursor;
+mod cursor_reading;
+mod cursor_text;
 mod explorer;
 mod following;
 mod laws;

@@ -22,11 +22,13 @@ pub read_byte : {E : Type 0} (n : ℕ) (text : List ℕ) (r : Result ℕ E) → 
 read_byte n text r small is parses = parse-decimal 8 n text r (omega (arith, small)) (omega (arith, small)) is parses
 
 -- And the digits of a digest as that digest.
-in_room : (d : List ℕ) (dec : Result (List ℕ) FromHexError) (out : List ℕ) (r : Result (Unit {0}) FromHexError) → dec ≡ Ok d → MatchResult dec (λ bytes. (r ≡ Ok tt) × (out ≡ bytes)) (λ e. r ≡ Err e) → (r ≡ Ok tt) × (out ≡ d)
+in_room : (d : List ℕ) (dec : Result (List ℕ) FromHexError) (out : List ℕ) (r : Result (Unit {0}) FromHexError) → dec ≡ Ok d
+    → MatchResult dec (λ bytes. (r ≡ Ok tt) × (out ≡ bytes)) (λ e. r ≡ Err e) → (r ≡ Ok tt) × (out ≡ d)
 in_room d (Ok bytes) out r is found = let same : bytes ≡ d = cc in (found.0, found.1 ∙ same)
 in_room d (Err e) out r is found = absurd cc
 
-pub digest_reads : (d text out : List ℕ) (r : Result (Unit {0}) FromHexError) (room : ℕ) → length d ≡ 32 → IsBytes d → text ≡ encode_lower d → room ≡ 32 → MatchResult (decode_sized text room) (λ bytes. (r ≡ Ok tt) × (out ≡ bytes)) (λ e. r ≡ Err e) → (r ≡ Ok tt) × (out ≡ d)
+pub digest_reads : (d text out : List ℕ) (r : Result (Unit {0}) FromHexError) (room : ℕ) → length d ≡ 32 → IsBytes d → text ≡ encode_lower d → room ≡ 32
+    → MatchResult (decode_sized text room) (λ bytes. (r ≡ Ok tt) × (out ≡ bytes)) (λ e. r ≡ Err e) → (r ≡ Ok tt) × (out ≡ d)
 digest_reads d text out r room len bytes is n found =
     let twice : length (encode_lower d) ≡ 2 * room = omega (arith, length-encode_with lower_digits d, len, n) in
     let whole : decode_sized text room ≡ Ok d = ap (λ (t : List ℕ). decode_sized t room) is ∙ decode_sized-twice (encode_lower d) room twice ∙ decode_of-encode_lower d bytes in
@@ -86,7 +88,8 @@ pub start_of : (c : Cursor) → IsCursor c → IsStartField (field_of c.digest c
 start_of c ok = record { digest = ok.digest; bytes = ok.bytes; few = ok.few }
 
 -- A cursor that was read is the one of its fields.
-pub cursor_is : {E : Type 0} (told : Rules) (start : StartField) (schedule : List ℕ) (c : Cursor) → told ≡ c.rules → start ≡ field_of c.digest c.bound → ◌≡◌ {A = Result (List ℕ) E} (Ok schedule) (Ok c.schedule)
+pub cursor_is : {E : Type 0} (told : Rules) (start : StartField) (schedule : List ℕ) (c : Cursor) → told ≡ c.rules → start ≡ field_of c.digest c.bound
+    → ◌≡◌ {A = Result (List ℕ) E} (Ok schedule) (Ok c.schedule)
     → record { rules = told; digest = start.digest; bound = start.bound; schedule = schedule } ≡ c
 cursor_is told start schedule c a b d =
     let schedules : schedule ≡ c.schedule = cc in
