@@ -2,11 +2,10 @@
 use Rattle.std.specs.Prelude.{◌≡◌, ◌≤◌, ℕ, Bool, true, false, refl}
 use Rattle.std.proofs.Common.{arith, sym, ap, subst, ◌∙◌}
 use Rattle.mc_tree.specs.Paths.{After}
-use Rattle.mc_flash.specs.Content.{Content}
 use Rattle.mc_flash.specs.Geometry.{IsLayout}
 use Rattle.mc_flash.specs.Ledger.{Limits}
 use Rattle.mc_flash.specs.Spends.{Spent}
-use Rattle.mc_walk.specs.Walks.{Walked, Begins, IsSame, start_of}
+use Rattle.mc_walk.specs.Walks.{Walked, Begins, start_of}
 use Rattle.mc_walk.specs.declared.tour.Phase.TheVariants as phases
 use Rattle.mc_explore.specs.Start.{Begun, start_digest}
 use Rattle.mc_campaign.specs.Campaigns.{IsMember}

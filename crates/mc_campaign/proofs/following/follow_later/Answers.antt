@@ -1,4 +1,4 @@
-use Rattle.std.proofs.Common.{◌≡◌, ◌+◌, sym, subst, ◌∙◌, arith}
+use Rattle.std.proofs.Common.{◌≡◌, ◌+◌, sym, subst, arith}
 use Rattle.mc_campaign.specs.View.{FollowsLater}
 use Rattle.mc_campaign.proofs.Gone.{later_end}
 use Rattle.mc_campaign.proofs.following.follow_later.Goals as goal
