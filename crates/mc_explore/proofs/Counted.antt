@@ -10,7 +10,8 @@ use Rattle.mc_explore.specs.Survey.{Surveys, SurveysUntil, tally_of, tally_so_fa
 use Rattle.mc_explore.specs.declared.cursor.Cursor.{Cursor}
 use Rattle.mc_explore.specs.declared.surveying.Tally.{Tally}
 use Rattle.mc_explore.specs.facts.Listed.{schedules_are_lawful}
-use Rattle.mc_explore.proofs.PageRows.{AreSoFar, cursor_is, none_so_far, one_more, page_short, page_full, page_with, whole_taken}
+use Rattle.mc_explore.specs.facts.Whole.{whole_taken}
+use Rattle.mc_explore.proofs.PageRows.{AreSoFar, cursor_is, none_so_far, one_more, page_short, page_full, page_with}
 use Rattle.mc_explore.proofs.PageText.{last_on}
 
 module _ (until : Option (List ℕ)) (old : State) (limit : ℕ) where

@@ -1,18 +1,16 @@
 -- The rows of a page, as they are taken one after another.
-use Rattle.std.specs.Prelude.{zero, nat_le, if◌then◌else◌, Bool, true, false, ◌∷◌, ◌<◌, ◌⊎◌, All, Contains}
+use Rattle.std.specs.Prelude.{nat_le, if◌then◌else◌, Bool, true, false, ◌∷◌, ◌<◌, ◌⊎◌, Contains}
 use Rattle.std.proofs.Common.{◌≡◌, ℕ, suc, ◌+◌, ◌*◌, ◌≤◌, List, [], ◌++◌, length, drop, Some, None, Option, refl, sym, ap, subst, ◌∙◌, append_assoc, append-nil, arith, inl, inr}
 use Rattle.std.proofs.lemmas.Bool.{cases_lt}
 use Rattle.std.proofs.lemmas.Bool.Decides.{nat_tests}
 use Rattle.std.proofs.lemmas.List.{take_all, take_at, length-append}
 use Rattle.std.proofs.lemmas.List.Elements.{All-nil, All-cons, All-head, All-tail, All-same, All-weaker, All-contains_itself}
-use Rattle.mc_tree.specs.Paths.{Position, After, IsPastIn}
 use Rattle.mc_tree.specs.Chain.{last_key}
-use Rattle.mc_tree.specs.Rows as lists
 use Rattle.mc_tree.specs.Rows.{Ascends}
 use Rattle.mc_tree.specs.facts.Lists.{pairs_behind, pairs_front}
-use Rattle.mc_tree.specs.facts.OneList as lists_facts
 use Rattle.mc_tree.specs.facts.Precedence.{cases_of}
-use Rattle.mc_explore.specs.Listing.{Listing, IsLawful, IsRest, IsFirst, FindsRow}
+use Rattle.mc_explore.specs.facts.Listings.{rest_next, rest_over}
+use Rattle.mc_explore.specs.Listing.{Listing, IsLawful, IsRest, FindsRow}
 use Rattle.mc_explore.specs.Pages.{Page, IsBefore, AreBefore, Shown, rows_taken, TakesPage, FindsBefore, page_at, state_past}
 
 -- ---- how many rows are taken
@@ -67,31 +65,9 @@ module _ {S K R C : Type 0} (l : Listing S K R C) where
   abbrev RowsBefore : R → R → Type 0
   RowsBefore a b = l.Before (l.key a) (l.key b)
 
--- ---- the rows to come
+-- ---- the rows that are shown
 
 module _ {S K R C : Type 0} (l : Listing S K R C) (laws : IsLawful l) where
-  -- Behind a row that was given the others are to come.
-  rest_moved : (state : S) (k : K) (rows : List R) → lists.IsRest l.Before l.key (l.IsRow state) (After k) rows → IsRest l (l.moved_to state k) rows
-  rest_moved state k rows r =
-      let P : R → Position K → Type 0 = λ row p. IsPastIn l.Before p (l.key row) in
-      record {
-        ascends = r.ascends;
-        only = λ row i. let o = r.only row i in (laws.rows_stay state k row o.0, subst (P row) (sym (laws.position_is state k)) o.1);
-        all = λ row is past. r.all row (laws.rows_stayed state k row is) (subst (P row) (laws.position_is state k) past);
-      }
-
-  -- The next row is the first of them.
-  rest_next : (state : S) (row : R) (rows : List R) → IsFirst l state row → IsRest l state rows
-      → (rest : List R) × (rows ≡ row ∷ rest) × IsRest l (l.moved_to state (l.key row)) rest
-  rest_next state row rows f r =
-      let n = lists_facts.rest_next l.Before laws.order l.key (l.IsRow state) (l.position state) row rows f.is_row f.past f.none_between r in
-      (n.0, n.1, rest_moved state (l.key row) n.0 n.2)
-
-  rest_over : (state : S) (rows : List R) → FindsRow l state None → IsRest l state rows → rows ≡ []
-  rest_over state = lists_facts.rest_over l.Before laws.order l.key (l.IsRow state) (l.position state)
-
-  -- ---- the rows that are shown
-
   module _ (until : Option K) where
     -- The next row is the first of them.
     shown_on : (row : R) (rows shown : List R) → IsBefore l until (l.key row) → AreBefore l until (row ∷ rows) shown → (left : List R) × (shown ≡ row ∷ left) × AreBefore l until rows left
@@ -182,7 +158,7 @@ module _ {S K R C : Type 0} (l : Listing S K R C) (laws : IsLawful l) where
 
     pub next_of : (row : R) (left : Shown l until now) → FindsRow l now (Some row) → IsBefore l until (l.key row) → Next row left
     next_of row left f b =
-        let n = rest_next now row left.rows f left.rest in
+        let n = rest_next l laws now row left.rows f left.rest in
         let s = shown_on until row n.0 left.shown b (subst (λ z. AreBefore l until z left.shown) n.1 left.are) in
         record { others = record { rows = n.0; rest = n.2; shown = s.0; are = s.2 }; rows_are = n.1; shown_are = s.1 }
 
@@ -212,14 +188,14 @@ module _ {S K R C : Type 0} (l : Listing S K R C) (laws : IsLawful l) where
       ended : (new : S) (left : Shown l until now) → FindsBefore l until now None new → Ended new left
       unfolding state_past
       ended new left (inl (over, same)) =
-          let none : left.rows ≡ [] = rest_over now left.rows over left.rest in
+          let none : left.rows ≡ [] = rest_over l laws now left.rows over left.rest in
           record {
             none = shown_none until left.rows left.shown none left.are;
             past = ap (λ z. state_past l now 1 z) none ∙ sym same;
             rest = subst (λ s. IsRest l s (drop 1 left.rows)) (sym same) (subst (λ z. IsRest l now z) (none ∙ sym (ap (λ z. drop 1 z) none)) left.rest);
           }
       ended new left (inr (row, found, not, moved)) =
-          let n = rest_next now row left.rows found left.rest in
+          let n = rest_next l laws now row left.rows found left.rest in
           record {
             none = shown_over until row n.0 left.shown not (subst (λ z. AreBefore l until z left.shown) n.1 left.are);
             past = ap (λ z. state_past l now 1 z) n.1 ∙ sym moved;
@@ -260,68 +236,6 @@ module _ {S K R C : Type 0} (l : Listing S K R C) (laws : IsLawful l) where
     cursor_is cursor is =
         let p = so_far (some_shown until old) in
         ap (λ c. Some c) (is ∙ p.cursor_is (last_key l.key l.no_key some))
-
--- ---- where all rows are shown
-
-module _ {S K R C : Type 0} (l : Listing S K R C) where
-  pub all_shown : (rows shown : List R) → AreBefore l None rows shown → rows ≡ shown
-  all_shown rows shown are = by are.others are.parted are.none
-    where
-      by : (others : List R) → rows ≡ shown ++ others → All (λ row. IsBefore l None (l.key row) → ⊥) others → rows ≡ shown
-      by [] parted none = parted ∙ append-nil shown
-      by (x ∷ others) parted none = absurd (All-head (λ row. IsBefore l None (l.key row) → ⊥) x others none tt)
-
-  -- Past the last row nothing is taken.
-  past_over : (state : S) (n : ℕ) (rows : List R) → length rows ≤ n → state_past l state n rows ≡ state_past l state (length rows) rows
-  unfolding state_past
-  past_over state zero [] few = refl
-  past_over state zero (row ∷ rows) few = absurd (omega (arith, few))
-  past_over state (suc n) [] few = refl
-  past_over state (suc n) (row ∷ rows) few = past_over (l.moved_to state (l.key row)) n rows (omega (arith, few))
-
-  drop_over : (n : ℕ) (rows : List R) → length rows ≤ n → drop n rows ≡ []
-  drop_over zero [] few = refl
-  drop_over zero (row ∷ rows) few = absurd (omega (arith, few))
-  drop_over (suc n) [] few = refl
-  drop_over (suc n) (row ∷ rows) few = drop_over n rows (omega (arith, few))
-
-  taken_all : (state : S) (limit : ℕ) (rows : List R) → (state_past l state (rows_taken l limit rows) rows ≡ state_past l state limit rows) × (drop (rows_taken l limit rows) rows ≡ drop limit rows)
-  taken_all state limit rows = elim (cases_lt (length rows) limit) [
-    | inl short ↦
-        let over : rows_taken l limit rows ≡ suc (length rows) = ap (λ b. if b then limit else suc (length rows)) (above short) in (
-          ap (λ n. state_past l state n rows) over ∙ past_over state (suc (length rows)) rows (omega arith) ∙ sym (past_over state limit rows (omega (arith, short))),
-          ap (λ n. drop n rows) over ∙ drop_over (suc (length rows)) rows (omega arith) ∙ sym (drop_over limit rows (omega (arith, short))),
-        )
-    | inr full ↦
-        let same : rows_taken l limit rows ≡ limit = ap (λ b. if b then limit else suc (length rows)) (within full) in
-        (ap (λ n. state_past l state n rows) same, ap (λ n. drop n rows) same)
-  ]
-    where
-      above : length rows < limit → nat_le limit (length rows) ≡ false
-      above short = grind (arith, nat_tests)
-
-      within : limit ≤ length rows → nat_le limit (length rows) ≡ true
-      within full = grind (arith, nat_tests)
-
-  -- A page of all rows to come, where the explorer took its rows.
-  pub record Whole (old new : S) (limit : ℕ) (page : Page R C) : Type 0 where
-    pub rows : List R
-    pub rest : IsRest l old rows
-    pub page_is : page ≡ page_at l old limit rows
-    pub left : IsRest l new (drop limit rows)
-    pub past : new ≡ state_past l old limit rows
-
-  pub whole_taken : (old new : S) (limit : ℕ) (page : Page R C) → TakesPage l None old new limit page → Whole old new limit page
-  whole_taken old new limit page t =
-      let all = all_shown t.of.rows t.of.shown t.of.are in
-      let taken = taken_all old limit t.of.rows in
-      record {
-        rows = t.of.rows;
-        rest = t.of.rest;
-        page_is = t.page_is ∙ ap (λ z. page_at l old limit z) (sym all);
-        left = subst (IsRest l new) (ap (λ z. drop (rows_taken l limit z) t.of.rows) (sym all) ∙ taken.1) t.left;
-        past = t.past ∙ ap (λ z. state_past l old (rows_taken l limit z) t.of.rows) (sym all) ∙ taken.0;
-      }
 
 -- ---- what a page costs
 

@@ -7,8 +7,8 @@ use Rattle.std.specs.Io.KnownBytes.{Appends}
 use Rattle.mc_tree.specs.Chain.{last_key}
 use Rattle.mc_tree.specs.Paths.{After}
 use Rattle.mc_explore.specs.Listing.{Listing, IsLawful}
-use Rattle.mc_explore.specs.Pages.{TakesPage, ShownIsOut, ShownBegan, FindsBefore, page_at, page_text, last_line, row_line, PageIsOut, PageBegan}
-use Rattle.mc_explore.proofs.PageRows.{AreSoFar, all_shown, cursor_is, next_of, none_so_far, one_more, page_short, page_full, page_with, some_shown, whole_taken}
+use Rattle.mc_explore.specs.Pages.{TakesPage, ShownIsOut, ShownBegan, FindsBefore, page_at, page_text, last_line, row_line}
+use Rattle.mc_explore.proofs.PageRows.{AreSoFar, cursor_is, next_of, none_so_far, one_more, page_short, page_full, page_with, some_shown}
 use Rattle.mc_output.specs.Fronts.{AppendsFront}
 use Rattle.std.proofs.KnownBytes.{Appends-trans}
 
@@ -141,16 +141,3 @@ module _ {S K R C : Type 0} (l : Listing S K R C) (laws : IsLawful l) (until : O
 
   pub next_line : last_line l (Some (l.cursor now (last_key l.key l.no_key p.some))) ≡ last_line l (page_with l old p.some true).goes_on
   next_line = ap (last_line l) (cursor_is l laws until old limit now room p.some p.so_far _ refl)
-
--- ---- a page of all rows to come
-
-module _ {S K R C : Type 0} (l : Listing S K R C) where
-  pub whole_page : (old new : S) (limit : ℕ) (before after : Option (List ℕ)) → ShownIsOut l None old new limit before after → PageIsOut l old new limit before after
-  whole_page old new limit before after s =
-      let w = whole_taken l old new limit s.page s.taken in
-      record { rows = w.rows; rest = w.rest; out = subst (λ z. Appends before after (page_text l z)) w.page_is s.out; left = w.left; past = w.past }
-
-  pub whole_began : (old : S) (limit : ℕ) (before after : Option (List ℕ)) → ShownBegan l None old limit before after → PageBegan l old limit before after
-  whole_began old limit before after s =
-      let all = all_shown l s.of.rows s.of.shown s.of.are in
-      record { rows = s.of.rows; rest = s.of.rest; out = subst (λ z. AppendsFront before after (page_text l (page_at l old limit z))) (sym all) s.out }

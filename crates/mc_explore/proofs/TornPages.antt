@@ -28,7 +28,9 @@ use Rattle.mc_explore.specs.Torn.{AreLines, IsRowLine, AreRowLines, HasRows, IsO
 use Rattle.mc_explore.specs.declared.cursor.Cursor.{Cursor}
 use Rattle.mc_explore.proofs.Bytes.{IsBetween, NoFeed, literal, and, feedless_front, schedule_between, lacks_feed, lacks_literal, row_feedless, cursor_feedless, no_space}
 use Rattle.mc_explore.proofs.Going.{few_ops}
-use Rattle.mc_explore.specs.facts.Listed.{rest_tail}
+use Rattle.mc_explore.specs.facts.Listed.{schedules_are_lawful}
+use Rattle.mc_explore.specs.facts.Listings.{rest_tail}
+use Rattle.mc_explore.specs.Rest.{schedules}
 use Rattle.mc_explore.specs.facts.Occurring.{path_of}
 use Rattle.mc_output.specs.facts.Parting.{Lacks, lacks_each, one_part, no_part, lacks_decimal}
 use Rattle.mc_output.specs.facts.Reading.{dash}
@@ -301,8 +303,8 @@ last_whole (row ∷ rows) (x ∷ front) line e =
     (row ∷ q.0, q.1, ap (λ z. row ∷ z) q.2, q.3)
 
 rest_after : (state : State) (w : List Told) (row : Told) (later : List Told) → IsRest state (w ++ row ∷ later) → IsRest (moved_to state row.schedule) later
-rest_after state [] row later r = rest_tail state row later r
-rest_after state (x ∷ w) row later r = rest_after (moved_to state x.schedule) w row later (rest_tail state x (w ++ row ∷ later) r)
+rest_after state [] row later r = rest_tail schedules schedules_are_lawful state row later r
+rest_after state (x ∷ w) row later r = rest_after (moved_to state x.schedule) w row later (rest_tail schedules schedules_are_lawful state x (w ++ row ∷ later) r)
 
 module _ (state : State) (rows page others : List Told) (joined : rows ≡ page ++ others) (told : AreTold rows) (rest : IsRest state rows) where
   goes_on : (torn : List ℕ) (found : List (List ℕ)) (last : Option (List ℕ)) → HasRows torn found → IsOfLast found last → IsTorn page torn → Continues state rows page torn last

@@ -48,3 +48,4 @@ module _ {S K R C : Type 0} (l : Listing S K R C) where
     pub rows_stay : (state : S) (k : K) (row : R) → l.IsRow state row → l.IsRow (l.moved_to state k) row
     pub rows_stayed : (state : S) (k : K) (row : R) → l.IsRow (l.moved_to state k) row → l.IsRow state row
     pub cursor_stays : (state : S) (k m : K) → l.cursor (l.moved_to state k) m ≡ l.cursor state m
+    pub moved_again : (state : S) (k m : K) → l.moved_to (l.moved_to state k) m ≡ l.moved_to state m

@@ -3,3 +3,5 @@ pub mod Occurring
 pub mod Telling
 pub mod Room
 pub mod Listed
+pub mod Listings
+pub mod Whole

@@ -1,11 +1,10 @@
 -- The rows of schedules are listed as those of a tree.
-use Rattle.std.proofs.Common.{◌≡◌, ℕ, List, [], ◌∷◌, ◌++◌, Option, Some, option_and_then, inl, inr, refl, ap, subst, ◌∙◌, arith}
+use Rattle.std.proofs.Common.{◌≡◌, ℕ, List, Option, Some, option_and_then, refl, ap, ◌∙◌}
 use Rattle.mc_flash.specs.Content.{Content}
 use Rattle.mc_boot.specs.RunFacts.{outcome_defined}
 use Rattle.mc_boot.specs.Outcome.{Report, outcome_of}
 use Rattle.mc_tree.specs.Tree.{landed, Allowed}
 use Rattle.mc_tree.specs.Paths.{Precedes}
-use Rattle.mc_tree.specs.facts.OneList as lists_facts
 use Rattle.mc_tree.specs.facts.Existence as existence
 use Rattle.mc_tree.specs.facts.Existence.{AreRows}
 use Rattle.mc_tree.specs.facts.Precedence.{paths_in_order}
@@ -13,7 +12,7 @@ use Rattle.mc_explore.specs.Boots.{boots}
 use Rattle.mc_explore.specs.Listing.{IsLawful}
 use Rattle.mc_explore.specs.Rest.{IsRow, IsRest, schedules}
 use Rattle.mc_explore.specs.Start.{Begun}
-use Rattle.mc_explore.specs.State.{State, Told, HasOutcome, outcome_after, moved_to}
+use Rattle.mc_explore.specs.State.{State, Told, HasOutcome, outcome_after}
 use Rattle.mc_explore.specs.facts.Occurring.{allowed_after, member_of, path_of}
 
 one_outcome : (a b : List ℕ) (x y : Report) (o : List ℕ → Option Report) → a ≡ b → o a ≡ Some x → o b ≡ Some y → x ≡ y
@@ -57,29 +56,10 @@ module _ (start : Begun) where
   }
 
 module _ (state : State) where
-  pub some_rest : (rows : List Told) × IsRest state rows
+  some_rest : (rows : List Told) × IsRest state rows
   some_rest =
       existence.some_rest Precedes paths_in_order (λ row. row.schedule) (IsRow state.start state.bound) (boots state.start.rules state.start.geometry) state.start.content state.bound
       (row_at state.start) (are_rows state.start state.bound) state.position
-
-  pub one_rest : (xs ys : List Told) → IsRest state xs → IsRest state ys → xs ≡ ys
-  one_rest = lists_facts.one_rest Precedes paths_in_order (λ row. row.schedule) (IsRow state.start state.bound) state.position
-
-  pub rest_tail : (row : Told) (rows : List Told) → IsRest state (row ∷ rows) → IsRest (moved_to state row.schedule) rows
-  rest_tail = lists_facts.rest_tail Precedes paths_in_order (λ row. row.schedule) (IsRow state.start state.bound) state.position
-
-  pub in_order : (front between rest : List Told) (first later : Told) → IsRest state (front ++ first ∷ (between ++ later ∷ rest)) → Precedes first.schedule later.schedule
-  in_order = lists_facts.in_order Precedes paths_in_order (λ row. row.schedule) (IsRow state.start state.bound) state.position
-
-  one_is_later : Precedes (1 ∷ []) (0 ∷ 17 ∷ []) → ⊥
-  one_is_later (inl less) = omega (arith, less)
-  one_is_later (inr same) = omega (arith, same.0)
-
-  pub longer_first : (front between rest : List Told) (first later : Told) → first.schedule ≡ 1 ∷ [] → later.schedule ≡ 0 ∷ 17 ∷ []
-      → IsRest state (front ++ first ∷ (between ++ later ∷ rest)) → ⊥
-  longer_first front between rest first later one two r =
-      let before = in_order front between rest first later r in
-      one_is_later (subst (Precedes (1 ∷ [])) two (subst (λ l. Precedes l later.schedule) one before))
 
 pub schedules_are_lawful : IsLawful schedules
 schedules_are_lawful = record {
@@ -89,4 +69,5 @@ schedules_are_lawful = record {
   rows_stay = λ state k row is. is;
   rows_stayed = λ state k row is. is;
   cursor_stays = λ state k m. refl;
+  moved_again = λ state k m. refl;
 }
