@@ -20,8 +20,8 @@ use Rattle.mc_campaign.specs.Places.{Places, pairs_of}
 use Rattle.mc_campaign.specs.Twice.{AreTold, round_at}
 use Rattle.mc_campaign.specs.declared.campaign.Round.TheVariants as rounds_of
 use Rattle.mc_campaign.specs.declared.rounds.Both.{Both}
-use Rattle.mc_campaign.proofs.Pairs.{pairs_length}
-use Rattle.mc_campaign.proofs.Paths.{first_allowed, second_allowed}
+use Rattle.mc_campaign.specs.facts.Pairs.{pairs_length}
+use Rattle.mc_campaign.specs.facts.Paths.{first_allowed, second_allowed}
 use Rattle.mc_campaign.proofs.Steps.{few_ops}
 
 module _ (r : Rules) (g : Geometry) (confirms : Bool) (s : Content) (bound : ℕ) (c : Places) where

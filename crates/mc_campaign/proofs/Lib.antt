@@ -1,6 +1,4 @@
-mod Pairs
 mod Reading
-mod Paths
 mod Ways
 mod Steps
 mod Replays

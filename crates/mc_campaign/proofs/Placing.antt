@@ -6,9 +6,9 @@ use Rattle.std.proofs.lemmas.Bool.Decides.{nat_tests}
 use Rattle.std.proofs.lemmas.List.{take_all, take_more}
 use Rattle.std.proofs.lemmas.Option.{get_or_from_slice_get, slice_get_within}
 use Rattle.mc_tree.specs.Tree.{Tree}
-use Rattle.mc_tree.specs.Twice.{Place, first, second, label, labels, pairs, twice_child}
+use Rattle.mc_tree.specs.Twice.{Place, first, second, label, labels, twice_child}
 use Rattle.mc_campaign.specs.Places.{Places, in_round, pairs_of, placed}
-use Rattle.mc_campaign.proofs.Pairs.{pairs_length}
+use Rattle.mc_campaign.specs.facts.Pairs.{pairs_length}
 
 -- One cut more.
 in_round-push : (round : ℕ) (cuts : List (ℕ × ℕ)) (cut : ℕ × ℕ) → in_round round (cuts ++ cut ∷ []) ≡ in_round round cuts ++ in_round round (cut ∷ [])
@@ -37,25 +37,7 @@ few_placed (x ∷ cuts) = one_round x (x.0 == 1) (x.0 == 2) refl refl cuts (few_
 pub placed_few : (cuts : List (ℕ × ℕ)) → length (pairs_of (placed cuts)) ≤ length cuts
 placed_few cuts = omega (arith, few_placed cuts, pairs_length (in_round 1 cuts) (in_round 2 cuts))
 
--- ---- the cuts of a campaign
-
-none_first : (later : List ℕ) → in_round 1 (pairs [] later) ≡ []
-none_first [] = refl
-none_first (x ∷ later) = none_first later
-
-all_first : (front later : List ℕ) → in_round 1 (pairs front later) ≡ front
-all_first [] later = none_first later
-all_first (x ∷ front) later = ap (λ z. x ∷ z) (all_first front later)
-
-all_second : (front later : List ℕ) → in_round 2 (pairs front later) ≡ later
-all_second [] [] = refl
-all_second [] (x ∷ later) = ap (λ z. x ∷ z) (all_second [] later)
-all_second (x ∷ front) later = all_second front later
-
-pub placed_pairs : (c : Places) → placed (pairs_of c) ≡ c
-placed_pairs c =
-    ap (λ z. record { first = z; second = in_round 2 (pairs_of c) }) (all_first c.first c.second)
-    ∙ ap (λ z. record { first = c.first; second = z }) (all_second c.first c.second)
+-- ---- one cut more of a campaign
 
 -- A cut of the first round, and one of the second.
 module _ (old : Places) (cuts : List (ℕ × ℕ)) (place : ℕ) (is : old ≡ placed cuts) where

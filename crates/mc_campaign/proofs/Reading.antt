@@ -1,16 +1,16 @@
 -- The text of a campaign, for a reader that goes cut by cut.
-use Rattle.std.specs.Prelude.{◌≡◌, ℕ, ◌+◌, ◌<◌, ◌==◌, Bool, true, false, ◌≤◌, ◌⊎◌, ◌^◌, List, [], ◌∷◌, ◌++◌, length, flat_map, map, codes, decimal, All, AllPairs, Contains, Result, Ok, refl}
+use Rattle.std.specs.Prelude.{◌≡◌, ℕ, ◌+◌, ◌<◌, ◌==◌, Bool, true, false, ◌≤◌, ◌⊎◌, ◌^◌, List, [], ◌∷◌, ◌++◌, length, get_or, flat_map, map, codes, decimal, All, AllPairs, Contains, Result, Ok, refl}
 use Rattle.std.proofs.Common.{arith, inl, inr, sym, ap, subst, ◌∙◌, append_assoc, append-nil, length-append}
 use Rattle.std.proofs.lemmas.Bool.Decides.{nat_tests}
 use Rattle.std.proofs.lemmas.Fmt.{decimal_injective}
 use Rattle.std.proofs.lemmas.List.Elements.{All-append, All-contains, All-contains_itself, All-cons, All-map, All-nil, All-push, All-weaker, Contains-append_right}
 use Rattle.mc_tree.specs.Twice.{pairs}
-use Rattle.mc_tree.specs.facts.Lists.{at_front, front_or_behind, no_element, no_pairs, pairs_append, pairs_behind, pairs_front, pairs_map, more_pairs, in_map}
+use Rattle.mc_tree.specs.facts.Lists.{at_front, front_or_behind, no_element, no_pairs, pairs_append, pairs_behind, pairs_front, pairs_mapped, more_pairs, in_map}
 use Rattle.mc_output.specs.facts.Parting.{Lacks, lacks_both, lacks_decimal, no_dash, one_part}
 use Rattle.mc_output.specs.Joined.{joined}
 use Rattle.mc_output.specs.facts.Reading.{IsSpelling}
 use Rattle.mc_explore.specs.Texts.{schedule_text, IsSchedule}
-use Rattle.mc_campaign.proofs.Pairs.{pairs_length, same_parts}
+use Rattle.mc_campaign.specs.facts.Pairs.{pairs_length}
 use Rattle.mc_campaign.specs.Places.{Places, pairs_of}
 use Rattle.mc_campaign.specs.Texts.{campaign_text, cut_text, FitsCut, IsAdded, IsCampaign}
 use Rattle.mc_campaign.specs.Rounds.{cuts_text, number_of}
@@ -135,21 +135,17 @@ cuts_of c ok =
     let a = in_map f x c.first i in
     let b = in_map h y c.second j in
     omega (arith, ap (λ (z : ℕ × ℕ). z.0) a.1, ap (λ (z : ℕ × ℕ). z.0) b.1) in
+    let of_round : (k : ℕ → ℕ × ℕ) (xs : List ℕ) → ((a b : ℕ) → P (k a) (k b)) → AllPairs P (map k xs) = λ k xs same.
+    pairs_mapped k (λ a b. P (k a) (k b)) P xs (λ a b i j h. h) (λ i j d lt within. same (get_or xs i d) (get_or xs j d)) in
     record {
       few = ok.few;
       small = ok.small;
       rounds = All-append Q (map f c.first) (map h c.second) (All-map Q f c.first (each (λ i. Q (f i)) c.first (λ i. inl refl))) (All-map Q h c.second (each (λ j. Q (h j)) c.second (λ j. inr refl)));
-      in_order = pairs_append P (map f c.first) (map h c.second) (pairs_map f P c.first (λ i j d lt within. omega arith)) (pairs_map h P c.second (λ i j d lt within. omega arith)) before;
+      in_order = pairs_append P (map f c.first) (map h c.second) (of_round f c.first (λ a b. omega arith)) (of_round h c.second (λ a b. omega arith)) before;
     }
 
 pub campaign_of : (c : Places) → AreCuts (pairs_of c) → IsCampaign c
 campaign_of c ok = record { few = ok.few; small = ok.small }
-
--- Two campaigns of the same cuts are one.
-pub same_campaign : (c d : Places) → pairs_of c ≡ pairs_of d → c ≡ d
-same_campaign c d e =
-    let both = same_parts c.first c.second d.first d.second e in
-    ap (λ (z : List ℕ). record { first = z; second = c.second }) both.0 ∙ ap (λ (z : List ℕ). record { first = d.first; second = z }) both.1
 
 -- ---- a cut more
 

@@ -16,7 +16,7 @@ use Rattle.mc_campaign.specs.View.{FollowsCampaign, IsCalm, IsLoaded, IsSound, b
 use Rattle.mc_campaign.specs.declared.cursor.CampaignCursor.{CampaignCursor}
 use Rattle.mc_campaign.specs.declared.rounds.Both.{Both}
 use Rattle.mc_campaign.specs.declared.rounds.Twice.{Twice}
-use Rattle.mc_campaign.proofs.Paths.{member_of}
+use Rattle.mc_campaign.specs.facts.Paths.{member_of}
 use Rattle.mc_campaign.proofs.Telling.{path_there, same_begun, same_state}
 
 module _ (counted : Bool) (start : Begun) (confirms : Bool) (bound n : ℕ) (c : CampaignCursor) (zero_walk one two : Walked Twice) (told : Both)

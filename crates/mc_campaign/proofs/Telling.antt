@@ -1,5 +1,5 @@
 -- The rows of a tour through two rounds.
-use Rattle.std.specs.Prelude.{◌≡◌, ◌≢◌, ℕ, ◌≤◌, Bool, List, [], Some, None, refl}
+use Rattle.std.specs.Prelude.{◌≡◌, ◌≢◌, ℕ, Bool, List, [], Some, None, refl}
 use Rattle.std.proofs.Common.{arith, sym, ap, subst, ◌∙◌}
 use Rattle.mc_tree.specs.Tree as tree
 use Rattle.mc_tree.specs.Tree.{Allowed, landed}
@@ -11,10 +11,8 @@ use Rattle.mc_flash.specs.Content.{Content}
 use Rattle.mc_flash.specs.Geometry.{Geometry}
 use Rattle.mc_flash.specs.Ledger.{Limits}
 use Rattle.mc_trailer.specs.declared.tables.Rules.{Rules}
-use Rattle.mc_boot.specs.Confirm.{confirmed_if}
 use Rattle.mc_boot.specs.Outcome.{shown}
 use Rattle.mc_boot.specs.declared.outcome.Outcome.{Outcome}
-use Rattle.mc_boot.specs.RunFacts.{left_defined}
 use Rattle.mc_walk.specs.Kind.{Kind}
 use Rattle.mc_walk.specs.Tours.{Toured, StandsAt, Visits}
 use Rattle.mc_walk.specs.Walks.{Walked, IsPath, IsSame, start_of}
@@ -23,10 +21,8 @@ use Rattle.mc_walk.specs.declared.tour.Phase.{Phase}
 use Rattle.mc_walk.specs.declared.tour.Phase.TheVariants as phases
 use Rattle.mc_explore.specs.Boots.{boots}
 use Rattle.mc_explore.specs.Once.{IsTold}
-use Rattle.mc_explore.specs.Replay.{IsReplayed}
 use Rattle.mc_explore.specs.Start.{Begun, start_digest}
 use Rattle.mc_explore.specs.View.{position_of}
-use Rattle.mc_explore.specs.facts.Occurring.{allowed_after}
 use Rattle.mc_campaign.specs.Boots.{IsPathOf, pairs_along, rounds, second_start}
 use Rattle.mc_campaign.specs.Campaigns.{IsMember, Precedes}
 use Rattle.mc_campaign.specs.Places.{Places, placed}
@@ -40,8 +36,8 @@ use Rattle.mc_campaign.specs.declared.rounds.Both.{Both}
 use Rattle.mc_campaign.specs.declared.rounds.OnWay.{OnWay}
 use Rattle.mc_campaign.specs.declared.rounds.Twice.{Twice}
 use Rattle.mc_campaign.specs.declared.row.CampaignRow.{CampaignRow}
-use Rattle.mc_campaign.proofs.Paths.{begins, campaign_along, first_allowed, member_of, path_of, same_order, second_allowed}
-use Rattle.mc_campaign.proofs.Placing.{placed_pairs}
+use Rattle.mc_campaign.specs.facts.Paths.{are_replayed, campaign_along, campaign_of, first_allowed, member_of, path_of, same_order}
+use Rattle.mc_campaign.specs.facts.Pairs.{placed_pairs}
 
 -- The kind of tree that a walk goes through.
 abbrev pub kind_of : Twice → Kind (Place Content) OnWay Both
@@ -50,14 +46,6 @@ kind_of b = twice_kind b.once.rules b.once.layout b.confirms
 -- ---- the campaigns in their order
 
 module _ (r : Rules) (g : Geometry) (confirms : Bool) (s : Content) (bound : ℕ) where
-  -- Each path of the tree is that of its cuts.
-  pub campaign_of : (path : List ℕ) → tree.IsMember (rounds r g confirms) (first s) bound path
-      → IsPathOf r g confirms s bound path (placed (pairs_along r g confirms s path))
-  campaign_of path m =
-      let along = campaign_along r g confirms s bound path m in
-      let same : along.0 ≡ placed (pairs_along r g confirms s path) = sym (placed_pairs along.0) ∙ ap placed (sym along.2.pairs_are) in
-      subst (IsPathOf r g confirms s bound path) same along.2
-
   module _ (path : List ℕ) (c : Places) (p : IsPathOf r g confirms s bound path c) where
     past_there : (phase : Phase) (l : List ℕ) (d : Places) → IsPathOf r g confirms s bound l d → IsPastIn Precedes (position_of phase c) d → paths.IsPast (position_of phase path) l
     past_there phases.Fresh l d q past = tt
@@ -105,7 +93,6 @@ module _ (r : Rules) (g : Geometry) (confirms : Bool) (s : Content) (bound : ℕ
           → (z : Content) × AreReplayed r g confirms s d (shown told.first.outcome) (shown told.second.outcome) z
       here d m at =
           let one = first_allowed r g confirms s d m.1 in
-          let two = second_allowed r g confirms s d m.1 in
           let u : Content = landed (boots r g) s d.first in
           let v : Content = landed (boots r g) (second_start r g confirms u) d.second in
           let end : Place Content = landed (rounds r g confirms) (first s) (in_both (boots r g) (second_start r g confirms) s d.first d.second) in
@@ -113,17 +100,7 @@ module _ (r : Rules) (g : Geometry) (confirms : Bool) (s : Content) (bound : ℕ
           let at_v : later_from r g confirms end ≡ v = (ended end).1 ∙ both_second (boots r g) (second_start r g confirms) s d.first d.second one in
           let first_told = subst (λ x. IsTold r g x told.first) at_u at.first_is in
           let second_told = subst (λ x. IsTold r g x told.second) at_v at.second_is in
-          let middle = left_defined r g u in
-          let left = left_defined r g v in
-          let from : second_start r g confirms u ≡ confirmed_if confirms g middle.0 = begins r g confirms u middle.0 middle.1 in (
-            left.0,
-            record {
-              middle = middle.0;
-              first = record { cut = u; occurs = allowed_after r g s d.first one; outcome_is = first_told.outcome_is; left = middle.1 };
-              second = subst (λ x. IsReplayed r g x d.second (shown told.second.outcome) left.0) from
-                  (record { cut = v; occurs = allowed_after r g (second_start r g confirms u) d.second two; outcome_is = second_told.outcome_is; left = left.1 });
-            },
-          )
+          are_replayed r g confirms s d m.1 (shown told.first.outcome) (shown told.second.outcome) first_told.outcome_is second_told.outcome_is
 
 -- ---- the same start
 
@@ -182,7 +159,6 @@ module _ (counted : Bool) (old new : Toured Twice) (c : CampaignCursor) (works :
         few = omega (arith, ours.few, same.bound);
         counted_is = ap (λ (x : Limits). x.counted) limits ∙ ours.counted_is;
       }
-
 
   -- The next row.
   module _ (told : Both) (visits : Visits (kind_of w.branches) old (position_of old.phase behind.path) (Some told) new) where

@@ -13,7 +13,11 @@ use Rattle.mc_campaign.specs.declared.row.CampaignRow.{CampaignRow}
 abbrev pub Explores : {A : Type 0} → Bool → Explored → Result A ExploreError → Explored → Type 0
 Explores = ExploresOn (λ explorer. explorer.ledger) (λ explorer. explorer.state.position ≡ Lost)
 
--- The most operations for a row: two boots and the write between them, and two on the way to it; and none where there is no row.
+-- The most operations for a row: two boots and the write between them, and two on the way to it.
+abbrev pub most_for_row : Rules → Geometry → ℕ
+most_for_row r g = 2 * most_operations r.grain g + 3
+
+-- So many for a call that finds one, and none for a call that finds none.
 abbrev pub row_cost : Rules → Geometry → Option CampaignRow → ℕ
-row_cost r g (Some row) = 2 * most_operations r.grain g + 3
+row_cost r g (Some row) = most_for_row r g
 row_cost r g None = 0

@@ -12,3 +12,6 @@ pub mod CursorText
 pub mod Explores
 pub mod Resume
 pub mod View
+pub mod Rest
+pub mod Page
+pub mod facts

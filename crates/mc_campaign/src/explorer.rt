@@ -1,12 +1,14 @@
 //! Goes through the campaigns of power cuts, one after another.
 ghost use Rattle.std.specs.Prelude.{◌≡◌, ◌+◌, ◌≤◌, true, length, IfOk, IfErr, ◌⊎◌};
+ghost use Rattle.mc_tree.specs.Paths.{After};
 ghost use Rattle.mc_tree.specs.Tree.{labelled};
 ghost use Rattle.mc_walk.specs.Walks.{root_of};
 ghost use Rattle.mc_flash.specs.Ledger.{limits_for};
 ghost use Rattle.mc_explore.specs.Start.{begun};
 ghost use Rattle.mc_campaign.specs.Boots.{pairs_along};
+ghost use Rattle.mc_campaign.specs.Cursor.{cursor_of};
 ghost use Rattle.mc_campaign.specs.Explores.{Explores, row_cost};
-ghost use Rattle.mc_campaign.specs.Places.{placed};
+ghost use Rattle.mc_campaign.specs.Places.{Places, placed};
 ghost use Rattle.mc_campaign.specs.Resume.{Resumes};
 ghost use Rattle.mc_campaign.specs.State.{Finds, at_start, state_after};
 ghost use Rattle.mc_campaign.specs.View.{begun_of};
@@ -17,10 +19,11 @@ use crate::following::follow;
 use crate::loading::{ask, load};
 use crate::rounds::Twice;
 use crate::row::CampaignRow;
-use mc_explore::{ExploreError, Start};
+use mc_explore::{ExploreError, RowSource, Start, write_line};
 use mc_flash::Flash;
 use mc_walk::{Tour, Walk};
 use std::alloc::Global;
+use std::io::Write;
 use std::marker::Model;
 
 /// Goes through all campaigns of at most so many cuts that can occur, in their order, each with the outcomes of both rounds, over
@@ -157,5 +160,69 @@ impl<F: Flash + Drop> CampaignExplorer<F> {
         ensures marked { length (F.seen result.now).marks ≡ self.now.marked }
     {
         self.tour.walk().flash()
+    }
+
+    // Where to go on behind the last row.
+    fn cursor(&self) -> CampaignCursor
+        ensures { (last : Places) → self.now.state.position ≡ After last → result ≡ cursor_of
+            self.now.state.start self.now.state.confirms self.now.state.bound last }
+    {
+        self.cursor
+    }
+}
+
+impl<F: Flash + Drop> RowSource for CampaignExplorer<F> {
+    ghost use Rattle.std.specs.Prelude.{None, refl};
+    ghost use Rattle.mc_campaign.specs.Explores.{most_for_row};
+    ghost use Rattle.mc_campaign.specs.Rest.{campaigns};
+    ghost use Rattle.mc_campaign.specs.State as states;
+    ghost use Rattle.mc_campaign.specs.declared.cursor.CampaignCursor as cursors;
+    ghost use Rattle.mc_campaign.specs.facts.Listed.{campaigns_are_lawful};
+
+    ghost State = { states.State };
+
+    ghost Key = { Places };
+
+    ghost Shown = { states.Told };
+
+    ghost Cursor = { cursors.CampaignCursor };
+
+    type Row = CampaignRow;
+
+    type Until = ();
+
+    ghost listing = { campaigns };
+
+    ghost laws = { campaigns_are_lawful };
+
+    ghost state = { λ explorer. explorer.state };
+
+    ghost ledger = { λ explorer. explorer.ledger };
+
+    ghost counted = { F.counted };
+
+    ghost shown = { states.told };
+
+    ghost until_of = { λ _. None };
+
+    ghost most_for_row = { λ s. most_for_row s.start.rules s.start.geometry };
+
+    ghost cost_stays = { λ s k. refl };
+
+    fn next_before(&mut self, _until: &()) -> Result<Option<CampaignRow>, ExploreError> {
+        self.next_row()
+    }
+
+    fn write_row<W: Write>(row: CampaignRow, writer: &mut W) -> Result<(), ExploreError> {
+        write_line(writer, row)
+    }
+
+    fn write_next<W: Write>(&self, writer: &mut W) -> Result<(), ExploreError> {
+        let cursor = self.cursor();
+        write_line(writer, format_args!("next {cursor}"))
+    }
+
+    fn give_up(&mut self) {
+        self.tour.give_up();
     }
 }

@@ -1,12 +1,17 @@
-//! The law of campaigns, as the contract of a function that does nothing.
-ghost use Rattle.std.specs.Prelude.{◌≡◌, ◌↔◌, ℕ, Bool, List};
+//! The laws of campaigns, as the contracts of functions that do nothing.
+ghost use Rattle.std.specs.Prelude.{◌≡◌, ◌<◌, ◌↔◌, ℕ, Bool, false, List, ◌∷◌, ◌++◌, length, take, All};
+ghost use Rattle.mc_tree.specs.Chain.{JoinUp};
 ghost use Rattle.mc_tree.specs.Tree as tree;
 ghost use Rattle.mc_tree.specs.Twice.{first};
 ghost use Rattle.mc_tree.specs.Paths as paths;
 ghost use Rattle.mc_flash.specs.Geometry.{Geometry};
 ghost use Rattle.mc_flash.specs.Content.{Content};
 ghost use Rattle.mc_trailer.specs.declared.tables.Rules.{Rules};
-ghost use Rattle.mc_campaign.specs.Places.{Places};
+ghost use Rattle.mc_campaign.specs.Page.{Chain, last_campaign, state_past};
+ghost use Rattle.mc_campaign.specs.Places.{Places, no_places};
+ghost use Rattle.mc_campaign.specs.Rest.{IsRest};
+ghost use Rattle.mc_campaign.specs.Resume.{behind};
+ghost use Rattle.mc_campaign.specs.State.{State, Told, moved_to};
 ghost use Rattle.mc_campaign.specs.Campaigns.{IsMember, Precedes};
 ghost use Rattle.mc_campaign.specs.Boots.{IsPathOf, rounds};
 
@@ -22,4 +27,30 @@ pub fn campaigns_are_paths()
     ensures order { (r : Rules) (g : Geometry) (confirms : Bool) (s : Content) (bound : ℕ)
         (path other : List ℕ) (c d : Places) → IsPathOf r g confirms s bound path c
         → IsPathOf r g confirms s bound other d → Precedes c d ↔ paths.Precedes path other }
+{}
+
+/// Past each position there is one ascending list of rows of campaigns, and no other. After its first row the others are to
+/// come.
+pub fn one_list_of_campaigns()
+    ensures some { (state : State) → (rows : List Told) × IsRest state rows }
+    ensures only { (state : State) (xs ys : List Told) → IsRest state xs → IsRest state ys → xs
+        ≡ ys }
+    ensures tail { (state : State) (row : Told) (rows : List Told)
+        → IsRest state (row ∷ rows) → IsRest (moved_to state row.campaign) rows }
+    ensures order { (state : State) (front between rest : List Told) (first later : Told)
+        → IsRest state (front ++ first ∷ (between ++ later ∷ rest))
+        → Precedes first.campaign later.campaign }
+{}
+
+/// Pages of campaigns join up: the rows of pages that are continued from their cursors are a prefix of the rows to come where
+/// the first one began, and all of them where the last one says `end`.
+pub fn campaign_pages_join_up()
+    ensures joined { (limits : List ℕ) (state : State) (whole rows : List Told) (ended : Bool)
+        → All (λ n. 0 < n) limits → IsRest state whole
+        → Chain state limits ended rows → JoinUp whole rows ended }
+    // After a full page an explorer is where one begins that goes on from its cursor.
+    ensures resumed { (state : State) (rows : List Told) (limit : ℕ) → state.failed ≡ false
+        → 0 < limit → length (take limit rows) ≡ limit → state_past state limit rows
+        ≡ behind state.start state.confirms state.bound
+        (last_campaign no_places (take limit rows)) }
 {}

@@ -31,6 +31,7 @@ pub use kind::Kind;
 pub use laws::{one_list_of_rows, pages_join_up};
 pub use loading::load_for;
 pub use once::{Once, Told};
+pub use output::write_line;
 pub use pages::{write_page, write_page_until, write_rows};
 pub use replaying::{ReplayError, flash_at_cut, replay, replay_on};
 pub use row::Row;

@@ -1,4 +1,4 @@
-use Rattle.mc_campaign.proofs.Paths.{campaign_along, member_of, path_of, same_order}
+use Rattle.mc_campaign.specs.facts.Paths.{campaign_along, member_of, path_of, same_order}
 use Rattle.mc_campaign.proofs.laws.campaigns_are_paths.Goals as goal
 
 pub returns-clause-paths : goal.returns-clause-paths

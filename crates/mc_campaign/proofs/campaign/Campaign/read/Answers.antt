@@ -6,7 +6,8 @@ use Rattle.mc_output.specs.facts.Reading.{dash, not_next, not_last, left_next, t
 use Rattle.mc_output.specs.facts.Parting.{parted, one_piece}
 use Rattle.mc_campaign.specs.Places.{Places, pairs_of}
 use Rattle.mc_campaign.specs.Texts.{cut_text}
-use Rattle.mc_campaign.proofs.Reading.{spelling, cuts_of, campaign_of, same_campaign}
+use Rattle.mc_campaign.proofs.Reading.{spelling, cuts_of, campaign_of}
+use Rattle.mc_campaign.specs.facts.Pairs.{same_campaign}
 use Rattle.mc_campaign.proofs.campaign.Campaign.read.Goals as goal
 
 pub returns-then-eq-clause-only : goal.returns-then-eq-clause-only

@@ -10,16 +10,19 @@ use Rattle.mc_flash.specs.Geometry.{Geometry}
 use Rattle.mc_flash.specs.Content.{Content}
 use Rattle.mc_trailer.specs.declared.tables.Rules.{Rules}
 use Rattle.mc_boot.specs.Confirm.{confirmed_if}
+use Rattle.mc_boot.specs.Outcome.{Report, outcome_of}
 use Rattle.mc_boot.specs.RunFacts.{left_defined}
 use Rattle.mc_boot.specs.Runs.{left_by}
 use Rattle.mc_explore.specs.Boots.{boots, content_or}
 use Rattle.mc_explore.specs.facts.Occurring.{allowed_after, allowed_occurs, occurs_allowed}
-use Rattle.mc_campaign.specs.Places.{Places, pairs_of}
+use Rattle.mc_explore.specs.Replay.{IsReplayed}
+use Rattle.mc_campaign.specs.Places.{Places, pairs_of, placed}
+use Rattle.mc_campaign.specs.Replay.{AreReplayed}
 use Rattle.mc_campaign.specs.Campaigns.{CanOccur, IsMember, Precedes}
 use Rattle.mc_campaign.specs.Boots.{IsPathOf, pairs_along, rounds, second_start}
-use Rattle.mc_campaign.proofs.Pairs.{pairs_length, same_parts}
+use Rattle.mc_campaign.specs.facts.Pairs.{pairs_length, placed_pairs, same_parts}
 
-some_same : {A : Type 0} (x y : A) → Some x ≡ Some y → x ≡ y
+pub some_same : {A : Type 0} (x y : A) → Some x ≡ Some y → x ≡ y
 some_same x y e = cc
 
 module _ (r : Rules) (g : Geometry) (confirms : Bool) where
@@ -51,6 +54,23 @@ module _ (r : Rules) (g : Geometry) (confirms : Bool) where
         let lands : landed (boots r g) s c.first ≡ o.cut = some_same _ _ (sym (allowed_after r g s c.first (first_allowed c o)) ∙ o.first) in
         let from : second_start r g confirms (landed (boots r g) s c.first) ≡ confirmed_if confirms g o.left = ap (second_start r g confirms) lands ∙ begins o.cut o.left o.left_is in
         subst (λ x. Allowed (boots r g) x c.second) (sym from) (occurs_allowed r g (confirmed_if confirms g o.left) c.second o.second)
+
+    -- The outcomes of a campaign are those of the boots from where its rounds end.
+    pub are_replayed : (c : Places) → CanOccur r g confirms s c → (one two : Report) → outcome_of r g (landed (boots r g) s c.first) ≡ Some one
+        → outcome_of r g (landed (boots r g) (second_start r g confirms (landed (boots r g) s c.first)) c.second) ≡ Some two → (z : Content) × AreReplayed r g confirms s c one two z
+    are_replayed c o one two one_is two_is =
+        let u : Content = landed (boots r g) s c.first in
+        let v : Content = landed (boots r g) (second_start r g confirms u) c.second in
+        let middle = left_defined r g u in
+        let left = left_defined r g v in
+        let later = allowed_after r g (second_start r g confirms u) c.second (second_allowed c o) in (
+          left.0,
+          record {
+            middle = middle.0;
+            first = record { cut = u; occurs = allowed_after r g s c.first (first_allowed c o); outcome_is = one_is; left = middle.1 };
+            second = subst (λ x. IsReplayed r g x c.second two left.0) (begins u middle.0 middle.1) (record { cut = v; occurs = later; outcome_is = two_is; left = left.1 });
+          },
+        )
 
     pub path_of : (bound : ℕ) (c : Places) → IsMember r g confirms s bound c → (path : List ℕ) × IsPathOf r g confirms s bound path c
     path_of bound c m =
@@ -97,3 +117,11 @@ module _ (r : Rules) (g : Geometry) (confirms : Bool) where
           subst (PairsPrecede (pairs_of c)) q.pairs_are
           (subst (λ x. PairsPrecede x (pairs_along r g confirms s other)) p.pairs_are (pairs_precede (boots r g) (second_start r g confirms) (first s) path other before)),
     )
+
+-- Each path of the tree is that of its cuts.
+pub campaign_of : (r : Rules) (g : Geometry) (confirms : Bool) (s : Content) (bound : ℕ) (path : List ℕ) → tree.IsMember (rounds r g confirms) (first s) bound path
+    → IsPathOf r g confirms s bound path (placed (pairs_along r g confirms s path))
+campaign_of r g confirms s bound path m =
+    let along = campaign_along r g confirms s bound path m in
+    let same : along.0 ≡ placed (pairs_along r g confirms s path) = sym (placed_pairs along.0) ∙ ap placed (sym along.2.pairs_are) in
+    subst (IsPathOf r g confirms s bound path) same along.2

@@ -3,6 +3,7 @@ use Rattle.std.specs.Prelude.{◌≡◌, ℕ, ◌+◌, List, [], ◌∷◌, leng
 use Rattle.std.proofs.Common.{arith, sym, ap, ◌∙◌, length-append}
 use Rattle.std.proofs.lemmas.List.{length-map}
 use Rattle.mc_tree.specs.Twice.{pairs}
+use Rattle.mc_campaign.specs.Places.{Places, in_round, pairs_of, placed}
 
 pub pairs_length : (first second : List ℕ) → length (pairs first second) ≡ length first + length second
 pairs_length first second =
@@ -40,3 +41,29 @@ same_parts (x ∷ f) s (y ∷ p) q e =
     let rest = same_parts f s p q (tail_is (1, x) (1, y) (pairs f s) (pairs p q) e) in
     let heads : x ≡ y = ap (λ (z : ℕ × ℕ). z.1) (head_is (1, x) (1, y) (pairs f s) (pairs p q) e) in
     (ap (λ (z : ℕ). z ∷ f) heads ∙ ap (λ (z : List ℕ). y ∷ z) rest.0, rest.1)
+
+-- ---- the cuts of a campaign
+
+none_first : (later : List ℕ) → in_round 1 (pairs [] later) ≡ []
+none_first [] = refl
+none_first (x ∷ later) = none_first later
+
+all_first : (front later : List ℕ) → in_round 1 (pairs front later) ≡ front
+all_first [] later = none_first later
+all_first (x ∷ front) later = ap (λ z. x ∷ z) (all_first front later)
+
+all_second : (front later : List ℕ) → in_round 2 (pairs front later) ≡ later
+all_second [] [] = refl
+all_second [] (x ∷ later) = ap (λ z. x ∷ z) (all_second [] later)
+all_second (x ∷ front) later = all_second front later
+
+pub placed_pairs : (c : Places) → placed (pairs_of c) ≡ c
+placed_pairs c =
+    ap (λ z. record { first = z; second = in_round 2 (pairs_of c) }) (all_first c.first c.second)
+    ∙ ap (λ z. record { first = c.first; second = z }) (all_second c.first c.second)
+
+-- Two campaigns of the same cuts are one.
+pub same_campaign : (c d : Places) → pairs_of c ≡ pairs_of d → c ≡ d
+same_campaign c d e =
+    let both = same_parts c.first c.second d.first d.second e in
+    ap (λ (z : List ℕ). record { first = z; second = c.second }) both.0 ∙ ap (λ (z : List ℕ). record { first = d.first; second = z }) both.1

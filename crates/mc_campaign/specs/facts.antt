@@ -1,0 +1,4 @@
+-- Lemmas that the contracts cite, and the proofs with them. The definitions above them are what must be believed.
+pub mod Pairs
+pub mod Paths
+pub mod Listed
