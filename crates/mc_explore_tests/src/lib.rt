@@ -7,6 +7,8 @@ mod bounds;
 #[cfg(test)]
 mod campaign_rows;
 #[cfg(test)]
+mod campaign_texts;
+#[cfg(test)]
 mod campaigns;
 #[cfg(test)]
 mod common;
