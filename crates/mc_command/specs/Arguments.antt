@@ -9,12 +9,12 @@ use Rattle.mc_command.specs.declared.numbers.NumberOption.TheVariants as numbers
 use Rattle.mc_flash.specs.Geometry.{Geometry}
 use Rattle.mc_flash.specs.declared.layout.LayoutError.{LayoutError}
 use Rattle.mc_explore.specs.CursorText.{cursor_text}
+use Rattle.mc_campaign.specs.CursorText as campaigns
+use Rattle.mc_campaign.specs.declared.cursor.CampaignCursor.{CampaignCursor}
 use Rattle.mc_explore.specs.Texts.{schedule_text}
 use Rattle.mc_explore.specs.declared.kind.Kind.{Kind}
 use Rattle.mc_explore.specs.declared.kind.Kind.TheVariants as kinds
-use Rattle.mc_flash.specs.declared.flash.Grain.{Grain}
 use Rattle.mc_flash.specs.Texts.{grain_text}
-use Rattle.mc_trailer.specs.declared.tables.Profile.{Profile}
 use Rattle.mc_trailer.specs.declared.tables.Rules.{Rules}
 use Rattle.mc_trailer.specs.Texts.{profile_text}
 use Rattle.mc_command.specs.declared.options.FlashOptions.{FlashOptions}
@@ -124,3 +124,7 @@ pub record TellsRange (found : Found) (o : RangeOptions) : Type 0 where
   pub after : MayTellSchedule found (codes "after") o.after
   pub until : MayTellSchedule found (codes "until") o.until
   pub one : tells_both found ≡ false
+
+-- the arguments tell after which campaign an exploration goes on, or none
+abbrev pub MayTellCampaign : Found → Option CampaignCursor → Type 0
+MayTellCampaign found o = first_value found (codes "cursor") ≡ option_map campaigns.cursor_text o

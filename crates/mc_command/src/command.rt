@@ -40,6 +40,7 @@ pub fn parse<'a>(alloc: Global, words: &'a [String]) -> Result<ArgMatches<'a>, E
         .subcommand(sectors_command(alloc)?)?
         .subcommand(explore_command(alloc)?)?
         .subcommand(survey_command(alloc)?)?
+        .subcommand(campaign_command(alloc)?)?
         .subcommand(explain_command(alloc)?)?;
     command.try_get_matches_from(words)
 }
@@ -293,18 +294,18 @@ begin with 0 and have more cuts.
 How many rows? --cuts 1 has OPS+1; --cuts 2 has 1 more than the sum of OPS over the rows of
 --cuts 1.";
 
-/// What tells an exploration: a flash, rules, the most cuts, and which of the rows.
-fn with_exploration<'a>(alloc: Global, command: Command<'a>) -> Result<Command<'a>, AllocError> {
+/// What tells a page of an exploration: a flash, rules, the most cuts, how many rows, and after which page.
+fn with_page<'a>(
+    alloc: Global,
+    command: Command<'a>,
+    cuts: &'static str,
+) -> Result<Command<'a>, AllocError> {
     with_rules(alloc, with_flash(alloc, command)?)?
         .next_help_heading("Exploration")
         .arg(
-            number(
-                alloc,
-                NumberOption::Cuts,
-                "Most power cuts in a schedule, 0 to 16",
-            )
-            .value_name("K")
-            .required(true),
+            number(alloc, NumberOption::Cuts, cuts)
+                .value_name("K")
+                .required(true),
         )?
         .arg(number(
             alloc,
@@ -317,7 +318,12 @@ fn with_exploration<'a>(alloc: Global, command: Command<'a>) -> Result<Command<'
                 .long("cursor")
                 .value_name("C")
                 .help("Go on after an earlier page: the text after its `next`"),
-        )?
+        )
+}
+
+/// What tells an exploration of schedules: a page, and which of the rows.
+fn with_exploration<'a>(alloc: Global, command: Command<'a>) -> Result<Command<'a>, AllocError> {
+    with_page(alloc, command, "Most power cuts in a schedule, 0 to 16")?
         .arg(schedule(
             alloc,
             "after",
@@ -349,6 +355,28 @@ fn survey_command<'a>(alloc: Global) -> Result<Command<'a>, AllocError> {
         alloc,
         "all-boot",
         "Refuse, after the counts, where a row's result is not boot",
+    ))
+}
+
+static AFTER_CAMPAIGN: &str = "\
+A row is: CAMPAIGN RESULT TYPE OPS RESULT TYPE OPS PRIMARY SECONDARY NEXT
+  2.4 boot test 18 boot perm 19 1.0.0+0/80 2.0.0+0/80 none
+Two rounds, each power-on with its cuts and one whole boot: here the first round has no cut, and in the
+second power fails after 4 operations of its first boot. RESULT TYPE OPS stand for the boots that end the
+rounds; what lies in the slots, and the next type, for the end. Between the rounds the image in the
+primary confirms itself with --confirm, else not.
+Rows come in this order: -, 1.0, 1.0,1.0, .., 1.0,2.0, .., 1.1, .., 2.0, 2.0,2.0, ..";
+
+/// `campaign`: what the boots that end two rounds do.
+fn campaign_command<'a>(alloc: Global) -> Result<Command<'a>, AllocError> {
+    let command = Command::new(alloc, "campaign")
+        .override_usage("mcsim campaign <LAYOUT> <SOURCE> --cuts <K> [OPTIONS]")
+        .about("List every campaign of at most K power cuts in two rounds, with both outcomes")
+        .after_help(AFTER_CAMPAIGN);
+    with_page(alloc, command, "Most power cuts in both rounds, 0 to 16")?.arg(flag(
+        alloc,
+        "confirm",
+        "The image confirms itself between the rounds",
     ))
 }
 

@@ -1,4 +1,5 @@
 //! The commands, each with its files.
+pub mod campaign;
 pub mod create;
 pub mod dumpinfo;
 pub mod explain;

@@ -20,7 +20,7 @@ pub fn explanation_of(number: u8) -> Option<&'static Explanation>
 }
 
 /// All refusals, by their numbers. `docs/FORMAT.md` has the same table.
-static EXPLANATIONS: [Explanation; 47] = [
+static EXPLANATIONS: [Explanation; 48] = [
     Explanation {
         number: 1,
         name: "Truncated",
@@ -312,8 +312,15 @@ static EXPLANATIONS: [Explanation; 47] = [
         number: 61,
         name: "OtherRules",
         status: Some(1),
-        when: "The cursor was printed for another grain or profile.",
-        remedy: "Give the same --grain and --profile as for the earlier page.",
+        when: "The cursor was printed for another grain or profile, or another --confirm.",
+        remedy: "Give the same --grain, --profile and --confirm as for the earlier page.",
+    },
+    Explanation {
+        number: 62,
+        name: "CampaignSyntax",
+        status: Some(2),
+        when: "The text is not a campaign.",
+        remedy: "Write - for no cut, or 1 to 16 cuts joined by commas, as 1.0,2.5.",
     },
     Explanation {
         number: 70,

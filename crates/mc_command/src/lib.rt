@@ -83,6 +83,7 @@ fn run_command<F: Files, R: Read, O: Write>(
         Some(("sectors", arguments)) => commands::trace::sectors(files, alloc, arguments, out),
         Some(("explain", arguments)) => commands::explain::run(arguments, out),
         Some(("explore", arguments)) => commands::explore::run(files, alloc, arguments, out),
+        Some(("campaign", arguments)) => commands::campaign::run(files, alloc, arguments, out),
         Some(("survey", arguments)) => commands::explore::survey(files, alloc, arguments, out),
         _ => Err(Refusal::Argument),
     }

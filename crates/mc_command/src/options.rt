@@ -5,11 +5,12 @@ ghost use Rattle.clap.specs.Words.{first_value};
 ghost use Rattle.mc_command.specs.Numbers.{TellsNumber, IsUnit};
 ghost use Rattle.mc_flash.specs.Geometry.{Geometry, refusal_of};
 ghost use Rattle.mc_command.specs.Arguments.{TellsCreate, TellsLayout, Judges, TellsSource, RefusesSource, is_source, kind_text};
-ghost use Rattle.mc_command.specs.Arguments.{TellsRules, TellsFlash, TellsRange, MayTellSchedule, tells_both};
+ghost use Rattle.mc_command.specs.Arguments.{TellsRules, TellsFlash, TellsRange, MayTellSchedule, MayTellCampaign, tells_both};
 
 use crate::numbers::NumberOption;
 use crate::refusal::Refusal;
 use clap::ArgMatches;
+use mc_campaign::CampaignCursor;
 use mc_explore::{Cursor, Kind, Schedule};
 use mc_flash::{Grain, Layout};
 use mc_image::Version;
@@ -262,4 +263,18 @@ pub fn range_options(arguments: &ArgMatches<'_>) -> Result<RangeOptions, Refusal
         after: schedule_option(arguments, "after")?,
         until: schedule_option(arguments, "until")?,
     })
+}
+
+/// The campaign of an earlier page, after which an exploration goes on, if one is told.
+///
+/// # Errors
+///
+/// `Cursor` where the text is no cursor's of campaigns.
+pub fn campaign_cursor(arguments: &ArgMatches<'_>) -> Result<Option<CampaignCursor>, Refusal>
+    ensures { IfOk result (MayTellCampaign (found_of arguments.now)) }
+{
+    match arguments.get_str("cursor") {
+        Some(text) => Ok(Some(CampaignCursor::read(text)?)),
+        None => Ok(None),
+    }
 }
