@@ -175,6 +175,8 @@ fn a_walk_keeps_its_bounds(rt: HostRuntime) -> Result<(), Fail> {
             break;
         }
         assert_bounds(&rt, explorer.flash());
+        // 112 operations a row.
+        assert!(rt; explorer.flash().applied() <= 112 * (u64::from(place) + 1));
     }
     assert_eq!(rt; rows, 42);
     assert!(rt; explorer.flash().applied() <= 4704);
