@@ -1,11 +1,10 @@
 //! The worked images, byte for byte, and what no clause says.
 ghost use Rattle.std.specs.Prelude.{◌<◌, ◌≤◌, ◌^◌, length};
 
+use crate::common::texts_of;
 use mc_fixtures::{COUNTED_IMAGE, EMPTY_IMAGE, PAYLOAD, PLAIN_IMAGE};
-use mc_image::{
-    Area, ImageError, ImageParts, ImageView, Judge, Judged, Version, VersionError, write_image,
-};
-use std::alloc::Global;
+use mc_image::{Area, ImageError, ImageParts, ImageView, Judge, Judged, Tlv, Version, write_image};
+use std::alloc::{AllocError, Global};
 use std::process::Abort;
 use std::test::Fail;
 
@@ -33,10 +32,10 @@ fn parts_of<'a>(
     }
 }
 
-fn written(alloc: Global, parts: &ImageParts) -> Result<Vec<u8>, ImageError> {
-    let mut out = Vec::new(alloc);
+/// Whether this comes of it that these parts are written behind some bytes.
+fn is_written(mut out: Vec<u8>, parts: &ImageParts, wanted: &[u8]) -> Result<bool, ImageError> {
     write_image(parts, &mut out)?;
-    Ok(out)
+    Ok(out.as_slice() == wanted)
 }
 
 fn fault(bytes: &[u8]) -> Option<ImageError> {
@@ -44,187 +43,268 @@ fn fault(bytes: &[u8]) -> Option<ImageError> {
 }
 
 #[test]
-fn worked_images_are_written(rt: HostRuntime) -> Result<(), Fail> {
+fn worked_images_are_written(rt: HostRuntime) {
     let alloc = rt.alloc();
-    let plain = written(alloc, &parts_of(&PAYLOAD, &[], &[]))?;
-    assert_eq!(rt; plain.as_slice(), PLAIN_IMAGE.as_slice());
-    let empty = written(alloc, &parts_of(&[], &[], &[]))?;
-    assert_eq!(rt; empty.as_slice(), EMPTY_IMAGE.as_slice());
     let counter = [(0x50, [7, 0, 0, 0].as_slice())];
-    let counted = written(alloc, &parts_of(&PAYLOAD, &counter, &[]))?;
-    assert_eq!(rt; counted.as_slice(), COUNTED_IMAGE.as_slice());
-    Ok(())
+    let plain = is_written(Vec::new(alloc), &parts_of(&PAYLOAD, &[], &[]), &PLAIN_IMAGE);
+    let empty = is_written(Vec::new(alloc), &parts_of(&[], &[], &[]), &EMPTY_IMAGE);
+    let parts = parts_of(&PAYLOAD, &counter, &[]);
+    let counted = is_written(Vec::new(alloc), &parts, &COUNTED_IMAGE);
+    assert_eq!(rt; [plain, empty, counted], [Ok(true); 3]);
 }
 
 #[test]
 fn an_empty_entry_follows_the_digest(rt: HostRuntime) -> Result<(), Fail> {
     let entries = [(0x99, [].as_slice())];
-    let image = written(rt.alloc(), &parts_of(&PAYLOAD, &[], &entries))?;
     // The plain area's total is 44 in place of 40, and the entry stands after the digest.
-    let mut wanted = PLAIN_IMAGE[..42].to_vec(rt.alloc())?;
-    wanted.extend_from_slice(&[0x2c, 0])?;
-    wanted.extend_from_slice(&PLAIN_IMAGE[44..])?;
-    wanted.extend_from_slice(&[0x99, 0, 0, 0])?;
-    assert_eq!(rt; image.as_slice(), wanted.as_slice());
+    let mut wanted = [0; 84];
+    wanted[..80].copy_from_slice(&PLAIN_IMAGE);
+    wanted[42] = 0x2c;
+    wanted[80] = 0x99;
+    let parts = parts_of(&PAYLOAD, &[], &entries);
+    assert!(rt; is_written(Vec::new(rt.alloc()), &parts, &wanted)?);
     Ok(())
 }
 
 #[test]
 fn an_image_is_appended(rt: HostRuntime) -> Result<(), Fail> {
-    let mut out = [9u8].to_vec(rt.alloc())?;
-    write_image(&parts_of(&PAYLOAD, &[], &[]), &mut out)?;
-    assert_eq!(rt; out.len(), 81);
-    assert_eq!(rt; out[0], 9);
-    assert_eq!(rt; &out[1..], PLAIN_IMAGE.as_slice());
+    let mut wanted = [9; 81];
+    wanted[1..].copy_from_slice(&PLAIN_IMAGE);
+    let parts = parts_of(&PAYLOAD, &[], &[]);
+    assert!(rt; is_written([9].to_vec(rt.alloc())?, &parts, &wanted)?);
     Ok(())
+}
+
+/// Why these parts are refused. None where the vector is another then.
+fn refusal_of(alloc: Global, parts: &ImageParts) -> Result<Option<ImageError>, AllocError> {
+    let mut out = [9u8].to_vec(alloc)?;
+    let refusal = write_image(parts, &mut out).err();
+    Ok(refusal.filter(|_| out.as_slice() == [9].as_slice()))
+}
+
+/// Why a payload of one byte more than the most is refused, with these entries.
+fn refusal_of_large(
+    alloc: Global,
+    plain: &[(u16, &[u8])],
+) -> Result<Option<ImageError>, AllocError> {
+    let long = vec![in alloc; 0u8; (1 << 24) + 1]?;
+    refusal_of(alloc, &parts_of(long.as_slice(), &[], plain))
 }
 
 #[test]
 fn refused_parts_leave_the_vector(rt: HostRuntime) -> Result<(), Fail> {
     let digest = [(0x10, [0u8; 32].as_slice())];
-    let mut out = [9u8].to_vec(rt.alloc())?;
-    let many = write_image(&parts_of(&PAYLOAD, &[], &digest), &mut out);
-    assert_eq!(rt; many, Err(ImageError::ManyDigests));
+    let many = refusal_of(rt.alloc(), &parts_of(&PAYLOAD, &[], &digest))?;
     // Too large comes first.
-    let long = vec![in rt.alloc(); 0u8; (1 << 24) + 1]?;
-    let large = write_image(&parts_of(long.as_slice(), &[], &digest), &mut out);
-    assert_eq!(rt; large, Err(ImageError::TooLarge));
-    assert_eq!(rt; out.as_slice(), [9].as_slice());
+    let large = refusal_of_large(rt.alloc(), &digest)?;
+    assert_eq!(rt;
+        [many, large],
+        [Some(ImageError::ManyDigests), Some(ImageError::TooLarge)]
+    );
     Ok(())
+}
+
+/// Whether a view shows the parts of the image with a counter.
+fn shows_the_parts(view: &ImageView) -> bool {
+    view.header() == &COUNTED_IMAGE[..32]
+        && view.payload() == PAYLOAD.as_slice()
+        && view.protected() == &COUNTED_IMAGE[40..52]
+        && view.plain() == &COUNTED_IMAGE[52..]
+        && view.digest() == &COUNTED_IMAGE[60..]
 }
 
 #[test]
 fn a_view_shows_the_parts(rt: HostRuntime) -> Result<(), Fail> {
     let view = ImageView::read(&COUNTED_IMAGE)?;
-    assert_eq!(rt; view.header(), &COUNTED_IMAGE[..32]);
-    assert_eq!(rt; view.payload(), PAYLOAD.as_slice());
-    assert_eq!(rt; view.protected(), &COUNTED_IMAGE[40..52]);
-    assert_eq!(rt; view.plain(), &COUNTED_IMAGE[52..]);
-    assert_eq!(rt; view.digest(), &COUNTED_IMAGE[60..]);
-    assert_eq!(rt; view.size(), 92);
-    assert_eq!(rt; view.version(), VERSION);
-    assert_eq!(rt; view.check(), Ok(()));
-    let mut tlvs = view.tlvs();
-    let counter = tlvs.next().ok_or("the counter")?;
-    assert_eq!(rt; (counter.area, counter.kind), (Area::Protected, 0x50));
-    assert_eq!(rt; counter.value, [7, 0, 0, 0].as_slice());
-    let digest = tlvs.next().ok_or("the digest")?;
-    assert_eq!(rt; (digest.area, digest.kind), (Area::Plain, 0x10));
-    assert_eq!(rt; digest.value, view.digest());
-    assert!(rt; tlvs.next().is_none());
+    assert!(rt; shows_the_parts(&view));
+    assert_eq!(rt;
+        (view.size(), view.version(), view.check()),
+        (92, VERSION, Ok(()))
+    );
     Ok(())
+}
+
+#[test]
+fn a_view_shows_the_entries(rt: HostRuntime) -> Result<(), Fail> {
+    let mut tlvs = ImageView::read(&COUNTED_IMAGE)?.tlvs();
+    let counter = Tlv {
+        area: Area::Protected,
+        kind: 0x50,
+        value: &[7, 0, 0, 0],
+    };
+    let digest = Tlv {
+        area: Area::Plain,
+        kind: 0x10,
+        value: &COUNTED_IMAGE[60..],
+    };
+    assert_eq!(rt;
+        [tlvs.next(), tlvs.next(), tlvs.next()],
+        [Some(counter), Some(digest), None]
+    );
+    Ok(())
+}
+
+/// The first beginning of an image that is not refused as it should be, by its length. The image's plain area begins there.
+fn first_amiss(image: &[u8], area: usize) -> Option<usize> {
+    for n in 0..image.len() {
+        let wanted = if n < 32 {
+            ImageError::Truncated
+        } else if n < area {
+            ImageError::TruncatedBody
+        } else if n - area < 4 {
+            ImageError::BadTlvMagic
+        } else {
+            ImageError::BadTlvLength
+        };
+        if fault(&image[..n]) != Some(wanted) {
+            return Some(n);
+        }
+    }
+    None
 }
 
 #[test]
 fn fronts_are_refused(rt: HostRuntime) {
-    for n in 0..80usize {
-        let wanted = match n {
-            0..=31 => ImageError::Truncated,
-            32..=39 => ImageError::TruncatedBody,
-            40..=43 => ImageError::BadTlvMagic,
-            _ => ImageError::BadTlvLength,
-        };
-        assert_eq!(rt; fault(&PLAIN_IMAGE[..n]), Some(wanted), "{n}");
-    }
-    for n in 0..92usize {
-        let wanted = match n {
-            0..=31 => ImageError::Truncated,
-            32..=51 => ImageError::TruncatedBody,
-            52..=55 => ImageError::BadTlvMagic,
-            _ => ImageError::BadTlvLength,
-        };
-        assert_eq!(rt; fault(&COUNTED_IMAGE[..n]), Some(wanted), "{n}");
-    }
+    assert_eq!(rt; first_amiss(&PLAIN_IMAGE, 40), None);
+    assert_eq!(rt; first_amiss(&COUNTED_IMAGE, 52), None);
 }
 
 /// The image of 80 bytes with one byte changed.
-fn changed(place: usize, byte: u8) -> [u8; 80]
-    requires { place < 80 }
-{
+fn changed(place: usize, byte: u8) -> [u8; 80] {
     let mut image = PLAIN_IMAGE;
-    image[place] = byte;
+    if let Some(old) = image.get_mut(place) {
+        *old = byte;
+    }
     image
 }
 
+/// A place, another byte there, and why the image is refused then.
+static CHANGES: [(usize, u8, ImageError); 9] = [
+    (0, 0, ImageError::BadMagic),
+    (8, 31, ImageError::BadHeaderSize),
+    (16, 1, ImageError::UnsupportedFlags),
+    (10, 3, ImageError::BadProtected),
+    (40, 8, ImageError::BadTlvMagic),
+    (42, 3, ImageError::BadTlvLength),
+    (42, 39, ImageError::BadTlvLength),
+    (44, 0x11, ImageError::NoDigest),
+    (33, 0, ImageError::WrongDigest),
+];
+
+/// Why bytes are refused by a view, with their digest.
+fn fault_with_digest(bytes: &[u8]) -> Option<ImageError> {
+    match ImageView::read(bytes) {
+        Ok(view) => view.check().err(),
+        Err(fault) => Some(fault),
+    }
+}
+
 #[test]
-fn changed_bytes_are_refused(rt: HostRuntime) -> Result<(), Fail> {
-    assert_eq!(rt; fault(&changed(0, 0)), Some(ImageError::BadMagic));
-    assert_eq!(rt; fault(&changed(8, 31)), Some(ImageError::BadHeaderSize));
-    assert_eq!(rt; fault(&changed(16, 1)), Some(ImageError::UnsupportedFlags));
-    assert_eq!(rt; fault(&changed(10, 3)), Some(ImageError::BadProtected));
-    assert_eq!(rt; fault(&changed(42, 39)), Some(ImageError::BadTlvLength));
-    assert_eq!(rt; fault(&changed(44, 0x11)), Some(ImageError::NoDigest));
-    let image = changed(33, 0);
-    let view = ImageView::read(&image)?;
-    assert_eq!(rt; view.check(), Err(ImageError::WrongDigest));
-    Ok(())
+fn changed_bytes_are_refused(rt: HostRuntime) {
+    for (place, byte, wanted) in CHANGES {
+        let fault = fault_with_digest(&changed(place, byte));
+        assert_eq!(rt; fault, Some(wanted), "{place}");
+    }
+}
+
+/// What is told of texts between bars, a line each: the version that one says, in full, or why it says none.
+fn told_of(alloc: Global, texts: &str) -> Result<String, AllocError> {
+    let mut told = String::new(alloc);
+    for text in texts.split('|') {
+        let line = line_of(alloc, text)?;
+        told.push_str(line.as_str())?;
+    }
+    Ok(told)
+}
+
+fn line_of(alloc: Global, text: &str) -> Result<String, AllocError> {
+    match Version::read(text) {
+        Ok(version) => format!(in alloc; "{version}\n"),
+        Err(error) => format!(in alloc; "{error}\n"),
+    }
 }
 
 #[test]
 fn versions_are_read_and_printed(rt: HostRuntime) -> Result<(), Fail> {
-    assert_eq!(rt; Version::read("1.2.3+4")?, VERSION);
-    let one = Version::read("1")?;
-    assert_eq!(rt; format!(in rt.alloc(); "{one}")?.as_str(), "1.0.0+0");
-    let last = Version::read("255.255.65535+4294967295")?;
+    assert_eq!(rt; Version::read("1.2.3+4"), Ok(VERSION));
+    let told = told_of(rt.alloc(), "1.2.3+4|1|255.255.65535+4294967295")?;
     assert_eq!(rt;
-        format!(in rt.alloc(); "{last}")?.as_str(),
-        "255.255.65535+4294967295"
+        told.as_str(),
+        "1.2.3+4\n1.0.0+0\n255.255.65535+4294967295\n"
     );
-    for text in [
-        "",
-        "01",
-        "1.2+4",
-        "1.",
-        "1.2.3+4+5",
-        "1.2.3.4",
-        "a",
-        "1a",
-        "1.2.3+",
-        " 1",
-    ] {
-        assert_eq!(rt; Version::read(text), Err(VersionError::Syntax), "{text}");
-    }
-    let great = [
-        "256",
-        "1.256",
-        "1.2.65536",
-        "1.2.3+4294967296",
-        "99999999999999999999999",
-    ];
-    for text in great {
-        assert_eq!(rt; Version::read(text), Err(VersionError::Range), "{text}");
-    }
-    // Outside the form comes first.
-    assert_eq!(rt; Version::read("256.x"), Err(VersionError::Syntax));
     Ok(())
 }
 
+/// What is told of texts outside the form, which comes first, and then of numbers that are too great.
+static NO_VERSIONS: &str = "\
+E15 Syntax
+E15 Syntax
+E15 Syntax
+E15 Syntax
+E15 Syntax
+E15 Syntax
+E15 Syntax
+E15 Syntax
+E15 Syntax
+E15 Syntax
+E15 Syntax
+E16 Range
+E16 Range
+E16 Range
+E16 Range
+E16 Range
+";
+
+#[test]
+fn texts_that_are_no_versions_are_refused(rt: HostRuntime) -> Result<(), Fail> {
+    let told = told_of(
+        rt.alloc(),
+        "|01|1.2+4|1.|1.2.3+4+5|1.2.3.4|a|1a|1.2.3+| 1|256.x|256|1.256|1.2.65536|1.2.3+4294967296|99999999999999999999999",
+    )?;
+    assert_eq!(rt; told.as_str(), NO_VERSIONS);
+    Ok(())
+}
+
+/// The refusals, in their order.
+static ERRORS: [ImageError; 14] = [
+    ImageError::Truncated,
+    ImageError::BadMagic,
+    ImageError::BadHeaderSize,
+    ImageError::UnsupportedFlags,
+    ImageError::TruncatedBody,
+    ImageError::BadProtected,
+    ImageError::BadTlvMagic,
+    ImageError::BadTlvLength,
+    ImageError::NoDigest,
+    ImageError::ManyDigests,
+    ImageError::DigestLength,
+    ImageError::WrongDigest,
+    ImageError::TooLarge,
+    ImageError::Memory,
+];
+
+/// Their texts.
+static TEXTS: &str = "\
+E1 Truncated
+E2 BadMagic
+E3 BadHeaderSize
+E4 UnsupportedFlags
+E5 TruncatedBody
+E6 BadProtected
+E7 BadTlvMagic
+E8 BadTlvLength
+E9 NoDigest
+E10 ManyDigests
+E11 DigestLength
+E12 WrongDigest
+E13 TooLarge
+E14 Memory
+";
+
 #[test]
 fn refusals_have_their_texts(rt: HostRuntime) -> Result<(), Fail> {
-    let alloc = rt.alloc();
-    let texts = [
-        (ImageError::Truncated, "E1 Truncated"),
-        (ImageError::BadMagic, "E2 BadMagic"),
-        (ImageError::BadHeaderSize, "E3 BadHeaderSize"),
-        (ImageError::UnsupportedFlags, "E4 UnsupportedFlags"),
-        (ImageError::TruncatedBody, "E5 TruncatedBody"),
-        (ImageError::BadProtected, "E6 BadProtected"),
-        (ImageError::BadTlvMagic, "E7 BadTlvMagic"),
-        (ImageError::BadTlvLength, "E8 BadTlvLength"),
-        (ImageError::NoDigest, "E9 NoDigest"),
-        (ImageError::ManyDigests, "E10 ManyDigests"),
-        (ImageError::DigestLength, "E11 DigestLength"),
-        (ImageError::WrongDigest, "E12 WrongDigest"),
-        (ImageError::TooLarge, "E13 TooLarge"),
-        (ImageError::Memory, "E14 Memory"),
-    ];
-    for (error, text) in texts {
-        assert_eq!(rt; format!(in alloc; "{error}")?.as_str(), text);
-    }
-    let syntax = VersionError::Syntax;
-    assert_eq!(rt; format!(in alloc; "{syntax}")?.as_str(), "E15 Syntax");
-    let range = VersionError::Range;
-    assert_eq!(rt; format!(in alloc; "{range}")?.as_str(), "E16 Range");
+    let texts = texts_of(rt.alloc(), &ERRORS)?;
+    assert_eq!(rt; texts.as_str(), TEXTS);
     Ok(())
 }
 
@@ -243,25 +323,47 @@ fn judged(bytes: &[u8], most: usize) -> Result<Judged, ImageError>
     judge.finish()
 }
 
+/// The first beginning of an image that a judge and a view refuse for different reasons, by its length.
+fn first_difference(image: &[u8], most: usize) -> Option<usize>
+    requires some { 0 < most }
+    requires fits { length image.now ≤ 2 ^ 32 }
+{
+    for n in 0..image.len() {
+        if judged(&image[..n], most).err() != fault(&image[..n]) {
+            return Some(n);
+        }
+    }
+    None
+}
+
+/// What is to be told of a worked image.
+fn wanted_of(image: &[u8]) -> Judged
+    requires { 32 ≤ length image.now }
+{
+    let mut digest = [0; 32];
+    digest.copy_from_slice(&image[image.len() - 32..]);
+    Judged {
+        version: VERSION,
+        size: image.len() as u64,
+        digest,
+    }
+}
+
+/// Judges a worked image and each of its beginnings.
+fn is_judged(rt: &impl Abort, image: &[u8], most: usize)
+    requires some { 0 < most }
+    requires fits { (32 ≤ length image.now) × (length image.now ≤ 2 ^ 32) }
+{
+    assert_eq!(rt; judged(image, most), Ok(wanted_of(image)));
+    assert_eq!(rt; first_difference(image, most), None);
+}
+
 #[test]
 fn worked_images_are_judged_in_any_pieces(rt: HostRuntime) {
-    let images = [
-        (PLAIN_IMAGE.as_slice(), 80),
-        (COUNTED_IMAGE.as_slice(), 92),
-        (EMPTY_IMAGE.as_slice(), 72),
-    ];
-    for (image, size) in images {
-        for length in [1, 7, 4096] {
-            let told = judged(image, length).map(|told| (told.version, told.size));
-            assert_eq!(rt; told, Ok((VERSION, size)));
-            for n in 0..image.len() {
-                assert_eq!(rt;
-                    judged(&image[..n], length).err(),
-                    fault(&image[..n]),
-                    "{n}"
-                );
-            }
-        }
+    for most in [1, 7, 4096] {
+        is_judged(&rt, &PLAIN_IMAGE, most);
+        is_judged(&rt, &COUNTED_IMAGE, most);
+        is_judged(&rt, &EMPTY_IMAGE, most);
     }
 }
 
@@ -274,38 +376,48 @@ fn is_refused(rt: &impl Abort, bytes: &[u8], wanted: ImageError)
     }
 }
 
-#[test]
-fn each_fault_is_judged_in_any_pieces(rt: HostRuntime) -> Result<(), Fail> {
-    is_refused(&rt, &PLAIN_IMAGE[..31], ImageError::Truncated);
-    is_refused(&rt, &changed(0, 0), ImageError::BadMagic);
-    is_refused(&rt, &changed(8, 31), ImageError::BadHeaderSize);
-    is_refused(&rt, &changed(16, 1), ImageError::UnsupportedFlags);
-    is_refused(&rt, &PLAIN_IMAGE[..39], ImageError::TruncatedBody);
-    is_refused(&rt, &changed(10, 3), ImageError::BadProtected);
-    let mut bad = COUNTED_IMAGE;
-    bad[42] = 13;
-    is_refused(&rt, &bad, ImageError::BadProtected);
-    // Not before the body is whole.
-    is_refused(&rt, &bad[..51], ImageError::TruncatedBody);
-    is_refused(&rt, &PLAIN_IMAGE[..40], ImageError::BadTlvMagic);
-    is_refused(&rt, &changed(40, 8), ImageError::BadTlvMagic);
-    is_refused(&rt, &PLAIN_IMAGE[..79], ImageError::BadTlvLength);
-    is_refused(&rt, &changed(42, 3), ImageError::BadTlvLength);
-    is_refused(&rt, &changed(42, 39), ImageError::BadTlvLength);
-    is_refused(&rt, &changed(44, 0x11), ImageError::NoDigest);
-    let mut twice = changed(42, 76).to_vec(rt.alloc())?;
-    twice.extend_from_slice(&PLAIN_IMAGE[44..])?;
-    is_refused(&rt, twice.as_slice(), ImageError::ManyDigests);
-    // A digest of 31 bytes, whose last one stands behind the area.
-    let mut short = changed(42, 39);
-    short[46] = 31;
-    is_refused(&rt, &short, ImageError::DigestLength);
-    is_refused(&rt, &changed(33, 0), ImageError::WrongDigest);
-    Ok(())
+/// The image with a second digest behind the first.
+fn with_two_digests() -> [u8; 116] {
+    let mut image = [0; 116];
+    image[..80].copy_from_slice(&changed(42, 76));
+    image[80..].copy_from_slice(&PLAIN_IMAGE[44..]);
+    image
+}
+
+/// The image with a digest of 31 bytes, whose last one stands behind the area.
+fn with_a_short_digest() -> [u8; 80] {
+    let mut image = changed(42, 39);
+    image[46] = 31;
+    image
 }
 
 #[test]
-fn a_padded_image_is_judged_in_any_pieces(rt: HostRuntime) -> Result<(), Fail> {
+fn each_fault_is_judged_in_any_pieces(rt: HostRuntime) {
+    for (place, byte, wanted) in CHANGES {
+        is_refused(&rt, &changed(place, byte), wanted);
+    }
+    is_refused(&rt, &PLAIN_IMAGE[..31], ImageError::Truncated);
+    is_refused(&rt, &PLAIN_IMAGE[..39], ImageError::TruncatedBody);
+    is_refused(&rt, &PLAIN_IMAGE[..40], ImageError::BadTlvMagic);
+    is_refused(&rt, &PLAIN_IMAGE[..79], ImageError::BadTlvLength);
+}
+
+#[test]
+fn a_body_is_whole_before_its_entries_are_judged(rt: HostRuntime) {
+    let mut image = COUNTED_IMAGE;
+    image[42] = 13;
+    is_refused(&rt, &image, ImageError::BadProtected);
+    is_refused(&rt, &image[..51], ImageError::TruncatedBody);
+}
+
+#[test]
+fn digests_are_judged_in_any_pieces(rt: HostRuntime) {
+    is_refused(&rt, &with_two_digests(), ImageError::ManyDigests);
+    is_refused(&rt, &with_a_short_digest(), ImageError::DigestLength);
+}
+
+#[test]
+fn a_padded_image_is_judged_in_any_pieces(rt: HostRuntime) {
     // A slot that holds the image, then the confirmation and the trailer's magic.
     let mut slot = [0xff; 768];
     slot[..80].copy_from_slice(&PLAIN_IMAGE);
@@ -315,9 +427,6 @@ fn a_padded_image_is_judged_in_any_pieces(rt: HostRuntime) -> Result<(), Fail> {
         0x80,
     ]);
     for most in [1, 7, 4096] {
-        let told = judged(&slot, most)?;
-        assert_eq!(rt; (told.version, told.size), (VERSION, 80));
-        assert_eq!(rt; told.digest.as_slice(), &PLAIN_IMAGE[48..]);
+        assert_eq!(rt; judged(&slot, most), Ok(wanted_of(&PLAIN_IMAGE)));
     }
-    Ok(())
 }

@@ -5,6 +5,8 @@
 #[cfg(test)]
 mod boot;
 #[cfg(test)]
+mod common;
+#[cfg(test)]
 mod flash;
 #[cfg(test)]
 mod image;
