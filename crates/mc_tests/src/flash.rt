@@ -1,14 +1,14 @@
 //! The worked layout, the limits of a layout, and both flashes through the trait.
-ghost use Rattle.std.specs.Prelude.{◌≡◌, ◌≤◌, [], IfOk};
+ghost use Rattle.std.specs.Prelude.{◌≡◌, ◌≤◌, [], IfOk, length};
 ghost use Rattle.mc_flash.specs.Worked.{worked};
 
+use crate::common::texts_of;
 use mc_fixtures::worked;
 use mc_flash::{
     Bytes16, Flash, FlashError, Grain, JournalFlash, Layout, LayoutError, Slot, SnapFlash, blank,
     blank_lanes,
 };
 use std::alloc::Global;
-use std::process::Abort;
 use std::simd::prelude::*;
 use std::test::Fail;
 
@@ -21,31 +21,23 @@ fn refusal(numbers: [u32; 6]) -> Option<LayoutError> {
 #[test]
 fn the_worked_layout_is_read(rt: HostRuntime) -> Result<(), Fail> {
     let layout = worked()?;
-    assert_eq!(rt;
-        (layout.sector(), layout.unit(), layout.max_sectors()),
-        (256, 8, 4)
-    );
-    assert_eq!(rt;
-        (layout.chunk(), layout.primary(), layout.secondary()),
-        (128, 4, 3)
-    );
-    assert_eq!(rt;
-        (layout.size(Slot::Primary), layout.size(Slot::Secondary)),
-        (1024, 768)
-    );
-    assert_eq!(rt;
-        (
+    let told = [
+        [layout.sector(), layout.unit(), layout.max_sectors()],
+        [layout.chunk(), layout.primary(), layout.secondary()],
+        [
             layout.sectors(Slot::Primary),
-            layout.sectors(Slot::Secondary)
-        ),
-        (4, 3)
-    );
-    assert_eq!(rt;
-        (layout.trailer_sectors(), layout.greatest_sectors()),
-        (1, 2)
-    );
-    assert!(rt; layout.fits(512));
-    assert!(rt; !layout.fits(513));
+            layout.size(Slot::Primary),
+            layout.trailer_sectors(),
+        ],
+        [
+            layout.sectors(Slot::Secondary),
+            layout.size(Slot::Secondary),
+            layout.greatest_sectors(),
+        ],
+    ];
+    let wanted = [[256, 8, 4], [128, 4, 3], [4, 1024, 1], [3, 768, 2]];
+    assert_eq!(rt; told, wanted);
+    assert_eq!(rt; [layout.fits(512), layout.fits(513)], [true, false]);
     assert_eq!(rt; layout.in_pieces(Grain::Unit).chunk(), 8);
     Ok(())
 }
@@ -103,36 +95,36 @@ fn limits_of_a_layout(rt: HostRuntime) {
 
 #[test]
 fn refusals_have_their_numbers(rt: HostRuntime) -> Result<(), Fail> {
-    let alloc = rt.alloc();
-    for (error, text) in [
-        (LayoutError::Unit, "E30 Unit"),
-        (LayoutError::Sector, "E31 Sector"),
-        (LayoutError::Chunk, "E32 Chunk"),
-        (LayoutError::Counts, "E33 Counts"),
-        (LayoutError::NoRoom, "E34 NoRoom"),
-    ] {
-        assert_eq!(rt; format!(in alloc; "{error}")?.as_str(), text);
-    }
+    let layouts = texts_of(rt.alloc(), &LAYOUT_ERRORS)?;
     assert_eq!(rt;
-        format!(in alloc; "{}", FlashError::NotErased)?.as_str(),
-        "E40 NotErased"
+        layouts.as_str(),
+        "E30 Unit\nE31 Sector\nE32 Chunk\nE33 Counts\nE34 NoRoom\n"
     );
-    assert_eq!(rt;
-        format!(in alloc; "{}", FlashError::Memory)?.as_str(),
-        "E41 Memory"
-    );
+    let flashes = texts_of(rt.alloc(), &[FlashError::NotErased, FlashError::Memory])?;
+    assert_eq!(rt; flashes.as_str(), "E40 NotErased\nE41 Memory\n");
     Ok(())
 }
 
-/// A byte that is not 0xff is found in each place of so many.
-fn each_byte_is_looked_at(rt: &impl Abort, len: usize)
+static LAYOUT_ERRORS: [LayoutError; 5] = [
+    LayoutError::Unit,
+    LayoutError::Sector,
+    LayoutError::Chunk,
+    LayoutError::Counts,
+    LayoutError::NoRoom,
+];
+
+/// The first of so many places in which a byte that is not 0xff is not found.
+fn first_overlooked(len: usize) -> Option<usize>
     requires { len ≤ 65 }
 {
     for place in 0..len {
         let mut bytes = [0xff; 65];
         bytes[place] = 0xfe;
-        assert!(rt; !blank(&bytes[..len]), "{place} of {len}");
+        if blank(&bytes[..len]) {
+            return Some(place);
+        }
     }
+    None
 }
 
 /// Lengths on both sides of one and two whole groups of 32 bytes, and a whole sector.
@@ -142,7 +134,7 @@ fn bytes_are_blank(rt: HostRuntime) -> Result<(), Fail> {
     assert!(rt; blank(&sector));
     for len in 0..=65usize {
         assert!(rt; blank(&[0xff; 65][..len]), "{len}");
-        each_byte_is_looked_at(&rt, len);
+        assert_eq!(rt; first_overlooked(len), None, "{len}");
     }
     Ok(())
 }
@@ -153,11 +145,19 @@ fn lanes_are_blank(rt: HostRuntime) {
     assert!(rt; !blank_lanes(u8x32::splat(0xfe)));
 }
 
+/// Whether bytes are kept as they are.
+fn are_kept(bytes: &[u8]) -> bool
+    requires { length bytes.now ≤ 16 }
+{
+    Bytes16::new(bytes).bytes() == bytes
+}
+
 #[test]
 fn at_most_sixteen_bytes_are_kept(rt: HostRuntime) {
-    assert_eq!(rt; Bytes16::new(&[]).bytes(), [].as_slice());
-    assert_eq!(rt; Bytes16::new(&[0, 7]).bytes(), [0, 7].as_slice());
-    assert_eq!(rt; Bytes16::new(&[9; 16]).bytes(), [9; 16].as_slice());
+    assert_eq!(rt;
+        [are_kept(&[]), are_kept(&[0, 7]), are_kept(&[9; 16])],
+        [true; 3]
+    );
 }
 
 const UNIT: [u8; 8] = [1, 2, 3, 4, 5, 6, 7, 8];
@@ -172,87 +172,94 @@ fn loaded<F: Flash>(alloc: Global) -> Result<F, Fail>
     Ok(flash)
 }
 
-#[tactic(auto, using(mc_flash::specs::DoneFacts::does_keep), unfolding(mc_flash::specs::Seen::went_back))]
-fn bytes_are_programmed<F: Flash>(rt: &impl Abort, alloc: Global) -> Result<(), Fail> {
-    let mut flash = loaded::<F>(alloc)?;
-    assert_eq!(rt; flash.layout().sector(), 256);
+/// Whether a unit is programmed, and refused where it stands.
+#[tactic(auto, using(mc_flash::specs::DoneFacts::does_keep))]
+fn is_programmed<F: Flash>(flash: &mut F) -> Result<bool, FlashError>
+    requires { (F.seen flash.old).geometry ≡ worked }
+{
     flash.program(Slot::Primary, 16, &UNIT)?;
     let again = flash.program(Slot::Primary, 16, &UNIT);
-    assert_eq!(rt; again, Err(FlashError::NotErased));
     let mut wanted = [0xff; 1024];
     wanted[16..24].copy_from_slice(&UNIT);
-    assert_eq!(rt; flash.read(Slot::Primary), wanted.as_slice());
-    Ok(())
+    Ok(again == Err(FlashError::NotErased) && flash.read(Slot::Primary) == wanted.as_slice())
 }
 
-#[tactic(auto, using(mc_flash::specs::DoneFacts::does_keep), unfolding(mc_flash::specs::Seen::went_back))]
-fn bytes_are_copied<F: Flash>(rt: &impl Abort, alloc: Global) -> Result<(), Fail> {
-    let mut flash = loaded::<F>(alloc)?;
+/// Whether bytes are copied, and refused where others stand.
+#[tactic(auto, using(mc_flash::specs::DoneFacts::does_keep))]
+fn is_copied<F: Flash>(flash: &mut F) -> Result<bool, FlashError>
+    requires { (F.seen flash.old).geometry ≡ worked }
+{
     flash.copy(Slot::Secondary, 8, Slot::Primary, 256, 128)?;
     let over = flash.copy(Slot::Primary, 0, Slot::Secondary, 0, 8);
-    assert_eq!(rt; over, Err(FlashError::NotErased));
     flash.copy(Slot::Primary, 256, Slot::Primary, 0, 8)?;
     let mut wanted = [0xff; 1024];
     wanted[..8].fill(0xaa);
     wanted[256..384].fill(0xaa);
-    assert_eq!(rt; flash.read(Slot::Primary), wanted.as_slice());
-    assert_eq!(rt; flash.read(Slot::Secondary), [0xaa; 768].as_slice());
-    Ok(())
+    Ok(
+        over == Err(FlashError::NotErased)
+            && flash.read(Slot::Primary) == wanted.as_slice()
+            && flash.read(Slot::Secondary) == [0xaa; 768].as_slice(),
+    )
 }
 
+/// Whether a sector that was erased behind a mark is given back. The places of the marks before it, behind it, and behind
+/// the way back.
 #[tactic(auto, using(mc_flash::specs::DoneFacts::does_keep), unfolding(mc_flash::specs::Seen::went_back))]
-fn marks_are_given_back<F: Flash>(rt: &impl Abort, alloc: Global) -> Result<(), Fail> {
-    let mut flash = loaded::<F>(alloc)?;
-    assert_eq!(rt; flash.mark()?, 0);
+fn is_given_back<F: Flash>(flash: &mut F) -> Result<(bool, [usize; 3]), FlashError>
+    requires geometry { (F.seen flash.old).geometry ≡ worked }
+    requires marks { (F.seen flash.old).marks ≡ [] }
+{
+    let before = flash.mark()?;
     flash.erase(Slot::Secondary, 1)?;
     let mut wanted = [0xaa; 768];
     wanted[256..512].fill(0xff);
-    assert_eq!(rt; flash.read(Slot::Secondary), wanted.as_slice());
-    assert_eq!(rt; flash.mark()?, 1);
+    let is_erased = flash.read(Slot::Secondary) == wanted.as_slice();
+    let behind = flash.mark()?;
     flash.back_to(0);
-    assert_eq!(rt; flash.read(Slot::Secondary), [0xaa; 768].as_slice());
-    assert_eq!(rt; flash.mark()?, 0);
+    let is_back = flash.read(Slot::Secondary) == [0xaa; 768].as_slice();
+    Ok((is_erased && is_back, [before, behind, flash.mark()?]))
+}
+
+/// What is told of a flash of one kind: whether it is programmed, whether it is copied, and how it is given back.
+fn plays<F: Flash>(alloc: Global) -> Result<(u32, bool, bool, (bool, [usize; 3])), Fail> {
+    let is_programmed = is_programmed(&mut loaded::<F>(alloc)?)?;
+    let is_copied = is_copied(&mut loaded::<F>(alloc)?)?;
+    let given = is_given_back(&mut loaded::<F>(alloc)?)?;
+    let sector = loaded::<F>(alloc)?.layout().sector();
+    Ok((sector, is_programmed, is_copied, given))
+}
+
+#[test]
+fn copies_are_programmed_and_given_back(rt: HostRuntime) -> Result<(), Fail> {
+    assert_eq!(rt;
+        plays::<SnapFlash>(rt.alloc())?,
+        (256, true, true, (true, [0, 1, 0]))
+    );
     Ok(())
 }
 
 #[test]
-fn copies_are_programmed(rt: HostRuntime) -> Result<(), Fail> {
-    bytes_are_programmed::<SnapFlash>(&rt, rt.alloc())
+fn a_journal_is_programmed_and_given_back(rt: HostRuntime) -> Result<(), Fail> {
+    assert_eq!(rt;
+        plays::<JournalFlash>(rt.alloc())?,
+        (256, true, true, (true, [0, 1, 0]))
+    );
+    Ok(())
 }
 
-#[test]
-fn copies_are_copied(rt: HostRuntime) -> Result<(), Fail> {
-    bytes_are_copied::<SnapFlash>(&rt, rt.alloc())
+/// Whether a mark that is refused changes nothing.
+fn is_kept(flash: &mut SnapFlash) -> Result<bool, FlashError> {
+    let Err(error) = flash.mark() else {
+        return Ok(true);
+    };
+    let is_whole = flash.read(Slot::Secondary) == [0xaa; 768].as_slice();
+    Ok(error == FlashError::Memory && is_whole && flash.mark()? == 0)
 }
 
-#[test]
-fn copies_are_given_back(rt: HostRuntime) -> Result<(), Fail> {
-    marks_are_given_back::<SnapFlash>(&rt, rt.alloc())
-}
-
-#[test]
-fn a_journal_is_programmed(rt: HostRuntime) -> Result<(), Fail> {
-    bytes_are_programmed::<JournalFlash>(&rt, rt.alloc())
-}
-
-#[test]
-fn a_journal_is_copied(rt: HostRuntime) -> Result<(), Fail> {
-    bytes_are_copied::<JournalFlash>(&rt, rt.alloc())
-}
-
-#[test]
-fn a_journal_is_given_back(rt: HostRuntime) -> Result<(), Fail> {
-    marks_are_given_back::<JournalFlash>(&rt, rt.alloc())
-}
-
-/// A mark that is refused changes nothing. `scripts/refuse-tests` refuses each allocation of the tests in turn.
+/// `scripts/refuse-tests` refuses each allocation of the tests in turn.
 #[test]
 fn a_refused_mark_changes_nothing(rt: HostRuntime) -> Result<(), Fail> {
     let mut flash = loaded::<SnapFlash>(rt.alloc())?;
-    if let Err(error) = flash.mark() {
-        assert_eq!(rt; error, FlashError::Memory);
-        assert_eq!(rt; flash.read(Slot::Secondary), [0xaa; 768].as_slice());
-        assert_eq!(rt; flash.mark()?, 0);
-    }
+    assert!(rt; is_kept(&mut flash)?);
     Ok(())
 }

@@ -1,11 +1,10 @@
 //! The flash with a journal: its limits, its counts, and what it takes back.
-ghost use Rattle.std.specs.Prelude.{◌≡◌, [], length, ◌≤◌, IfOk};
+ghost use Rattle.std.specs.Prelude.{◌≡◌, [], length, ◌<◌, ◌≤◌, IfOk};
 ghost use Rattle.mc_flash.specs.Worked.{worked};
 
 use mc_fixtures::worked;
 use mc_flash::{Flash, FlashError, Grain, JournalFlash, Slot};
 use std::alloc::Global;
-use std::process::Abort;
 use std::test::Fail;
 
 /// A journal flash of the worked layout: the primary is blank, and the secondary holds 0xaa.
@@ -36,56 +35,100 @@ fn counts(flash: &JournalFlash) -> [u64; 4] {
     ]
 }
 
-#[test]
-#[tactic(auto, using(mc_flash::specs::DoneFacts::does_keep), unfolding(mc_flash::specs::Seen::went_back))]
-fn operations_are_counted_and_taken_back(rt: HostRuntime) -> Result<(), Fail> {
-    let mut flash = loaded(rt.alloc(), 3)?;
-    assert_eq!(rt; counts(&flash), [0, 0, 0, 0]);
-    assert_eq!(rt; flash.mark()?, 0);
+/// Marks and erases a sector; marks, writes a unit, copies it to that sector, and is refused to write it again. The places
+/// of the marks, the counts before and after each part, and the refusal.
+#[tactic(auto, using(mc_flash::specs::DoneFacts::does_keep))]
+fn operated(
+    flash: &mut JournalFlash,
+) -> Result<([usize; 2], [[u64; 4]; 3], Result<(), FlashError>), FlashError>
+    requires geometry { flash.old.geometry ≡ worked }
+    requires marks { flash.old.marks ≡ [] }
+    ensures { IfOk result (λ told. length flash.new.marks ≡ 2) }
+{
+    let before = counts(flash);
+    let first = flash.mark()?;
     flash.erase(Slot::Secondary, 1)?;
-    assert_eq!(rt; counts(&flash), [1, 256, 1, 1]);
-    assert_eq!(rt; flash.mark()?, 1);
+    let erased = counts(flash);
+    let second = flash.mark()?;
     flash.program(Slot::Primary, 16, &[1, 2, 3, 4, 5, 6, 7, 8])?;
     flash.copy(Slot::Primary, 16, Slot::Secondary, 256, 8)?;
     let again = flash.program(Slot::Primary, 16, &[0; 8]);
-    assert_eq!(rt; again, Err(FlashError::NotErased));
-    assert_eq!(rt; counts(&flash), [3, 256, 2, 3]);
-    flash.back_to(1);
+    Ok(([first, second], [before, erased, counts(flash)], again))
+}
+
+/// Goes back to a mark, and returns the counts then.
+#[tactic(auto, unfolding(mc_flash::specs::Seen::went_back))]
+fn counts_back(flash: &mut JournalFlash, place: usize) -> [u64; 4]
+    requires { place < length flash.old.marks }
+    ensures { length flash.new.marks ≡ place }
+{
+    flash.back_to(place);
+    counts(flash)
+}
+
+/// Goes back to the second mark, and then to the first. The counts after each, whether the slots are as they were, and the
+/// place of the next mark.
+fn gone_back(flash: &mut JournalFlash) -> Result<([[u64; 4]; 2], [bool; 3], usize), FlashError>
+    requires { length flash.old.marks ≡ 2 }
+{
+    let second = counts_back(flash, 1);
     let mut wanted = [0xaa; 768];
     wanted[256..512].fill(0xff);
-    assert_eq!(rt; flash.read(Slot::Primary), [0xff; 1024].as_slice());
-    assert_eq!(rt; flash.read(Slot::Secondary), wanted.as_slice());
-    assert_eq!(rt; counts(&flash), [1, 256, 1, 3]);
-    flash.back_to(0);
-    assert_eq!(rt; flash.read(Slot::Secondary), [0xaa; 768].as_slice());
-    assert_eq!(rt; counts(&flash), [0, 0, 0, 3]);
-    assert_eq!(rt; flash.mark()?, 0);
+    let primary = flash.read(Slot::Primary) == [0xff; 1024].as_slice();
+    let erased = flash.read(Slot::Secondary) == wanted.as_slice();
+    let first = counts_back(flash, 0);
+    let whole = flash.read(Slot::Secondary) == [0xaa; 768].as_slice();
+    Ok(([second, first], [primary, erased, whole], flash.mark()?))
+}
+
+#[test]
+fn operations_are_counted_and_taken_back(rt: HostRuntime) -> Result<(), Fail> {
+    let mut flash = loaded(rt.alloc(), 3)?;
+    let told = operated(&mut flash)?;
+    let wanted = [[0, 0, 0, 0], [1, 256, 1, 1], [3, 256, 2, 3]];
+    assert_eq!(rt; told, ([0, 1], wanted, Err(FlashError::NotErased)));
+    let told = gone_back(&mut flash)?;
+    assert_eq!(rt; told, ([[1, 256, 1, 3], [0, 0, 0, 3]], [true; 3], 0));
     Ok(())
+}
+
+/// Takes the marks, erases and entries that there is room for. The places of the marks, the counts after the erases and at
+/// the end, and what is refused on the way.
+#[tactic(auto, using(mc_flash::specs::DoneFacts::does_keep))]
+fn filled(
+    flash: &mut JournalFlash,
+) -> Result<([usize; 2], [[u64; 4]; 2], [Option<FlashError>; 4]), FlashError>
+    requires { flash.old.geometry ≡ worked }
+{
+    let places = [flash.mark()?, flash.mark()?];
+    let mark = flash.mark().err();
+    for _ in 0..9u32 {
+        flash.erase(Slot::Secondary, 1)?;
+    }
+    let erase = flash.erase(Slot::Secondary, 1).err();
+    let erased = counts(flash);
+    for unit in 0..27u32 {
+        flash.program(Slot::Primary, 8 * unit, &[0; 8])?;
+    }
+    let program = flash.program(Slot::Primary, 512, &[0; 8]).err();
+    let over = flash.program(Slot::Primary, 0, &[0; 8]).err();
+    Ok((
+        places,
+        [erased, counts(flash)],
+        [mark, erase, program, over],
+    ))
 }
 
 /// The most erases of a boot, and the place for one mark more.
 #[test]
-#[tactic(auto, using(mc_flash::specs::DoneFacts::does_keep), unfolding(mc_flash::specs::Seen::went_back))]
 fn a_full_journal_refuses(rt: HostRuntime) -> Result<(), Fail> {
     let mut flash = loaded(rt.alloc(), 1)?;
-    for place in 0..2usize {
-        assert_eq!(rt; flash.mark()?, place);
-    }
-    let mark = flash.mark();
-    assert_eq!(rt; mark, Err(FlashError::Memory));
-    for _ in 0..9u32 {
-        flash.erase(Slot::Secondary, 1)?;
-    }
-    let erased = flash.erase(Slot::Secondary, 1);
-    assert_eq!(rt; erased, Err(FlashError::Memory));
-    assert_eq!(rt; counts(&flash), [9, 2304, 2, 9]);
-    for unit in 0..27u32 {
-        flash.program(Slot::Primary, 8 * unit, &[0; 8])?;
-    }
-    let programmed = flash.program(Slot::Primary, 512, &[0; 8]);
-    assert_eq!(rt; programmed, Err(FlashError::Memory));
-    let over = flash.program(Slot::Primary, 0, &[0; 8]);
-    assert_eq!(rt; over, Err(FlashError::NotErased));
-    assert_eq!(rt; counts(&flash), [36, 2304, 2, 36]);
+    let told = filled(&mut flash)?;
+    let memory = Some(FlashError::Memory);
+    let refused = [memory, memory, memory, Some(FlashError::NotErased)];
+    assert_eq!(rt;
+        told,
+        ([0, 1], [[9, 2304, 2, 9], [36, 2304, 2, 36]], refused)
+    );
     Ok(())
 }

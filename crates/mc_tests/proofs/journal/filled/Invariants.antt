@@ -1,0 +1,9 @@
+use Rattle.std.proofs.Common.{◌≡◌}
+use Rattle.mc_flash.specs.Worked.{worked}
+use Rattle.mc_tests.proofs.journal.filled.Given as goal
+
+abbrev pub invariant-loop : goal.invariant-loop
+invariant-loop l = record { layout : l.flash.geometry ≡ worked }
+
+abbrev pub invariant-loop-unit : goal.invariant-loop-unit
+invariant-loop-unit l = record { layout : l.flash.geometry ≡ worked }
