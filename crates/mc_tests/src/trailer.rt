@@ -1,5 +1,5 @@
 //! The worked layout's places, and what is read of the flashes of worked examples.
-ghost use Rattle.std.specs.Prelude.{◌≡◌, IfOk};
+ghost use Rattle.std.specs.Prelude.{◌<◌};
 
 use mc_fixtures::worked;
 use mc_flash::{Flash, Grain, Slot, SnapFlash};
@@ -28,8 +28,9 @@ fn fields_stand_in_the_worked_places(rt: HostRuntime) -> Result<(), Fail> {
         (Field::SwapSize, 976, 720),
     ];
     for (field, primary, secondary) in places {
-        assert_eq!(rt; place(&layout, Slot::Primary, field), primary);
-        assert_eq!(rt; place(&layout, Slot::Secondary, field), secondary);
+        let first = place(&layout, Slot::Primary, field);
+        let second = place(&layout, Slot::Secondary, field);
+        assert_eq!(rt; [first, second], [primary, secondary]);
     }
     Ok(())
 }
@@ -52,56 +53,79 @@ fn flag(byte: u8) -> Flag {
     }
 }
 
-#[test]
-fn every_byte_of_a_flag_is_read(rt: HostRuntime) -> Result<(), Fail> {
+/// What is read of the flags where this byte stands, or what is left of it up to 0xff: image-ok and copy-done of the primary
+/// and of the secondary, and the swap-info.
+fn flags_of(alloc: Global, byte: u8) -> Result<([Flag; 4], u8), Fail> {
     let mut primary = [0xff; 1024];
     let mut secondary = [0xff; 768];
+    primary[1000] = byte;
+    primary[992] = 255 - byte;
+    primary[984] = byte;
+    secondary[744] = 255 - byte;
+    secondary[736] = byte;
+    let flash = flash_of(alloc, &primary, &secondary)?;
+    let first = Trailer::read(&flash, Slot::Primary);
+    let second = Trailer::read(&flash, Slot::Secondary);
+    let flags = [
+        first.image_ok,
+        first.copy_done,
+        second.image_ok,
+        second.copy_done,
+    ];
+    Ok((flags, first.swap_info))
+}
+
+#[test]
+fn every_byte_of_a_flag_is_read(rt: HostRuntime) -> Result<(), Fail> {
     for byte in 0..=255u8 {
-        primary[1000] = byte;
-        primary[992] = 255 - byte;
-        primary[984] = byte;
-        secondary[744] = 255 - byte;
-        secondary[736] = byte;
-        let flash = flash_of(rt.alloc(), &primary, &secondary)?;
-        let first = Trailer::read(&flash, Slot::Primary);
-        assert_eq!(rt; first.image_ok, flag(byte), "{byte}");
-        assert_eq!(rt; first.copy_done, flag(255 - byte), "{byte}");
-        assert_eq!(rt; first.swap_info, byte);
-        let second = Trailer::read(&flash, Slot::Secondary);
-        assert_eq!(rt; second.image_ok, flag(255 - byte), "{byte}");
-        assert_eq!(rt; second.copy_done, flag(byte), "{byte}");
+        let told = flags_of(rt.alloc(), byte)?;
+        let one = flag(byte);
+        let other = flag(255 - byte);
+        assert_eq!(rt; told, ([one, other, other, one], byte));
     }
     Ok(())
 }
 
+/// What is read of a magic with one bit off in a byte.
+fn magic_with(alloc: Global, off: usize) -> Result<Magic, Fail>
+    requires { off < 16 }
+{
+    let mut primary = [0xff; 1024];
+    primary[1008..].copy_from_slice(&MAGIC);
+    primary[1008 + off] ^= 1;
+    let flash = flash_of(alloc, &primary, &[0xff; 768])?;
+    Ok(Trailer::read(&flash, Slot::Primary).magic)
+}
+
 #[test]
 fn a_magic_with_one_byte_off_is_bad(rt: HostRuntime) -> Result<(), Fail> {
-    let secondary = [0xff; 768];
     for off in 0..16usize {
-        let mut primary = [0xff; 1024];
-        primary[1008..].copy_from_slice(&MAGIC);
-        primary[1008 + off] ^= 1;
-        let flash = flash_of(rt.alloc(), &primary, &secondary)?;
-        let magic = Trailer::read(&flash, Slot::Primary).magic;
-        assert_eq!(rt; magic, Magic::Bad, "{off}");
+        assert_eq!(rt; magic_with(rt.alloc(), off)?, Magic::Bad, "{off}");
     }
     Ok(())
+}
+
+/// The highest entry of a flash with this primary.
+fn highest_of(alloc: Global, primary: &[u8; 1024]) -> Result<Option<u32>, Fail> {
+    let flash = flash_of(alloc, primary, &[0; 768])?;
+    Ok(highest_entry(&flash))
 }
 
 #[test]
 fn the_highest_written_entry_is_found(rt: HostRuntime) -> Result<(), Fail> {
     let mut primary = [0xff; 1024];
-    let secondary = [0; 768];
-    // Bytes beside the entries are of none.
-    primary[879] = 1;
-    primary[976] = 1;
-    let none = flash_of(rt.alloc(), &primary, &secondary)?;
-    assert_eq!(rt; highest_entry(&none), None);
-    // Entry 0 by its first byte, entry 3 by its last, entry 5 by a byte that is not 1.
-    for (at, byte, entry) in [(880usize, 1, 0), (911, 0xfe, 3), (920, 0, 5), (975, 1, 11)] {
+    // Bytes beside the entries are of none. Then entry 0 by its first byte, entry 3 by its last, entry 5 by a byte that is
+    // not 1.
+    for (at, byte, entry) in [
+        (879usize, 1, None),
+        (976, 1, None),
+        (880, 1, Some(0)),
+        (911, 0xfe, Some(3)),
+        (920, 0, Some(5)),
+        (975, 1, Some(11)),
+    ] {
         primary[at] = byte;
-        let flash = flash_of(rt.alloc(), &primary, &secondary)?;
-        assert_eq!(rt; highest_entry(&flash), Some(entry));
+        assert_eq!(rt; highest_of(rt.alloc(), &primary)?, entry);
     }
     Ok(())
 }
@@ -115,38 +139,53 @@ const ERASED: Trailer = Trailer {
     swap_size: 4_294_967_295,
 };
 
-/// The type of the tables, and whether a boot goes on.
-fn asked<F: Flash>(flash: &F, profile: Profile) -> (SwapType, bool) {
-    let primary = Trailer::read(flash, Slot::Primary);
-    let secondary = Trailer::read(flash, Slot::Secondary);
-    (
-        swap_type(profile, &primary, &secondary),
-        resumes(&primary, &secondary),
-    )
+/// What is read of a flash: its trailers, the type of the tables in each profile, and whether a boot goes on.
+type Told = ([Trailer; 2], [SwapType; 2], bool);
+
+fn told_of(alloc: Global, primary: &[u8; 1024], secondary: &[u8; 768]) -> Result<Told, Fail> {
+    let flash = flash_of(alloc, primary, secondary)?;
+    let first = Trailer::read(&flash, Slot::Primary);
+    let second = Trailer::read(&flash, Slot::Secondary);
+    let one = swap_type(Profile::One, &first, &second);
+    let two = swap_type(Profile::Two, &first, &second);
+    Ok(([first, second], [one, two], resumes(&first, &second)))
 }
+
+/// The type of the tables in each profile, and whether a boot goes on.
+fn asked(
+    alloc: Global,
+    primary: &[u8; 1024],
+    secondary: &[u8; 768],
+) -> Result<([SwapType; 2], bool), Fail> {
+    let (_, kinds, goes_on) = told_of(alloc, primary, secondary)?;
+    Ok((kinds, goes_on))
+}
+
+/// The trailer with its magic and no more.
+const MARKED: Trailer = Trailer {
+    magic: Magic::Good,
+    ..ERASED
+};
 
 #[test]
 fn an_asked_upgrade_is_read(rt: HostRuntime) -> Result<(), Fail> {
     let primary = [0xff; 1024];
     let mut secondary = [0xff; 768];
-    let erased = flash_of(rt.alloc(), &primary, &secondary)?;
-    assert_eq!(rt; Trailer::read(&erased, Slot::Primary), ERASED);
-    assert_eq!(rt; asked(&erased, Profile::One), (SwapType::None, false));
+    let erased = told_of(rt.alloc(), &primary, &secondary)?;
     secondary[752..].copy_from_slice(&MAGIC);
-    let test = flash_of(rt.alloc(), &primary, &secondary)?;
-    assert_eq!(rt;
-        Trailer::read(&test, Slot::Secondary),
-        Trailer {
-            magic: Magic::Good,
-            ..ERASED
-        }
-    );
-    assert_eq!(rt; asked(&test, Profile::One), (SwapType::Test, false));
-    assert_eq!(rt; asked(&test, Profile::Two), (SwapType::Test, false));
+    let test = told_of(rt.alloc(), &primary, &secondary)?;
     secondary[744] = 1;
-    let perm = flash_of(rt.alloc(), &primary, &secondary)?;
-    assert_eq!(rt; asked(&perm, Profile::One), (SwapType::Perm, false));
-    assert_eq!(rt; asked(&perm, Profile::Two), (SwapType::Perm, false));
+    let perm = told_of(rt.alloc(), &primary, &secondary)?;
+    let mut confirmed = MARKED;
+    confirmed.image_ok = Flag::Set;
+    assert_eq!(rt;
+        [erased, test, perm],
+        [
+            ([ERASED, ERASED], [SwapType::None; 2], false),
+            ([ERASED, MARKED], [SwapType::Test; 2], false),
+            ([ERASED, confirmed], [SwapType::Perm; 2], false),
+        ]
+    );
     Ok(())
 }
 
@@ -156,18 +195,15 @@ fn a_swap_that_was_cut_is_read(rt: HostRuntime) -> Result<(), Fail> {
     let secondary = [0xff; 768];
     primary[1008..].copy_from_slice(&MAGIC);
     primary[984] = 2;
-    let begun = flash_of(rt.alloc(), &primary, &secondary)?;
-    let wanted = Trailer {
-        magic: Magic::Good,
-        swap_info: 2,
-        ..ERASED
-    };
-    assert_eq!(rt; Trailer::read(&begun, Slot::Primary), wanted);
-    assert_eq!(rt; Trailer::read(&begun, Slot::Secondary), ERASED);
-    assert_eq!(rt; asked(&begun, Profile::One), (SwapType::None, true));
+    let begun = told_of(rt.alloc(), &primary, &secondary)?;
     primary[976..980].copy_from_slice(&[0x50, 0, 0, 0]);
-    let sized = flash_of(rt.alloc(), &primary, &secondary)?;
-    assert_eq!(rt; Trailer::read(&sized, Slot::Primary).swap_size, 80);
+    let sized = told_of(rt.alloc(), &primary, &secondary)?;
+    let mut wanted = MARKED;
+    wanted.swap_info = 2;
+    let first = ([wanted, ERASED], [SwapType::None; 2], true);
+    wanted.swap_size = 80;
+    let second = ([wanted, ERASED], [SwapType::None; 2], true);
+    assert_eq!(rt; [begun, sized], [first, second]);
     Ok(())
 }
 
@@ -177,18 +213,20 @@ fn a_finished_test_is_reverted(rt: HostRuntime) -> Result<(), Fail> {
     let mut secondary = [0xff; 768];
     primary[1008..].copy_from_slice(&MAGIC);
     primary[992] = 1;
-    let done = flash_of(rt.alloc(), &primary, &secondary)?;
-    assert_eq!(rt; asked(&done, Profile::One), (SwapType::Revert, false));
-    assert_eq!(rt; asked(&done, Profile::Two), (SwapType::Revert, false));
+    let done = asked(rt.alloc(), &primary, &secondary)?;
     // The preparation of the secondary was cut inside the magic.
     secondary[752..760].copy_from_slice(&MAGIC[..8]);
-    let half = flash_of(rt.alloc(), &primary, &secondary)?;
-    assert_eq!(rt; asked(&half, Profile::One), (SwapType::None, false));
-    assert_eq!(rt; asked(&half, Profile::Two), (SwapType::Revert, false));
+    let half = asked(rt.alloc(), &primary, &secondary)?;
     // A flag that is neither.
     primary[992] = 0;
-    let bad = flash_of(rt.alloc(), &primary, &secondary)?;
-    assert_eq!(rt; asked(&bad, Profile::One), (SwapType::None, false));
-    assert_eq!(rt; asked(&bad, Profile::Two), (SwapType::None, false));
+    let bad = asked(rt.alloc(), &primary, &secondary)?;
+    assert_eq!(rt;
+        [done, half, bad],
+        [
+            ([SwapType::Revert, SwapType::Revert], false),
+            ([SwapType::None, SwapType::Revert], false),
+            ([SwapType::None, SwapType::None], false),
+        ]
+    );
     Ok(())
 }
