@@ -1,5 +1,6 @@
 //! Whole command lines, through `run`.
 mod boots;
+mod campaigns;
 mod creation;
 mod faults;
 mod faulty;
