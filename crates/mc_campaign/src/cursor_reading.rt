@@ -52,7 +52,8 @@ impl CampaignCursor {
     pub fn read(text: &str) -> Result<CampaignCursor, CursorError>
         ensures exact { ReadsCursor text.now result }
         // The text of each cursor is read as that cursor.
-        ensures only { (c : CampaignCursor) → IsCursor c → text.now ≡ cursor_text c → result ≡ Ok c }
+        ensures only { (c : CampaignCursor) → IsCursor c → text.now ≡ cursor_text c → result
+            ≡ Ok c }
     {
         match cursor_of(text) {
             Some(cursor) => Ok(cursor),
