@@ -150,10 +150,46 @@ fn makes<F: Flash>(flash: &mut F, boot: &mut Boot, ops: &[Op]) -> bool
     boot.peek().is_none()
 }
 
-#[test]
-fn a_swap_for_a_test(rt: HostRuntime) -> Result<(), Fail> {
-    let mut flash = test_flash(rt.alloc())?;
-    let mut boot = Boot::cold(&flash, Rules::PLAIN);
+/// What a boot tells that ends with these images in the slots.
+fn booted(
+    kind: SwapType,
+    ops: u32,
+    primary: ImageId,
+    secondary: ImageId,
+    next: SwapType,
+) -> Outcome {
+    Outcome {
+        result: BootResult::Boot,
+        kind,
+        ops,
+        primary: Some(primary),
+        secondary: Some(secondary),
+        next,
+    }
+}
+
+fn first_image() -> ImageId {
+    id_of(&FIRST_IMAGE, 1)
+}
+
+fn second_image() -> ImageId {
+    id_of(&SECOND_IMAGE, 2)
+}
+
+/// What the swap for a test tells.
+fn tested() -> Outcome {
+    booted(
+        SwapType::Test,
+        18,
+        second_image(),
+        first_image(),
+        SwapType::Revert,
+    )
+}
+
+/// Whether the operations of a boot are those of the swap for a test, and its outcome then.
+fn test_made(flash: &mut SnapFlash) -> (bool, Outcome) {
+    let mut boot = Boot::cold(flash, Rules::PLAIN);
     let info = Bytes16::new(&[2, 0xff, 0xff, 0xff, 0xff, 0xff, 0xff, 0xff]);
     let size = Bytes16::new(&[80, 0, 0, 0, 0xff, 0xff, 0xff, 0xff]);
     let ops = [
@@ -176,32 +212,35 @@ fn a_swap_for_a_test(rt: HostRuntime) -> Result<(), Fail> {
         Op::Program(Slot::Primary, 920, Bytes16::new(&ONE)),
         Op::Program(Slot::Primary, 992, Bytes16::new(&ONE)),
     ];
-    assert!(rt; makes(&mut flash, &mut boot, &ops));
-    let outcome = boot.outcome(&flash);
-    assert_eq!(rt; outcome.result, BootResult::Boot);
-    assert_eq!(rt; outcome.kind, SwapType::Test);
-    assert_eq!(rt; outcome.ops, 18);
-    assert_eq!(rt; outcome.primary, Some(id_of(&SECOND_IMAGE, 2)));
-    assert_eq!(rt; outcome.secondary, Some(id_of(&FIRST_IMAGE, 1)));
-    assert_eq!(rt; outcome.next, SwapType::Revert);
-    Ok(())
+    let are_made = makes(flash, &mut boot, &ops);
+    (are_made, boot.outcome(flash))
 }
 
 #[test]
-#[tactic(auto, unfolding(mc_flash::specs::Snap::ample))]
-fn a_boot_to_its_end(rt: HostRuntime) -> Result<(), Fail> {
+fn a_swap_for_a_test(rt: HostRuntime) -> Result<(), Fail> {
     let mut flash = test_flash(rt.alloc())?;
+    assert_eq!(rt; test_made(&mut flash), (true, tested()));
+    Ok(())
+}
+
+/// Whether a boot that is finished has no operation left, how it ends, and how many it made.
+#[tactic(auto, unfolding(mc_flash::specs::Snap::ample))]
+fn finished(mut flash: SnapFlash) -> Result<(bool, BootResult, u32), FlashError> {
     let mut boot = Boot::cold(&flash, Rules::PLAIN);
     boot.finish(&mut flash)?;
-    assert!(rt; boot.peek().is_none());
-    assert_eq!(rt; boot.outcome(&flash).ops, 18);
-    // Copy-done reads as unset and can't be written.
-    let mut flash = begun_flash(rt.alloc(), SIZE, &[(984, 2), (993, 0)])?;
-    let mut boot = Boot::cold(&flash, Rules::PLAIN);
-    boot.finish(&mut flash)?;
-    assert!(rt; boot.peek().is_none());
     let outcome = boot.outcome(&flash);
-    assert_eq!(rt; (outcome.result, outcome.ops), (BootResult::Fault, 13));
+    Ok((boot.peek().is_none(), outcome.result, outcome.ops))
+}
+
+#[test]
+fn a_boot_to_its_end(rt: HostRuntime) -> Result<(), Fail> {
+    let test = finished(test_flash(rt.alloc())?)?;
+    // Copy-done reads as unset and can't be written.
+    let begun = finished(begun_flash(rt.alloc(), SIZE, &[(984, 2), (993, 0)])?)?;
+    assert_eq!(rt;
+        [test, begun],
+        [(true, BootResult::Boot, 18), (true, BootResult::Fault, 13)]
+    );
     Ok(())
 }
 
@@ -209,66 +248,83 @@ fn a_boot_to_its_end(rt: HostRuntime) -> Result<(), Fail> {
 fn a_revert(rt: HostRuntime) -> Result<(), Fail> {
     let mut flash = test_flash(rt.alloc())?;
     let _ = told(&mut flash, Rules::PLAIN);
-    let outcome = told(&mut flash, Rules::PLAIN);
-    assert_eq!(rt; (outcome.kind, outcome.ops), (SwapType::Revert, 23));
-    assert_eq!(rt; outcome.primary, Some(id_of(&FIRST_IMAGE, 1)));
-    assert_eq!(rt; outcome.secondary, Some(id_of(&SECOND_IMAGE, 2)));
-    assert_eq!(rt; outcome.next, SwapType::None);
+    let wanted = booted(
+        SwapType::Revert,
+        23,
+        first_image(),
+        second_image(),
+        SwapType::None,
+    );
+    assert_eq!(rt; told(&mut flash, Rules::PLAIN), wanted);
     Ok(())
 }
 
-#[test]
+/// What a boot tells, and what the same boot tells that was kept beside a mark.
 #[tactic(auto, unfolding(mc_flash::specs::Seen::went_back))]
-fn a_kept_boot_serves_again(rt: HostRuntime) -> Result<(), Fail> {
-    let mut flash = test_flash(rt.alloc())?;
-    let mut boot = Boot::cold(&flash, Rules::PLAIN);
-    run(&mut flash, &mut boot, 7);
+fn told_again(flash: &mut SnapFlash) -> Result<[Outcome; 2], FlashError> {
+    let mut boot = Boot::cold(flash, Rules::PLAIN);
+    run(flash, &mut boot, 7);
     let place = flash.mark()?;
     let kept = boot;
-    run(&mut flash, &mut boot, 200);
-    let first = boot.outcome(&flash);
+    run(flash, &mut boot, 200);
+    let first = boot.outcome(flash);
     flash.back_to(place);
     let mut boot = kept;
-    run(&mut flash, &mut boot, 200);
-    assert_eq!(rt; boot.outcome(&flash), first);
-    assert_eq!(rt; first.ops, 18);
+    run(flash, &mut boot, 200);
+    Ok([first, boot.outcome(flash)])
+}
+
+#[test]
+fn a_kept_boot_serves_again(rt: HostRuntime) -> Result<(), Fail> {
+    let mut flash = test_flash(rt.alloc())?;
+    assert_eq!(rt; told_again(&mut flash)?, [tested(); 2]);
     Ok(())
+}
+
+/// The outcome of a boot of a flash.
+fn told_of(mut flash: SnapFlash) -> Outcome {
+    told(&mut flash, Rules::PLAIN)
 }
 
 #[test]
 fn no_images(rt: HostRuntime) -> Result<(), Fail> {
-    let alloc = rt.alloc();
-    let mut erased = flash_of(alloc, &[0xff; 1024], &[0xff; 768])?;
-    let none = bare(BootResult::None, SwapType::None, SwapType::None);
-    assert_eq!(rt; told(&mut erased, Rules::PLAIN), none);
+    let erased = told_of(flash_of(rt.alloc(), &[0xff; 1024], &[0xff; 768])?);
     let mut secondary = [0xff; 768];
     secondary[752..].copy_from_slice(&MAGIC);
-    let mut asking = flash_of(alloc, &[0xff; 1024], &secondary)?;
+    let asking = told_of(flash_of(rt.alloc(), &[0xff; 1024], &secondary)?);
+    let none = bare(BootResult::None, SwapType::None, SwapType::None);
     let fail = bare(BootResult::None, SwapType::Fail, SwapType::Fail);
-    assert_eq!(rt; told(&mut asking, Rules::PLAIN), fail);
+    assert_eq!(rt; [erased, asking], [none, fail]);
     Ok(())
 }
 
 #[test]
 fn trailers_that_contradict_themselves(rt: HostRuntime) -> Result<(), Fail> {
-    let alloc = rt.alloc();
+    let sizeless = told_of(begun_flash(rt.alloc(), [0xff; 4], &[(984, 2)])?);
+    let bytes = [(984, 2), (888, 1), (993, 0)];
+    let entry = told_of(begun_flash(rt.alloc(), SIZE, &bytes)?);
     let panic = bare(BootResult::Panic, SwapType::Panic, SwapType::Panic);
-    let mut sizeless = begun_flash(alloc, [0xff; 4], &[(984, 2)])?;
-    assert_eq!(rt; told(&mut sizeless, Rules::PLAIN), panic);
-    let mut entry = begun_flash(alloc, SIZE, &[(984, 2), (888, 1), (993, 0)])?;
-    assert_eq!(rt; told(&mut entry, Rules::PLAIN), panic);
+    assert_eq!(rt; [sizeless, entry], [panic; 2]);
     Ok(())
+}
+
+/// What the first two steps of a boot return, whether there was an operation before and behind the first, and the outcome.
+fn steps_of(flash: &mut SnapFlash) -> ([Result<(), FlashError>; 2], [bool; 2], Outcome) {
+    let mut boot = Boot::cold(flash, Rules::PLAIN);
+    let before = boot.peek().is_some();
+    let first = boot.step(flash);
+    let behind = boot.peek().is_some();
+    let second = boot.step(flash);
+    ([first, second], [before, behind], boot.outcome(flash))
 }
 
 #[test]
 fn a_refused_operation(rt: HostRuntime) -> Result<(), Fail> {
     let mut flash = begun_flash(rt.alloc(), SIZE, &[(984, 2), (920, 1), (993, 0)])?;
-    let mut boot = Boot::cold(&flash, Rules::PLAIN);
-    assert!(rt; boot.peek().is_some());
-    assert_eq!(rt; boot.step(&mut flash), Err(FlashError::NotErased));
-    assert!(rt; boot.peek().is_none());
-    assert_eq!(rt; boot.step(&mut flash), Ok(()));
     let fault = bare(BootResult::Fault, SwapType::Test, SwapType::Test);
-    assert_eq!(rt; boot.outcome(&flash), fault);
+    assert_eq!(rt;
+        steps_of(&mut flash),
+        ([Err(FlashError::NotErased), Ok(())], [true, false], fault)
+    );
     Ok(())
 }

@@ -3,7 +3,6 @@ ghost use Rattle.std.specs.Prelude.{◌≡◌};
 
 use super::*;
 use mc_trailer::Profile;
-use std::process::Abort;
 
 const CALL_ONE: Rules = Rules::PLAIN;
 
@@ -22,13 +21,14 @@ const UNIT_TWO: Rules = Rules {
     profile: Profile::Two,
 };
 
-/// The outcome that is told of the boot after a cut, and the one that it has. The flash is as it was then.
+/// How many operations the boot after a cut makes, where its outcome is told; `u32::MAX` where that is not the one that it
+/// has. The flash is as it was then.
 fn after_cut<F: Flash>(
     flash: &mut F,
     rules: Rules,
     whole: &Outcome,
     cut: u32,
-) -> Result<(Option<Outcome>, Outcome), FlashError> {
+) -> Result<Option<u32>, FlashError> {
     let place = flash.mark()?;
     let mut boot = Boot::cold(flash, rules);
     run(flash, &mut boot, cut);
@@ -36,36 +36,49 @@ fn after_cut<F: Flash>(
     let foretold = outcome_after(&boot, whole, &next);
     let ran = told(flash, rules);
     flash.back_to(place);
-    Ok((foretold, ran))
+    match foretold {
+        Some(outcome) if outcome == ran => Ok(Some(ran.ops)),
+        Some(_) => Ok(Some(u32::MAX)),
+        None => Ok(None),
+    }
 }
 
-/// Compares the two at each cut of a boot. A row has the cut at which it ends, and how many operations the boot after each of
-/// its cuts makes. None where no outcome is told.
-fn compare<F: Flash>(
-    rt: &impl Abort,
+/// The first cut of a boot that is not as its row says, or the last row's end, where that is not the boot's. A row has the
+/// cut at which it ends, and how many operations the boot after each of its cuts makes; none where no outcome is told.
+fn first_amiss<F: Flash>(
     flash: &mut F,
     rules: Rules,
     rows: &[(u32, Option<u32>)],
-) -> Result<(), FlashError> {
+) -> Result<Option<u32>, FlashError> {
     let place = flash.mark()?;
     let whole = told(flash, rules);
     flash.back_to(place);
     let mut start = 0;
     for (end, ops) in rows {
         for cut in start..*end {
-            let (foretold, ran) = after_cut(flash, rules, &whole, cut)?;
-            match ops {
-                Some(ops) => {
-                    assert_eq!(rt; foretold, Some(ran), "after {cut}");
-                    assert_eq!(rt; ran.ops, *ops, "after {cut}");
-                }
-                None => assert_eq!(rt; foretold, None, "after {cut}"),
+            if after_cut(flash, rules, &whole, cut)? != *ops {
+                return Ok(Some(cut));
             }
         }
         start = *end;
     }
-    assert_eq!(rt; start, whole.ops);
-    Ok(())
+    Ok(if start == whole.ops {
+        None
+    } else {
+        Some(start)
+    })
+}
+
+/// The same of a boot, and then of the boot that follows it.
+fn first_amiss_of_two<F: Flash>(
+    flash: &mut F,
+    rules: Rules,
+    rows: &[(u32, Option<u32>)],
+    next_rows: &[(u32, Option<u32>)],
+) -> Result<[Option<u32>; 2], FlashError> {
+    let first = first_amiss(flash, rules, rows)?;
+    let _ = told(flash, rules);
+    Ok([first, first_amiss(flash, rules, next_rows)?])
 }
 
 #[test]
@@ -94,15 +107,10 @@ fn cuts_of_calls(rt: HostRuntime) -> Result<(), Fail> {
         (19, Some(1)),
     ];
     for rules in [CALL_ONE, CALL_TWO] {
-        let mut flash = test_flash(rt.alloc())?;
-        compare(&rt, &mut flash, rules, &test)?;
-        let _ = told(&mut flash, rules);
-        compare(&rt, &mut flash, rules, &revert)?;
-        let mut flash = perm_flash(rt.alloc())?;
-        compare(&rt, &mut flash, rules, &perm)?;
+        let first = first_amiss_of_two(&mut test_flash(rt.alloc())?, rules, &test, &revert)?;
         // Then nothing is swapped, and there is no cut.
-        let _ = told(&mut flash, rules);
-        compare(&rt, &mut flash, rules, &[])?;
+        let second = first_amiss_of_two(&mut perm_flash(rt.alloc())?, rules, &perm, &[])?;
+        assert_eq!(rt; [first, second], [[None; 2]; 2]);
     }
     Ok(())
 }
@@ -125,9 +133,6 @@ fn cuts_of_units(rt: HostRuntime) -> Result<(), Fail> {
     ];
     // After one half of the secondary's magic the first profile swaps nothing.
     for (rules, prepared) in [(UNIT_ONE, 4), (UNIT_TWO, 5)] {
-        let mut flash = test_flash(rt.alloc())?;
-        compare(&rt, &mut flash, rules, &test)?;
-        let _ = told(&mut flash, rules);
         let revert = [
             (prepared, Some(115)),
             (12, None),
@@ -136,98 +141,119 @@ fn cuts_of_units(rt: HostRuntime) -> Result<(), Fail> {
             (114, Some(35)),
             (115, Some(1)),
         ];
-        compare(&rt, &mut flash, rules, &revert)?;
-        let mut flash = perm_flash(rt.alloc())?;
-        compare(&rt, &mut flash, rules, &perm)?;
+        let [tested, reverted] = first_amiss_of_two(
+            &mut test_flash(rt.alloc())?,
+            rules,
+            &test,
+            &revert,
+        )?;
+        let swapped = first_amiss(&mut perm_flash(rt.alloc())?, rules, &perm)?;
+        assert_eq!(rt; [tested, reverted, swapped], [None; 3]);
     }
     Ok(())
 }
 
-/// Compares the cuts of a boot from a flash that holds no images, by both profiles.
-fn compare_begun(
-    rt: &impl Abort,
-    alloc: Global,
-    grain: Grain,
-    bytes: &[(usize, u8)],
-    rows: &[(u32, Option<u32>)],
-) -> Result<(), Fail> {
-    for profile in [Profile::One, Profile::Two] {
+/// A row has single bytes of the primary, and the rows of the boot from there.
+type Begun = (&'static [(usize, u8)], &'static [(u32, Option<u32>)]);
+
+/// The first cut that is not as its row says, of boots from flashes that hold no images.
+fn first_amiss_begun(alloc: Global, rules: Rules, table: &[Begun]) -> Result<Option<u32>, Fail> {
+    for (bytes, rows) in table {
         let mut flash = begun_flash(alloc, SIZE, bytes)?;
-        compare(rt, &mut flash, Rules { grain, profile }, rows)?;
+        let amiss = first_amiss(&mut flash, rules, rows)?;
+        if amiss.is_some() {
+            return Ok(amiss);
+        }
     }
-    Ok(())
+    Ok(None)
 }
+
+/// Another type is none. Where copy-done reads as unset it can't be written. Then with status entries.
+static CALLS: [Begun; 11] = [
+    (
+        &[(984, 2)],
+        &[(5, Some(14)), (9, Some(9)), (13, Some(5)), (14, Some(1))],
+    ),
+    (
+        &[(984, 3)],
+        &[
+            (5, Some(15)),
+            (9, Some(10)),
+            (13, Some(6)),
+            (14, Some(2)),
+            (15, Some(1)),
+        ],
+    ),
+    (
+        &[(984, 4)],
+        &[
+            (5, Some(15)),
+            (9, Some(10)),
+            (13, Some(6)),
+            (14, Some(2)),
+            (15, Some(1)),
+        ],
+    ),
+    (&[(984, 0x13)], &[]),
+    (
+        &[(984, 2), (993, 0)],
+        &[(5, Some(13)), (9, Some(8)), (13, Some(4))],
+    ),
+    (&[(984, 2), (920, 1), (993, 0)], &[]),
+    (
+        &[(984, 2), (880, 1)],
+        &[(4, Some(9)), (8, Some(5)), (9, Some(1))],
+    ),
+    (&[(984, 2), (912, 1)], &[(4, Some(5)), (5, Some(1))]),
+    (&[(984, 2), (920, 1)], &[(1, Some(1))]),
+    (&[(984, 3), (920, 1)], &[(1, Some(2)), (2, Some(1))]),
+    (&[(984, 2), (888, 1)], &[]),
+];
 
 #[test]
 fn cuts_of_calls_from_any_trailer(rt: HostRuntime) -> Result<(), Fail> {
-    let alloc = rt.alloc();
-    let test = [(5, Some(14)), (9, Some(9)), (13, Some(5)), (14, Some(1))];
-    let confirming = [
-        (5, Some(15)),
-        (9, Some(10)),
-        (13, Some(6)),
-        (14, Some(2)),
-        (15, Some(1)),
-    ];
-    compare_begun(&rt, alloc, Grain::Call, &[(984, 2)], &test)?;
-    compare_begun(&rt, alloc, Grain::Call, &[(984, 3)], &confirming)?;
-    compare_begun(&rt, alloc, Grain::Call, &[(984, 4)], &confirming)?;
-    // Another type is none.
-    compare_begun(&rt, alloc, Grain::Call, &[(984, 0x13)], &[])?;
-    // Copy-done reads as unset and can't be written.
-    let refused = [(5, Some(13)), (9, Some(8)), (13, Some(4))];
-    compare_begun(&rt, alloc, Grain::Call, &[(984, 2), (993, 0)], &refused)?;
-    compare_begun(
-        &rt,
-        alloc,
-        Grain::Call,
-        &[(984, 2), (920, 1), (993, 0)],
-        &[],
-    )?;
-    // With status entries.
-    let moved = [(4, Some(9)), (8, Some(5)), (9, Some(1))];
-    compare_begun(&rt, alloc, Grain::Call, &[(984, 2), (880, 1)], &moved)?;
-    let brought = [(4, Some(5)), (5, Some(1))];
-    compare_begun(&rt, alloc, Grain::Call, &[(984, 2), (912, 1)], &brought)?;
-    compare_begun(
-        &rt,
-        alloc,
-        Grain::Call,
-        &[(984, 2), (920, 1)],
-        &[(1, Some(1))],
-    )?;
-    compare_begun(
-        &rt,
-        alloc,
-        Grain::Call,
-        &[(984, 3), (920, 1)],
-        &[(1, Some(2)), (2, Some(1))],
-    )?;
-    compare_begun(&rt, alloc, Grain::Call, &[(984, 2), (888, 1)], &[])
+    let one = first_amiss_begun(rt.alloc(), CALL_ONE, &CALLS)?;
+    let two = first_amiss_begun(rt.alloc(), CALL_TWO, &CALLS)?;
+    assert_eq!(rt; [one, two], [None; 2]);
+    Ok(())
 }
+
+static UNITS: [Begun; 4] = [
+    (
+        &[(984, 2)],
+        &[
+            (35, Some(104)),
+            (69, Some(69)),
+            (103, Some(35)),
+            (104, Some(1)),
+        ],
+    ),
+    (
+        &[(984, 3)],
+        &[
+            (35, Some(105)),
+            (69, Some(70)),
+            (103, Some(36)),
+            (104, Some(2)),
+            (105, Some(1)),
+        ],
+    ),
+    (
+        &[(984, 2), (993, 0)],
+        &[(35, Some(103)), (69, Some(68)), (103, Some(34))],
+    ),
+    (
+        &[(984, 2), (880, 1)],
+        &[(34, Some(69)), (68, Some(35)), (69, Some(1))],
+    ),
+];
 
 #[test]
 fn cuts_of_units_from_any_trailer(rt: HostRuntime) -> Result<(), Fail> {
-    let alloc = rt.alloc();
-    let test = [
-        (35, Some(104)),
-        (69, Some(69)),
-        (103, Some(35)),
-        (104, Some(1)),
-    ];
-    compare_begun(&rt, alloc, Grain::Unit, &[(984, 2)], &test)?;
-    let confirming = [
-        (35, Some(105)),
-        (69, Some(70)),
-        (103, Some(36)),
-        (104, Some(2)),
-        (105, Some(1)),
-    ];
-    compare_begun(&rt, alloc, Grain::Unit, &[(984, 3)], &confirming)?;
-    let refused = [(35, Some(103)), (69, Some(68)), (103, Some(34))];
-    compare_begun(&rt, alloc, Grain::Unit, &[(984, 2), (993, 0)], &refused)?;
-    let moved = [(34, Some(69)), (68, Some(35)), (69, Some(1))];
-    compare_begun(&rt, alloc, Grain::Unit, &[(984, 2), (880, 1)], &moved)
+    let one = first_amiss_begun(rt.alloc(), UNIT_ONE, &UNITS)?;
+    let two = first_amiss_begun(rt.alloc(), UNIT_TWO, &UNITS)?;
+    assert_eq!(rt; [one, two], [None; 2]);
+    Ok(())
 }
 
 /// Trailers of two sectors: the first of their erases takes the magic away.
@@ -247,8 +273,6 @@ fn cuts_of_trailers_of_two_sectors(rt: HostRuntime) -> Result<(), Fail> {
         (16, Some(4)),
         (17, Some(1)),
     ];
-    compare(&rt, &mut flash, CALL_ONE, &test)?;
-    let _ = told(&mut flash, CALL_ONE);
     let revert = [
         (5, Some(23)),
         (12, None),
@@ -257,7 +281,8 @@ fn cuts_of_trailers_of_two_sectors(rt: HostRuntime) -> Result<(), Fail> {
         (22, Some(4)),
         (23, Some(1)),
     ];
-    compare(&rt, &mut flash, CALL_ONE, &revert)?;
+    let amiss = first_amiss_of_two(&mut flash, CALL_ONE, &test, &revert)?;
+    assert_eq!(rt; amiss, [None; 2]);
     Ok(())
 }
 
@@ -281,7 +306,7 @@ fn cuts_where_the_size_ends_an_image(rt: HostRuntime) -> Result<(), Fail> {
         (17, Some(5)),
         (18, Some(1)),
     ];
-    compare(&rt, &mut flash, CALL_ONE, &rows)?;
+    assert_eq!(rt; first_amiss(&mut flash, CALL_ONE, &rows)?, None);
     Ok(())
 }
 
@@ -302,43 +327,59 @@ fn goes_on(
     Ok(outcome_after(&boot, &whole, &Boot::cold(second, rules)).is_some())
 }
 
+/// The same after two cuts of a test from its start.
+fn goes_on_after(alloc: Global, cuts: [u32; 2], second: SnapFlash) -> Result<[bool; 2], Fail> {
+    let [one, two] = cuts;
+    let mut test = test_flash(alloc)?;
+    let first = goes_on(&mut test, one, &second, CALL_ONE)?;
+    Ok([first, goes_on(&mut test, two, &second, CALL_ONE)?])
+}
+
 #[test]
 fn boots_that_begin_otherwise(rt: HostRuntime) -> Result<(), Fail> {
     let alloc = rt.alloc();
-    let mut test = test_flash(alloc)?;
-    let same = test_flash(alloc)?;
-    assert!(rt; goes_on(&mut test, 3, &same, CALL_ONE)?);
-    assert!(rt; !goes_on(&mut test, 3, &same, UNIT_ONE)?, "another grain");
-    assert!(rt;
-        !goes_on(&mut test, 5, &same, CALL_ONE)?,
-        "past its opening"
-    );
-    let perm = perm_flash(alloc)?;
-    assert!(rt; !goes_on(&mut test, 3, &perm, CALL_ONE)?, "another type");
+    // The second cut is past its opening.
+    let same = goes_on_after(alloc, [3, 5], test_flash(alloc)?)?;
+    let perm = goes_on_after(alloc, [3, 3], perm_flash(alloc)?)?;
+    // Nothing was done before the first cut, and there are no operations for the second.
     let erased = flash_of(alloc, &[0xff; 1024], &[0xff; 768])?;
-    assert!(rt; !goes_on(&mut test, 3, &erased, CALL_ONE)?, "no operations");
-    assert!(rt;
-        goes_on(&mut test, 0, &erased, CALL_ONE)?,
-        "nothing was done"
+    let erased = goes_on_after(alloc, [0, 3], erased)?;
+    let more_sectors = begun_flash(alloc, [1, 1, 0, 0], &[(984, 2)])?;
+    let more_sectors = goes_on_after(alloc, [5, 5], more_sectors)?;
+    assert_eq!(rt;
+        [same, perm, erased, more_sectors],
+        [[true, false], [false; 2], [true, false], [false; 2]]
     );
-    assert!(rt;
-        !goes_on(
-            &mut begun_flash(alloc, SIZE, &[(984, 2)])?,
-            1,
-            &same,
-            CALL_ONE
-        )?
-    );
-    let long = begun_flash(alloc, [1, 1, 0, 0], &[(984, 2)])?;
-    assert!(rt; !goes_on(&mut test, 5, &long, CALL_ONE)?, "more sectors");
     Ok(())
+}
+
+#[test]
+fn boots_of_another_grain_or_begun(rt: HostRuntime) -> Result<(), Fail> {
+    let mut test = test_flash(rt.alloc())?;
+    let same = test_flash(rt.alloc())?;
+    let grain = goes_on(&mut test, 3, &same, UNIT_ONE)?;
+    let mut begun = begun_flash(rt.alloc(), SIZE, &[(984, 2)])?;
+    let begun = goes_on(&mut begun, 1, &same, CALL_ONE)?;
+    assert_eq!(rt; [grain, begun], [false; 2]);
+    Ok(())
+}
+
+/// Whether a boot that begins at this info and this entry goes on with that of the first flash.
+fn goes_on_begun(
+    alloc: Global,
+    first: &mut SnapFlash,
+    cut: u32,
+    info: u8,
+    entry: usize,
+) -> Result<bool, Fail> {
+    let next = begun_flash(alloc, SIZE, &[(984, info), (entry, 1)])?;
+    Ok(goes_on(first, cut, &next, CALL_ONE)?)
 }
 
 /// A row has the cut, single bytes of the trailer that the next boot finds, and whether it goes on with a test from its start.
 #[test]
 fn trailers_that_say_otherwise(rt: HostRuntime) -> Result<(), Fail> {
-    let alloc = rt.alloc();
-    let mut test = test_flash(alloc)?;
+    let mut test = test_flash(rt.alloc())?;
     for (cut, info, entry, found) in [
         // Before, at and after the erases and the first transfer.
         (3, 2, 0, false),
@@ -357,41 +398,29 @@ fn trailers_that_say_otherwise(rt: HostRuntime) -> Result<(), Fail> {
         (16, 2, 920, false),
         (17, 2, 920, true),
     ] {
-        let next = begun_flash(alloc, SIZE, &[(984, info), (entry, 1)])?;
-        assert_eq!(rt;
-            goes_on(&mut test, cut, &next, CALL_ONE)?,
-            found,
-            "{entry} after {cut}"
-        );
+        let goes_on = goes_on_begun(rt.alloc(), &mut test, cut, info, entry)?;
+        assert_eq!(rt; goes_on, found, "{entry} after {cut}");
     }
     Ok(())
 }
 
-/// The same after a boot that went on from the entry of the first transfer.
+/// The same after boots that went on from the entry of the first transfer, and of the second.
 #[test]
 fn trailers_that_say_less(rt: HostRuntime) -> Result<(), Fail> {
-    let alloc = rt.alloc();
-    let mut moved = begun_flash(alloc, SIZE, &[(984, 2), (880, 1)])?;
-    for (cut, entry, found) in [
+    for (written, cut, entry, found) in [
         // The erases of the secondary's trailer, which were not made.
-        (1, 0, false),
-        (3, 880, true),
-        (4, 880, false),
-        (3, 912, false),
-        (4, 912, true),
-        (8, 920, true),
+        (880, 1, 0, false),
+        (880, 3, 880, true),
+        (880, 4, 880, false),
+        (880, 3, 912, false),
+        (880, 4, 912, true),
+        (880, 8, 920, true),
+        // An earlier transfer.
+        (912, 1, 880, false),
     ] {
-        let next = begun_flash(alloc, SIZE, &[(984, 2), (entry, 1)])?;
-        assert_eq!(rt;
-            goes_on(&mut moved, cut, &next, CALL_ONE)?,
-            found,
-            "{entry} after {cut}"
-        );
+        let mut begun = begun_flash(rt.alloc(), SIZE, &[(984, 2), (written, 1)])?;
+        let goes_on = goes_on_begun(rt.alloc(), &mut begun, cut, 2, entry)?;
+        assert_eq!(rt; goes_on, found, "{entry} after {cut}");
     }
-    let mut brought = begun_flash(alloc, SIZE, &[(984, 2), (912, 1)])?;
-    assert!(rt;
-        !goes_on(&mut brought, 1, &moved, CALL_ONE)?,
-        "an earlier transfer"
-    );
     Ok(())
 }
