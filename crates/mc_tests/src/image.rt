@@ -43,14 +43,15 @@ fn fault(bytes: &[u8]) -> Option<ImageError> {
 }
 
 #[test]
-fn worked_images_are_written(rt: HostRuntime) {
+fn worked_images_are_written(rt: HostRuntime) -> Result<(), Fail> {
     let alloc = rt.alloc();
     let counter = [(0x50, [7, 0, 0, 0].as_slice())];
-    let plain = is_written(Vec::new(alloc), &parts_of(&PAYLOAD, &[], &[]), &PLAIN_IMAGE);
-    let empty = is_written(Vec::new(alloc), &parts_of(&[], &[], &[]), &EMPTY_IMAGE);
+    let plain = is_written(Vec::new(alloc), &parts_of(&PAYLOAD, &[], &[]), &PLAIN_IMAGE)?;
+    let empty = is_written(Vec::new(alloc), &parts_of(&[], &[], &[]), &EMPTY_IMAGE)?;
     let parts = parts_of(&PAYLOAD, &counter, &[]);
-    let counted = is_written(Vec::new(alloc), &parts, &COUNTED_IMAGE);
-    assert_eq!(rt; [plain, empty, counted], [Ok(true); 3]);
+    let counted = is_written(Vec::new(alloc), &parts, &COUNTED_IMAGE)?;
+    assert_eq!(rt; [plain, empty, counted], [true; 3]);
+    Ok(())
 }
 
 #[test]
