@@ -2,6 +2,7 @@ mod Reading
 mod Ways
 mod Steps
 mod Replays
+mod Restarts
 mod Placing
 mod Telling
 mod Loaded

@@ -12,7 +12,7 @@ use Rattle.mc_explore.specs.Start.{Started}
 use Rattle.mc_explore.specs.declared.replaying.ReplayError.{ReplayError}
 use Rattle.mc_explore.specs.declared.replaying.ReplayError.TheVariants as errors
 use Rattle.mc_campaign.specs.Places.{Places}
-use Rattle.mc_campaign.specs.Replay.{CannotOccurLater}
+use Rattle.mc_campaign.specs.Replay.{AreReplayed, CannotOccurLater}
 
 -- The same five parts.
 moved : (P : Rules → Geometry → List ℕ → List ℕ → List ℕ → Type 0) (r r' : Rules) (g g' : Geometry) (p p' q q' l l' : List ℕ)
@@ -47,4 +47,15 @@ module _ (start : Started) (confirms : Bool) (c : Places) (r : Rules) (g : Geome
             second = moved (λ a b x y l. CannotOccurAt a b (record { primary = x; secondary = y }) l later) r start.rules g start.geometry p' m.primary q' m.secondary later_cuts c.second rules layout
                 (p'_is ∙ ap (λ (x : Content). x.primary) begins) (q'_is ∙ ap (λ (x : Content). x.secondary) begins) later_are here;
             place_is = ap (λ n. length cuts + n) at_place ∙ ap (λ (l : List ℕ). length l + later) cuts_are;
+          }
+
+      -- The second round ends too.
+      pub replayed_both : (two : Report) (z : Content) → IsReplayed r g (record { primary = p'; secondary = q' }) later_cuts two z → AreReplayed start.rules start.geometry confirms start.content c one two z
+      replayed_both two z done =
+          let m : Content = confirmed_if confirms start.geometry middle in
+          record {
+            middle = middle;
+            first = first_round;
+            second = moved (λ a b x y l. IsReplayed a b (record { primary = x; secondary = y }) l two z) r start.rules g start.geometry p' m.primary q' m.secondary later_cuts c.second rules layout
+                (p'_is ∙ ap (λ (x : Content). x.primary) begins) (q'_is ∙ ap (λ (x : Content). x.secondary) begins) later_are done;
           }

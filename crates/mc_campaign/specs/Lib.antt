@@ -7,6 +7,7 @@ pub mod Twice
 pub mod Replay
 pub mod Cursor
 pub mod State
+pub mod Restarts
 pub mod RowText
 pub mod CursorText
 pub mod Explores

@@ -1,5 +1,5 @@
 //! Goes through the campaigns of power cuts, one after another.
-ghost use Rattle.std.specs.Prelude.{◌≡◌, ◌+◌, ◌≤◌, true, length, IfOk, IfErr, ◌⊎◌};
+ghost use Rattle.std.specs.Prelude.{◌≡◌, ◌+◌, ◌≤◌, true, length, IfOk, IfErr, IfSome, ◌⊎◌};
 ghost use Rattle.mc_tree.specs.Paths.{After};
 ghost use Rattle.mc_tree.specs.Tree.{labelled};
 ghost use Rattle.mc_walk.specs.Walks.{root_of};
@@ -9,8 +9,9 @@ ghost use Rattle.mc_campaign.specs.Boots.{pairs_along};
 ghost use Rattle.mc_campaign.specs.Cursor.{cursor_of};
 ghost use Rattle.mc_campaign.specs.Explores.{Explores, row_cost};
 ghost use Rattle.mc_campaign.specs.Places.{Places, placed};
+ghost use Rattle.mc_campaign.specs.Restarts.{RowRestarts};
 ghost use Rattle.mc_campaign.specs.Resume.{Resumes};
-ghost use Rattle.mc_campaign.specs.State.{Finds, at_start, state_after};
+ghost use Rattle.mc_campaign.specs.State.{Finds, at_start, state_after, told};
 ghost use Rattle.mc_campaign.specs.View.{begun_of};
 
 use crate::campaign::Campaign;
@@ -19,6 +20,7 @@ use crate::following::follow;
 use crate::loading::{ask, load};
 use crate::rounds::Twice;
 use crate::row::CampaignRow;
+use mc_boot::restart_law;
 use mc_explore::{ExploreError, RowSource, Start, write_line};
 use mc_flash::Flash;
 use mc_walk::{Tour, Walk};
@@ -133,6 +135,9 @@ impl<F: Flash + Drop> CampaignExplorer<F> {
         // It is the first row past the position, and there is none exactly where no campaign is past it.
         ensures found { IfOk result (λ found. Finds self.old.state found) }
         ensures moved { IfOk result (λ found. self.new.state ≡ state_after self.old.state found) }
+        // The restart theorem, for both rounds of that row.
+        ensures restarts { let s = self.old.state in IfOk result (λ found. IfSome found
+            (λ row. RowRestarts s.start s.confirms (told row))) }
         // It takes at most two boots and three operations, and none where there is no row.
         ensures applied { IfOk result (λ
             found. self.new.ledger.applied ≤ self.old.ledger.applied + row_cost
@@ -141,6 +146,7 @@ impl<F: Flash + Drop> CampaignExplorer<F> {
         ensures explores { Explores F.counted self.old result self.new }
         ensures err { IfErr result (λ e. (e ≡ ExploreError.Memory) ⊎ (e ≡ ExploreError.Failed)) }
     {
+        restart_law();
         let Some(told) = self.tour.visit()? else {
             return Ok(None);
         };

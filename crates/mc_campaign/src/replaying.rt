@@ -8,10 +8,11 @@ ghost use Rattle.mc_explore.specs.Replay as replays;
 ghost use Rattle.mc_explore.specs.View.{begun_with};
 ghost use Rattle.mc_campaign.specs.Places.{pairs_of};
 ghost use Rattle.mc_campaign.specs.Replay.{AreReplayed, Refuses};
+ghost use Rattle.mc_campaign.specs.Restarts.{Restarts};
 
 use crate::campaign::{Campaign, Round};
 use crate::rounds::go_between;
-use mc_boot::Outcome;
+use mc_boot::{Outcome, restart_law};
 use mc_explore::{Once, ReplayError, Start, load_for, replay_on};
 use mc_flash::{Flash, Slot};
 use std::alloc::Global;
@@ -63,7 +64,11 @@ pub fn replay_campaign<F: Flash>(
     ensures exact { IfOk result (λ done. F.counted ≡ true → (F.seen done.2).ledger.limits
         ≡ limits_for start.now.rules.grain start.now.geometry
         (length (pairs_of campaign.now) + 3)) }
+    // The restart theorem, for both rounds of the campaign that was replayed.
+    ensures restarts { let s = start.now in IfOk result (λ done. Restarts s.rules s.geometry
+        confirms s.content campaign.now (shown done.0) (shown done.1) (F.seen done.2).content) }
 {
+    restart_law();
     let once = Once {
         rules: start.rules(),
         layout: *start.layout(),

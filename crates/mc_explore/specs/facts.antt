@@ -1,6 +1,7 @@
 -- Lemmas that the crates above cite. The definitions above them are what must be believed.
 pub mod Occurring
 pub mod Telling
+pub mod Restarts
 pub mod Room
 pub mod Listed
 pub mod Listings

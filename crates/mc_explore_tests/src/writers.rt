@@ -1,9 +1,10 @@
 //! Pages over writers that take one byte a call, and fail at each call in turn.
 ghost use Rattle.std.specs.Prelude.{◌≡◌, ◌≤◌, IfOk};
 
-use crate::common::explorer;
+use crate::common::{explorer, swap};
 use crate::tearing::PAGE;
-use mc_explore::{ExploreError, Explorer, write_page};
+use mc_campaign::{CampaignExplorer, write_campaign_page};
+use mc_explore::{ExploreError, Explorer, Kind, write_page};
 use mc_flash::SnapFlash;
 use std::alloc::Global;
 use std::io;
@@ -70,6 +71,51 @@ impl Write for Narrow {
     }
 }
 
+/// An explorer whose pages are written.
+trait Paged {
+    ghost use Rattle.std.specs.Prelude.{◌≤◌};
+
+    /// An explorer of a test swap with at most so many cuts.
+    fn started(alloc: Global, bound: u8) -> Result<Self, Fail>
+        requires { bound ≤ 16 };
+
+    /// Writes a page of at most so many rows.
+    fn write(&mut self, limit: u32, narrow: &mut Narrow) -> Result<(), ExploreError>
+        requires { 1 ≤ limit };
+
+    /// The error of its next row.
+    fn error(&mut self) -> Option<ExploreError>;
+}
+
+impl Paged for Explorer<SnapFlash> {
+    fn started(alloc: Global, bound: u8) -> Result<Explorer<SnapFlash>, Fail> {
+        explorer(alloc, bound)
+    }
+
+    fn write(&mut self, limit: u32, narrow: &mut Narrow) -> Result<(), ExploreError> {
+        write_page(self, limit, narrow)
+    }
+
+    fn error(&mut self) -> Option<ExploreError> {
+        self.next_row().err()
+    }
+}
+
+impl Paged for CampaignExplorer<SnapFlash> {
+    fn started(alloc: Global, bound: u8) -> Result<CampaignExplorer<SnapFlash>, Fail> {
+        let start = swap(alloc, Kind::Test)?;
+        Ok(CampaignExplorer::start(alloc, &start, bound, false)?)
+    }
+
+    fn write(&mut self, limit: u32, narrow: &mut Narrow) -> Result<(), ExploreError> {
+        write_campaign_page(self, limit, narrow)
+    }
+
+    fn error(&mut self) -> Option<ExploreError> {
+        self.next_row().err()
+    }
+}
+
 /// The last line of the page of three rows.
 static NEXT: &[u8] =
     b"next mc1:9b07a99687c30f1c748c995c0d4df48a8af881b571e209fd613b03ba09e2b5b7:1:1\n";
@@ -82,20 +128,20 @@ fn page_of(alloc: Global, rows: usize, last: &[u8]) -> Result<Vec<u8>, Fail> {
 }
 
 /// Writes a page over a writer that fails after so many bytes of it: a prefix of it is out, and nothing comes after it.
-fn page_stops(
+fn page_stops<P: Paged>(
     rt: &impl Abort,
-    explorer: &mut Explorer<SnapFlash>,
+    explorer: &mut P,
     limit: u32,
     narrow: &mut Narrow,
     prefix: &[u8],
 ) -> Result<(), Fail>
     requires { 1 ≤ limit }
 {
-    let told = ended(write_page(explorer, limit, narrow))?;
+    let told = ended(explorer.write(limit, narrow))?;
     assert_eq!(rt; told, Err(ExploreError::Write));
-    let again = write_page(explorer, limit, narrow);
+    let again = explorer.write(limit, narrow);
     assert_eq!(rt; again, Err(ExploreError::Failed));
-    assert_eq!(rt; explorer.next_row().err(), Some(ExploreError::Failed));
+    assert_eq!(rt; explorer.error(), Some(ExploreError::Failed));
     assert_eq!(rt; narrow.taken.as_slice(), prefix);
     Ok(())
 }
@@ -111,7 +157,7 @@ static FAULTS: [(Fault, bool); 6] = [
 ];
 
 /// Writes a page over a writer that fails at each call in turn, and over one that never does.
-fn meets_failing_writes(
+fn meets_failing_writes<P: Paged + Drop>(
     rt: &impl Abort,
     alloc: Global,
     bound: u8,
@@ -129,7 +175,7 @@ fn meets_failing_writes(
                 fault,
                 lasts,
             };
-            let mut explorer = explorer(alloc, bound)?;
+            let mut explorer = P::started(alloc, bound)?;
             page_stops(rt, &mut explorer, limit, &mut narrow, &page[..room])?;
         }
     }
@@ -139,7 +185,7 @@ fn meets_failing_writes(
         fault: Fault::Error,
         lasts: true,
     };
-    let told = ended(write_page(&mut explorer(alloc, bound)?, limit, &mut narrow))?;
+    let told = ended(P::started(alloc, bound)?.write(limit, &mut narrow))?;
     assert_eq!(rt; told, Ok(()));
     assert_eq!(rt; narrow.taken.as_slice(), page);
     Ok(())
@@ -148,9 +194,29 @@ fn meets_failing_writes(
 #[test]
 fn a_failed_write_ends_the_exploration(rt: HostRuntime) -> Result<(), Fail> {
     let full = page_of(rt.alloc(), 132, NEXT)?;
-    meets_failing_writes(&rt, rt.alloc(), 1, 3, full.as_slice())?;
+    meets_failing_writes::<Explorer<SnapFlash>>(&rt, rt.alloc(), 1, 3, full.as_slice())?;
     let last = page_of(rt.alloc(), 44, b"end\n")?;
-    meets_failing_writes(&rt, rt.alloc(), 0, 2, last.as_slice())
+    meets_failing_writes::<Explorer<SnapFlash>>(&rt, rt.alloc(), 0, 2, last.as_slice())
+}
+
+/// A page of two campaigns, and one of all that there are without a cut.
+static CAMPAIGNS: [&str; 2] = [
+    "\
+- boot test 18 boot revert 23 1.0.0+0/80 2.0.0+0/80 none
+1.0 boot test 18 boot revert 23 1.0.0+0/80 2.0.0+0/80 none
+next mc3:call:1:leave:9b07a99687c30f1c748c995c0d4df48a8af881b571e209fd613b03ba09e2b5b7:1:1.0
+",
+    "\
+- boot test 18 boot revert 23 1.0.0+0/80 2.0.0+0/80 none
+end
+",
+];
+
+#[test]
+fn a_failed_write_ends_an_exploration_of_campaigns(rt: HostRuntime) -> Result<(), Fail> {
+    let [full, last] = CAMPAIGNS;
+    meets_failing_writes::<CampaignExplorer<SnapFlash>>(&rt, rt.alloc(), 1, 2, full.as_bytes())?;
+    meets_failing_writes::<CampaignExplorer<SnapFlash>>(&rt, rt.alloc(), 0, 2, last.as_bytes())
 }
 
 #[test]

@@ -45,24 +45,24 @@ WORKED 1 1000 revert --grain unit --profile 2: 117 8d927f6b93714a3d2d24456dd2098
 WORKED 2 100000 revert --grain unit --profile 2: 8535 45be426b5ff6d7ec8cc25b702934f4f548237d0dc55da7bd6ec560878bea233b
 ";
 
-/// What an exploration of images with these options prints.
-fn prints(alloc: Global, options: &str) -> Result<String, Fail> {
-    let line = format!(in alloc; "explore {options} IMAGES")?;
+/// What a command prints of images with these options.
+fn prints(alloc: Global, command: &str, options: &str) -> Result<String, Fail> {
+    let line = format!(in alloc; "{command} {options} IMAGES")?;
     let line = in_full(alloc, line.as_str())?;
     told(alloc, line.as_str())
 }
 
-/// How many lines the page of these options has, and its SHA-256.
-fn page_of(alloc: Global, options: &str) -> Result<String, Fail> {
-    let page = prints(alloc, options)?;
+/// How many lines the page of a command with these options has, and its SHA-256.
+fn page_of(alloc: Global, command: &str, options: &str) -> Result<String, Fail> {
+    let page = prints(alloc, command, options)?;
     let page = page.as_str();
     let count = page.lines().count();
     let sum = hex::encode(alloc, Sha256::digest(page.as_bytes()))?;
     Ok(format!(in alloc; "{count} {sum}")?)
 }
 
-/// Looks at the page of a line.
-fn page_is(rt: &impl Abort, alloc: Global, row: &str) -> Result<(), Fail> {
+/// Looks at the page that a command prints for a line.
+pub fn page_is(rt: &impl Abort, alloc: Global, command: &str, row: &str) -> Result<(), Fail> {
     let (options, want) = row.split_once(": ").ok_or("options and a page")?;
     let names = ["LAYOUT", "CUTS", "LIMIT", "KIND"];
     let options = filled(
@@ -71,7 +71,7 @@ fn page_is(rt: &impl Abort, alloc: Global, row: &str) -> Result<(), Fail> {
         &names,
         options,
     )?;
-    let page = page_of(alloc, options.as_str())?;
+    let page = page_of(alloc, command, options.as_str())?;
     assert_eq!(rt; page.as_str(), want, "{row}");
     Ok(())
 }
@@ -79,7 +79,7 @@ fn page_is(rt: &impl Abort, alloc: Global, row: &str) -> Result<(), Fail> {
 #[test]
 fn prints_the_pages_of_images(rt: HostRuntime) -> Result<(), Fail> {
     for row in PAGES.lines() {
-        page_is(&rt, rt.alloc(), row)?;
+        page_is(&rt, rt.alloc(), "explore", row)?;
     }
     Ok(())
 }
@@ -87,7 +87,7 @@ fn prints_the_pages_of_images(rt: HostRuntime) -> Result<(), Fail> {
 #[test]
 fn prints_the_pages_of_cuts_between_units(rt: HostRuntime) -> Result<(), Fail> {
     for row in UNIT_PAGES.lines() {
-        page_is(&rt, rt.alloc(), row)?;
+        page_is(&rt, rt.alloc(), "explore", row)?;
     }
     Ok(())
 }
@@ -189,10 +189,10 @@ fn refuses_cursors_and_schedules(rt: HostRuntime) -> Result<(), Fail> {
 #[test]
 fn rows_after_the_first_end_the_page(rt: HostRuntime) -> Result<(), Fail> {
     let alloc = rt.alloc();
-    let whole = prints(alloc, "WORKED --kind test --cuts 1")?;
-    let rest = prints(alloc, "WORKED --kind test --cuts 1 --after=-")?;
+    let whole = prints(alloc, "explore", "WORKED --kind test --cuts 1")?;
+    let rest = prints(alloc, "explore", "WORKED --kind test --cuts 1 --after=-")?;
     assert!(rt; whole.as_str().ends_with(rest.as_str()));
-    let begun = prints(alloc, "WORKED --kind test --cuts 1 --until 5")?;
+    let begun = prints(alloc, "explore", "WORKED --kind test --cuts 1 --until 5")?;
     let lengths = (
         rest.as_str().lines().count(),
         begun.as_str().lines().count(),
@@ -207,7 +207,7 @@ fn joined(alloc: Global, limit: u32, pages: u32) -> Result<String, Fail> {
     let mut cursor = String::new(alloc);
     for _ in 0..pages {
         let options = format!(in alloc; "WORKED --kind test --cuts 3 --limit {limit}{cursor}")?;
-        let page = prints(alloc, options.as_str())?;
+        let page = prints(alloc, "explore", options.as_str())?;
         let length = format!(in alloc; "{} ", page.as_str().lines().count())?;
         lengths.push_str(length.as_str())?;
         let last = page.as_str().lines().last().unwrap_or("");

@@ -1,6 +1,7 @@
 use Rattle.std.proofs.Common.{inr}
 use Rattle.mc_boot.specs.Outcome.{shown}
-use Rattle.mc_campaign.proofs.Replays.{refused_later}
+use Rattle.mc_campaign.proofs.Replays.{refused_later, replayed_both}
+use Rattle.mc_campaign.proofs.Restarts.{campaign_restarts}
 use Rattle.mc_campaign.proofs.replaying.replay_campaign.Goals as goal
 
 pub returns-in-Err-CannotOccur-clause-replayed : goal.returns-in-Err-CannotOccur-clause-replayed
@@ -13,3 +14,19 @@ returns-in-Err-CannotOccur-clause-replayed g c =
     middle.geometry left.content c.in_ok-one.ensures.geometry c.in_ok-go_between.ensures.content c.read-primary.result.now c.read-secondary.result.now
     c.cuts-second.result.now c.read-primary.ensures.value c.read-secondary.ensures.value c.cuts-second.ensures
     c.in-Err-CannotOccur.field-0 c.in-Err-CannotOccur.later _ c.in-Err-CannotOccur.field-0-is c.in-Err-CannotOccur.later-is c.in-Err-CannotOccur.ensures.replayed)
+
+pub returns-in-Ok-clause-restarts : goal.returns-in-Ok-clause-restarts
+returns-in-Ok-clause-restarts g c =
+    let start = c.args.start.now in
+    let middle = g.F.Flash.seen c.in_ok-one.middle in
+    let left = g.F.Flash.seen c.go_between.new.flash in
+    let one = shown c.in_ok-one.one in
+    let two = shown c.in-Ok.two in
+    let z = (g.F.Flash.seen c.in-Ok.flash).content in
+    let both = replayed_both start c.args.confirms c.args.campaign.now c.rules.result c.layout.result.now c.rules.ensures c.layout.ensures.value
+    c.primary-primary.result.now c.secondary-secondary.result.now c.cuts-first.result.now one middle.content
+    c.primary-primary.ensures.value c.secondary-secondary.ensures.value c.cuts-first.ensures c.in_ok-one.ensures.replayed
+    middle.geometry left.content c.in_ok-one.ensures.geometry c.in_ok-go_between.ensures.content c.read-primary.result.now c.read-secondary.result.now
+    c.cuts-second.result.now c.read-primary.ensures.value c.read-secondary.ensures.value c.cuts-second.ensures two z c.in-Ok.ensures.replayed in
+    campaign_restarts start.rules start.geometry c.args.confirms start.content c.args.campaign.now one two z c.layout.ensures.valid
+    (c.restart_law.ensures.restart start.rules) (c.restart_law.ensures.rounds start.rules) both

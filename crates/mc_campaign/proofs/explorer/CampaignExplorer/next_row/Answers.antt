@@ -3,11 +3,13 @@ use Rattle.mc_flash.specs.Seen.{Seen}
 use Rattle.mc_walk.specs.Tours.{Visits}
 use Rattle.mc_campaign.specs.Boots.{pairs_along}
 use Rattle.mc_campaign.specs.Places.{Places, placed}
-use Rattle.mc_campaign.specs.View.{begun_of}
-use Rattle.mc_campaign.specs.State.{Explored, Finds, IsOver, moved_to}
+use Rattle.mc_campaign.specs.View.{begun_of, state_of}
+use Rattle.mc_campaign.specs.Restarts.{RowRestarts}
+use Rattle.mc_campaign.specs.State.{Explored, Finds, IsOver, moved_to, told}
 use Rattle.mc_campaign.specs.declared.rounds.Both.{Both}
 use Rattle.mc_campaign.specs.declared.row.CampaignRow.{CampaignRow}
 use Rattle.mc_campaign.proofs.Placing.{is_none}
+use Rattle.mc_campaign.proofs.Restarts.{row_restarts}
 use Rattle.mc_campaign.proofs.Telling.{cuts, finds_none, finds_row, kind_of, moved_on, pairs_there, sound_on, sound_over, stays_so}
 use Rattle.mc_explore.specs.View.{position_of}
 use Rattle.mc_campaign.proofs.explorer.CampaignExplorer.next_row.Given.{Over}
@@ -95,3 +97,14 @@ returns-in_default-clause-applied g c =
     let a = (goal.at.returns-in_default-clause-applied g c).In_default in
     let same = (none g a).1 in
     omega (arith, ap (λ (f : Seen). f.ledger.applied) same, ap (λ (z : Explored). z.ledger.applied) c.self.view_is)
+
+pub returns-clause-restarts : goal.returns-clause-restarts
+returns-clause-restarts g c =
+    let a = (goal.at.returns-clause-restarts g c).In-Some in
+    let old = c.self.inside.tour in
+    let there = row g a c.campaign_at-campaign.result in
+    let found = finds_row g.F.Flash.counted old c.visit.new.self c.self.inside.cursor c.in_ok-told.ensures.costs.0 c.self.invariant c.in-Some.told (some g a)
+    there (campaign_is g a c.campaign_at-campaign.result (rw c.walk.ensures at c.campaign_at-campaign.ensures)) refl refl in
+    let state = state_of old.walk (position_of old.phase c.self.inside.cursor.campaign) in
+    subst (λ (z : Explored). RowRestarts z.state.start z.state.confirms (told there)) c.self.view_is
+    (row_restarts state.start state.confirms (told there) c.restart_law.ensures.restart c.restart_law.ensures.rounds found.1)

@@ -1,0 +1,126 @@
+-- What the restart theorem says of both rounds of a campaign.
+use Rattle.std.specs.Prelude.{◌≡◌, ◌≢◌, ℕ, Bool, true, false, List, [], Some, length, refl}
+use Rattle.std.proofs.Common.{sym, ap, subst, ◌∙◌}
+use Rattle.mc_flash.specs.Content.{Content}
+use Rattle.mc_flash.specs.Geometry.{Geometry, IsLayout}
+use Rattle.mc_trailer.specs.declared.tables.Rules.{Rules}
+use Rattle.mc_boot.specs.Confirm.{confirmed_if}
+use Rattle.mc_boot.specs.Outcome.{Report, outcome_of}
+use Rattle.mc_boot.specs.Plan.{plan}
+use Rattle.mc_boot.specs.Restart.{BeginsImage, EndsIn, RestartLaw, forgets_reverts}
+use Rattle.mc_boot.specs.Rounds.{EndsAgain, IsIdle, RoundsLaw, has_revert}
+use Rattle.mc_boot.specs.Runs.{after, left_by, ops_of}
+use Rattle.mc_boot.specs.Start.{StartKind, no_swap, test, perm, revert, start_flash}
+use Rattle.mc_explore.specs.Replay.{IsReplayed}
+use Rattle.mc_explore.specs.facts.Restarts.{idle_ops, swap_outcome, told_end, told_slots, uncut}
+use Rattle.mc_explore.specs.Start.{Begun}
+use Rattle.mc_explore.specs.facts.Telling.{outcome_ops}
+use Rattle.mc_campaign.specs.Places.{Places}
+use Rattle.mc_campaign.specs.Replay.{AreReplayed}
+use Rattle.mc_campaign.specs.Restarts.{BothEnd, IsLastOutcome, Restarts, RowRestarts}
+use Rattle.mc_campaign.specs.State.{Told, HasOutcomes}
+
+module _ (r : Rules) (g : Geometry) where
+  -- A round that has nothing to do is told without an operation, and nothing of it is cut.
+  idle_round : (m u : Content) (cuts : List ℕ) (o : Report) → outcome_of r g u ≡ Some o → after r g m cuts ≡ Some u → IsIdle r g m u → (o.ops ≡ 0) × (cuts ≡ [])
+  idle_round m u cuts o is occurs idle =
+      let none = idle_ops r g m idle.idle in
+      (outcome_ops r g u o is ∙ ap (λ (x : Content). length (ops_of r g x)) idle.uncut ∙ none, uncut r g m u cuts none occurs)
+
+  -- The second round of a start that was no test: the flash is not confirmed, and nothing is left to do.
+  idle_again : (confirms : Bool) (x u : Content) (cuts : List ℕ) (o : Report) → outcome_of r g u ≡ Some o → after r g (confirmed_if confirms g x) cuts ≡ Some u
+      → IsIdle r g x u → confirmed_if confirms g x ≡ x → (o.ops ≡ 0) × (cuts ≡ [])
+  idle_again confirms x u cuts o is occurs idle same =
+      idle_round x u cuts o is (subst (λ (m : Content). after r g m cuts ≡ Some u) same occurs) idle
+
+  -- The boot that ends the second round leaves that flash.
+  ends_left : (kind : StartKind) (confirms : Bool) (a b : List ℕ) (s x u z : Content) → EndsAgain r g kind confirms a b s x u z → left_by r g u ≡ Some z
+  ends_left no_swap confirms a b s x u z ends = ends.0.end
+  ends_left test true a b s x u z ends = ends.0.end
+  ends_left test false a b s x u z ends = ends.0.end
+  ends_left perm confirms a b s x u z ends = ends.0.end
+  ends_left revert confirms a b s x u z ends = ends.0.end
+
+  -- What the second round ends in is what is told of it.
+  last_outcome : (kind : StartKind) (confirms : Bool) (a b : List ℕ) (s x u z : Content) (cuts : List ℕ) (o : Report) → outcome_of r g u ≡ Some o
+      → after r g (confirmed_if confirms g x) cuts ≡ Some u → left_by r g u ≡ Some z → EndsAgain r g kind confirms a b s x u z → IsLastOutcome kind confirms a b cuts o
+  last_outcome no_swap confirms a b s x u z cuts o is occurs left ends =
+      let told = told_end r g no_swap a b s u z o is ends.0 in
+      record {
+        result = told.0;
+        primary = told.1;
+        secondary = told.2;
+        next = λ not. absurd (not refl);
+        idle = λ _. idle_again confirms x u cuts o is occurs ends.1 ends.2;
+      }
+  last_outcome test true a b s x u z cuts o is occurs left ends =
+      let told = told_end r g perm a b s u z o is ends.0 in
+      record {
+        result = told.0;
+        primary = told.1;
+        secondary = told.2;
+        next = λ _. (told_slots r g u z o is left).2 ∙ ends.0.swapped.1.next;
+        idle = λ _. idle_round (confirmed_if true g x) u cuts o is occurs ends.1;
+      }
+  last_outcome test false a b s x u z cuts o is occurs left ends =
+      let told = told_end r g revert b a x u z o is ends.0 in
+      record {
+        result = told.0;
+        primary = told.1;
+        secondary = told.2;
+        next = λ _. (told_slots r g u z o is left).2 ∙ ends.0.swapped.1.next;
+        idle = λ stays. absurd (let no : false ≡ true = stays refl in cc);
+      }
+  last_outcome perm confirms a b s x u z cuts o is occurs left ends =
+      let told = told_end r g perm a b s u z o is ends.0 in
+      record {
+        result = told.0;
+        primary = told.1;
+        secondary = told.2;
+        next = λ _. (told_slots r g u z o is left).2 ∙ ends.0.swapped.1.next;
+        idle = λ _. idle_again confirms x u cuts o is occurs ends.1 ends.2;
+      }
+  last_outcome revert confirms a b s x u z cuts o is occurs left ends =
+      let told = told_end r g revert a b s u z o is ends.0 in
+      record {
+        result = told.0;
+        primary = told.1;
+        secondary = told.2;
+        next = λ _. (told_slots r g u z o is left).2 ∙ ends.0.swapped.1.next;
+        idle = λ _. idle_again confirms x u cuts o is occurs ends.1 ends.2;
+      }
+
+  -- Rules that do not forget a revert of either round do not forget one of the first.
+  first_rules : (kind : StartKind) (confirms : Bool) → (has_revert kind confirms ≡ true → forgets_reverts r.grain r.profile ≡ false) → kind ≡ revert → forgets_reverts r.grain r.profile ≡ false
+  first_rules kind confirms rules is = rules (ap (λ (k : StartKind). has_revert k confirms) is)
+
+  pub campaign_restarts : (confirms : Bool) (s : Content) (c : Places) (one two : Report) (z : Content) → IsLayout g → RestartLaw r → RoundsLaw r
+      → AreReplayed r g confirms s c one two z → Restarts r g confirms s c one two z
+  campaign_restarts confirms s c one two z layout law rounds done = λ kind a b first second rules start.
+      let t = done.first.cut in
+      let x = done.middle in
+      let u = done.second.cut in
+      let begins = law g kind a b s s [] layout first second (first_rules kind confirms rules) start refl in
+      let ends = law g kind a b s t c.first layout first second (first_rules kind confirms rules) start done.first.occurs in
+      let middle : ends.0 ≡ x = let both : Some ends.0 ≡ Some x = sym ends.1.end ∙ done.first.left in cc in
+      let here = subst (λ (m : Content). EndsIn r g kind a b s t m) middle ends.1 in
+      let again = rounds g kind confirms a b s t x u c.first c.second layout first second rules start done.first.occurs done.first.left done.second.occurs in
+      let left : again.0 ≡ z = let both : Some again.0 ≡ Some z = sym (ends_left kind confirms a b s x u again.0 again.1) ∙ done.second.left in cc in
+      let there = subst (λ (m : Content). EndsAgain r g kind confirms a b s x u m) left again.1 in
+      record {
+        t = t;
+        x = x;
+        u = u;
+        first_cut = done.first.occurs;
+        first_ends = here;
+        first_told = swap_outcome r g kind a b s t begins.0 x c.first one done.first.outcome_is done.first.occurs begins.1 here;
+        second_cut = done.second.occurs;
+        second_ends = there;
+        second_told = last_outcome kind confirms a b s x u z c.second two done.second.outcome_is done.second.occurs done.second.left there;
+      }
+
+-- What the restart theorem says of a row.
+pub row_restarts : (start : Begun) (confirms : Bool) (row : Told) → ((rules : Rules) → RestartLaw rules) → ((rules : Rules) → RoundsLaw rules) → HasOutcomes start confirms row
+    → RowRestarts start confirms row
+row_restarts start confirms row law rounds outcomes = λ layout.
+    (outcomes.0, campaign_restarts start.rules start.geometry confirms start.content row.campaign row.first row.second outcomes.0 layout (law start.rules) (rounds start.rules) outcomes.1)

@@ -1,0 +1,62 @@
+-- What the restart theorem says of a campaign.
+use Rattle.std.specs.Prelude.{◌≡◌, ◌≢◌, ℕ, Bool, true, false, List, [], Some}
+use Rattle.mc_flash.specs.Content.{Content}
+use Rattle.mc_flash.specs.Geometry.{Geometry, IsLayout}
+use Rattle.mc_image.specs.Valid.{id_of}
+use Rattle.mc_trailer.specs.declared.tables.Rules.{Rules}
+use Rattle.mc_trailer.specs.declared.tables.SwapType.TheVariants as kinds
+use Rattle.mc_boot.specs.Confirm.{confirmed_if}
+use Rattle.mc_boot.specs.Outcome.{Report}
+use Rattle.mc_boot.specs.Restart.{BeginsImage, EndsIn, forgets_reverts}
+use Rattle.mc_boot.specs.Rounds.{EndsAgain, has_revert}
+use Rattle.mc_boot.specs.Runs.{after}
+use Rattle.mc_boot.specs.Start.{StartKind, no_swap, test, perm, revert, start_flash, named, other}
+use Rattle.mc_boot.specs.declared.outcome.BootResult.TheVariants as results
+use Rattle.mc_explore.specs.Replay.{IsSwapOutcome}
+use Rattle.mc_explore.specs.Start.{Begun}
+use Rattle.mc_campaign.specs.Places.{Places}
+use Rattle.mc_campaign.specs.State.{Told}
+
+-- What stands of a start after both rounds. A test that was left alone is taken back: it is as if no swap had been asked for.
+abbrev pub lasting : StartKind → Bool → StartKind
+lasting no_swap confirms = no_swap
+lasting test true = test
+lasting test false = no_swap
+lasting perm confirms = perm
+lasting revert confirms = revert
+
+-- What is told of the second round: it boots, and the images stand as they will stay. Unless it takes a test back it has no
+-- operation, and so no cut.
+pub record IsLastOutcome (kind : StartKind) (confirms : Bool) (a b cuts : List ℕ) (outcome : Report) : Type 0 where
+  pub result : outcome.result ≡ results.Boot
+  pub primary : outcome.primary ≡ id_of (named (lasting kind confirms) a b)
+  pub secondary : outcome.secondary ≡ id_of (other (lasting kind confirms) a b)
+  pub next : kind ≢ no_swap → outcome.next ≡ kinds.None
+  pub idle : (kind ≡ test → confirms ≡ true) → (outcome.ops ≡ 0) × (cuts ≡ [])
+
+-- The first round leaves x, as the restart theorem says of its cuts; the second begins there, where the image has confirmed itself
+-- or not, and leaves z, as the theorem says of a second round. What is told of both is so.
+pub record BothEnd (r : Rules) (g : Geometry) (kind : StartKind) (confirms : Bool) (a b : List ℕ) (s : Content) (c : Places) (one two : Report) (z : Content) : Type 0 where
+  pub t : Content
+  pub x : Content
+  pub u : Content
+  pub first_cut : after r g s c.first ≡ Some t
+  pub first_ends : EndsIn r g kind a b s t x
+  pub first_told : IsSwapOutcome kind a b c.first one
+  pub second_cut : after r g (confirmed_if confirms g x) c.second ≡ Some u
+  pub second_ends : EndsAgain r g kind confirms a b s x u z
+  pub second_told : IsLastOutcome kind confirms a b c.second two
+
+-- From the start of two valid images that fit, under rules that do not forget a revert that one of the rounds makes, both rounds
+-- of the campaign end so.
+abbrev pub Restarts : Rules → Geometry → Bool → Content → Places → Report → Report → Content → Type 0
+Restarts r g confirms s c one two z =
+    (kind : StartKind) (a b : List ℕ) → BeginsImage g a → BeginsImage g b
+    → (has_revert kind confirms ≡ true → forgets_reverts r.grain r.profile ≡ false)
+    → start_flash g kind a b ≡ Some s → BothEnd r g kind confirms a b s c one two z
+
+-- So it is of a row's campaign and its outcomes.
+abbrev pub RowRestarts : Begun → Bool → Told → Type 0
+RowRestarts start confirms row =
+    IsLayout start.geometry → (z : Content)
+    × Restarts start.rules start.geometry confirms start.content row.campaign row.first row.second z
