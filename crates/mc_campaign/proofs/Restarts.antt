@@ -1,23 +1,21 @@
 -- What the restart theorem says of both rounds of a campaign.
-use Rattle.std.specs.Prelude.{◌≡◌, ◌≢◌, ℕ, Bool, true, false, List, [], Some, length, refl}
+use Rattle.std.specs.Prelude.{◌≡◌, ℕ, Bool, true, false, List, [], Some, length, refl}
 use Rattle.std.proofs.Common.{sym, ap, subst, ◌∙◌}
 use Rattle.mc_flash.specs.Content.{Content}
 use Rattle.mc_flash.specs.Geometry.{Geometry, IsLayout}
 use Rattle.mc_trailer.specs.declared.tables.Rules.{Rules}
 use Rattle.mc_boot.specs.Confirm.{confirmed_if}
 use Rattle.mc_boot.specs.Outcome.{Report, outcome_of}
-use Rattle.mc_boot.specs.Plan.{plan}
-use Rattle.mc_boot.specs.Restart.{BeginsImage, EndsIn, RestartLaw, forgets_reverts}
+use Rattle.mc_boot.specs.Restart.{EndsIn, RestartLaw, forgets_reverts}
 use Rattle.mc_boot.specs.Rounds.{EndsAgain, IsIdle, RoundsLaw, has_revert}
 use Rattle.mc_boot.specs.Runs.{after, left_by, ops_of}
-use Rattle.mc_boot.specs.Start.{StartKind, no_swap, test, perm, revert, start_flash}
-use Rattle.mc_explore.specs.Replay.{IsReplayed}
+use Rattle.mc_boot.specs.Start.{StartKind, no_swap, test, perm, revert}
 use Rattle.mc_explore.specs.facts.Restarts.{idle_ops, swap_outcome, told_end, told_slots, uncut}
 use Rattle.mc_explore.specs.Start.{Begun}
 use Rattle.mc_explore.specs.facts.Telling.{outcome_ops}
 use Rattle.mc_campaign.specs.Places.{Places}
 use Rattle.mc_campaign.specs.Replay.{AreReplayed}
-use Rattle.mc_campaign.specs.Restarts.{BothEnd, IsLastOutcome, Restarts, RowRestarts}
+use Rattle.mc_campaign.specs.Restarts.{IsLastOutcome, Restarts, RowRestarts}
 use Rattle.mc_campaign.specs.State.{Told, HasOutcomes}
 
 module _ (r : Rules) (g : Geometry) where
