@@ -1,21 +1,24 @@
 -- What the restart theorem says of both rounds of a campaign.
-use Rattle.std.specs.Prelude.{◌≡◌, ℕ, Bool, true, false, List, [], Some, length, refl}
+use Rattle.std.specs.Prelude.{◌≡◌, ◌≢◌, ℕ, Bool, true, false, List, [], Some, length, refl}
 use Rattle.std.proofs.Common.{sym, ap, subst, ◌∙◌}
 use Rattle.mc_flash.specs.Content.{Content}
 use Rattle.mc_flash.specs.Geometry.{Geometry, IsLayout}
 use Rattle.mc_trailer.specs.declared.tables.Rules.{Rules}
 use Rattle.mc_boot.specs.Confirm.{confirmed_if}
+use Rattle.mc_image.specs.Valid.{id_of}
+use Rattle.mc_trailer.specs.declared.tables.SwapType.TheVariants as kinds
 use Rattle.mc_boot.specs.Outcome.{Report, outcome_of}
+use Rattle.mc_boot.specs.Plan.{plan}
 use Rattle.mc_boot.specs.Restart.{EndsIn, RestartLaw, forgets_reverts}
 use Rattle.mc_boot.specs.Rounds.{EndsAgain, IsIdle, RoundsLaw, has_revert}
 use Rattle.mc_boot.specs.Runs.{after, left_by, ops_of}
-use Rattle.mc_boot.specs.Start.{StartKind, no_swap, test, perm, revert}
+use Rattle.mc_boot.specs.Start.{StartKind, no_swap, test, perm, revert, named, other}
 use Rattle.mc_explore.specs.facts.Restarts.{idle_ops, swap_outcome, told_end, told_slots, uncut}
 use Rattle.mc_explore.specs.Start.{Begun}
 use Rattle.mc_explore.specs.facts.Telling.{outcome_ops}
 use Rattle.mc_campaign.specs.Places.{Places}
 use Rattle.mc_campaign.specs.Replay.{AreReplayed}
-use Rattle.mc_campaign.specs.Restarts.{IsLastOutcome, Restarts, RowRestarts}
+use Rattle.mc_campaign.specs.Restarts.{IsLastOutcome, Restarts, RowRestarts, lasting}
 use Rattle.mc_campaign.specs.State.{Told, HasOutcomes}
 
 module _ (r : Rules) (g : Geometry) where
@@ -39,54 +42,34 @@ module _ (r : Rules) (g : Geometry) where
   ends_left perm confirms a b s x u z ends = ends.0.end
   ends_left revert confirms a b s x u z ends = ends.0.end
 
-  -- What the second round ends in is what is told of it.
-  last_outcome : (kind : StartKind) (confirms : Bool) (a b : List ℕ) (s x u z : Content) (cuts : List ℕ) (o : Report) → outcome_of r g u ≡ Some o
-      → after r g (confirmed_if confirms g x) cuts ≡ Some u → left_by r g u ≡ Some z → EndsAgain r g kind confirms a b s x u z → IsLastOutcome kind confirms a b cuts o
-  last_outcome no_swap confirms a b s x u z cuts o is occurs left ends =
-      let told = told_end r g no_swap a b s u z o is ends.0 in
-      record {
-        result = told.0;
-        primary = told.1;
-        secondary = told.2;
-        next = λ not. absurd (not refl);
-        idle = λ _. idle_again confirms x u cuts o is occurs ends.1 ends.2;
-      }
-  last_outcome test true a b s x u z cuts o is occurs left ends =
-      let told = told_end r g perm a b s u z o is ends.0 in
-      record {
-        result = told.0;
-        primary = told.1;
-        secondary = told.2;
-        next = λ _. (told_slots r g u z o is left).2 ∙ ends.0.swapped.1.next;
-        idle = λ _. idle_round (confirmed_if true g x) u cuts o is occurs ends.1;
-      }
-  last_outcome test false a b s x u z cuts o is occurs left ends =
-      let told = told_end r g revert b a x u z o is ends.0 in
-      record {
-        result = told.0;
-        primary = told.1;
-        secondary = told.2;
-        next = λ _. (told_slots r g u z o is left).2 ∙ ends.0.swapped.1.next;
-        idle = λ stays. absurd (let no : false ≡ true = stays refl in cc);
-      }
-  last_outcome perm confirms a b s x u z cuts o is occurs left ends =
-      let told = told_end r g perm a b s u z o is ends.0 in
-      record {
-        result = told.0;
-        primary = told.1;
-        secondary = told.2;
-        next = λ _. (told_slots r g u z o is left).2 ∙ ends.0.swapped.1.next;
-        idle = λ _. idle_again confirms x u cuts o is occurs ends.1 ends.2;
-      }
-  last_outcome revert confirms a b s x u z cuts o is occurs left ends =
-      let told = told_end r g revert a b s u z o is ends.0 in
-      record {
-        result = told.0;
-        primary = told.1;
-        secondary = told.2;
-        next = λ _. (told_slots r g u z o is left).2 ∙ ends.0.swapped.1.next;
-        idle = λ _. idle_again confirms x u cuts o is occurs ends.1 ends.2;
-      }
+  module _ (u z : Content) (cuts : List ℕ) (o : Report) (is : outcome_of r g u ≡ Some o) where
+    -- A last boot whose images stand as those of another kind of start.
+    told_as : (k : StartKind) (a b : List ℕ) (s : Content) → EndsIn r g k a b s u z → (kind : StartKind) (confirms : Bool) (a' b' : List ℕ)
+        → named k a b ≡ named (lasting kind confirms) a' b' → other k a b ≡ other (lasting kind confirms) a' b' → (kind ≢ no_swap → (plan r g z).kind ≡ kinds.None)
+        → ((kind ≡ test → confirms ≡ true) → (o.ops ≡ 0) × (cuts ≡ [])) → IsLastOutcome kind confirms a' b' cuts o
+    told_as k a b s ends kind confirms a' b' first second next idle =
+        let told = told_end r g k a b s u z o is ends in
+        record {
+          result = told.0;
+          primary = told.1 ∙ ap id_of first;
+          secondary = told.2 ∙ ap id_of second;
+          next = λ swaps. (told_slots r g u z o is ends.end).2 ∙ next swaps;
+          idle = idle;
+        }
+
+    -- What the second round ends in is what is told of it.
+    last_outcome : (kind : StartKind) (confirms : Bool) (a b : List ℕ) (s x : Content) → after r g (confirmed_if confirms g x) cuts ≡ Some u
+        → EndsAgain r g kind confirms a b s x u z → IsLastOutcome kind confirms a b cuts o
+    last_outcome no_swap confirms a b s x occurs ends =
+        told_as no_swap a b s ends.0 no_swap confirms a b refl refl (λ not. absurd (not refl)) (λ _. idle_again confirms x u cuts o is occurs ends.1 ends.2)
+    last_outcome test true a b s x occurs ends =
+        told_as perm a b s ends.0 test true a b refl refl (λ _. ends.0.swapped.1.next) (λ _. idle_round (confirmed_if true g x) u cuts o is occurs ends.1)
+    last_outcome test false a b s x occurs ends =
+        told_as revert b a x ends.0 test false a b refl refl (λ _. ends.0.swapped.1.next) (λ stays. absurd (let no : false ≡ true = stays refl in cc))
+    last_outcome perm confirms a b s x occurs ends =
+        told_as perm a b s ends.0 perm confirms a b refl refl (λ _. ends.0.swapped.1.next) (λ _. idle_again confirms x u cuts o is occurs ends.1 ends.2)
+    last_outcome revert confirms a b s x occurs ends =
+        told_as revert a b s ends.0 revert confirms a b refl refl (λ _. ends.0.swapped.1.next) (λ _. idle_again confirms x u cuts o is occurs ends.1 ends.2)
 
   -- Rules that do not forget a revert of either round do not forget one of the first.
   first_rules : (kind : StartKind) (confirms : Bool) → (has_revert kind confirms ≡ true → forgets_reverts r.grain r.profile ≡ false) → kind ≡ revert → forgets_reverts r.grain r.profile ≡ false
@@ -114,7 +97,7 @@ module _ (r : Rules) (g : Geometry) where
         first_told = swap_outcome r g kind a b s t begins.0 x c.first one done.first.outcome_is done.first.occurs begins.1 here;
         second_cut = done.second.occurs;
         second_ends = there;
-        second_told = last_outcome kind confirms a b s x u z c.second two done.second.outcome_is done.second.occurs done.second.left there;
+        second_told = last_outcome u z c.second two done.second.outcome_is kind confirms a b s x done.second.occurs there;
       }
 
 -- What the restart theorem says of a row.
