@@ -7,3 +7,4 @@ pub mod OneList
 pub mod Existence
 pub mod Joined
 pub mod Rounds
+pub mod Weighed

@@ -14,7 +14,7 @@ abbrev pub PathsAscend : List (List ℕ) → Type 0
 PathsAscend = AllPairs Precedes
 
 -- The paths that begin with a number below n, of those that go on behind each.
-beginning : (ℕ → List (List ℕ)) → ℕ → List (List ℕ)
+unfoldable pub beginning : (ℕ → List (List ℕ)) → ℕ → List (List ℕ)
 beginning f zero = []
 beginning f (suc n) = beginning f n ++ map (λ l. n ∷ l) (f n)
 
@@ -51,7 +51,7 @@ beginning_ascends f (suc n) up =
 
 module _ {N : Type 0} (t : Tree N) where
   -- All paths of at most k steps.
-  all_from : ℕ → N → List (List ℕ)
+  unfoldable pub all_from : ℕ → N → List (List ℕ)
   all_from zero s = [] ∷ []
   all_from (suc k) s = [] ∷ beginning (λ x. all_from k (t.child s x)) (t.width s)
 

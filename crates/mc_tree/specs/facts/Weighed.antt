@@ -1,0 +1,114 @@
+-- Weights of lists of rows and of trees: what a list of all rows comes to, and what follows for nodes whose children are another's.
+use Rattle.std.specs.Prelude.{◌≡◌, ℕ, zero, suc, ◌+◌, ◌-◌, ◌<◌, ◌≤◌, List, [], ◌∷◌, ◌++◌, map, refl}
+use Rattle.std.proofs.Common.{arith, sym, ap, ◌∙◌}
+use Rattle.std.proofs.lemmas.List.{map-append}
+use Rattle.mc_tree.specs.Tree.{Tree}
+use Rattle.mc_tree.specs.Weights.{Weighing, IsWeighing, IsPlaced, from, placed_below, total, weight}
+use Rattle.mc_tree.specs.facts.Existence.{all_from, beginning}
+
+module _ {M : Type 0} (w : Weighing M) (is : IsWeighing w) where
+  total_append : {R : Type 0} (one : R → M) (xs ys : List R) → total w one (xs ++ ys) ≡ w.both (total w one xs) (total w one ys)
+  total_append one [] ys = sym (is.left (total w one ys))
+  total_append one (x ∷ xs) ys =
+      ap (w.both (one x)) (total_append one xs ys) ∙ sym (is.joined (one x) (total w one xs) (total w one ys))
+
+  -- The numbers up to one, and that one.
+  pub from_more : (f : ℕ → M) (n i : ℕ) → from w f (suc n) i ≡ w.both (from w f n i) (w.behind (i + n) (f (i + n)))
+  from_more f zero i =
+      let at : ℕ → M = λ x. w.behind x (f x) in
+      is.right (at i) ∙ ap at (omega arith) ∙ sym (is.left (at (i + 0)))
+  from_more f (suc n) i =
+      let at : ℕ → M = λ x. w.behind x (f x) in
+      ap (w.both (at i)) (from_more f n (i + 1))
+      ∙ sym (is.joined (at i) (from w f n (i + 1)) (at (i + 1 + n)))
+      ∙ ap (λ x. w.both (from w f (suc n) i) (at x)) (omega arith)
+
+  -- The numbers in two parts.
+  pub from_parts : (f : ℕ → M) (n m i : ℕ) → from w f (n + m) i ≡ w.both (from w f n i) (from w f m (i + n))
+  from_parts f zero m i =
+      let same : i ≡ i + 0 = omega arith in
+      ap (λ k. from w f k i) (omega arith) ∙ ap (from w f m) same ∙ sym (is.left (from w f m (i + 0)))
+  from_parts f (suc n) m i =
+      let at : M = w.behind i (f i) in
+      let count : suc n + m ≡ suc (n + m) = omega arith in
+      let last : i + 1 + n ≡ i + suc n = omega arith in
+      ap (λ k. from w f k i) count
+      ∙ ap (w.both at) (from_parts f n m (i + 1))
+      ∙ sym (is.joined at (from w f n (i + 1)) (from w f m (i + 1 + n)))
+      ∙ ap (λ x. w.both (from w f (suc n) i) (from w f m x)) last
+
+  -- Weights that are alike for each of the numbers.
+  pub from_alike : (f h : ℕ → M) (n i : ℕ) → ((x : ℕ) → i ≤ x → x < i + n → f x ≡ h x) → from w f n i ≡ from w h n i
+  from_alike f h zero i same = refl
+  from_alike f h (suc n) i same =
+      ap (λ a. w.both (w.behind i a) (from w f n (i + 1))) (same i (omega arith) (omega arith))
+      ∙ ap (w.both (w.behind i (h i))) (from_alike f h n (i + 1) (λ x le lt. same x (omega (arith, le)) (omega (arith, lt))))
+
+  -- Numbers that are lowered.
+  pub from_back : (f : ℕ → M) (j n i : ℕ) → w.back j (from w f n (j + i)) ≡ from w (λ x. f (j + x)) n i
+  from_back f j zero i = is.back_none j
+  from_back f j (suc n) i =
+      is.back_both j (w.behind (j + i) (f (j + i))) (from w f n (j + i + 1))
+      ∙ ap (λ a. w.both a (w.back j (from w f n (j + i + 1)))) (is.back_behind j i (f (j + i)))
+      ∙ ap (λ x. w.both (w.behind i (f (j + i))) (w.back j (from w f n x))) (omega arith)
+      ∙ ap (w.both (w.behind i (f (j + i)))) (from_back f j n (i + 1))
+
+  module _ {N R : Type 0} (t : Tree N) (own : N → M) (one : R → M) (row_of : N → List ℕ → R) where
+    -- A row weighs what its node does, behind the numbers of its path.
+    pub record AreWeighed : Type 0 where
+      pub here : (s : N) → one (row_of s []) ≡ own s
+      pub below : (s : N) (i : ℕ) (l : List ℕ) → one (row_of s (i ∷ l)) ≡ w.behind i (one (row_of (t.child s i) l))
+
+    module _ (are : AreWeighed) where
+      rows_behind : (s : N) (i : ℕ) (ls : List (List ℕ))
+          → total w one (map (row_of s) (map (λ l. i ∷ l) ls)) ≡ w.behind i (total w one (map (row_of (t.child s i)) ls))
+      rows_behind s i [] = sym (is.behind_none i)
+      rows_behind s i (l ∷ ls) =
+          ap (λ a. w.both a (total w one (map (row_of s) (map (λ l. i ∷ l) ls)))) (are.below s i l)
+          ∙ ap (w.both (w.behind i (one (row_of (t.child s i) l)))) (rows_behind s i ls)
+          ∙ sym (is.behind_both i (one (row_of (t.child s i) l)) (total w one (map (row_of (t.child s i)) ls)))
+
+      rows_beginning : (s : N) (f : ℕ → List (List ℕ)) (n : ℕ)
+          → total w one (map (row_of s) (beginning f n)) ≡ from w (λ i. total w one (map (row_of (t.child s i)) (f i))) n 0
+      unfolding beginning
+      rows_beginning s f zero = refl
+      rows_beginning s f (suc n) =
+          let under : ℕ → M = λ i. total w one (map (row_of (t.child s i)) (f i)) in
+          ap (total w one) (map-append (row_of s) (beginning f n) (map (λ l. n ∷ l) (f n)))
+          ∙ total_append one (map (row_of s) (beginning f n)) (map (row_of s) (map (λ l. n ∷ l) (f n)))
+          ∙ ap (λ a. w.both a (total w one (map (row_of s) (map (λ l. n ∷ l) (f n))))) (rows_beginning s f n)
+          ∙ ap (w.both (from w under n 0)) (rows_behind s n (f n))
+          ∙ ap (λ x. w.both (from w under n 0) (w.behind x (under x))) (omega arith)
+          ∙ sym (from_more under n 0)
+
+      -- All rows weigh what the tree does.
+      pub rows_weigh : (k : ℕ) (s : N) → total w one (map (row_of s) (all_from t k s)) ≡ weight w t own k s
+      unfolding all_from
+      rows_weigh zero s = is.right (one (row_of s [])) ∙ are.here s
+      rows_weigh (suc k) s =
+          let f : ℕ → List (List ℕ) = λ x. all_from t k (t.child s x) in
+          ap (λ a. w.both a (total w one (map (row_of s) (beginning f (t.width s))))) (are.here s)
+          ∙ ap (w.both (own s)) (rows_beginning s f (t.width s)
+          ∙ from_alike (λ i. total w one (map (row_of (t.child s i)) (f i))) (λ i. weight w t own k (t.child s i)) (t.width s) 0
+          (λ i le lt. rows_weigh k (t.child s i)))
+
+  module _ {N : Type 0} (t : Tree N) (own : N → M) (p u : N) (j m : ℕ) (place : ℕ → ℕ) where
+    -- What is below the second node, by what lies below the first.
+    pub placed_weight : (k : ℕ) → IsPlaced t p u j m place
+        → weight w t own (suc k) u ≡ w.both (own u) (placed_below w (λ x. weight w t own k (t.child p x)) (t.width p) j m place)
+    placed_weight k is_placed =
+        let under : ℕ → M = λ x. weight w t own k (t.child p x) in
+        let below : ℕ → M = λ i. weight w t own k (t.child u i) in
+        let rest : ℕ = t.width p - (j + m) in
+        let count : t.width u ≡ m + rest = (let a = is_placed.width in let b = is_placed.few in omega (arith, a, b)) in
+        let first : 0 + m ≡ m = omega arith in
+        let early : from w below m 0 ≡ from w (λ i. under (place i)) m 0 =
+        from_alike below (λ i. under (place i)) m 0 (λ i le lt. ap (weight w t own k) (is_placed.early i (omega (arith, lt)))) in
+        let late : from w below rest m ≡ w.back j (from w under rest (j + m)) =
+        from_alike below (λ i. under (j + i)) rest m (λ i le lt. ap (weight w t own k) (is_placed.late i le (omega (arith, lt, count)))) ∙ sym (from_back under j rest m) in
+        ap (w.both (own u))
+        (ap (λ n. from w below n 0) count
+        ∙ from_parts below m rest 0
+        ∙ ap (λ x. w.both (from w below m 0) (from w below rest x)) first
+        ∙ ap (λ a. w.both a (from w below rest m)) early
+        ∙ ap (w.both (from w (λ i. under (place i)) m 0)) late)
