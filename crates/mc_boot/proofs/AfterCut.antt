@@ -12,7 +12,7 @@ use Rattle.mc_boot.specs.declared.course.Course.{Course}
 use Rattle.mc_boot.specs.After.{IsCut}
 use Rattle.mc_boot.specs.Boot.{Progress, begun, progress, IsBootOf}
 use Rattle.mc_boot.specs.CourseList.{course_list, whole_list}
-use Rattle.mc_boot.specs.Joins.{joins_of}
+use Rattle.mc_boot.specs.Joins.{erases_of, joins_of}
 use Rattle.mc_boot.specs.Outcome.{Report, outcome_of}
 use Rattle.mc_boot.specs.Plan.{Plan, plan}
 use Rattle.mc_boot.specs.RunFacts.{come_at}
@@ -41,7 +41,8 @@ module _ (r : Rules) (g : Geometry) (s u : Content) (cut next : Boot) (a b : Cou
           let meets = joins_meet g a b cut.done j ok (layout_is g cut.course a at_a is.layout) (layout_is g next.course b at_b of) joins in
           let list_s : (plan r g s).list ≡ course_list a = sym is.list ∙ ap whole_list at_a in
           let list_u : (plan r g u).list ≡ course_list b = sym (begun_list r (plan r g u) next start) ∙ ap whole_list at_b in
-          joined r g s u cut.done j meets.sectors (met_joins r g s u cut.done j (course_list a) (course_list b) meets is.sized (come_at r g s (progress cut) u is.come) is.early list_s list_u)
+          joined r g s u cut.done j meets.sectors (met_joins r g s u cut.done j (erases_of b) (course_list a) (course_list b) meets is.sized (come_at r g s (progress cut) u is.come) is.early list_s
+          list_u)
 
       pub outcome_follows : outcome_of r g u ≡ Some (less next.kind j whole)
       outcome_follows =

@@ -33,13 +33,13 @@ pub record SameOutside (g : Geometry) (es : List Sector) (s t : Content) : Type 
   pub bytes : (o : Slot) (i : ℕ) → IsOutside g es o i → byte t o i ≡ byte s o i
   pub sizes : (o : Slot) → length (bytes_of t o) ≡ length (bytes_of s o)
 
-which_slot : (a b : Slot) → (a ≡ b) ⊎ (a ≢ b)
+pub which_slot : (a b : Slot) → (a ≡ b) ⊎ (a ≢ b)
 which_slot Primary Primary = inl refl
 which_slot Primary Secondary = inr (λ e. cc)
 which_slot Secondary Primary = inr (λ e. cc)
 which_slot Secondary Secondary = inl refl
 
-erases : (g : Geometry) (s : Content) (e : Sector) → e.index * g.sector + g.sector ≤ length (bytes_of s e.slot) → Changed s (erase_in g s e) e.slot (e.index * g.sector) (replicate g.sector 255)
+pub erases : (g : Geometry) (s : Content) (e : Sector) → e.index * g.sector + g.sector ≤ length (bytes_of s e.slot) → Changed s (erase_in g s e) e.slot (e.index * g.sector) (replicate g.sector 255)
 erases g s e fits = changed s e.slot (e.index * g.sector) (replicate g.sector 255) (omega (arith, fits, length-replicate {A = ℕ} g.sector 255))
 
 -- Where a byte lies against an erased sector: in it, in the slot beside it, or in the other slot.
@@ -86,11 +86,11 @@ erase_apart g s t e es fits_s fits_t same = record {
         subst P (sym is) (here i) outside
     by o i outside (inr no_) = to.other o i no_ ∙ beside o i outside (λ is. absurd (no_ is)) ∙ sym (from.other o i no_)
 
-same_bytes : (s t : Content) (o : Slot) → length (bytes_of t o) ≡ length (bytes_of s o) → ((i : ℕ) → byte t o i ≡ byte s o i) → bytes_of t o ≡ bytes_of s o
+pub same_bytes : (s t : Content) (o : Slot) → length (bytes_of t o) ≡ length (bytes_of s o) → ((i : ℕ) → byte t o i ≡ byte s o i) → bytes_of t o ≡ bytes_of s o
 same_bytes s t o len each = same_lists (bytes_of t o) (bytes_of s o) len (λ k d h.
     get_or_default (bytes_of t o) k d 0 h ∙ each k ∙ sym (get_or_default (bytes_of s o) k d 0 (omega (arith, h, len))))
 
-same_content : (s t : Content) → t.primary ≡ s.primary → t.secondary ≡ s.secondary → t ≡ s
+pub same_content : (s t : Content) → t.primary ≡ s.primary → t.secondary ≡ s.secondary → t ≡ s
 same_content s t p q =
     ap (λ (xs : List ℕ). let x : Content = record { primary = xs; secondary = t.secondary } in x) p
     ∙ ap (λ (ys : List ℕ). let x : Content = record { primary = s.primary; secondary = ys } in x) q
@@ -146,7 +146,7 @@ changed_outside g es s t slot at new index ch listed from to = record {
         subst P (sym is) (λ out. here i (out index listed)) outside
     by o i outside (inr no_) = ch.other o i no_
 
-one_content : (s t : Content) → Some s ≡ Some t → s ≡ t
+pub one_content : (s t : Content) → Some s ≡ Some t → s ≡ t
 one_content s t e = cc
 
 short_copy : (s : Content) (from : Slot) (at len : ℕ) → length (copied s from at len) ≤ len

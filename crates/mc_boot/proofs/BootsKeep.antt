@@ -33,21 +33,25 @@ pub record Swaps (R : Content → Type 0) (r : Rules) (g : Geometry) (start : Co
   pub planned : Planned r g n b s
 
 -- by the plan that is known
-by_plan : (R : Content → Type 0) (r : Rules) (g : Geometry) (start : Content) (size n : ℕ) (b : Bool) (s : Content) (p : Plan) → plan r g s ≡ p → IsSwapOf b p.kind → p.sectors ≡ n → Keeps g (Phase R g start size n b) p.list s (Ended g start size n b) → Swaps R r g start size n b s
+by_plan : (R : Content → Type 0) (r : Rules) (g : Geometry) (start : Content) (size n : ℕ) (b : Bool) (s : Content) (p : Plan) → plan r g s ≡ p → IsSwapOf b p.kind → p.sectors ≡ n
+    → Keeps g (Phase R g start size n b) p.list s (Ended g start size n b) → Swaps R r g start size n b s
 by_plan R r g start size n b s p is of sectors keeps = record {
   keeps = let E : Plan → Type 0 = λ q. Keeps g (Phase R g start size n b) q.list s (Ended g start size n b) in subst E (sym is) keeps;
   planned = record { kind = p.kind; of = of; is = ap (λ (q : Plan). q.kind) is; sectors = ap (λ (q : Plan). q.sectors) is ∙ sectors };
 }
 
 -- a boot from where a revert waits
-pub waiting_swaps : (r : Rules) (g : Geometry) (start : Content) (size n : ℕ) → in_pieces r.grain g ≡ g → forgets_reverts r.grain r.profile ≡ false → Swap g start size n → (s : Content) → Waiting r.grain g start n s → Swaps (Waiting r.grain g start n) r g start size n false s
+pub waiting_swaps : (r : Rules) (g : Geometry) (start : Content) (size n : ℕ) → in_pieces r.grain g ≡ g → forgets_reverts r.grain r.profile ≡ false → Swap g start size n → (s : Content)
+    → Waiting r.grain g start n s → Swaps (Waiting r.grain g start n) r g start size n false s
 waiting_swaps r g start size n whole keeps w s is =
     let F : Geometry → Type 0 = λ x. Keeps g (Phase (Waiting r.grain g start n) g start size n false) (new_list r.grain x kinds.Revert size n) s (Ended g start size n false) in
-    by_plan (Waiting r.grain g start n) r g start size n false s (starting r.grain g kinds.Revert size n) (plan_waiting r g start size n s keeps w (sees_start g start size n s w is.data_) is) refl refl
+    by_plan (Waiting r.grain g start n) r g start size n false s (starting r.grain g kinds.Revert size n) (plan_waiting r g start size n s keeps w (sees_start g start size n s w is.data_) is) refl
+    refl
     (subst F (sym whole) (revert_keeps r.grain g start size n s w is))
 
 -- from where a swap is asked for
-asked_keeps : (R : Content → Type 0) (c : Grain) (g : Geometry) (start : Content) (size n : ℕ) (b : Bool) (s : Content) → Swap g start size n → Asked g start n b s → Keeps g (Phase R g start size n b) (new_list c g (kind_asked b) size n) s (Ended g start size n b)
+asked_keeps : (R : Content → Type 0) (c : Grain) (g : Geometry) (start : Content) (size n : ℕ) (b : Bool) (s : Content) → Swap g start size n → Asked g start n b s
+    → Keeps g (Phase R g start size n b) (new_list c g (kind_asked b) size n) s (Ended g start size n b)
 asked_keeps R c g start size n true s w is = swap_keeps R c g start size n true kinds.Test s w refl is
 asked_keeps R c g start size n false s w is = swap_keeps R c g start size n false kinds.Perm s w refl is
 
@@ -55,27 +59,31 @@ of_asked : (b : Bool) → IsSwapOf b (kind_asked b)
 of_asked true = refl
 of_asked false = refl
 
-asked_swaps : (R : Content → Type 0) (r : Rules) (g : Geometry) (start : Content) (size n : ℕ) (b : Bool) → in_pieces r.grain g ≡ g → Swap g start size n → (s : Content) → Asked g start n b s → Swaps R r g start size n b s
+asked_swaps : (R : Content → Type 0) (r : Rules) (g : Geometry) (start : Content) (size n : ℕ) (b : Bool) → in_pieces r.grain g ≡ g → Swap g start size n → (s : Content) → Asked g start n b s
+    → Swaps R r g start size n b s
 asked_swaps R r g start size n b whole w s is =
     let F : Geometry → Type 0 = λ x. Keeps g (Phase R g start size n b) (new_list r.grain x (kind_asked b) size n) s (Ended g start size n b) in
     by_plan R r g start size n b s (starting r.grain g (kind_asked b) size n) (plan_asked r g start size n b s w (sees_start g start size n s w is.data_) is) (of_asked b) refl
     (subst F (sym whole) (asked_keeps R r.grain g start size n b s w is))
 
 -- from where it runs
-running_keeps : (R : Content → Type 0) (g : Geometry) (start : Content) (size n : ℕ) (b : Bool) (kind : SwapType) (k : ℕ) (s : Content) → Swap g start size n → IsSwapOf b kind → k ≤ 3 * n → Under g start size n kind k s → Keeps g (Phase R g start size n b) (running g kind n k (k == 0)).list s (Ended g start size n b)
+running_keeps : (R : Content → Type 0) (g : Geometry) (start : Content) (size n : ℕ) (b : Bool) (kind : SwapType) (k : ℕ) (s : Content) → Swap g start size n → IsSwapOf b kind → k ≤ 3 * n
+    → Under g start size n kind k s → Keeps g (Phase R g start size n b) (running g kind n k (k == 0)).list s (Ended g start size n b)
 running_keeps R g start size n b kind zero s w of most is = resumed_keeps R g start size n b kind s w of is
 running_keeps R g start size n b kind (suc j) s w of most is =
     let E : Bool → Type 0 = λ c. Keeps g (Phase R g start size n b) (running g kind n (suc j) c).list s (Ended g start size n b) in
     subst E (sym (other_number (suc j) 0 (λ e. omega (arith, e)))) (rest_keeps R g start size n b kind (suc j) s w of most is)
 
-running_swaps : (R : Content → Type 0) (r : Rules) (g : Geometry) (start : Content) (size n : ℕ) (b : Bool) (kind : SwapType) (k : ℕ) → in_pieces r.grain g ≡ g → Swap g start size n → IsSwapOf b kind → k ≤ 3 * n → (s : Content) → Under g start size n kind k s → Swaps R r g start size n b s
+running_swaps : (R : Content → Type 0) (r : Rules) (g : Geometry) (start : Content) (size n : ℕ) (b : Bool) (kind : SwapType) (k : ℕ) → in_pieces r.grain g ≡ g → Swap g start size n → IsSwapOf b kind
+    → k ≤ 3 * n → (s : Content) → Under g start size n kind k s → Swaps R r g start size n b s
 running_swaps R r g start size n b kind k whole w of most s is =
     let F : Geometry → Type 0 = λ x. Keeps g (Phase R g start size n b) (running x kind n k (k == 0)).list s (Ended g start size n b) in
     by_plan R r g start size n b s (running (in_pieces r.grain g) kind n k (k == 0)) (plan_under r g start size n b kind k s w of most is) of refl
     (subst F (sym whole) (running_keeps R g start size n b kind k s w of most is))
 
 -- from each phase
-pub phase_swaps : (R : Content → Type 0) (r : Rules) (g : Geometry) (start : Content) (size n : ℕ) (b : Bool) → in_pieces r.grain g ≡ g → Swap g start size n → ((s : Content) → R s → Swaps R r g start size n b s) → (s : Content) → Phase R g start size n b s → Swaps R r g start size n b s
+pub phase_swaps : (R : Content → Type 0) (r : Rules) (g : Geometry) (start : Content) (size n : ℕ) (b : Bool) → in_pieces r.grain g ≡ g → Swap g start size n
+    → ((s : Content) → R s → Swaps R r g start size n b s) → (s : Content) → Phase R g start size n b s → Swaps R r g start size n b s
 phase_swaps R r g start size n b whole w before s (inl is) = before s is
 phase_swaps R r g start size n b whole w before s (inr (inl is)) = asked_swaps R r g start size n b whole w s is
 phase_swaps R r g start size n b whole w before s (inr (inr under)) = running_swaps R r g start size n b under.0 under.1 whole w under.2 under.3 s under.4

@@ -1,5 +1,6 @@
 -- Courses that go on within a transfer of another, or after its last: their lists are rests of the other's.
-use Rattle.std.specs.Prelude.{◌≡◌, ℕ, zero, suc, ◌+◌, ◌-◌, ◌*◌, ◌/◌, ◌==◌, ◌<◌, ◌≤◌, ◌&&◌, ◌||◌, not, nat_le, Bool, true, false, if◌then◌else◌, List, [], ◌∷◌, ◌++◌, length, map, flat_map, take, drop, slice_get, Some, refl}
+use Rattle.std.specs.Prelude.{◌≡◌, ℕ, zero, suc, ◌+◌, ◌-◌, ◌*◌, ◌/◌, ◌==◌, ◌<◌, ◌≤◌, ◌&&◌, ◌||◌, not, nat_le, Bool, true, false, if◌then◌else◌, List, [], ◌∷◌, ◌++◌, length, map, flat_map, take, drop}
+use Rattle.std.specs.Prelude.{slice_get, Some, refl}
 use Rattle.std.specs.Bool.{beq}
 use Rattle.std.specs.List.{AllByRecursion, range_with_len}
 use Rattle.std.proofs.Common.{arith, sym, ap, subst, ◌∙◌, inl, inr, length-append, append_assoc, zero-mul}
@@ -30,7 +31,7 @@ use Rattle.mc_boot.specs.Runs.{ops_of, at}
 use Rattle.mc_boot.specs.Transfers.{transfers, steps, copy_of, entry_of}
 use Rattle.mc_boot.specs.Writes.{trailer_erase, trailer_erases, preparation_writes, opening_writes, is_revert}
 use Rattle.mc_boot.proofs.Meets.{Sector, WritesIn, IsListed, AreThere, BeginsIn, IsRestOf, Meets, erase_of, target_of}
-use Rattle.mc_boot.specs.Joins.{comes_to, transfer_reach}
+use Rattle.mc_boot.specs.Joins.{comes_to, erases_at, transfer_reach}
 use Rattle.mc_boot.proofs.BoolTests.{both, are_equal, are_same, is_most, is_less}
 use Rattle.mc_boot.proofs.Joins.{Joins}
 use Rattle.mc_boot.proofs.Places.{drop_at_place}
@@ -266,9 +267,9 @@ begins_pieces c g ops es reach b = record {
 -- ---- the test
 
 -- Where the next list goes on with the one that was cut the boots join.
-pub met_joins : (r : Rules) (g : Geometry) (s u : Content) (c j : ℕ) (ops rest : List Op) (m : Meets g ops rest c j) → IsSized g s → at r g s c ≡ Some u → c < length (ops_of r g s)
+pub met_joins : (r : Rules) (g : Geometry) (s u : Content) (c j erases : ℕ) (ops rest : List Op) (m : Meets g ops rest c j erases) → IsSized g s → at r g s c ≡ Some u → c < length (ops_of r g s)
     → (plan r g s).list ≡ ops → (plan r g u).list ≡ rest → Joins r g s u c j m.sectors
-met_joins r g s u c j ops rest m sized cut early list_s list_u = record {
+met_joins r g s u c j erases ops rest m sized cut early list_s list_u = record {
   sized = sized;
   cut = cut;
   early = early;
@@ -335,6 +336,9 @@ trailer_sector g slot i = record { slot = slot; index = sectors_of g slot - 1 - 
 abbrev pub trailer_of_slot : Geometry → Slot → List Sector
 trailer_of_slot g slot = map (trailer_sector g slot) (range_with_len 0 (trailer_sectors g))
 
+pub length-trailer : (g : Geometry) (slot : Slot) → length (trailer_of_slot g slot) ≡ trailer_sectors g
+length-trailer g slot = length-map-range_with_len (trailer_sector g slot) 0 (trailer_sectors g)
+
 pub trailer_there : (g : Geometry) (slot : Slot) → IsLayout g → AreThere g (trailer_of_slot g slot)
 trailer_there g slot ok =
     all_mapped (λ e. e.index < sectors_of g e.slot) (trailer_sector g slot) 0 (trailer_sectors g) (λ i h. let leaves = trailer_leaves_one g slot ok in omega (arith, h, leaves))
@@ -357,24 +361,27 @@ trailer_begins g slot fs rest reach ok begins =
 -- A course from a transfer on begins with the erase of its target and copies into it, after the erases of the secondary's
 -- trailer where no entry was written. After the last transfer it begins with no erase.
 begins_so : (l : Geometry) (n first : ℕ) (erases image_ok last : Bool) → IsLayout l → n ≤ greatest_sectors l → first ≤ 3 * n → (first == 3 * n) ≡ last
-    → (es : List Sector) × BeginsIn l (resumed_list l n first erases image_ok) es (if last then 0 else (if erases then trailer_sectors l else 0) + (l.sector / l.chunk + 1))
-begins_so l n first erases image_ok true ok few high is = ([], record { there = tt; erases = refl; inside = tt })
+    → (es : List Sector) × (length es ≡ (if last then 0 else (if erases then trailer_sectors l else 0) + 1))
+    × BeginsIn l (resumed_list l n first erases image_ok) es (if last then 0 else (if erases then trailer_sectors l else 0) + (l.sector / l.chunk + 1))
+begins_so l n first erases image_ok true ok few high is = ([], refl, record { there = tt; erases = refl; inside = tt })
 begins_so l n first false image_ok false ok few high is =
     let there = there_is l n first (is_less first (3 * n) high is) in
     let fits = fits_at l n first there.0 ok few there.1 in
     let P : ℕ → Type 0 = λ k. BeginsIn l (from_transfer l n first image_ok) (target there.0 ∷ []) k in
-    (target there.0 ∷ [], subst P (omega arith) (transfer_begins l n first image_ok there.0 fits.inside.to there.1))
+    (target there.0 ∷ [], omega arith, subst P (omega arith) (transfer_begins l n first image_ok there.0 fits.inside.to there.1))
 begins_so l n first true image_ok false ok few high is =
     let there = there_is l n first (is_less first (3 * n) high is) in
     let fits = fits_at l n first there.0 ok few there.1 in (
       trailer_of_slot l Secondary ++ target there.0 ∷ [],
+      omega (arith, length-append (trailer_of_slot l Secondary) (target there.0 ∷ []), length-trailer l Secondary),
       trailer_begins l Secondary (target there.0 ∷ []) (from_transfer l n first image_ok) (l.sector / l.chunk + 1) ok (transfer_begins l n first image_ok there.0 fits.inside.to there.1),
     )
 
 -- A course goes on with another of the same grain and sectors.
 pub course_meets : (g : Geometry) (a b : Course) (first : ℕ) (erases image_ok : Bool) (done less : ℕ) → a.layout ≡ in_pieces a.grain g → b.layout ≡ in_pieces b.grain g → IsLayout b.layout
     → a.grain ≡ b.grain → a.sectors ≡ b.sectors → b.opening ≡ Resumed first erases image_ok → first ≤ 3 * b.sectors → comes_to b.sectors a.opening first erases image_ok ≡ true
-    → less ≡ length (course_list a) - length (course_list b) → less ≤ done → done ≤ less + transfer_reach b.layout b.sectors first erases → Meets g (course_list a) (course_list b) done less
+    → less ≡ length (course_list a) - length (course_list b) → less ≤ done → done ≤ less + transfer_reach b.layout b.sectors first erases
+    → Meets g (course_list a) (course_list b) done less (erases_at b.layout b.sectors (Resumed first erases image_ok))
 course_meets g a b first erases image_ok done less layout_a layout_b ok grain sectors opening high comes count low far =
     let reach : ℕ = transfer_reach b.layout b.sectors first erases in
     let same : course_list b ≡ resumed_list b.layout b.sectors first erases image_ok = ap (list_from b.grain b.layout b.sectors) opening in
@@ -391,8 +398,9 @@ course_meets g a b first erases image_ok done less layout_a layout_b ok grain se
       count = count;
       is_rest = subst Q (sym same) (subst P (sym lists) rest);
       sectors = begins.0;
+      so_many = begins.1;
       reach = reach;
-      begins = begins_pieces b.grain g (course_list b) begins.0 reach (subst S layout_b (subst R (sym same) begins.1));
+      begins = begins_pieces b.grain g (course_list b) begins.0 reach (subst S layout_b (subst R (sym same) begins.2));
       passed = low;
       reached = far;
     }

@@ -46,12 +46,14 @@ pub record Entries (g : Geometry) (n k : ℕ) (s : Content) : Type 0 where
   pub free : (e i : ℕ) → e < 3 * g.max_sectors → (0 < k → entry_number g n (k - 1) < e) → i < g.unit → byte s Primary (entry_place g e + i) ≡ 255
 
 -- the part of the trailer before the fields decides
-pub entries_kept : (g : Geometry) (n k : ℕ) (s t : Content) → IsLayout g → n ≤ g.max_sectors → k ≤ 3 * n → ((i : ℕ) → size_of g Primary ≤ i + trailer_bytes g → i + 48 < size_of g Primary → byte t Primary i ≡ byte s Primary i) → Entries g n k s → Entries g n k t
+pub entries_kept : (g : Geometry) (n k : ℕ) (s t : Content) → IsLayout g → n ≤ g.max_sectors → k ≤ 3 * n
+    → ((i : ℕ) → size_of g Primary ≤ i + trailer_bytes g → i + 48 < size_of g Primary → byte t Primary i ≡ byte s Primary i) → Entries g n k s → Entries g n k t
 entries_kept g n k s t ok few most same en = record {
   last = λ some.
       let below : entry_number g n (k - 1) < 3 * g.max_sectors = number_below g n (k - 1) few (omega (arith, some, most)) in
       let unit = small_unit g ok in
-      same (entry_place g (entry_number g n (k - 1))) (omega (arith, entry_inside g (entry_number g n (k - 1)) ok below)) (omega (arith, unit, entry_ends g (entry_number g n (k - 1)) ok below)) ∙ en.last some;
+      same (entry_place g (entry_number g n (k - 1))) (omega (arith, entry_inside g (entry_number g n (k - 1)) ok below)) (omega (arith, unit, entry_ends g (entry_number g n (k - 1)) ok below)) ∙
+      en.last some;
   free = λ e i below above h. entries_same g s t ok same e below i h ∙ en.free e i below above h;
 }
 
@@ -59,7 +61,8 @@ pub entries_none : (g : Geometry) (n : ℕ) (s : Content) → ((e i : ℕ) → e
 entries_none g n s free = record { last = λ some. absurd (omega (arith, some)); free = λ e i below above h. free e i below h }
 
 -- one entry more
-pub entry_step : (g : Geometry) (n k : ℕ) (s t : Content) → IsLayout g → n ≤ g.max_sectors → k < 3 * n → Entries g n k s → Changed s t Primary (entry_place g (entry_number g n k)) (one_unit g 1) → Entries g n (k + 1) t
+pub entry_step : (g : Geometry) (n k : ℕ) (s t : Content) → IsLayout g → n ≤ g.max_sectors → k < 3 * n → Entries g n k s → Changed s t Primary (entry_place g (entry_number g n k)) (one_unit g 1)
+    → Entries g n (k + 1) t
 entry_step g n k s t ok few below en ch = record {
   last = λ some.
       let E : ℕ → Type 0 = λ j. byte t Primary (entry_place g (entry_number g n j)) ≡ 1 in

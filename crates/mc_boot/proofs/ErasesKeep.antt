@@ -23,7 +23,8 @@ abbrev pub Erased : Geometry → Slot → ℕ → Content → Content → Type 0
 Erased g slot i s t = Changed s t slot ((sectors_of g slot - 1 - i) * g.sector) (replicate g.sector 255)
 
 -- a byte in the erased sector, and a byte that was 0xff
-pub erased_here : (g : Geometry) (slot : Slot) (i : ℕ) (s t : Content) (p : ℕ) → Erased g slot i s t → (sectors_of g slot - 1 - i) * g.sector ≤ p → p < (sectors_of g slot - 1 - i) * g.sector + g.sector → byte t slot p ≡ 255
+pub erased_here : (g : Geometry) (slot : Slot) (i : ℕ) (s t : Content) (p : ℕ) → Erased g slot i s t → (sectors_of g slot - 1 - i) * g.sector ≤ p
+    → p < (sectors_of g slot - 1 - i) * g.sector + g.sector → byte t slot p ≡ 255
 erased_here g slot i s t p ch from below = at ((sectors_of g slot - 1 - i) * g.sector) ch from below
   where
     at : (z : ℕ) → Changed s t slot z (replicate g.sector 255) → z ≤ p → p < z + g.sector → byte t slot p ≡ 255
@@ -72,7 +73,8 @@ erases_keep g slot P R s ok bears step begin =
         with_sector : (a b : ℕ) → a ≡ b + 1 → a * g.sector ≡ b * g.sector + g.sector
         with_sector a b e = ap (λ n. n * g.sector) e ∙ omega arith
 
-    more : (i : ℕ) (t u : Content) → i < trailer_sectors g → Erased g slot i t u → ((p : ℕ) → (sectors_of g slot - i) * g.sector ≤ p → p < size_of g slot → byte t slot p ≡ 255) → (p : ℕ) → (sectors_of g slot - (i + 1)) * g.sector ≤ p → p < size_of g slot → byte u slot p ≡ 255
+    more : (i : ℕ) (t u : Content) → i < trailer_sectors g → Erased g slot i t u → ((p : ℕ) → (sectors_of g slot - i) * g.sector ≤ p → p < size_of g slot → byte t slot p ≡ 255) → (p : ℕ)
+        → (sectors_of g slot - (i + 1)) * g.sector ≤ p → p < size_of g slot → byte u slot p ≡ 255
     more i t u below ch was p from short =
         let same : (sectors_of g slot - (i + 1)) * g.sector ≡ (sectors_of g slot - 1 - i) * g.sector = ap (λ n. n * g.sector) (omega arith) in
         elim (cases_lt p ((sectors_of g slot - i) * g.sector)) [

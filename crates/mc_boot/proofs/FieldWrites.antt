@@ -18,7 +18,8 @@ use Rattle.mc_trailer.specs.declared.places.Field.{Field}
 use Rattle.mc_flash.specs.declared.flash.Grain.TheVariants as grains
 
 -- Either way it changes the same bytes, if P bears the start and, where units are written one by one, each part.
-pub field_write_keeps : (g : Geometry) (P : Content → Type 0) (s : Content) (c : Grain) (slot : Slot) (f : Field) (new : List ℕ) → IsLayout g → IsSized g s → FieldIs g s slot f (replicate (room f) 255) → length new ≤ room f → length new % g.unit ≡ 0
+pub field_write_keeps : (g : Geometry) (P : Content → Type 0) (s : Content) (c : Grain) (slot : Slot) (f : Field) (new : List ℕ) → IsLayout g → IsSized g s
+    → FieldIs g s slot f (replicate (room f) 255) → length new ≤ room f → length new % g.unit ≡ 0
     → P s → ((k : ℕ) (t : Content) → c ≡ grains.Unit → k + g.unit ≤ length new → Part s slot (place g slot f) new k t → P t)
     → Keeps g P (write c g slot f new) s (λ t. Changed s t slot (place g slot f) new)
 field_write_keeps g P s grains.Call slot f new ok sized free short whole p bears = let does = field_write g s slot f new ok sized free short in (p, (does.0, does.1, does.2))

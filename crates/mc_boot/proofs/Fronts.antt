@@ -29,7 +29,8 @@ other_slot Primary = Secondary
 other_slot Secondary = Primary
 
 -- where the first n sectors of `from` stand in `o`
-front_held : (g : Geometry) (start : Content) (n k : ℕ) (s : Content) (o from : Slot) → IsLayout g → n ≤ data_sectors g o → ((i : ℕ) → i < n → held_at g n k o i ≡ (from, i)) → ((i : ℕ) → i < n → IsNoTarget g n k o i) → Data g n start k s
+front_held : (g : Geometry) (start : Content) (n k : ℕ) (s : Content) (o from : Slot) → IsLayout g → n ≤ data_sectors g o → ((i : ℕ) → i < n → held_at g n k o i ≡ (from, i))
+    → ((i : ℕ) → i < n → IsNoTarget g n k o i) → Data g n start k s
     → (p : ℕ) → p < n * g.sector → byte s o p ≡ byte start from p
 front_held g start n k s o from ok room held free data_ p below =
     let parts = mod-add-div' p g.sector in
@@ -54,7 +55,8 @@ front_inside g n o ok few =
     omega (arith, rows, data_before_trailer g o ok)
 
 -- before the first transfer
-pub front_at_start : (g : Geometry) (start : Content) (n : ℕ) (s : Content) (o : Slot) → IsLayout g → 0 < n → n ≤ greatest_sectors g → Data g n start 0 s → (p : ℕ) → p < n * g.sector → byte s o p ≡ byte start o p
+pub front_at_start : (g : Geometry) (start : Content) (n : ℕ) (s : Content) (o : Slot) → IsLayout g → 0 < n → n ≤ greatest_sectors g → Data g n start 0 s → (p : ℕ) → p < n * g.sector
+    → byte s o p ≡ byte start o p
 front_at_start g start n s o ok some few data_ =
     front_held g start n 0 s o o ok (image_is_data g o n few)
     (λ i h. let E : Held → Type 0 = λ f. f o i ≡ (o, i) in subst E (sym (held_begin g n)) refl)
@@ -64,7 +66,8 @@ front_at_start g start n s o ok some few data_ =
     omega (arith, h, sector, to)) data_
 
 -- after the last
-pub front_at_end : (g : Geometry) (start : Content) (n : ℕ) (s : Content) (o : Slot) → IsLayout g → n ≤ greatest_sectors g → Data g n start (3 * n) s → (p : ℕ) → p < n * g.sector → byte s o p ≡ byte start (other_slot o) p
+pub front_at_end : (g : Geometry) (start : Content) (n : ℕ) (s : Content) (o : Slot) → IsLayout g → n ≤ greatest_sectors g → Data g n start (3 * n) s → (p : ℕ) → p < n * g.sector
+    → byte s o p ≡ byte start (other_slot o) p
 front_at_end g start n s o ok few data_ =
     front_held g start n (3 * n) s o (other_slot o) ok (image_is_data g o n few)
     (λ i h. let E : Held → Type 0 = λ f. f o i ≡ (other_slot o, i) in subst E (sym (held_end g n)) (swapped o i h))
@@ -90,16 +93,19 @@ has_image g start size n Primary w = w.primary
 has_image g start size n Secondary w = w.secondary
 
 -- a slot that begins as a slot of the start holds its image
-pub image_there : (g : Geometry) (start : Content) (size n : ℕ) (s : Content) (o from : Slot) → Swap g start size n → IsSized g s → ((p : ℕ) → p < n * g.sector → byte s o p ≡ byte start from p) → SameImage (bytes_of start from) (bytes_of s o)
+pub image_there : (g : Geometry) (start : Content) (size n : ℕ) (s : Content) (o from : Slot) → Swap g start size n → IsSized g s → ((p : ℕ) → p < n * g.sector → byte s o p ≡ byte start from p)
+    → SameImage (bytes_of start from) (bytes_of s o)
 image_there g start size n s o from w sized same =
     let there = size_in_front g start size n from w in
     same_image (bytes_of start from) (bytes_of s o) w.laws (has_image g start size n from w)
     (omega (arith, there, front_inside g n from w.ok w.few, sized_is g start from w.sized))
     (omega (arith, there, front_inside g n o w.ok w.few, sized_is g s o sized)) (λ i h. same i (omega (arith, h, there)))
 
-pub front_lists : (g : Geometry) (start : Content) (n : ℕ) (s : Content) (o from : Slot) → IsLayout g → n ≤ greatest_sectors g → IsSized g start → IsSized g s → ((p : ℕ) → p < n * g.sector → byte s o p ≡ byte start from p) → take (n * g.sector) (bytes_of s o) ≡ take (n * g.sector) (bytes_of start from)
+pub front_lists : (g : Geometry) (start : Content) (n : ℕ) (s : Content) (o from : Slot) → IsLayout g → n ≤ greatest_sectors g → IsSized g start → IsSized g s
+    → ((p : ℕ) → p < n * g.sector → byte s o p ≡ byte start from p) → take (n * g.sector) (bytes_of s o) ≡ take (n * g.sector) (bytes_of start from)
 front_lists g start n s o from ok few sized_start sized same =
-    same_fronts (bytes_of start from) (bytes_of s o) (n * g.sector) (omega (arith, front_inside g n from ok few, sized_is g start from sized_start)) (omega (arith, front_inside g n o ok few, sized_is g s o sized)) same
+    same_fronts (bytes_of start from) (bytes_of s o) (n * g.sector) (omega (arith, front_inside g n from ok few, sized_is g start from sized_start))
+    (omega (arith, front_inside g n o ok few, sized_is g s o sized)) same
 
 -- the larger image before the first transfer, and after the last, and what a plan sees of them
 pub larger_start : (g : Geometry) (start : Content) (size n : ℕ) (s : Content) → Swap g start size n → Data g n start 0 s → (is_valid s.secondary ≡ true) × (larger_size s ≡ size)

@@ -41,9 +41,11 @@ pub length-size_bytes : (g : Geometry) (size : ℕ) → length (size_bytes g siz
 length-size_bytes g size = omega (arith, length-append (little_bytes 4 size) (replicate (g.unit - 4) 255), length-replicate {A = ℕ} (g.unit - 4) 255)
 
 -- behind the size comes the magic
-pub get_magic : (c : Grain) (g : Geometry) (slot : Slot) (size k count : ℕ) → count ≡ write_count c g (max g.unit 4) → count ≤ k → slice_get (marking c g slot size) k ≡ slice_get (write c g slot field.Magic magic_bytes) (k - count)
+pub get_magic : (c : Grain) (g : Geometry) (slot : Slot) (size k count : ℕ) → count ≡ write_count c g (max g.unit 4) → count ≤ k
+    → slice_get (marking c g slot size) k ≡ slice_get (write c g slot field.Magic magic_bytes) (k - count)
 get_magic c g slot size k count is behind =
-    let len : length (write c g slot field.SwapSize (size_bytes g size)) ≡ count = length-write c g slot field.SwapSize (size_bytes g size) ∙ ap (write_count c g) (length-size_bytes g size) ∙ sym is in
+    let len : length (write c g slot field.SwapSize (size_bytes g size)) ≡ count = length-write c g slot field.SwapSize (size_bytes g size) ∙ ap (write_count c g) (length-size_bytes g size) ∙ sym is
+    in
     get_behind (write c g slot field.SwapSize (size_bytes g size)) (write c g slot field.Magic magic_bytes) k (k - count) (omega (arith, len, behind))
 
 -- what a course of a layout in pieces may try, its flash lets it try

@@ -14,7 +14,8 @@ use Rattle.mc_boot.proofs.TransferPlaces.{get_moved, get_brought, get_taken}
 use Rattle.mc_boot.proofs.Sections.{length-transfers}
 
 -- the first place that passes, from i on
-found_from : {A : Type 0} (p : A → Bool) (xs : List A) (i k : ℕ) (x : A) → slice_get xs k ≡ Some x → p x ≡ true → ((j : ℕ) (y : A) → j < k → slice_get xs j ≡ Some y → p y ≡ false) → position_from p i xs ≡ Some (i + k)
+found_from : {A : Type 0} (p : A → Bool) (xs : List A) (i k : ℕ) (x : A) → slice_get xs k ≡ Some x → p x ≡ true → ((j : ℕ) (y : A) → j < k → slice_get xs j ≡ Some y → p y ≡ false)
+    → position_from p i xs ≡ Some (i + k)
 found_from p [] i k x here passes before = cc
 found_from p (y ∷ xs) i zero x here passes before =
     let same : y ≡ x = cc in

@@ -96,7 +96,8 @@ primary_whole grains.Unit g s v are = λ f i short within. are f i short within
 pub asked_pieces : (c : Grain) (g : Geometry) (start : Content) (n : ℕ) (b : Bool) → IsSized g start → FieldsAre g start Secondary (asked b) → Asked (in_pieces c g) start n b start
 asked_pieces c g start n b sized are = record { secondary = secondary_pieces c g start (asked b) are; data_ = data_begin (in_pieces c g) n start (sized_pieces c g start sized) }
 
-pub waiting_pieces : (c : Grain) (g : Geometry) (start : Content) (n : ℕ) → IsSized g start → FieldsAre g start Primary tested → FieldsAre g start Secondary unasked → Waiting c (in_pieces c g) start n start
+pub waiting_pieces : (c : Grain) (g : Geometry) (start : Content) (n : ℕ) → IsSized g start → FieldsAre g start Primary tested → FieldsAre g start Secondary unasked
+    → Waiting c (in_pieces c g) start n start
 waiting_pieces c g start n sized primary secondary = record {
   primary = primary_pieces c g start tested primary;
   quiet = quiet_blank c (in_pieces c g) start (secondary_pieces c g start unasked secondary field.Magic);

@@ -1,5 +1,6 @@
 -- The outcome of a boot after a cut, where it follows from that of the boot that was cut.
-use Rattle.std.specs.Prelude.{◌≡◌, ℕ, zero, suc, ◌+◌, ◌-◌, ◌<◌, ◌≤◌, nat_lt, not, ◌||◌, ◌==◌, Bool, true, false, if◌then◌else◌, List, [], ◌∷◌, ◌++◌, length, map, take, drop, Option, Some, None, option_and_then, option_map, refl}
+use Rattle.std.specs.Prelude.{◌≡◌, ℕ, zero, suc, ◌+◌, ◌-◌, ◌<◌, ◌≤◌, nat_lt, not, ◌||◌, ◌==◌, Bool, true, false, if◌then◌else◌, List, [], ◌∷◌, ◌++◌, length, map, take, drop, Option, Some, None}
+use Rattle.std.specs.Prelude.{option_and_then, option_map, refl}
 use Rattle.std.specs.List.{AllByRecursion}
 use Rattle.std.specs.Int.{div_ceil}
 use Rattle.std.proofs.Common.{arith, sym, ap, ◌∙◌, length-append}
@@ -98,7 +99,7 @@ join_on : (g : Geometry) (xs ys : List Op) (v : Content) → ((x : Content) → 
 join_on g xs ys v behind None is = absurd cc
 join_on g xs ys v behind (Some x) is = behind x is
 
-applied_behind : (g : Geometry) (xs ys : List Op) (s v : Content) → applied g xs s ≡ Some v → applied g (xs ++ ys) s ≡ applied g ys v
+pub applied_behind : (g : Geometry) (xs ys : List Op) (s v : Content) → applied g xs s ≡ Some v → applied g (xs ++ ys) s ≡ applied g ys v
 applied_behind g [] ys s v is = let same : s ≡ v = cc in ap (applied g ys) same
 applied_behind g (x ∷ xs) ys s v is = join_on g xs ys v (λ y e. applied_behind g xs ys y v e) (apply g x s) is
 
@@ -114,7 +115,7 @@ longer_on : (g : Geometry) (ops : List Op) (s t : Content) → ((x : Content) �
 longer_on g ops s t behind None first is = absurd cc
 longer_on g ops s t behind (Some x) first is = λ o. omega (arith, first x refl o, behind x is o)
 
-applied_longer : (g : Geometry) (ops : List Op) (s t : Content) → applied g ops s ≡ Some t → (o : Slot) → length (bytes_of s o) ≤ length (bytes_of t o)
+pub applied_longer : (g : Geometry) (ops : List Op) (s t : Content) → applied g ops s ≡ Some t → (o : Slot) → length (bytes_of s o) ≤ length (bytes_of t o)
 applied_longer g [] s t is = let same : s ≡ t = cc in λ o. omega (arith, ap (λ (x : Content). length (bytes_of x o)) same)
 applied_longer g (op ∷ ops) s t is = longer_on g ops s t (λ x e. applied_longer g ops x t e) (apply g op s) (λ x e. op_longer g op s x e) is
 
@@ -210,9 +211,16 @@ plan_calm r g s =
 
 -- ---- the lemma
 
--- What the first boot had left when the list of the next one begins.
-meets : (r : Rules) (g : Geometry) (s u : Content) (c j : ℕ) (es : List Sector) → Joins r g s u c j es
-    → (v : Content) × (applied g (take j (plan r g s).list) s ≡ Some v) × SameRun g (plan r g u).list v u
+-- What the first boot had left when the list of the next one begins: alike with what the next one begins with, once sectors are
+-- blanked, so that the same happens of that list.
+pub record Met (r : Rules) (g : Geometry) (s u : Content) (j : ℕ) (es : List Sector) : Type 0 where
+  pub from : Content
+  pub start : applied g (take j (plan r g s).list) s ≡ Some from
+  pub fits : Fit g es from
+  pub alike : blank g es u ≡ blank g es from
+  pub run : SameRun g (plan r g u).list from u
+
+pub meets : (r : Rules) (g : Geometry) (s u : Content) (c j : ℕ) (es : List Sector) → Joins r g s u c j es → Met r g s u j es
 unfolding at ops_of
 meets r g s u c j es joins =
     let cut : applied g (take c (happening g (plan r g s).list s)) s ≡ Some u = joins.cut in
@@ -225,7 +233,28 @@ meets r g s u c j es joins =
     ∙ ap (λ (xs : List Op). take j (plan r g s).list ++ take (c - j) xs) (sym joins.rest) in
     let parts = applied_parts g (take j (plan r g s).list) (take (c - j) (plan r g u).list) s u (ap (λ (xs : List Op). applied g xs s) (sym front) ∙ cut) in
     let fits : Fit g es parts.0 = fit_longer g es s parts.0 (applied_longer g (take j (plan r g s).list) s parts.0 parts.1) (fit_there g es s joins.sized joins.there) in
-    (parts.0, parts.1, same_run g es (plan r g u).list parts.0 u joins.erases (applied_blanked g es (take (c - j) (plan r g u).list) parts.0 u joins.inside fits parts.2))
+    let alike = applied_blanked g es (take (c - j) (plan r g u).list) parts.0 u joins.inside fits parts.2 in
+    record {
+      from = parts.0;
+      start = parts.1;
+      fits = fits;
+      alike = alike;
+      run = same_run g es (plan r g u).list parts.0 u joins.erases alike;
+    }
+
+pub happens_few_of : (r : Rules) (g : Geometry) (s : Content) → length (ops_of r g s) ≤ length (plan r g s).list
+unfolding ops_of
+happens_few_of r g s = happens_few g (plan r g s).list s
+
+-- What happens of the boot that was cut: what it had made when the list of the next one begins, and what happens of that.
+pub happens_all : (r : Rules) (g : Geometry) (s u : Content) (c j : ℕ) (es : List Sector) → Joins r g s u c j es
+    → ops_of r g s ≡ take j (plan r g s).list ++ ops_of r g u
+unfolding ops_of
+happens_all r g s u c j es joins =
+    let met = meets r g s u c j es joins in
+    happening_front g (plan r g s).list j s met.from met.start
+    ∙ ap (λ (xs : List Op). take j (plan r g s).list ++ happening g xs met.from) (sym joins.rest)
+    ∙ ap (λ (xs : List Op). take j (plan r g s).list ++ xs) met.run.happens
 
 left_is : (r : Rules) (g : Geometry) (s : Content) → left_by r g s ≡ applied g (happening g (plan r g s).list s) s
 unfolding left_by at ops_of
@@ -258,7 +287,7 @@ pub joined : (r : Rules) (g : Geometry) (s u : Content) (c j : ℕ) (es : List S
 unfolding ops_of is_faulted outcome_of
 joined r g s u c j es joins = record { count = count; faulted = faulted; left = left; outcome = outcome }
   where
-    met : (v : Content) × (applied g (take j (plan r g s).list) s ≡ Some v) × SameRun g (plan r g u).list v u
+    met : Met r g s u j es
     met = meets r g s u c j es joins
 
     few : length (happening g (plan r g s).list s) ≤ length (plan r g s).list
@@ -268,10 +297,7 @@ joined r g s u c j es joins = record { count = count; faulted = faulted; left = 
     begins = length-take-le j (plan r g s).list (let a = joins.early in let b = joins.passed in omega (arith, a, b, few))
 
     all : happening g (plan r g s).list s ≡ take j (plan r g s).list ++ happening g (plan r g u).list u
-    all =
-        happening_front g (plan r g s).list j s met.0 met.1
-        ∙ ap (λ (xs : List Op). take j (plan r g s).list ++ happening g xs met.0) (sym joins.rest)
-        ∙ ap (λ (xs : List Op). take j (plan r g s).list ++ xs) met.2.happens
+    all = happens_all r g s u c j es joins
 
     count : length (happening g (plan r g u).list u) + j ≡ length (happening g (plan r g s).list s)
     count = omega (arith, begins, ap (λ (xs : List Op). length xs) all, length-append (take j (plan r g s).list) (happening g (plan r g u).list u))
@@ -285,9 +311,9 @@ joined r g s u c j es joins = record { count = count; faulted = faulted; left = 
     left : left_by r g u ≡ left_by r g s
     left =
         left_is r g u
-        ∙ sym met.2.leaves
-        ∙ ap (λ (xs : List Op). applied g xs met.0) met.2.happens
-        ∙ sym (applied_behind g (take j (plan r g s).list) (happening g (plan r g u).list u) s met.0 met.1)
+        ∙ sym met.run.leaves
+        ∙ ap (λ (xs : List Op). applied g xs met.from) met.run.happens
+        ∙ sym (applied_behind g (take j (plan r g s).list) (happening g (plan r g u).list u) s met.from met.start)
         ∙ ap (λ (xs : List Op). applied g xs s) (sym all)
         ∙ sym (left_is r g s)
 

@@ -1,7 +1,7 @@
 -- Where the test of two courses gives a number, the second goes on where the first was cut.
 use Rattle.std.specs.Prelude.{◌≡◌, ℕ, ◌+◌, ◌-◌, ◌*◌, ◌==◌, ◌&&◌, nat_le, Bool, true, if◌then◌else◌, length, Some, refl}
 use Rattle.std.proofs.Common.{sym, ap, subst, ◌∙◌}
-use Rattle.mc_flash.specs.Geometry.{Geometry, IsLayout}
+use Rattle.mc_flash.specs.Geometry.{Geometry, IsLayout, trailer_sectors}
 use Rattle.mc_flash.specs.Pieces.{in_pieces}
 use Rattle.mc_flash.specs.declared.flash.Grain.{Grain}
 use Rattle.mc_flash.specs.declared.flash.Grain.TheVariants as grains
@@ -11,7 +11,7 @@ use Rattle.mc_boot.specs.declared.course.Course.{Course}
 use Rattle.mc_boot.specs.declared.course.Opening.{Opening}
 use Rattle.mc_boot.specs.declared.course.Opening.TheVariants.{New, Resumed}
 use Rattle.mc_boot.specs.CourseList.{course_list}
-use Rattle.mc_boot.specs.Joins.{is_same_grain, is_same_swap, starts_as, comes_to, opening_reach, transfer_reach, joins_from, joins_of}
+use Rattle.mc_boot.specs.Joins.{is_same_grain, is_same_swap, starts_as, comes_to, erases_at, erases_of, opening_reach, transfer_reach, joins_from, joins_of}
 use Rattle.mc_boot.specs.Writes.{number_of}
 use Rattle.mc_boot.proofs.BoolTests.{both, are_equal, is_most, chosen}
 use Rattle.mc_boot.proofs.CourseJoins.{course_meets}
@@ -48,14 +48,14 @@ same_start (New before whole) kind size is =
     ap (λ (k : SwapType). New k whole) (same_kind before kind parts.0) ∙ ap (λ n. New kind n) (are_equal whole size parts.1)
 
 from_opening : (g : Geometry) (a b : Course) (done j : ℕ) (opening : Opening) → b.opening ≡ opening → IsLayout b.layout → a.layout ≡ in_pieces a.grain g → b.layout ≡ in_pieces b.grain g
-    → joins_from a done b opening ≡ Some j → Meets g (course_list a) (course_list b) done j
+    → joins_from a done b opening ≡ Some j → Meets g (course_list a) (course_list b) done j (erases_at b.layout b.sectors opening)
 from_opening g a b done j (New kind size) at_b ok layout_a layout_b is =
     let far : Bool = nat_le done (opening_reach b.grain b.layout kind size) in
     let found = chosen (is_same_swap a b && starts_as a.opening kind size && far) 0 j is in
     let parts = both (is_same_swap a b && starts_as a.opening kind size) far found.0 in
     let starts = both (is_same_swap a b) (starts_as a.opening kind size) parts.0 in
     let swaps = both (is_same_grain a.grain b.grain) (a.sectors == b.sectors) starts.0 in
-    let P : ℕ → Type 0 = λ n. Meets g (course_list a) (course_list b) done n in
+    let P : ℕ → Type 0 = λ n. Meets g (course_list a) (course_list b) done n (trailer_sectors b.layout) in
     subst P found.1 (anew_meets g a b kind size done layout_a layout_b (same_grain a.grain b.grain swaps.0) (are_equal a.sectors b.sectors swaps.1)
     (same_start a.opening kind size starts.1) at_b ok (is_most done (opening_reach b.grain b.layout kind size) parts.1))
 from_opening g a b done j (Resumed first erases image_ok) at_b ok layout_a layout_b is =
@@ -69,10 +69,10 @@ from_opening g a b done j (Resumed first erases image_ok) at_b ok layout_a layou
     let goes = both (is_same_swap a b && inside) comes low.0 in
     let high = both (is_same_swap a b) inside goes.0 in
     let swaps = both (is_same_grain a.grain b.grain) (a.sectors == b.sectors) high.0 in
-    let P : ℕ → Type 0 = λ n. Meets g (course_list a) (course_list b) done n in
+    let P : ℕ → Type 0 = λ n. Meets g (course_list a) (course_list b) done n (erases_at b.layout b.sectors (Resumed first erases image_ok)) in
     subst P found.1 (course_meets g a b first erases image_ok done less layout_a layout_b ok (same_grain a.grain b.grain swaps.0) (are_equal a.sectors b.sectors swaps.1)
     at_b (is_most first (3 * b.sectors) high.1) goes.1 refl (is_most less done low.1) (is_most done (less + reach) far.1))
 
 pub joins_meet : (g : Geometry) (a b : Course) (done j : ℕ) → IsLayout b.layout → a.layout ≡ in_pieces a.grain g → b.layout ≡ in_pieces b.grain g → joins_of a done b ≡ Some j
-    → Meets g (course_list a) (course_list b) done j
+    → Meets g (course_list a) (course_list b) done j (erases_of b)
 joins_meet g a b done j ok layout_a layout_b is = from_opening g a b done j b.opening refl ok layout_a layout_b is

@@ -72,7 +72,8 @@ restart r g P Q boot (c ∷ cuts) s t p is = go (restart r g P Q boot cuts) (nat
   where
     go : ((u v : Content) → P u → after r g u cuts ≡ Some v → P v) → (b : Bool) → nat_lt c (length (ops_of r g s)) ≡ b → P t
     go later false no_cut =
-        let e : option_and_then (λ t. after r g t cuts) (if false then at r g s c else None) ≡ Some t = ap (λ b. option_and_then (λ t. after r g t cuts) (if b then at r g s c else None)) (sym no_cut) ∙ is in
+        let e : option_and_then (λ t. after r g t cuts) (if false then at r g s c else None) ≡ Some t =
+        ap (λ b. option_and_then (λ t. after r g t cuts) (if b then at r g s c else None)) (sym no_cut) ∙ is in
         absurd cc
     go later true can =
         let cut = keeps_at r g P Q s c (ltb-true c (length (ops_of r g s)) can) (boot s p) in

@@ -38,11 +38,14 @@ pub mod RoundsProof
 pub mod BoolTests
 pub mod Meets
 pub mod Blanking
+pub mod Erased
 pub mod Joins
 pub mod CourseJoins
 pub mod OpeningJoins
 pub mod JoinsMeet
 pub mod AfterCut
+pub mod Rejoins
+pub mod Rejoined
 pub mod NewPlans
 pub mod SetupKeeps
 pub mod StillValid

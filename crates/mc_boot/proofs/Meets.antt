@@ -59,11 +59,12 @@ abbrev pub IsRestOf : List Op → List Op → Type 0
 IsRestOf rest ops = (k : ℕ) × (k ≤ length ops) × (rest ≡ drop k ops)
 
 -- A boot of the second list goes on where one of the first was cut after so many operations: the second is the first
--- without its first j, it begins with erases of some sectors, and what the first boot made of it wrote in these alone.
-pub record Meets (g : Geometry) (ops rest : List Op) (done j : ℕ) : Type 0 where
+-- without its first j, it begins with erases of so many sectors, and what the first boot made of it wrote in these alone.
+pub record Meets (g : Geometry) (ops rest : List Op) (done j erases : ℕ) : Type 0 where
   pub count : j ≡ length ops - length rest
   pub is_rest : IsRestOf rest ops
   pub sectors : List Sector
+  pub so_many : length sectors ≡ erases
   pub reach : ℕ
   pub begins : BeginsIn g rest sectors reach
   pub passed : j ≤ done

@@ -22,7 +22,8 @@ use Rattle.mc_trailer.specs.PlaceFacts.{room}
 use Rattle.mc_flash.specs.declared.op.Slot.TheVariants.{Primary, Secondary}
 use Rattle.mc_flash.specs.declared.op.Op.TheVariants.{Erase, Copy}
 
-pub copy_does : (g : Geometry) (s : Content) (from : Slot) (at : ℕ) (to : Slot) (offset len : ℕ) → at + len ≤ length (bytes_of s from) → offset + len ≤ length (bytes_of s to) → ((i : ℕ) → i < len → byte s to (offset + i) ≡ 255) → (t : Content) × (apply g (Copy from at to offset len) s ≡ Some t) × Changed s t to offset (copied s from at len)
+pub copy_does : (g : Geometry) (s : Content) (from : Slot) (at : ℕ) (to : Slot) (offset len : ℕ) → at + len ≤ length (bytes_of s from) → offset + len ≤ length (bytes_of s to)
+    → ((i : ℕ) → i < len → byte s to (offset + i) ≡ 255) → (t : Content) × (apply g (Copy from at to offset len) s ≡ Some t) × Changed s t to offset (copied s from at len)
 copy_does g s from at to offset len there fits blank =
     let n = length-copied s from at len there in
     let does = program_changes g s to offset (copied s from at len) (omega (arith, n, fits)) (λ i below. blank i (omega (arith, n, below))) in
@@ -60,8 +61,10 @@ unchanged s t slot at new o i ch out = elim (same_slot o slot) [
   | inr differ ↦ ch.other o i differ
 ]
 
-after_copy : (g : Geometry) (s t u : Content) (x : Transfer) (c : ℕ) → IsInside g x → c * g.chunk + g.chunk ≤ g.sector → x.from_sector * g.sector + c * g.chunk + g.chunk ≤ length (bytes_of t x.from) → Copied g s t x c
-    → Changed t u x.to (x.to_sector * g.sector + c * g.chunk) (between (x.from_sector * g.sector + c * g.chunk) (x.from_sector * g.sector + c * g.chunk + g.chunk) (bytes_of t x.from)) → Copied g s u x (c + 1)
+after_copy : (g : Geometry) (s t u : Content) (x : Transfer) (c : ℕ) → IsInside g x → c * g.chunk + g.chunk ≤ g.sector → x.from_sector * g.sector + c * g.chunk + g.chunk ≤ length (bytes_of t x.from)
+    → Copied g s t x c
+    → Changed t u x.to (x.to_sector * g.sector + c * g.chunk) (between (x.from_sector * g.sector + c * g.chunk) (x.from_sector * g.sector + c * g.chunk + g.chunk) (bytes_of t x.from))
+    → Copied g s u x (c + 1)
 after_copy g s t u x c inside room there so ch = record {
   done = λ i below. elim (cases_lt i (c * g.chunk)) [
     | inl low ↦ ch.before (x.to_sector * g.sector + i) (omega (arith, low)) ∙ so.done i low
@@ -83,7 +86,8 @@ after_copy g s t u x c inside room there so ch = record {
     len = length-between (bytes_of t x.from) (x.from_sector * g.sector + c * g.chunk) (x.from_sector * g.sector + c * g.chunk + g.chunk) there ∙ omega arith
 
 -- one chunk more
-pub chunk_step : (g : Geometry) (s t : Content) (x : Transfer) (c : ℕ) → IsLayout g → IsInside g x → c < g.sector / g.chunk → Copied g s t x c → (u : Content) × (apply g (copy_of g x c) t ≡ Some u) × Copied g s u x (c + 1)
+pub chunk_step : (g : Geometry) (s t : Content) (x : Transfer) (c : ℕ) → IsLayout g → IsInside g x → c < g.sector / g.chunk → Copied g s t x c → (u : Content) × (apply g (copy_of g x c) t ≡ Some u)
+    × Copied g s u x (c + 1)
 chunk_step g s t x c ok inside below so =
     let from_range = can_chunk g x.from x.from_sector c ok inside.from below in
     let to_range = can_chunk g x.to x.to_sector c ok inside.to below in

@@ -1,6 +1,7 @@
 -- The operations of a swap from its start are those of no boot that goes on with a swap: where a plan has them the secondary's
 -- image is valid, and fits.
-use Rattle.std.specs.Prelude.{◌≡◌, ℕ, zero, suc, ◌+◌, ◌*◌, ◌<◌, ◌≤◌, ◌==◌, ◌||◌, nat_lt, not, max, Bool, true, false, if◌then◌else◌, List, [], ◌∷◌, ◌++◌, flat_map, drop, is_none, slice_get, Option, Some, None, refl}
+use Rattle.std.specs.Prelude.{◌≡◌, ℕ, zero, suc, ◌+◌, ◌*◌, ◌<◌, ◌≤◌, ◌==◌, ◌||◌, nat_lt, not, max, Bool, true, false, if◌then◌else◌, List, [], ◌∷◌, ◌++◌, flat_map, drop, is_none, slice_get, Option}
+use Rattle.std.specs.Prelude.{Some, None, refl}
 use Rattle.std.specs.Int.{div_ceil}
 use Rattle.std.proofs.Common.{arith, sym, ap, subst, ◌∙◌, zero-mul}
 use Rattle.std.proofs.Math.Nat.{mul-le-mul_right}

@@ -28,7 +28,7 @@ use Rattle.mc_boot.specs.CourseList.{course_list, list_from}
 use Rattle.mc_boot.specs.Joins.{opening_reach}
 use Rattle.mc_boot.proofs.Meets.{Sector, WritesIn, IsListed, BeginsIn, IsRestOf, Meets, erase_of}
 use Rattle.mc_boot.specs.Writes.{trailer_erases, piece, write, marking, image_ok_write, number_of, is_test, is_revert, preparation_writes, opening_writes}
-use Rattle.mc_boot.proofs.CourseJoins.{all_front, all_mapped, begins_pieces, trailer_erased, trailer_of_slot, trailer_sector, trailer_there, whole_rest, writes_erases}
+use Rattle.mc_boot.proofs.CourseJoins.{length-trailer, all_front, all_mapped, begins_pieces, trailer_erased, trailer_of_slot, trailer_sector, trailer_there, whole_rest, writes_erases}
 
 -- ---- the writes of fields lie in the slot's last sector
 
@@ -116,18 +116,20 @@ trailer_opens g slot writes rest ok all =
           (writes_erases g es es (writes ++ rest) (length writes) (λ o index is. is) (all_front (WritesIn g es) writes rest (length writes) (omega arith) all));
     })
 
-new_begins : (c : Grain) (g : Geometry) (kind : SwapType) (size n : ℕ) → IsLayout g → (es : List Sector) × BeginsIn g (new_list c g kind size n) es (opening_reach c g kind size)
+new_begins : (c : Grain) (g : Geometry) (kind : SwapType) (size n : ℕ) → IsLayout g
+    → (es : List Sector) × (length es ≡ trailer_sectors g) × BeginsIn g (new_list c g kind size n) es (opening_reach c g kind size)
 new_begins c g kind size n ok = by (is_revert kind)
   where
-    by : (b : Bool) → (es : List Sector) × BeginsIn g
+    by : (b : Bool) → (es : List Sector) × (length es ≡ trailer_sectors g) × BeginsIn g
         (if b then trailer_erases g Secondary ++ (preparation_writes c g size ++ swap_list c g kind size n) else swap_list c g kind size n) es
         (trailer_sectors g + (if b then length (preparation_writes c g size) else length (opening_writes c g kind size)))
-    by true = (trailer_of_slot g Secondary, trailer_opens g Secondary (preparation_writes c g size) (swap_list c g kind size n) ok (writes_preparation c g size ok))
-    by false = (trailer_of_slot g Primary, trailer_opens g Primary (opening_writes c g kind size) (resumed_list g n 0 true false) ok (writes_opening c g kind size ok))
+    by true = (trailer_of_slot g Secondary, length-trailer g Secondary, trailer_opens g Secondary (preparation_writes c g size) (swap_list c g kind size n) ok (writes_preparation c g size ok))
+    by false = (trailer_of_slot g Primary, length-trailer g Primary, trailer_opens g Primary (opening_writes c g kind size) (resumed_list g n 0 true false) ok (writes_opening c g kind size ok))
 
 -- A swap that begins anew goes on with the same swap, where that was cut in the opening.
 pub anew_meets : (g : Geometry) (a b : Course) (kind : SwapType) (size done : ℕ) → a.layout ≡ in_pieces a.grain g → b.layout ≡ in_pieces b.grain g → a.grain ≡ b.grain → a.sectors ≡ b.sectors
-    → a.opening ≡ New kind size → b.opening ≡ New kind size → IsLayout b.layout → done ≤ opening_reach b.grain b.layout kind size → Meets g (course_list a) (course_list b) done 0
+    → a.opening ≡ New kind size → b.opening ≡ New kind size → IsLayout b.layout → done ≤ opening_reach b.grain b.layout kind size
+    → Meets g (course_list a) (course_list b) done 0 (trailer_sectors b.layout)
 anew_meets g a b kind size done layout_a layout_b grain sectors opening_a opening_b ok far =
     let layouts : a.layout ≡ b.layout = layout_a ∙ ap (λ (c : Grain). in_pieces c g) grain ∙ sym layout_b in
     let list_b : course_list b ≡ new_list b.grain b.layout kind size b.sectors = ap (list_from b.grain b.layout b.sectors) opening_b in
@@ -144,8 +146,9 @@ anew_meets g a b kind size done layout_a layout_b grain sectors opening_a openin
       count = omega (arith, ap (λ (ops : List Op). length ops) same);
       is_rest = subst R same (whole_rest (course_list b));
       sectors = begins.0;
+      so_many = begins.1;
       reach = opening_reach b.grain b.layout kind size;
-      begins = begins_pieces b.grain g (course_list b) begins.0 (opening_reach b.grain b.layout kind size) (subst Q layout_b (subst P (sym list_b) begins.1));
+      begins = begins_pieces b.grain g (course_list b) begins.0 (opening_reach b.grain b.layout kind size) (subst Q layout_b (subst P (sym list_b) begins.2));
       passed = omega arith;
       reached = omega (arith, far);
     }

@@ -66,7 +66,8 @@ stays_when profile p q good set = rw good (rw set refl)
 all_hold : (a b c d : Bool) → a ≡ true → b ≡ true → c ≡ true → d ≡ true → (a && b && c && d) ≡ true
 all_hold a b c d at_a at_b at_c at_d = rw at_a (rw at_b (rw at_c (rw at_d refl)))
 
-reverts_when : (profile : Profile) (p q : Trailer) → p.magic ≡ magics.Good → reverts_at profile q.magic ≡ true → p.image_ok ≡ flags.Unset → p.copy_done ≡ flags.Set → swap_type profile p q ≡ kinds.Revert
+reverts_when : (profile : Profile) (p q : Trailer) → p.magic ≡ magics.Good → reverts_at profile q.magic ≡ true → p.image_ok ≡ flags.Unset → p.copy_done ≡ flags.Set
+    → swap_type profile p q ≡ kinds.Revert
 reverts_when profile p q good reverts unset set =
     (types_are_rows profile p q kinds.Revert).1
     (all_hold (is_good p.magic) (reverts_at profile q.magic) (is_unset p.image_ok) (is_set p.copy_done) (ap is_good good) reverts (ap is_unset unset) (ap is_set set))
@@ -108,7 +109,8 @@ by_info c g image_ok highest n info =
     else if info == 4 then resumed_swap c g image_ok highest kinds.Revert n
     else nothing kinds.None
 
-of_kind : (c : Grain) (g : Geometry) (image_ok : Flag) (highest : Option ℕ) (n : ℕ) (b : Bool) (kind : SwapType) → IsSwapOf b kind → by_info c g image_ok highest n (number_of kind) ≡ resumed_swap c g image_ok highest kind n
+of_kind : (c : Grain) (g : Geometry) (image_ok : Flag) (highest : Option ℕ) (n : ℕ) (b : Bool) (kind : SwapType) → IsSwapOf b kind
+    → by_info c g image_ok highest n (number_of kind) ≡ resumed_swap c g image_ok highest kind n
 of_kind c g image_ok highest n b kinds.Test of = refl
 of_kind c g image_ok highest n b kinds.Perm of = refl
 of_kind c g image_ok highest n b kinds.Revert of = refl
@@ -120,7 +122,8 @@ of_kind c g image_ok highest n b kinds.Panic of = absurd of
 abbrev pub running : Geometry → SwapType → ℕ → ℕ → Bool → Plan
 running g kind n k erases = record { kind = kind; sectors = n; list = resumed_list g n k erases false }
 
-running_is : (c : Grain) (g : Geometry) (p : Trailer) (highest : Option ℕ) (b : Bool) (kind : SwapType) (size n k : ℕ) → IsSwapOf b kind → p.swap_info ≡ number_of kind → p.swap_size ≡ size → div_ceil size g.sector ≡ n → 0 < n → n ≤ greatest_sectors g
+running_is : (c : Grain) (g : Geometry) (p : Trailer) (highest : Option ℕ) (b : Bool) (kind : SwapType) (size n k : ℕ) → IsSwapOf b kind → p.swap_info ≡ number_of kind → p.swap_size ≡ size
+    → div_ceil size g.sector ≡ n → 0 < n → n ≤ greatest_sectors g
     → first_left g n highest ≡ Some k → is_none highest ≡ (k == 0) → confirms kind p.image_ok ≡ false → resumed_plan c g p highest ≡ running (in_pieces c g) kind n k (k == 0)
 running_is c g p highest b kind size n k of info sized_is count some few first any settled =
     ap (by_info c g p.image_ok highest (div_ceil p.swap_size g.sector)) info
@@ -137,18 +140,23 @@ confirms_not true kind image_ok of set = rw of refl
 confirms_not false kind image_ok of set = rw of (rw (set refl) refl)
 
 -- what the entries tell: the first transfer that is left, and whether any is made
-found : (g : Geometry) (n k : ℕ) (s : Content) → IsLayout g → IsSized g s → n ≤ greatest_sectors g → k ≤ 3 * n → Entries g n k s → (first_left g n (highest_entry g s) ≡ Some k) × (is_none (highest_entry g s) ≡ (k == 0))
+found : (g : Geometry) (n k : ℕ) (s : Content) → IsLayout g → IsSized g s → n ≤ greatest_sectors g → k ≤ 3 * n → Entries g n k s → (first_left g n (highest_entry g s) ≡ Some k)
+    × (is_none (highest_entry g s) ≡ (k == 0))
 found g n zero s ok sized few most en = let none = entries_not g n s ok sized en in (ap (first_left g n) none, ap (λ (o : Option ℕ). is_none o) none)
 found g n (suc j) s ok sized few most en =
     let last = entries_last g n (suc j) s ok sized (omega (arith, few)) (omega arith) most en in
     (ap (first_left g n) last ∙ left_at g n (suc j) ok few (omega arith) most, ap (λ (o : Option ℕ). is_none o) last ∙ sym (other_number (suc j) 0 (λ e. omega (arith, e))))
 
 -- the flag in the primary while the swap runs, and at its end
-pub image_ok_is : (g : Geometry) (s : Content) (kind : SwapType) (b : Bool) → is_test kind ≡ b → FieldIs g s Primary field.ImageOk (if is_test kind then blank_fields field.ImageOk else one_unit g 1) → (trailer_of g s Primary).image_ok ≡ (if b then flags.Unset else flags.Set)
-image_ok_is g s kind true of is = reads_image_ok g s Primary 255 (replicate 7 255) (field_as g s Primary field.ImageOk _ (replicate 8 255) (ap (λ (c : Bool). if c then replicate 8 255 else one_unit g 1) of) is)
-image_ok_is g s kind false of is = reads_image_ok g s Primary 1 (replicate (g.unit - 1) 255) (field_as g s Primary field.ImageOk _ (one_unit g 1) (ap (λ (c : Bool). if c then replicate 8 255 else one_unit g 1) of) is)
+pub image_ok_is : (g : Geometry) (s : Content) (kind : SwapType) (b : Bool) → is_test kind ≡ b → FieldIs g s Primary field.ImageOk (if is_test kind then blank_fields field.ImageOk else one_unit g 1)
+    → (trailer_of g s Primary).image_ok ≡ (if b then flags.Unset else flags.Set)
+image_ok_is g s kind true of is = reads_image_ok g s Primary 255 (replicate 7 255) (field_as g s Primary field.ImageOk _ (replicate 8 255)
+    (ap (λ (c : Bool). if c then replicate 8 255 else one_unit g 1) of) is)
+image_ok_is g s kind false of is = reads_image_ok g s Primary 1 (replicate (g.unit - 1) 255)
+    (field_as g s Primary field.ImageOk _ (one_unit g 1) (ap (λ (c : Bool). if c then replicate 8 255 else one_unit g 1) of) is)
 
-pub plan_under : (r : Rules) (g : Geometry) (start : Content) (size n : ℕ) (b : Bool) (kind : SwapType) (k : ℕ) (s : Content) → Swap g start size n → IsSwapOf b kind → k ≤ 3 * n → Under g start size n kind k s → plan r g s ≡ running (in_pieces r.grain g) kind n k (k == 0)
+pub plan_under : (r : Rules) (g : Geometry) (start : Content) (size n : ℕ) (b : Bool) (kind : SwapType) (k : ℕ) (s : Content) → Swap g start size n → IsSwapOf b kind → k ≤ 3 * n
+    → Under g start size n kind k s → plan r g s ≡ running (in_pieces r.grain g) kind n k (k == 0)
 plan_under r g start size n b kind k s w of most u =
     let sized = u.data_.sized in
     let good = reads_good g s Primary w.ok sized (u.primary field.Magic) in
@@ -166,9 +174,15 @@ plan_under r g start size n b kind k s w of most u =
 abbrev pub starting : Grain → Geometry → SwapType → ℕ → ℕ → Plan
 starting c g kind size n = record { kind = kind; sectors = n; list = new_list c (in_pieces c g) kind size n }
 
-new_swap_is : (c : Grain) (g : Geometry) (images : Images) (kind : SwapType) (size n : ℕ) → images.valid ≡ true → images.size ≡ size → div_ceil size g.sector ≡ n → n ≤ greatest_sectors g → new_swap c g images kind ≡ starting c g kind size n
+new_swap_is : (c : Grain) (g : Geometry) (images : Images) (kind : SwapType) (size n : ℕ) → images.valid ≡ true → images.size ≡ size → div_ceil size g.sector ≡ n → n ≤ greatest_sectors g
+    → new_swap c g images kind ≡ starting c g kind size n
 new_swap_is c g images kind size n valid larger count few =
-    ap (λ (z : ℕ). if not images.valid || nat_lt (greatest_sectors g) (div_ceil z g.sector) then nothing kinds.Fail else record { kind = kind; sectors = div_ceil z g.sector; list = new_list c (in_pieces c g) kind z (div_ceil z g.sector) }) larger
+    ap (λ (z : ℕ). if not images.valid || nat_lt (greatest_sectors g) (div_ceil z g.sector) then nothing kinds.Fail else record {
+      kind = kind;
+      sectors = div_ceil z g.sector;
+      list =
+          new_list c (in_pieces c g) kind z (div_ceil z g.sector);
+    }) larger
     ∙ ap (λ (m : ℕ). if not images.valid || nat_lt (greatest_sectors g) m then nothing kinds.Fail else record { kind = kind; sectors = m; list = new_list c (in_pieces c g) kind size m }) count
     ∙ ap (λ (v : Bool). if not v || nat_lt (greatest_sectors g) n then nothing kinds.Fail else starting c g kind size n) valid
     ∙ ap (λ (v : Bool). if v then nothing kinds.Fail else starting c g kind size n) (no_more (greatest_sectors g) few)
@@ -189,7 +203,8 @@ sees_images s size valid larger = record { valid = valid; larger = larger }
 abbrev pub kind_asked : Bool → SwapType
 kind_asked b = if b then kinds.Test else kinds.Perm
 
-pub plan_asked : (r : Rules) (g : Geometry) (start : Content) (size n : ℕ) (b : Bool) (s : Content) → Swap g start size n → SeesImages s size → Asked g start n b s → plan r g s ≡ starting r.grain g (kind_asked b) size n
+pub plan_asked : (r : Rules) (g : Geometry) (start : Content) (size n : ℕ) (b : Bool) (s : Content) → Swap g start size n → SeesImages s size → Asked g start n b s
+    → plan r g s ≡ starting r.grain g (kind_asked b) size n
 plan_asked r g start size n b s w sees u =
     let good = reads_good g s Secondary w.ok u.data_.sized (u.secondary field.Magic) in
     new_is r g s (kind_asked b) (starting r.grain g (kind_asked b) size n) (not_when_asked (trailer_of g s Primary) (trailer_of g s Secondary) good) (table b good u.secondary) (swap b)
@@ -203,16 +218,19 @@ plan_asked r g start size n b s w sees u =
     swap false = new_swap_is r.grain g (images_of s) kinds.Perm size n sees.valid sees.larger w.count w.few
 
 -- after a swap: the trailers decide
-pub plan_tested : (r : Rules) (g : Geometry) (s : Content) (size n : ℕ) → (trailer_of g s Primary).magic ≡ magics.Good → (trailer_of g s Primary).image_ok ≡ flags.Unset → (trailer_of g s Primary).copy_done ≡ flags.Set → reverts_at r.profile (trailer_of g s Secondary).magic ≡ true
+pub plan_tested : (r : Rules) (g : Geometry) (s : Content) (size n : ℕ) → (trailer_of g s Primary).magic ≡ magics.Good → (trailer_of g s Primary).image_ok ≡ flags.Unset
+    → (trailer_of g s Primary).copy_done ≡ flags.Set → reverts_at r.profile (trailer_of g s Secondary).magic ≡ true
     → SeesImages s size → div_ceil size g.sector ≡ n → n ≤ greatest_sectors g → plan r g s ≡ starting r.grain g kinds.Revert size n
 plan_tested r g s size n good unset done reverts sees count few =
     new_is r g s kinds.Revert (starting r.grain g kinds.Revert size n) (not_when_done (trailer_of g s Primary) (trailer_of g s Secondary) done)
     (reverts_when r.profile (trailer_of g s Primary) (trailer_of g s Secondary) good reverts unset done)
     (new_swap_is r.grain g (images_of s) kinds.Revert size n sees.valid sees.larger count few)
 
-pub plan_settled : (r : Rules) (g : Geometry) (s : Content) → (trailer_of g s Primary).copy_done ≡ flags.Set → (trailer_of g s Secondary).magic ≡ magics.Unset → (trailer_of g s Primary).image_ok ≡ flags.Set → plan r g s ≡ nothing kinds.None
+pub plan_settled : (r : Rules) (g : Geometry) (s : Content) → (trailer_of g s Primary).copy_done ≡ flags.Set → (trailer_of g s Secondary).magic ≡ magics.Unset
+    → (trailer_of g s Primary).image_ok ≡ flags.Set → plan r g s ≡ nothing kinds.None
 plan_settled r g s done absent set =
-    new_is r g s kinds.None (nothing kinds.None) (not_when_done (trailer_of g s Primary) (trailer_of g s Secondary) done) (none_when r.profile (trailer_of g s Primary) (trailer_of g s Secondary) absent set) refl
+    new_is r g s kinds.None (nothing kinds.None) (not_when_done (trailer_of g s Primary) (trailer_of g s Secondary) done)
+    (none_when r.profile (trailer_of g s Primary) (trailer_of g s Secondary) absent set) refl
 
 -- no magic in either slot
 pub plan_none : (r : Rules) (g : Geometry) (s : Content) → (trailer_of g s Primary).magic ≡ magics.Unset → (trailer_of g s Secondary).magic ≡ magics.Unset → plan r g s ≡ nothing kinds.None
@@ -225,12 +243,14 @@ pub absent_reverts : (profile : Profile) (m : Magic) → m ≡ magics.Unset → 
 absent_reverts profiles.One m is = ap (reverts_at profiles.One) is
 absent_reverts profiles.Two m is = ap (reverts_at profiles.Two) is
 
-pub quiet_reverts : (c : Grain) (profile : Profile) (g : Geometry) (s : Content) → forgets_reverts c profile ≡ false → IsLayout g → IsSized g s → Quiet c g s → reverts_at profile (trailer_of g s Secondary).magic ≡ true
+pub quiet_reverts : (c : Grain) (profile : Profile) (g : Geometry) (s : Content) → forgets_reverts c profile ≡ false → IsLayout g → IsSized g s → Quiet c g s
+    → reverts_at profile (trailer_of g s Secondary).magic ≡ true
 quiet_reverts grains.Call profile g s keeps ok sized quiet = absent_reverts profile (trailer_of g s Secondary).magic (reads_absent g s Secondary ok sized quiet)
 quiet_reverts grains.Unit profiles.One g s keeps ok sized quiet = absurd cc
 quiet_reverts grains.Unit profiles.Two g s keeps ok sized quiet = ap not (reads_not_good g s Secondary quiet)
 
-pub plan_waiting : (r : Rules) (g : Geometry) (start : Content) (size n : ℕ) (s : Content) → forgets_reverts r.grain r.profile ≡ false → Swap g start size n → SeesImages s size → Waiting r.grain g start n s → plan r g s ≡ starting r.grain g kinds.Revert size n
+pub plan_waiting : (r : Rules) (g : Geometry) (start : Content) (size n : ℕ) (s : Content) → forgets_reverts r.grain r.profile ≡ false → Swap g start size n → SeesImages s size
+    → Waiting r.grain g start n s → plan r g s ≡ starting r.grain g kinds.Revert size n
 plan_waiting r g start size n s keeps w sees is =
     plan_tested r g s size n
     (reads_good g s Primary w.ok is.data_.sized (is.primary field.Magic))

@@ -130,5 +130,6 @@ waits R g start size n b s is = inl is
 pub asks : (R : Content → Type 0) (g : Geometry) (start : Content) (size n : ℕ) (b : Bool) (s : Content) → Asked g start n b s → Phase R g start size n b s
 asks R g start size n b s is = inr (inl is)
 
-pub runs : (R : Content → Type 0) (g : Geometry) (start : Content) (size n : ℕ) (b : Bool) (kind : SwapType) (k : ℕ) (s : Content) → IsSwapOf b kind → k ≤ 3 * n → Under g start size n kind k s → Phase R g start size n b s
+pub runs : (R : Content → Type 0) (g : Geometry) (start : Content) (size n : ℕ) (b : Bool) (kind : SwapType) (k : ℕ) (s : Content) → IsSwapOf b kind → k ≤ 3 * n → Under g start size n kind k s
+    → Phase R g start size n b s
 runs R g start size n b kind k s of most is = inr (inr (kind, k, of, most, is))

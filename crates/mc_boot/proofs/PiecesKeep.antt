@@ -29,7 +29,8 @@ none_yet s slot at new = record {
   sizes = λ o. refl;
 }
 
-piece_more : (g : Geometry) (s t u : Content) (slot : Slot) (at : ℕ) (new : List ℕ) (k : ℕ) → k + g.unit ≤ length new → Part s slot at new k t → Changed t u slot (at + k) (between k (k + g.unit) new) → Part s slot at new (k + g.unit) u
+piece_more : (g : Geometry) (s t u : Content) (slot : Slot) (at : ℕ) (new : List ℕ) (k : ℕ) → k + g.unit ≤ length new → Part s slot at new k t → Changed t u slot (at + k) (between k (k + g.unit) new)
+    → Part s slot at new (k + g.unit) u
 piece_more g s t u slot at new k fits so ch = record {
   inside = λ i h.
       let short : i < k + g.unit = omega (arith, h, all) in
@@ -55,7 +56,8 @@ piece_more g s t u slot at new k fits so ch = record {
     part : length (between k (k + g.unit) new) ≡ g.unit
     part = length-between new k (k + g.unit) fits ∙ omega arith
 
-piece_step : (g : Geometry) (s t : Content) (slot : Slot) (at : ℕ) (new : List ℕ) (k : ℕ) → at + length new ≤ length (bytes_of s slot) → ((i : ℕ) → i < length new → byte s slot (at + i) ≡ 255) → k + g.unit ≤ length new → Part s slot at new k t
+piece_step : (g : Geometry) (s t : Content) (slot : Slot) (at : ℕ) (new : List ℕ) (k : ℕ) → at + length new ≤ length (bytes_of s slot) → ((i : ℕ) → i < length new → byte s slot (at + i) ≡ 255)
+    → k + g.unit ≤ length new → Part s slot at new k t
     → (u : Content) × (apply g (Program slot (at + k) (between k (k + g.unit) new)) t ≡ Some u) × Part s slot at new (k + g.unit) u
 piece_step g s t slot at new k fits free within so =
     let part : length (between k (k + g.unit) new) ≡ g.unit = length-between new k (k + g.unit) within ∙ omega arith in
@@ -65,7 +67,8 @@ piece_step g s t slot at new k fits free within so =
     (does.0, does.1, piece_more g s t does.0 slot at new k within so does.2)
 
 -- m pieces are the whole write; P has to bear each part of it
-pub pieces_keep : (g : Geometry) (P : Content → Type 0) (s : Content) (slot : Slot) (at : ℕ) (new : List ℕ) (m : ℕ) → length new ≡ m * g.unit → at + length new ≤ length (bytes_of s slot) → ((i : ℕ) → i < length new → byte s slot (at + i) ≡ 255)
+pub pieces_keep : (g : Geometry) (P : Content → Type 0) (s : Content) (slot : Slot) (at : ℕ) (new : List ℕ) (m : ℕ) → length new ≡ m * g.unit → at + length new ≤ length (bytes_of s slot)
+    → ((i : ℕ) → i < length new → byte s slot (at + i) ≡ 255)
     → ((j : ℕ) (t : Content) → j < m → Part s slot at new (j * g.unit) t → P t)
     → Keeps g P (map (piece g slot at new) (range_with_len 0 m)) s (λ t. Changed s t slot at new)
 pieces_keep g P s slot at new m len fits free bears =

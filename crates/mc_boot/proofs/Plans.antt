@@ -39,7 +39,8 @@ none_of false None e = cc
 none_of false (Some x) e = refl
 
 -- a swap that was cut, at power-on
-pub resumed_begun : (r : Rules) (g : Geometry) (image_ok : Flag) (highest : Option ℕ) (kind : SwapType) (n first : ℕ) (l : Geometry) (erases ok : Bool) → 0 < n → n ≤ greatest_sectors g → first_left g n highest ≡ Some first → l ≡ in_pieces r.grain g
+pub resumed_begun : (r : Rules) (g : Geometry) (image_ok : Flag) (highest : Option ℕ) (kind : SwapType) (n first : ℕ) (l : Geometry) (erases ok : Bool) → 0 < n → n ≤ greatest_sectors g
+    → first_left g n highest ≡ Some first → l ≡ in_pieces r.grain g
     → erases ≡ is_none highest → ok ≡ confirms kind image_ok → (written : Option ℕ) → highest ≡ written
     → record { rules = r; kind = kind; to_come = resumed_list l n first erases ok; count = 0; faulted = false } ≡ begun r (resumed_swap r.grain g image_ok written kind n)
 resumed_begun r g image_ok highest kind n first l erases ok some few first_is layout_is erases_is ok_is written is =
@@ -60,12 +61,14 @@ unfolding plan plan_with
 plan_new r g s it = ap (λ (b : Bool). if b then resumed_plan r.grain g (trailer_of g s Primary) (highest_entry g s) else new_plan r.grain g (images_of s) (table_of r.profile g s)) it
 
 -- the boot that the trailers decide on is that of the plan
-pub begun_resumed : (r : Rules) (g : Geometry) (s : Content) (p q : Trailer) (b : Bool) → p ≡ trailer_of g s Primary → q ≡ trailer_of g s Secondary → b ≡ resumes p q → b ≡ true → begun r (resumed_plan r.grain g p (highest_entry g s)) ≡ begun r (plan r g s)
+pub begun_resumed : (r : Rules) (g : Geometry) (s : Content) (p q : Trailer) (b : Bool) → p ≡ trailer_of g s Primary → q ≡ trailer_of g s Secondary → b ≡ resumes p q → b ≡ true
+    → begun r (resumed_plan r.grain g p (highest_entry g s)) ≡ begun r (plan r g s)
 begun_resumed r g s p q b first second is it =
     let both : is_resumed g s ≡ true = ap (λ (x : Trailer). resumes x (trailer_of g s Secondary)) (sym first) ∙ ap (λ (x : Trailer). resumes p x) (sym second) ∙ sym is ∙ it in
     ap (λ (x : Trailer). begun r (resumed_plan r.grain g x (highest_entry g s))) first ∙ ap (begun r) (sym (plan_resumed r g s both))
 
-pub begun_new : (r : Rules) (g : Geometry) (s : Content) (p q : Trailer) (b : Bool) (kind : SwapType) → p ≡ trailer_of g s Primary → q ≡ trailer_of g s Secondary → b ≡ resumes p q → b ≡ false → kind ≡ swap_type r.profile p q → begun r (new_plan r.grain g (images_of s) kind) ≡ begun r (plan r g s)
+pub begun_new : (r : Rules) (g : Geometry) (s : Content) (p q : Trailer) (b : Bool) (kind : SwapType) → p ≡ trailer_of g s Primary → q ≡ trailer_of g s Secondary → b ≡ resumes p q → b ≡ false
+    → kind ≡ swap_type r.profile p q → begun r (new_plan r.grain g (images_of s) kind) ≡ begun r (plan r g s)
 begun_new r g s p q b kind first second is it asks =
     let both : is_resumed g s ≡ false = ap (λ (x : Trailer). resumes x (trailer_of g s Secondary)) (sym first) ∙ ap (λ (x : Trailer). resumes p x) (sym second) ∙ sym is ∙ it in
     let table : kind ≡ table_of r.profile g s = asks ∙ ap (λ (x : Trailer). swap_type r.profile x q) first ∙ ap (λ (x : Trailer). swap_type r.profile (trailer_of g s Primary) x) second in

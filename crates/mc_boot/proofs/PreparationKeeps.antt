@@ -38,7 +38,8 @@ quiet_erased grains.Call g i t u ch quiet =
     blank_field g u Secondary field.Magic (λ p h. erased_still g Secondary i t u (place g Secondary field.Magic + p) ch (blank_byte g t Secondary field.Magic p quiet h))
 quiet_erased grains.Unit g i t u ch quiet = erased_still g Secondary i t u (place g Secondary field.Magic + 15) ch quiet
 
-waiting_erased : (c : Grain) (g : Geometry) (start : Content) (size n : ℕ) (i : ℕ) (t u : Content) → Swap g start size n → i < trailer_sectors g → Waiting c g start n t → Erased g Secondary i t u → Waiting c g start n u
+waiting_erased : (c : Grain) (g : Geometry) (start : Content) (size n : ℕ) (i : ℕ) (t u : Content) → Swap g start size n → i < trailer_sectors g → Waiting c g start n t → Erased g Secondary i t u
+    → Waiting c g start n u
 waiting_erased c g start size n i t u w below is ch = record {
   primary = fields_same g t u Primary tested w.ok (λ p h. ch.other Primary p (λ e. cc)) is.primary;
   quiet = quiet_erased c g i t u ch is.quiet;
@@ -52,33 +53,40 @@ record Preparing (g : Geometry) (start : Content) (n : ℕ) (v : Field → List 
   data_ : Data g n start 0 s
 
 -- a write of the secondary's trailer keeps the rest
-primary_after : (g : Geometry) (start : Content) (size n : ℕ) (f : Field) (new : List ℕ) (s t : Content) → Swap g start size n → FieldsAre g s Primary tested → Changed s t Secondary (place g Secondary f) new → FieldsAre g t Primary tested
+primary_after : (g : Geometry) (start : Content) (size n : ℕ) (f : Field) (new : List ℕ) (s t : Content) → Swap g start size n → FieldsAre g s Primary tested
+    → Changed s t Secondary (place g Secondary f) new → FieldsAre g t Primary tested
 primary_after g start size n f new s t w are ch = fields_same g s t Primary tested w.ok (λ i _. ch.other Primary i (λ e. cc)) are
 
-data_after : (g : Geometry) (start : Content) (size n : ℕ) (f : Field) (new : List ℕ) (s t : Content) → Swap g start size n → Data g n start 0 s → Changed s t Secondary (place g Secondary f) new → Data g n start 0 t
+data_after : (g : Geometry) (start : Content) (size n : ℕ) (f : Field) (new : List ℕ) (s t : Content) → Swap g start size n → Data g n start 0 s → Changed s t Secondary (place g Secondary f) new
+    → Data g n start 0 t
 data_after g start size n f new s t w data_ ch =
-    data_same g n start 0 s t (changed_sized g s t Secondary (place g Secondary f) new ch data_.sized) (kept_below g s t Secondary (place g Secondary f) new ch (place_behind_data g Secondary f w.ok)) data_
+    data_same g n start 0 s t (changed_sized g s t Secondary (place g Secondary f) new ch data_.sized) (kept_below g s t Secondary (place g Secondary f) new ch (place_behind_data g Secondary f w.ok))
+    data_
 
-preparing_after : (g : Geometry) (start : Content) (size n : ℕ) (v : Field → List ℕ) (f : Field) (new : List ℕ) (s t : Content) → Swap g start size n → Preparing g start n v s → length new ≤ room f → Changed s t Secondary (place g Secondary f) new → Preparing g start n (set_field v f new) t
+preparing_after : (g : Geometry) (start : Content) (size n : ℕ) (v : Field → List ℕ) (f : Field) (new : List ℕ) (s t : Content) → Swap g start size n → Preparing g start n v s → length new ≤ room f
+    → Changed s t Secondary (place g Secondary f) new → Preparing g start n (set_field v f new) t
 preparing_after g start size n v f new s t w is short ch = record {
   primary = primary_after g start size n f new s t w is.primary ch;
   secondary = write_field g s t Secondary v f new w.ok short is.secondary ch;
   data_ = data_after g start size n f new s t w is.data_ ch;
 }
 
-magic_blank : (g : Geometry) (start : Content) (n : ℕ) (v : Field → List ℕ) (s : Content) → v field.Magic ≡ replicate 16 255 → Preparing g start n v s → FieldIs g s Secondary field.Magic (replicate 16 255)
+magic_blank : (g : Geometry) (start : Content) (n : ℕ) (v : Field → List ℕ) (s : Content) → v field.Magic ≡ replicate 16 255 → Preparing g start n v s
+    → FieldIs g s Secondary field.Magic (replicate 16 255)
 magic_blank g start n v s free is = field_as g s Secondary field.Magic (v field.Magic) (replicate 16 255) free (is.secondary field.Magic)
 
 waiting_of : (c : Grain) (g : Geometry) (start : Content) (n : ℕ) (v : Field → List ℕ) (s : Content) → v field.Magic ≡ replicate 16 255 → Preparing g start n v s → Waiting c g start n s
 waiting_of c g start n v s free is = record { primary = is.primary; quiet = quiet_blank c g s (magic_blank g start n v s free is); data_ = is.data_ }
 
 -- a field before the magic, written whole or in part
-preparing_field_keeps : (c d : Grain) (g : Geometry) (start : Content) (size n : ℕ) (v : Field → List ℕ) (f : Field) (new : List ℕ) (s : Content) → Swap g start size n → Preparing g start n v s → v field.Magic ≡ replicate 16 255 → f ≢ field.Magic → v f ≡ replicate (room f) 255 → length new ≤ room f → length new % g.unit ≡ 0
+preparing_field_keeps : (c d : Grain) (g : Geometry) (start : Content) (size n : ℕ) (v : Field → List ℕ) (f : Field) (new : List ℕ) (s : Content) → Swap g start size n → Preparing g start n v s
+    → v field.Magic ≡ replicate 16 255 → f ≢ field.Magic → v f ≡ replicate (room f) 255 → length new ≤ room f → length new % g.unit ≡ 0
     → Keeps g (Phase (Waiting c g start n) g start size n false) (write d g Secondary f new) s (Preparing g start n (set_field v f new))
 preparing_field_keeps c d g start size n v f new s w is magic other free short whole =
     keeps_then g (Phase (Waiting c g start n) g start size n false) (λ t. Changed s t Secondary (place g Secondary f) new) (Preparing g start n (set_field v f new)) (write d g Secondary f new) s
     (λ t ch. preparing_after g start size n v f new s t w is short ch)
-    (field_write_keeps g (Phase (Waiting c g start n) g start size n false) s d Secondary f new w.ok is.data_.sized (field_as g s Secondary f (v f) (replicate (room f) 255) free (is.secondary f)) short whole
+    (field_write_keeps g (Phase (Waiting c g start n) g start size n false) s d Secondary f new w.ok is.data_.sized (field_as g s Secondary f (v f) (replicate (room f) 255) free (is.secondary f))
+    short whole
     (waits (Waiting c g start n) g start size n false s (waiting_of c g start n v s magic is))
     (λ k t fine h part. waits (Waiting c g start n) g start size n false t (record {
       primary = primary_after g start size n f (take k new) s t w is.primary part;
@@ -92,9 +100,11 @@ preparing_field_keeps c d g start size n v f new s w is magic other free short w
 magic_keeps : (c : Grain) (g : Geometry) (start : Content) (size n : ℕ) (v : Field → List ℕ) (s : Content) → Swap g start size n → Preparing g start n v s → v field.Magic ≡ replicate 16 255
     → Keeps g (Phase (Waiting c g start n) g start size n false) (write c g Secondary field.Magic magic_bytes) s (Preparing g start n (set_field v field.Magic magic_bytes))
 magic_keeps c g start size n v s w is free =
-    keeps_then g (Phase (Waiting c g start n) g start size n false) (λ t. Changed s t Secondary (place g Secondary field.Magic) magic_bytes) (Preparing g start n (set_field v field.Magic magic_bytes)) (write c g Secondary field.Magic magic_bytes) s
+    keeps_then g (Phase (Waiting c g start n) g start size n false) (λ t. Changed s t Secondary (place g Secondary field.Magic) magic_bytes) (Preparing g start n (set_field v field.Magic magic_bytes))
+    (write c g Secondary field.Magic magic_bytes) s
     (λ t ch. preparing_after g start size n v field.Magic magic_bytes s t w is (omega arith) ch)
-    (field_write_keeps g (Phase (Waiting c g start n) g start size n false) s c Secondary field.Magic magic_bytes w.ok is.data_.sized (magic_blank g start n v s free is) (omega arith) (can_magic g Secondary w.ok).units
+    (field_write_keeps g (Phase (Waiting c g start n) g start size n false) s c Secondary field.Magic magic_bytes w.ok is.data_.sized (magic_blank g start n v s free is) (omega arith)
+    (can_magic g Secondary w.ok).units
     (waits (Waiting c g start n) g start size n false s (waiting_of c g start n v s free is))
     (λ k t fine h part. waits (Waiting c g start n) g start size n false t (record {
       primary = primary_after g start size n field.Magic (take k magic_bytes) s t w is.primary part;
@@ -149,6 +159,7 @@ revert_keeps c g start size n s w is =
     freed : (t : Content) → Waiting c g start n t → ((p : ℕ) → data_end g Secondary ≤ p → p < size_of g Secondary → byte t Secondary p ≡ 255) → Preparing g start n blank_fields t
     freed t k free = record {
       primary = k.primary;
-      secondary = λ f. blank_field g t Secondary f (λ i within. free (place g Secondary f + i) (omega (arith, place_behind_data g Secondary f w.ok)) (omega (arith, within, field_ends g Secondary f w.ok)));
+      secondary = λ f. blank_field g t Secondary f (λ i within. free (place g Secondary f + i) (omega (arith, place_behind_data g Secondary f w.ok))
+          (omega (arith, within, field_ends g Secondary f w.ok)));
       data_ = k.data_;
     }

@@ -17,7 +17,9 @@ use Rattle.mc_boot.specs.Plan.{Plan, nothing, plain, plan}
 use Rattle.mc_boot.specs.Restart.{AreExchanged, BeginsImage, EndsIn, Holds, IsSettled, IsSwapped, IsTested, RestartLaw, StartsExist, forgets_reverts}
 use Rattle.mc_boot.specs.RunFacts.{left_defined}
 use Rattle.mc_boot.specs.Runs.{after, is_faulted, left_by, ops_of}
-use Rattle.mc_boot.specs.Start.{StartKind, image_bytes, named, no_swap, other, perm, perm_flash, placed, revert, start_flash, test, test_flash}
+use Rattle.mc_boot.specs.Start.{image_bytes, named, other, perm_flash, placed, start_flash, test_flash}
+use Rattle.mc_boot.specs.declared.kind.Kind.{Kind}
+use Rattle.mc_boot.specs.declared.kind.Kind.TheVariants as starts
 use Rattle.mc_boot.specs.declared.outcome.BootResult.{BootResult}
 use Rattle.mc_flash.specs.Changes.{same_content}
 use Rattle.mc_flash.specs.Content.{Content}
@@ -52,7 +54,8 @@ calm_boots kinds.Revert calm = refl
 calm_boots kinds.Fail calm = refl
 calm_boots kinds.Panic calm = absurd (calm refl)
 
-boots_so : (r : Rules) (g : Geometry) (u z : Content) → left_by r g u ≡ Some z → is_faulted r g u ≡ false → (plan r g u).kind ≢ kinds.Panic → is_valid z.primary ≡ true → option_map (λ o. o.result) (outcome_of r g u) ≡ Some results.Boot
+boots_so : (r : Rules) (g : Geometry) (u z : Content) → left_by r g u ≡ Some z → is_faulted r g u ≡ false → (plan r g u).kind ≢ kinds.Panic → is_valid z.primary ≡ true
+    → option_map (λ o. o.result) (outcome_of r g u) ≡ Some results.Boot
 unfolding outcome_of report
 boots_so r g u z end whole calm valid =
     let kind : SwapType = (plan r g u).kind in
@@ -81,7 +84,8 @@ module _ (r : Rules) (g : Geometry) (m : Content) (idle : (plan r g m).list ≡ 
   idle_leaves = let end = ends r g (λ t. t ≡ m) (λ t. t ≡ m) m (rests m refl) in end.1.end ∙ ap (λ (t : Content). Some t) end.1.so
 
   -- What holds there is what its boot ends in.
-  pub idle_ends : (kind : StartKind) (a b : List ℕ) (s : Content) → (plan r g m).kind ≡ kinds.None → is_valid m.primary ≡ true → Holds (named kind a b) m.primary → Holds (other kind a b) m.secondary → IsSwapped r g kind s m m → EndsIn r g kind a b s m m
+  pub idle_ends : (kind : Kind) (a b : List ℕ) (s : Content) → (plan r g m).kind ≡ kinds.None → is_valid m.primary ≡ true → Holds (named kind a b) m.primary → Holds (other kind a b) m.secondary
+      → IsSwapped r g kind s m m → EndsIn r g kind a b s m m
   idle_ends kind a b s none valid one two swapped =
       let end = ends r g (λ t. t ≡ m) (λ t. t ≡ m) m (rests m refl) in
       let calm : (plan r g m).kind ≢ kinds.Panic = λ panic. no_panic (sym none ∙ panic) in
@@ -99,11 +103,12 @@ module _ (r : Rules) (g : Geometry) (m : Content) (idle : (plan r g m).list ≡ 
       no_panic : kinds.None ≡ kinds.Panic → ⊥
       no_panic e = cc
 
-stays_idle : (r : Rules) (g : Geometry) (a b : List ℕ) (s u : Content) (cuts : List ℕ) → plan r g s ≡ nothing kinds.None → SameImage a s.primary → SameImage b s.secondary → after r g s cuts ≡ Some u → (z : Content) × EndsIn r g no_swap a b s u z
+stays_idle : (r : Rules) (g : Geometry) (a b : List ℕ) (s u : Content) (cuts : List ℕ) → plan r g s ≡ nothing kinds.None → SameImage a s.primary → SameImage b s.secondary → after r g s cuts ≡ Some u
+    → (z : Content) × EndsIn r g starts.None a b s u z
 stays_idle r g a b s u cuts idle one two is =
     let none : (plan r g s).list ≡ [] = ap (λ (p : Plan). p.list) idle in
-    let E : Content → Type 0 = λ t. EndsIn r g no_swap a b s t s in
-    (s, subst E (sym (uncut r g s none u cuts is)) (idle_ends r g s none no_swap a b s (ap (λ (p : Plan). p.kind) idle) one.valid (held_whole a s.primary one) (held_whole b s.secondary two) none))
+    let E : Content → Type 0 = λ t. EndsIn r g starts.None a b s t s in
+    (s, subst E (sym (uncut r g s none u cuts is)) (idle_ends r g s none starts.None a b s (ap (λ (p : Plan). p.kind) idle) one.valid (held_whole a s.primary one) (held_whole b s.secondary two) none))
 
 -- the trailers after a test, and after a swap that stays
 abbrev AtEnd : Bool → Rules → Geometry → Content → Type 0
@@ -125,11 +130,13 @@ pub record Law (r : Rules) (g : Geometry) (b : Bool) (n : ℕ) (x y : List ℕ) 
 pub by_start : (r : Rules) (g : Geometry) (n : ℕ) (s z : Content) → (plan r g s).sectors ≡ n → AreExchanged g n s z → AreExchanged g (plan r g s).sectors s z
 by_start r g n s z count are = let E : ℕ → Type 0 = λ m. AreExchanged g m s z in subst E (sym count) are
 
-trailer_at_end : (c : Grain) (p : Profile) (g : Geometry) (s : Content) (size n : ℕ) (b : Bool) (z : Content) → Swap (in_pieces c g) s size n → Ended (in_pieces c g) s size n b z → AtEnd b (record { grain = c; profile = p }) g z
+trailer_at_end : (c : Grain) (p : Profile) (g : Geometry) (s : Content) (size n : ℕ) (b : Bool) (z : Content) → Swap (in_pieces c g) s size n → Ended (in_pieces c g) s size n b z
+    → AtEnd b (record { grain = c; profile = p }) g z
 trailer_at_end c p g s size n true z w e = tested_on c p g z (tested_end (record { grain = c; profile = p }) (in_pieces c g) s size n z w e)
 trailer_at_end c p g s size n false z w e = settled_on c p g z (settled_end (record { grain = c; profile = p }) (in_pieces c g) s size n z w e)
 
-law : (R : Content → Type 0) (c : Grain) (p : Profile) (g : Geometry) (b : Bool) (x y : List ℕ) (s u : Content) (size n : ℕ) (cuts : List ℕ) → Swap g s size n → BootsSwap R c p g s size n b → Phase R (in_pieces c g) s size n b s
+law : (R : Content → Type 0) (c : Grain) (p : Profile) (g : Geometry) (b : Bool) (x y : List ℕ) (s u : Content) (size n : ℕ) (cuts : List ℕ) → Swap g s size n → BootsSwap R c p g s size n b
+    → Phase R (in_pieces c g) s size n b s
     → SameImage x s.secondary → SameImage y s.primary → after (record { grain = c; profile = p }) g s cuts ≡ Some u → (z : Content) × Law (record { grain = c; profile = p }) g b n x y s u z
 law R c p g b x y s u size n cuts w boots begin at_x at_y is =
     let end = swap_ends R c p g s size n b cuts u boots begin is in
@@ -149,7 +156,8 @@ law R c p g b x y s u size n cuts w boots begin at_x at_y is =
       },
     )
 
-pub ended : (r : Rules) (g : Geometry) (kind : StartKind) (c : Bool) (n : ℕ) (a b : List ℕ) (s u z : Content) → named kind a b ≡ b → other kind a b ≡ a → Law r g c n b a s u z → IsSwapped r g kind s u z → EndsIn r g kind a b s u z
+pub ended : (r : Rules) (g : Geometry) (kind : Kind) (c : Bool) (n : ℕ) (a b : List ℕ) (s u z : Content) → named kind a b ≡ b → other kind a b ≡ a → Law r g c n b a s u z → IsSwapped r g kind s u z
+    → EndsIn r g kind a b s u z
 ended r g kind c n a b s u z is_named is_other l swapped = record {
   end = l.end;
   whole = l.whole;
@@ -168,7 +176,8 @@ Nothing s = ⊥
 asked_boots : (c : Grain) (p : Profile) (g : Geometry) (s : Content) (size n : ℕ) (b : Bool) → Swap g s size n → BootsSwap Nothing c p g s size n b
 asked_boots c p g s size n b w = phase_swaps Nothing (record { grain = c; profile = p }) (in_pieces c g) s size n b (pieces_again c g) (swap_pieces c g s size n w) (λ t none. absurd none)
 
-asked_law : (c : Grain) (p : Profile) (g : Geometry) (e : Bool) (a b : List ℕ) (s u : Content) (cuts : List ℕ) → ImageLaws → IsLayout g → BeginsImage g a → BeginsImage g b → Holding g a b s → FieldsAre g s Secondary (asked e)
+asked_law : (c : Grain) (p : Profile) (g : Geometry) (e : Bool) (a b : List ℕ) (s u : Content) (cuts : List ℕ) → ImageLaws → IsLayout g → BeginsImage g a → BeginsImage g b → Holding g a b s
+    → FieldsAre g s Secondary (asked e)
     → after (record { grain = c; profile = p }) g s cuts ≡ Some u → (z : Content) × Law (record { grain = c; profile = p }) g e (count_of g s) b a s u z
 asked_law c p g e a b s u cuts laws ok at_a at_b h are is =
     let w = swap_held g a b s laws ok at_a at_b h in
@@ -219,7 +228,8 @@ pub record Tested (c : Grain) (p : Profile) (g : Geometry) (a b : List ℕ) (s t
   pub made : Ended (in_pieces c g) s (larger_size s) (count_of g s) true z
   pub reverts : Reverts g a b (larger_size s) (count_of g s) z
 
-pub test_leaves : (c : Grain) (p : Profile) (g : Geometry) (a b : List ℕ) (s t : Content) (cuts : List ℕ) → ImageLaws → IsLayout g → BeginsImage g a → BeginsImage g b → Holding g b a s → FieldsAre g s Secondary (asked true)
+pub test_leaves : (c : Grain) (p : Profile) (g : Geometry) (a b : List ℕ) (s t : Content) (cuts : List ℕ) → ImageLaws → IsLayout g → BeginsImage g a → BeginsImage g b → Holding g b a s
+    → FieldsAre g s Secondary (asked true)
     → after (record { grain = c; profile = p }) g s cuts ≡ Some t → (z : Content) × Tested c p g a b s t z
 test_leaves c p g a b s t cuts laws ok at_a at_b h are is =
     let w = swap_held g b a s laws ok at_b at_a h in
@@ -243,7 +253,8 @@ test_leaves c p g a b s t cuts laws ok at_a at_b h are is =
       },
     )
 
-pub revert_law : (c : Grain) (p : Profile) (g : Geometry) (a b : List ℕ) (s u : Content) (size n : ℕ) (cuts : List ℕ) → forgets_reverts c p ≡ false → Reverts g a b size n s → after (record { grain = c; profile = p }) g s cuts ≡ Some u
+pub revert_law : (c : Grain) (p : Profile) (g : Geometry) (a b : List ℕ) (s u : Content) (size n : ℕ) (cuts : List ℕ) → forgets_reverts c p ≡ false → Reverts g a b size n s
+    → after (record { grain = c; profile = p }) g s cuts ≡ Some u
     → (z : Content) × Law (record { grain = c; profile = p }) g false n b a s u z
 revert_law c p g a b s u size n cuts keeps from is =
     let w = from.swap in
@@ -256,48 +267,61 @@ revert_law c p g a b s u size n cuts keeps from is =
     from.secondary from.primary is
 
 -- for every kind
-law_none : (r : Rules) (g : Geometry) (a b : List ℕ) (s u : Content) (cuts : List ℕ) → ImageLaws → IsLayout g → BeginsImage g a → BeginsImage g b → placed g (image_bytes a) (image_bytes b) ≡ s → after r g s cuts ≡ Some u → (z : Content) × EndsIn r g no_swap a b s u z
+law_none : (r : Rules) (g : Geometry) (a b : List ℕ) (s u : Content) (cuts : List ℕ) → ImageLaws → IsLayout g → BeginsImage g a → BeginsImage g b → placed g (image_bytes a) (image_bytes b) ≡ s
+    → after r g s cuts ≡ Some u → (z : Content) × EndsIn r g starts.None a b s u z
 law_none r g a b s u cuts laws ok at_a at_b start is =
     let h = placed_holds g a b laws ok at_a at_b in
     let E : Content → Type 0 = λ t. (plan r g t ≡ nothing kinds.None) × SameImage a t.primary × SameImage b t.secondary in
-    let there = subst E start (idle_at r g a b laws ok at_a at_b, primary_image g a b (placed g (image_bytes a) (image_bytes b)) laws ok at_a h, secondary_image g a b (placed g (image_bytes a) (image_bytes b)) laws ok at_b h) in
+    let there = subst E start (
+      idle_at r g a b laws ok at_a at_b,
+      primary_image g a b (placed g (image_bytes a) (image_bytes b)) laws ok at_a h,
+      secondary_image g a b (placed g (image_bytes a) (image_bytes b)) laws ok at_b h,
+    ) in
     stays_idle r g a b s u cuts there.0 there.1 there.2 is
 
-law_test : (r : Rules) (g : Geometry) (a b : List ℕ) (s u : Content) (cuts : List ℕ) → ImageLaws → IsLayout g → BeginsImage g a → BeginsImage g b → test_flash g (image_bytes a) (image_bytes b) ≡ s → after r g s cuts ≡ Some u → (z : Content) × EndsIn r g test a b s u z
+law_test : (r : Rules) (g : Geometry) (a b : List ℕ) (s u : Content) (cuts : List ℕ) → ImageLaws → IsLayout g → BeginsImage g a → BeginsImage g b → test_flash g (image_bytes a) (image_bytes b) ≡ s
+    → after r g s cuts ≡ Some u → (z : Content) × EndsIn r g starts.Test a b s u z
 law_test r g a b s u cuts laws ok at_a at_b start is =
     let E : Content → Type 0 = λ t. Holding g a b t × FieldsAre g t Secondary (asked true) in
     let there = subst E start (test_holds g a b laws ok at_a at_b, test_asked g a b laws ok at_b) in
     let end = asked_law r.grain r.profile g true a b s u cuts laws ok at_a at_b there.0 there.1 is in
-    (end.0, ended r g test true (count_of g s) a b s u end.0 refl refl end.1 (by_start r g (count_of g s) s end.0 end.1.sectors end.1.exchange, end.1.trailer))
+    (end.0, ended r g starts.Test true (count_of g s) a b s u end.0 refl refl end.1 (by_start r g (count_of g s) s end.0 end.1.sectors end.1.exchange, end.1.trailer))
 
-law_perm : (r : Rules) (g : Geometry) (a b : List ℕ) (s u : Content) (cuts : List ℕ) → ImageLaws → IsLayout g → BeginsImage g a → BeginsImage g b → perm_flash g (image_bytes a) (image_bytes b) ≡ s → after r g s cuts ≡ Some u → (z : Content) × EndsIn r g perm a b s u z
+law_perm : (r : Rules) (g : Geometry) (a b : List ℕ) (s u : Content) (cuts : List ℕ) → ImageLaws → IsLayout g → BeginsImage g a → BeginsImage g b → perm_flash g (image_bytes a) (image_bytes b) ≡ s
+    → after r g s cuts ≡ Some u → (z : Content) × EndsIn r g starts.Perm a b s u z
 law_perm r g a b s u cuts laws ok at_a at_b start is =
     let E : Content → Type 0 = λ t. Holding g a b t × FieldsAre g t Secondary (asked false) in
     let there = subst E start (perm_holds g a b laws ok at_a at_b, perm_asked g a b laws ok at_b) in
     let end = asked_law r.grain r.profile g false a b s u cuts laws ok at_a at_b there.0 there.1 is in
-    (end.0, ended r g perm false (count_of g s) a b s u end.0 refl refl end.1 (by_start r g (count_of g s) s end.0 end.1.sectors end.1.exchange, end.1.trailer))
+    (end.0, ended r g starts.Perm false (count_of g s) a b s u end.0 refl refl end.1 (by_start r g (count_of g s) s end.0 end.1.sectors end.1.exchange, end.1.trailer))
 
-law_revert : (r : Rules) (g : Geometry) (a b : List ℕ) (s u : Content) (cuts : List ℕ) → ImageLaws → IsLayout g → BeginsImage g a → BeginsImage g b → forgets_reverts r.grain r.profile ≡ false → left_by plain g (test_flash g (image_bytes b) (image_bytes a)) ≡ Some s → after r g s cuts ≡ Some u → (z : Content) × EndsIn r g revert a b s u z
+law_revert : (r : Rules) (g : Geometry) (a b : List ℕ) (s u : Content) (cuts : List ℕ) → ImageLaws → IsLayout g → BeginsImage g a → BeginsImage g b → forgets_reverts r.grain r.profile ≡ false
+    → left_by plain g (test_flash g (image_bytes b) (image_bytes a)) ≡ Some s → after r g s cuts ≡ Some u → (z : Content) × EndsIn r g starts.Revert a b s u z
 law_revert r g a b s u cuts laws ok at_a at_b keeps start is =
     let from : Content = test_flash g (image_bytes b) (image_bytes a) in
-    let left = test_leaves grains.Call profiles.One g a b (test_flash g (image_bytes b) (image_bytes a)) (test_flash g (image_bytes b) (image_bytes a)) [] laws ok at_a at_b (test_holds g b a laws ok at_b at_a) (test_asked g b a laws ok at_a) refl in
+    let left = test_leaves grains.Call profiles.One g a b (test_flash g (image_bytes b) (image_bytes a)) (test_flash g (image_bytes b) (image_bytes a)) [] laws ok at_a at_b
+    (test_holds g b a laws ok at_b at_a) (test_asked g b a laws ok at_a) refl in
     let same : left.0 ≡ s = same_content left.0 s (sym left.1.end ∙ start) in
     let size : ℕ = larger_size (test_flash g (image_bytes b) (image_bytes a)) in
     let n : ℕ = count_of g (test_flash g (image_bytes b) (image_bytes a)) in
     let E : Content → Type 0 = λ t. Reverts g a b (larger_size (test_flash g (image_bytes b) (image_bytes a))) (count_of g (test_flash g (image_bytes b) (image_bytes a))) t in
-    let end = revert_law r.grain r.profile g a b s u (larger_size (test_flash g (image_bytes b) (image_bytes a))) (count_of g (test_flash g (image_bytes b) (image_bytes a))) cuts keeps (subst E same left.1.reverts) is in
-    (end.0, ended r g revert false (count_of g (test_flash g (image_bytes b) (image_bytes a))) a b s u end.0 refl refl end.1 (by_start r g (count_of g (test_flash g (image_bytes b) (image_bytes a))) s end.0 end.1.sectors end.1.exchange, end.1.trailer))
+    let end = revert_law r.grain r.profile g a b s u (larger_size (test_flash g (image_bytes b) (image_bytes a))) (count_of g (test_flash g (image_bytes b) (image_bytes a))) cuts keeps
+    (subst E same left.1.reverts) is in (
+      end.0,
+      ended r g starts.Revert false (count_of g (test_flash g (image_bytes b) (image_bytes a))) a b s u end.0 refl refl end.1
+          (by_start r g (count_of g (test_flash g (image_bytes b) (image_bytes a))) s end.0 end.1.sectors end.1.exchange, end.1.trailer),
+    )
 
 pub restart_law : ImageLaws → (r : Rules) → RestartLaw r
 unfolding start_flash
-restart_law laws r g no_swap a b s u cuts ok at_a at_b keeps start is = law_none r g a b s u cuts laws ok at_a at_b (same_content (placed g (image_bytes a) (image_bytes b)) s start) is
-restart_law laws r g test a b s u cuts ok at_a at_b keeps start is = law_test r g a b s u cuts laws ok at_a at_b (same_content (test_flash g (image_bytes a) (image_bytes b)) s start) is
-restart_law laws r g perm a b s u cuts ok at_a at_b keeps start is = law_perm r g a b s u cuts laws ok at_a at_b (same_content (perm_flash g (image_bytes a) (image_bytes b)) s start) is
-restart_law laws r g revert a b s u cuts ok at_a at_b keeps start is = law_revert r g a b s u cuts laws ok at_a at_b (keeps refl) start is
+restart_law laws r g starts.None a b s u cuts ok at_a at_b keeps start is = law_none r g a b s u cuts laws ok at_a at_b (same_content (placed g (image_bytes a) (image_bytes b)) s start) is
+restart_law laws r g starts.Test a b s u cuts ok at_a at_b keeps start is = law_test r g a b s u cuts laws ok at_a at_b (same_content (test_flash g (image_bytes a) (image_bytes b)) s start) is
+restart_law laws r g starts.Perm a b s u cuts ok at_a at_b keeps start is = law_perm r g a b s u cuts laws ok at_a at_b (same_content (perm_flash g (image_bytes a) (image_bytes b)) s start) is
+restart_law laws r g starts.Revert a b s u cuts ok at_a at_b keeps start is = law_revert r g a b s u cuts laws ok at_a at_b (keeps refl) start is
 
 pub starts_exist : StartsExist
 unfolding start_flash
-starts_exist g no_swap a b ok at_a at_b = (placed g (image_bytes a) (image_bytes b), refl)
-starts_exist g test a b ok at_a at_b = (test_flash g (image_bytes a) (image_bytes b), refl)
-starts_exist g perm a b ok at_a at_b = (perm_flash g (image_bytes a) (image_bytes b), refl)
-starts_exist g revert a b ok at_a at_b = left_defined plain g (test_flash g (image_bytes b) (image_bytes a))
+starts_exist g starts.None a b ok at_a at_b = (placed g (image_bytes a) (image_bytes b), refl)
+starts_exist g starts.Test a b ok at_a at_b = (test_flash g (image_bytes a) (image_bytes b), refl)
+starts_exist g starts.Perm a b ok at_a at_b = (perm_flash g (image_bytes a) (image_bytes b), refl)
+starts_exist g starts.Revert a b ok at_a at_b = left_defined plain g (test_flash g (image_bytes b) (image_bytes a))

@@ -15,7 +15,9 @@ use Rattle.mc_boot.specs.Plan.{Plan, nothing, plan}
 use Rattle.mc_boot.specs.Restart.{AreExchanged, BeginsImage, EndsIn, Holds, IsSettled, IsSwapped, forgets_reverts}
 use Rattle.mc_boot.specs.Rounds.{AreBack, EndsAgain, IsIdle, RoundsLaw}
 use Rattle.mc_boot.specs.Runs.{after, left_by}
-use Rattle.mc_boot.specs.Start.{StartKind, image_bytes, named, no_swap, other, perm, placed, revert, start_flash, test, test_flash}
+use Rattle.mc_boot.specs.Start.{image_bytes, named, other, placed, start_flash, test_flash}
+use Rattle.mc_boot.specs.declared.kind.Kind.{Kind}
+use Rattle.mc_boot.specs.declared.kind.Kind.TheVariants as starts
 use Rattle.mc_flash.specs.Changes.{same_content}
 use Rattle.mc_flash.specs.Content.{Content}
 use Rattle.mc_flash.specs.Geometry.{Geometry, IsLayout}
@@ -32,7 +34,7 @@ twice : (g : Geometry) (n : ℕ) (s x z : Content) → AreExchanged g n s x → 
 twice g n s x z one two = record { primary = two.primary ∙ one.secondary; secondary = two.secondary ∙ one.primary }
 
 -- Where the first round leaves nothing to do, nothing is confirmed and the second round has no operation.
-module _ (r : Rules) (g : Geometry) (kind : StartKind) (confirms : Bool) (a b : List ℕ) (s x u : Content) (second : List ℕ) where
+module _ (r : Rules) (g : Geometry) (kind : Kind) (confirms : Bool) (a b : List ℕ) (s x u : Content) (second : List ℕ) where
   abbrev IsStill : Content → Type 0
   IsStill z = EndsIn r g kind a b s u z × IsIdle r g x u × (confirmed_if confirms g x ≡ x)
 
@@ -45,7 +47,7 @@ module _ (r : Rules) (g : Geometry) (kind : StartKind) (confirms : Bool) (a b : 
         (x, (subst E (sym there) (idle_ends r g x idle kind a b s none valid one two swapped), record { idle = idle; uncut = there }, same))
 
 -- A swap that stays.
-stays_round : (r : Rules) (g : Geometry) (kind : StartKind) (confirms : Bool) (a b : List ℕ) (s t x u y : Content) (second : List ℕ) → IsLayout g
+stays_round : (r : Rules) (g : Geometry) (kind : Kind) (confirms : Bool) (a b : List ℕ) (s t x u y : Content) (second : List ℕ) → IsLayout g
     → EndsIn r g kind a b s t y → IsSettled r g y → IsSwapped r g kind s y y → left_by r g t ≡ Some x → after r g (confirmed_if confirms g x) second ≡ Some u
     → (z : Content) × IsStill r g kind confirms a b s x u second z
 stays_round r g kind confirms a b s t x u y second ok e settled swapped left again =
@@ -74,15 +76,15 @@ module _ (laws : ImageLaws) (r : Rules) (g : Geometry) (a b : List ℕ) (ok : Is
       }
 
   none_round : (confirms : Bool) (s t x u : Content) (first second : List ℕ) → IsPlaced s → after r g s first ≡ Some t → left_by r g t ≡ Some x
-      → after r g (confirmed_if confirms g x) second ≡ Some u → (z : Content) × EndsAgain r g no_swap confirms a b s x u z
+      → after r g (confirmed_if confirms g x) second ≡ Some u → (z : Content) × EndsAgain r g starts.None confirms a b s x u z
   none_round confirms s t x u first second at_s is left again =
       let idle = ap (λ (p : Plan). p.list) at_s.none in
       let there : t ≡ s = uncut r g s idle t first is in
       let same : x ≡ s = same_content x s (sym left ∙ ap (left_by r g) there ∙ idle_leaves r g s idle) in
-      let E : Content → Type 0 = λ y. after r g (confirmed_if confirms g y) second ≡ Some u → (z : Content) × EndsAgain r g no_swap confirms a b s y u z in
+      let E : Content → Type 0 = λ y. after r g (confirmed_if confirms g y) second ≡ Some u → (z : Content) × EndsAgain r g starts.None confirms a b s y u z in
       let kind = ap (λ (p : Plan). p.kind) at_s.none in
       subst E (sym same)
-      (λ at. still_round r g no_swap confirms a b s s u second idle kind at_s.stays at at_s.first.valid (held_whole a s.primary at_s.first) (held_whole b s.secondary at_s.second) idle)
+      (λ at. still_round r g starts.None confirms a b s s u second idle kind at_s.stays at at_s.first.valid (held_whole a s.primary at_s.first) (held_whole b s.secondary at_s.second) idle)
       again
 
   -- A test.
@@ -101,14 +103,14 @@ module _ (laws : ImageLaws) (r : Rules) (g : Geometry) (a b : List ℕ) (ok : Is
       crossing y data_ = exchanged_pieces r.grain g (count_of g s) s y (exchanges (in_pieces r.grain g) s (larger_size s) (count_of g s) y pieces data_)
 
       -- left alone it is taken back
-      left_round : (u : Content) (second : List ℕ) → forgets_reverts r.grain r.profile ≡ false → after r g x second ≡ Some u → (z : Content) × EndsAgain r g test false a b s x u z
+      left_round : (u : Content) (second : List ℕ) → forgets_reverts r.grain r.profile ≡ false → after r g x second ≡ Some u → (z : Content) × EndsAgain r g starts.Test false a b s x u z
       left_round u second keeps again =
           let end = revert_law r.grain r.profile g b a x u (larger_size s) (count_of g s) second keeps round.reverts again in
           let back = by_start r g (count_of g s) x end.0 end.1.sectors end.1.exchange in
           let E : ℕ → Type 0 = λ m. AreBack g m s end.0 in (
             end.0,
             (
-              ended r g revert false (count_of g s) b a x u end.0 refl refl end.1 (back, end.1.trailer),
+              ended r g starts.Revert false (count_of g s) b a x u end.0 refl refl end.1 (back, end.1.trailer),
               subst E (sym round.sectors) (twice g (count_of g s) s x end.0 (crossing x round.made.2.data_) end.1.exchange),
             ),
           )
@@ -119,21 +121,21 @@ module _ (laws : ImageLaws) (r : Rules) (g : Geometry) (a b : List ℕ) (ok : Is
           let E : Content → Type 0 = λ m. Confirmed r (in_pieces r.grain g) s (count_of g s) m in
           subst E (confirmed_pieces r.grain g x) (confirmed_stays r (in_pieces r.grain g) s (larger_size s) (count_of g s) x pieces round.made)
 
-      kept_ends : EndsIn r g perm a b s (confirmed g x) (confirmed g x)
+      kept_ends : EndsIn r g starts.Perm a b s (confirmed g x) (confirmed g x)
       kept_ends =
           let settled = settled_on r.grain r.profile g (confirmed g x) kept.settled in
           let held = crossed (in_pieces r.grain g) s (larger_size s) (count_of g s) (confirmed g x) pieces kept.data_ in
           let upper = same_then b s.secondary (confirmed g x).primary (secondary_image g a b s laws ok at_b h) held.primary in
           let lower = same_then a s.primary (confirmed g x).secondary (primary_image g a b s laws ok at_a h) held.secondary in
           let over = by_start r g (count_of g s) s (confirmed g x) round.sectors (crossing (confirmed g x) kept.data_) in
-          idle_ends r g (confirmed g x) settled.idle perm a b s settled.next upper.valid
+          idle_ends r g (confirmed g x) settled.idle starts.Perm a b s settled.next upper.valid
           (held_whole b (confirmed g x).primary upper) (held_whole a (confirmed g x).secondary lower) (over, settled)
 
-      confirmed_round : (u : Content) (second : List ℕ) → after r g (confirmed g x) second ≡ Some u → (z : Content) × EndsAgain r g test true a b s x u z
+      confirmed_round : (u : Content) (second : List ℕ) → after r g (confirmed g x) second ≡ Some u → (z : Content) × EndsAgain r g starts.Test true a b s x u z
       confirmed_round u second again =
           let settled = settled_on r.grain r.profile g (confirmed g x) kept.settled in
           let there = uncut r g (confirmed g x) settled.idle u second again in
-          let E : Content → Type 0 = λ y. EndsIn r g perm a b s y (confirmed g x) in
+          let E : Content → Type 0 = λ y. EndsIn r g starts.Perm a b s y (confirmed g x) in
           (confirmed g x, (subst E (sym there) kept_ends, record { idle = settled.idle; uncut = there }))
 
   -- For every kind and choice.
@@ -144,19 +146,19 @@ module _ (laws : ImageLaws) (r : Rules) (g : Geometry) (a b : List ℕ) (ok : Is
 
 pub rounds_law : ImageLaws → (r : Rules) → RoundsLaw r
 unfolding start_flash
-rounds_law laws r g no_swap confirms a b s t x u first second ok at_a at_b keeps start is left again =
+rounds_law laws r g starts.None confirms a b s t x u first second ok at_a at_b keeps start is left again =
     let placed_there : placed g (image_bytes a) (image_bytes b) ≡ s = same_content (placed g (image_bytes a) (image_bytes b)) s start in
     let at_s = subst (IsPlaced laws r g a b ok at_a at_b) placed_there (placed_is laws r g a b ok at_a at_b) in
     none_round laws r g a b ok at_a at_b confirms s t x u first second at_s is left again
-rounds_law laws r g test false a b s t x u first second ok at_a at_b keeps start is left again =
+rounds_law laws r g starts.Test false a b s t x u first second ok at_a at_b keeps start is left again =
     let from = test_start laws r g a b ok at_a at_b s (same_content (test_flash g (image_bytes a) (image_bytes b)) s start) in
     left_round laws r g a b ok at_a at_b s from.0 from.1 t x first is left u second (keeps refl) again
-rounds_law laws r g test true a b s t x u first second ok at_a at_b keeps start is left again =
+rounds_law laws r g starts.Test true a b s t x u first second ok at_a at_b keeps start is left again =
     let from = test_start laws r g a b ok at_a at_b s (same_content (test_flash g (image_bytes a) (image_bytes b)) s start) in
     confirmed_round laws r g a b ok at_a at_b s from.0 from.1 t x first is left u second again
-rounds_law laws r g perm confirms a b s t x u first second ok at_a at_b keeps start is left again =
-    let e = restart_law laws r g perm a b s t first ok at_a at_b (λ same. absurd cc) start is in
-    stays_round r g perm confirms a b s t x u e.0 second ok e.1 e.1.swapped.1 e.1.swapped left again
-rounds_law laws r g revert confirms a b s t x u first second ok at_a at_b keeps start is left again =
-    let e = restart_law laws r g revert a b s t first ok at_a at_b (λ same. keeps refl) start is in
-    stays_round r g revert confirms a b s t x u e.0 second ok e.1 e.1.swapped.1 e.1.swapped left again
+rounds_law laws r g starts.Perm confirms a b s t x u first second ok at_a at_b keeps start is left again =
+    let e = restart_law laws r g starts.Perm a b s t first ok at_a at_b (λ same. absurd cc) start is in
+    stays_round r g starts.Perm confirms a b s t x u e.0 second ok e.1 e.1.swapped.1 e.1.swapped left again
+rounds_law laws r g starts.Revert confirms a b s t x u first second ok at_a at_b keeps start is left again =
+    let e = restart_law laws r g starts.Revert a b s t first ok at_a at_b (λ same. keeps refl) start is in
+    stays_round r g starts.Revert confirms a b s t x u e.0 second ok e.1 e.1.swapped.1 e.1.swapped left again

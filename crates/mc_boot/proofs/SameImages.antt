@@ -100,7 +100,8 @@ pub record HasImage (ys : List ℕ) : Type 0 where
   pub valid : is_valid image ≡ true
   pub same : SameImage image ys
 
-pub same_image : (ys zs : List ℕ) → ImageLaws → HasImage ys → image_size ys ≤ length ys → image_size ys ≤ length zs → ((i : ℕ) → i < image_size ys → slice_index zs i ≡ slice_index ys i) → SameImage ys zs
+pub same_image : (ys zs : List ℕ) → ImageLaws → HasImage ys → image_size ys ≤ length ys → image_size ys ≤ length zs → ((i : ℕ) → i < image_size ys → slice_index zs i ≡ slice_index ys i)
+    → SameImage ys zs
 same_image ys zs laws has at_ys at_zs same =
     let front : take (image_size ys) zs ≡ take (image_size ys) ys = same_fronts ys zs (image_size ys) at_ys at_zs same in
     let one = has.same in

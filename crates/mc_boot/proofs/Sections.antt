@@ -48,7 +48,8 @@ length-transfers g n =
     )
 
 -- an operation of a transfer
-pub get_transfer : (g : Geometry) (n first : ℕ) (image_ok : Bool) (k : ℕ) (t : Transfer) (op : Op) → slice_get (transfers g n) (first + k / (g.sector / g.chunk + 2)) ≡ Some t → slice_get (steps g t) (k % (g.sector / g.chunk + 2)) ≡ Some op → slice_get (from_transfer g n first image_ok) k ≡ Some op
+pub get_transfer : (g : Geometry) (n first : ℕ) (image_ok : Bool) (k : ℕ) (t : Transfer) (op : Op) → slice_get (transfers g n) (first + k / (g.sector / g.chunk + 2)) ≡ Some t
+    → slice_get (steps g t) (k % (g.sector / g.chunk + 2)) ≡ Some op → slice_get (from_transfer g n first image_ok) k ≡ Some op
 get_transfer g n first image_ok k t op at here =
     let w = g.sector / g.chunk + 2 in
     let below : k % w < w = mod_below k w (omega arith) in
@@ -57,7 +58,8 @@ get_transfer g n first image_ok k t op at here =
     (get_piece (steps g) w (length-steps g) (drop first (transfers g n)) k (k / w) (k % w) t (get_dropped first (transfers g n) (k / w) ∙ at) below parts ∙ here)
 
 -- the finish
-pub get_closing : (g : Geometry) (n first : ℕ) (image_ok : Bool) (k : ℕ) → 3 * n - first ≤ k / (g.sector / g.chunk + 2) → ((3 * n - first) * (g.sector / g.chunk + 2) ≤ k) × (slice_get (from_transfer g n first image_ok) k ≡ slice_get (closing g image_ok) (k - (3 * n - first) * (g.sector / g.chunk + 2)))
+pub get_closing : (g : Geometry) (n first : ℕ) (image_ok : Bool) (k : ℕ) → 3 * n - first ≤ k / (g.sector / g.chunk + 2) → ((3 * n - first) * (g.sector / g.chunk + 2) ≤ k)
+    × (slice_get (from_transfer g n first image_ok) k ≡ slice_get (closing g image_ok) (k - (3 * n - first) * (g.sector / g.chunk + 2)))
 get_closing g n first image_ok k past =
     let w = g.sector / g.chunk + 2 in
     let most : (3 * n - first) * w ≤ k / w * w = mul-le-mul_right w past in
@@ -95,7 +97,8 @@ few_transfers g n first ok fits =
         let more : q * 1 ≤ q * g.chunk = mul-le-mul_left q (omega (arith, some)) in
         omega (arith, more, e, big)
 
-pub length-swap_list : (c : Grain) (g : Geometry) (kind : SwapType) (size n : ℕ) → length (swap_list c g kind size n) ≡ trailer_sectors g + (length (opening_writes c g kind size) + length (resumed_list g n 0 true false))
+pub length-swap_list : (c : Grain) (g : Geometry) (kind : SwapType) (size n : ℕ) → length (swap_list c g kind size n) ≡ trailer_sectors g +
+    (length (opening_writes c g kind size) + length (resumed_list g n 0 true false))
 length-swap_list c g kind size n =
     length-erases g Primary (opening_writes c g kind size ++ resumed_list g n 0 true false)
     ∙ ap (λ m. trailer_sectors g + m) (length-append (opening_writes c g kind size) (resumed_list g n 0 true false))

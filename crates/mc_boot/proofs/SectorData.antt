@@ -38,7 +38,8 @@ data_begin g n start sized = record {
 }
 
 -- what stands behind the data sectors doesn't matter
-pub data_same : (g : Geometry) (n : ℕ) (start : Content) (k : ℕ) (s t : Content) → IsSized g t → ((o : Slot) (i : ℕ) → i < data_end g o → byte t o i ≡ byte s o i) → Data g n start k s → Data g n start k t
+pub data_same : (g : Geometry) (n : ℕ) (start : Content) (k : ℕ) (s t : Content) → IsSized g t → ((o : Slot) (i : ℕ) → i < data_end g o → byte t o i ≡ byte s o i) → Data g n start k s
+    → Data g n start k t
 data_same g n start k s t sized same data_ = record {
   sized = sized;
   held = λ o i m below short away. same o (i * g.sector + m) (omega (arith, short, sector_in_data g o i below)) ∙ data_.held o i m below short away;
@@ -74,7 +75,8 @@ source_no_target g n k x at inside y there slot sector =
     omega (arith, here, inside.apart to)
 
 -- one transfer more
-pub data_step : (g : Geometry) (n : ℕ) (start : Content) (k : ℕ) (s u : Content) (x : Transfer) → IsLayout g → n ≤ greatest_sectors g → slice_get (transfers g n) k ≡ Some x → Data g n start k s → Copied g s u x (g.sector / g.chunk) → Data g n start (k + 1) u
+pub data_step : (g : Geometry) (n : ℕ) (start : Content) (k : ℕ) (s u : Content) (x : Transfer) → IsLayout g → n ≤ greatest_sectors g → slice_get (transfers g n) k ≡ Some x → Data g n start k s
+    → Copied g s u x (g.sector / g.chunk) → Data g n start (k + 1) u
 data_step g n start k s u x ok few at data_ so = record {
   sized = so.sized;
   held = λ o i m below short away.

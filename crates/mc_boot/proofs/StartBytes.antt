@@ -28,7 +28,8 @@ image_short g a o laws ok image =
     let wide = ok.least_sector in
     let whole = length-image g a laws image in
     let rows : image_size a ≤ div_ceil (image_size a) g.sector * g.sector = (div_ceil_times (image_size a) g.sector (omega (arith, wide))).0 in
-    let few : div_ceil (image_size a) g.sector * g.sector ≤ data_end g o = mul-le-mul_right g.sector (image_is_data g o (div_ceil (image_size a) g.sector) (fits_few g (image_size a) ok image.fitting)) in
+    let few : div_ceil (image_size a) g.sector * g.sector ≤ data_end g o = mul-le-mul_right g.sector (image_is_data g o (div_ceil (image_size a) g.sector) (fits_few g (image_size a) ok image.fitting))
+    in
     omega (arith, rows, few, whole)
 
 -- bytes filled up
@@ -48,7 +49,8 @@ pub record Holding (g : Geometry) (a b : List ℕ) (s : Content) : Type 0 where
   pub primary : (i : ℕ) → i < length (image_bytes a) → slice_index s.primary i ≡ slice_index (image_bytes a) i
   pub secondary : (i : ℕ) → i < length (image_bytes b) → slice_index s.secondary i ≡ slice_index (image_bytes b) i
 
-held_image : (g : Geometry) (a xs : List ℕ) (o : Slot) → ImageLaws → IsLayout g → BeginsImage g a → length xs ≡ size_of g o → ((i : ℕ) → i < length (image_bytes a) → slice_index xs i ≡ slice_index (image_bytes a) i) → SameImage a xs
+held_image : (g : Geometry) (a xs : List ℕ) (o : Slot) → ImageLaws → IsLayout g → BeginsImage g a → length xs ≡ size_of g o
+    → ((i : ℕ) → i < length (image_bytes a) → slice_index xs i ≡ slice_index (image_bytes a) i) → SameImage a xs
 held_image g a xs o laws ok image len same =
     let whole = length-image g a laws image in
     image_front a xs laws image.bytes image.valid

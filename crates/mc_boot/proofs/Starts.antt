@@ -84,10 +84,15 @@ test_begins g x y ok short_x short_y = record {
 perm_begins : (g : Geometry) (x y : List ℕ) → IsLayout g → length x ≤ data_end g Primary → length y ≤ data_end g Secondary → Begins g x y (perm_flash g x y)
 unfolding marked
 perm_begins g x y ok short_x short_y = record {
-  sized = record { primary = length-filled g Primary x (short_in g x Primary ok short_x); secondary = length-put (marked g y) (1 ∷ []) (place g Secondary field.ImageOk) (ok_fits g (marked g y) ok (length-marked g y ok short_y)) ∙ length-marked g y ok short_y };
+  sized = record {
+    primary = length-filled g Primary x (short_in g x Primary ok short_x);
+    secondary =
+        length-put (marked g y) (1 ∷ []) (place g Secondary field.ImageOk) (ok_fits g (marked g y) ok (length-marked g y ok short_y)) ∙ length-marked g y ok short_y;
+  };
   primary = λ i h. filled_front g Primary x i h;
   secondary = λ i h.
-      put_before (marked g y) (1 ∷ []) (place g Secondary field.ImageOk) i (ok_fits g (marked g y) ok (length-marked g y ok short_y)) (omega (arith, h, short_y, place_behind_data g Secondary field.ImageOk ok))
+      put_before (marked g y) (1 ∷ []) (place g Secondary field.ImageOk) i (ok_fits g (marked g y) ok (length-marked g y ok short_y))
+      (omega (arith, h, short_y, place_behind_data g Secondary field.ImageOk ok))
       ∙ marked_front g y i ok short_y h;
 }
 
@@ -141,7 +146,9 @@ perm_asked g a b laws ok at_b = perm_fields g (image_bytes a) (image_bytes b) ok
 pub placed_unasked : (g : Geometry) (a b : List ℕ) (o : Slot) → ImageLaws → IsLayout g → BeginsImage g a → BeginsImage g b → FieldsAre g (placed g (image_bytes a) (image_bytes b)) o unasked
 placed_unasked g a b Primary laws ok at_a at_b =
     let inside = place_inside g Primary field.Magic ok in
-    unasked_from g (placed g (image_bytes a) (image_bytes b)) Primary (λ i h. filled_free g Primary (image_bytes a) (place g Primary field.Magic + i) (omega (arith, image_short g a Primary laws ok at_a, place_behind_data g Primary field.Magic ok)) (omega (arith, inside, h)))
+    unasked_from g (placed g (image_bytes a) (image_bytes b)) Primary (λ i h. filled_free g Primary (image_bytes a) (place g Primary field.Magic + i)
+    (omega (arith, image_short g a Primary laws ok at_a, place_behind_data g Primary field.Magic ok)) (omega (arith, inside, h)))
 placed_unasked g a b Secondary laws ok at_a at_b =
     let inside = place_inside g Secondary field.Magic ok in
-    unasked_from g (placed g (image_bytes a) (image_bytes b)) Secondary (λ i h. filled_free g Secondary (image_bytes b) (place g Secondary field.Magic + i) (omega (arith, image_short g b Secondary laws ok at_b, place_behind_data g Secondary field.Magic ok)) (omega (arith, inside, h)))
+    unasked_from g (placed g (image_bytes a) (image_bytes b)) Secondary (λ i h. filled_free g Secondary (image_bytes b) (place g Secondary field.Magic + i)
+    (omega (arith, image_short g b Secondary laws ok at_b, place_behind_data g Secondary field.Magic ok)) (omega (arith, inside, h)))

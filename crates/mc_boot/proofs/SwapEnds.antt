@@ -34,7 +34,8 @@ BootsSwap R c p g start size n b = (s : Content) → Phase R (in_pieces c g) sta
 no_panic : (b : Bool) (kind : SwapType) → IsSwapOf b kind → kind ≢ kinds.Panic
 no_panic b kind of same = let E : SwapType → Type 0 = λ k. IsSwapOf b k in subst E same of
 
-keeps_on : (R : Content → Type 0) (c : Grain) (p : Profile) (g : Geometry) (start : Content) (size n : ℕ) (b : Bool) → BootsSwap R c p g start size n b → (s : Content) → Phase R (in_pieces c g) start size n b s
+keeps_on : (R : Content → Type 0) (c : Grain) (p : Profile) (g : Geometry) (start : Content) (size n : ℕ) (b : Bool) → BootsSwap R c p g start size n b → (s : Content)
+    → Phase R (in_pieces c g) start size n b s
     → Keeps g (Phase R (in_pieces c g) start size n b) (plan (record { grain = c; profile = p }) g s).list s (Ended (in_pieces c g) start size n b)
 keeps_on R c p g start size n b boots s is =
     keeps_pieces c g (Phase R (in_pieces c g) start size n b) (Ended (in_pieces c g) start size n b) (plan (record { grain = c; profile = p }) g s).list s
@@ -47,10 +48,12 @@ pub record SwapEnds (c : Grain) (p : Profile) (g : Geometry) (start : Content) (
   pub calm : (plan (record { grain = c; profile = p }) g u).kind ≢ kinds.Panic
   pub sectors : (plan (record { grain = c; profile = p }) g start).sectors ≡ n
 
-pub swap_ends : (R : Content → Type 0) (c : Grain) (p : Profile) (g : Geometry) (start : Content) (size n : ℕ) (b : Bool) (cuts : List ℕ) (u : Content) → BootsSwap R c p g start size n b → Phase R (in_pieces c g) start size n b start → after (record { grain = c; profile = p }) g start cuts ≡ Some u
+pub swap_ends : (R : Content → Type 0) (c : Grain) (p : Profile) (g : Geometry) (start : Content) (size n : ℕ) (b : Bool) (cuts : List ℕ) (u : Content) → BootsSwap R c p g start size n b
+    → Phase R (in_pieces c g) start size n b start → after (record { grain = c; profile = p }) g start cuts ≡ Some u
     → (z : Content) × SwapEnds c p g start size n b u z
 swap_ends R c p g start size n b cuts u boots begin is =
-    let at_u = restart (record { grain = c; profile = p }) g (Phase R (in_pieces c g) start size n b) (Ended (in_pieces c g) start size n b) (keeps_on R c p g start size n b boots) cuts start u begin is in
+    let at_u = restart (record { grain = c; profile = p }) g (Phase R (in_pieces c g) start size n b) (Ended (in_pieces c g) start size n b) (keeps_on R c p g start size n b boots) cuts start u begin
+    is in
     let end = ends (record { grain = c; profile = p }) g (Phase R (in_pieces c g) start size n b) (Ended (in_pieces c g) start size n b) u (keeps_on R c p g start size n b boots u at_u) in
     let planned = (boots u at_u).planned in (
       end.0,

@@ -44,7 +44,8 @@ unasked_is g s i are below = are field.Magic i (omega (arith, below, length-repl
 -- an erase behind the data of a slot
 pub data_erased : (g : Geometry) (slot : Slot) (n : ℕ) (start : Content) (k i : ℕ) (s t : Content) → i < trailer_sectors g → Erased g slot i s t → Data g n start k s → Data g n start k t
 data_erased g slot n start k i s t below ch data_ =
-    data_same g n start k s t (changed_sized g s t slot _ _ ch data_.sized) (kept_below g s t slot ((sectors_of g slot - 1 - i) * g.sector) (replicate g.sector 255) ch (erase_behind_data g slot i below)) data_
+    data_same g n start k s t (changed_sized g s t slot _ _ ch data_.sized) (kept_below g s t slot ((sectors_of g slot - 1 - i) * g.sector) (replicate g.sector 255) ch
+    (erase_behind_data g slot i below)) data_
 
 -- the primary's trailer is made, and the secondary still asks
 pub record Ready (g : Geometry) (start : Content) (size n : ℕ) (b : Bool) (kind : SwapType) (s : Content) : Type 0 where
@@ -62,7 +63,8 @@ some_trailer g ok = by (trailer_sectors g) (trailer_covered g ok)
     by zero h = let none : zero * g.sector ≡ 0 = zero-mul g.sector in absurd (omega (arith, h, none))
     by (suc t) h = omega arith
 
-clears : (g : Geometry) (start : Content) (size n : ℕ) (b : Bool) (kind : SwapType) (i : ℕ) (t u : Content) → Swap g start size n → i < trailer_sectors g → Clearing g start size n b kind i t → Erased g Secondary i t u → Under g start size n kind 0 u
+clears : (g : Geometry) (start : Content) (size n : ℕ) (b : Bool) (kind : SwapType) (i : ℕ) (t u : Content) → Swap g start size n → i < trailer_sectors g → Clearing g start size n b kind i t
+    → Erased g Secondary i t u → Under g start size n kind 0 u
 clears g start size n b kind i t u w below (inl first) ch = record {
   primary = fields_same g t u Primary (opened g kind size) w.ok (λ p h. ch.other Primary p (λ e. cc)) first.1.primary;
   entries = let few = w.few in entries_kept g n 0 t u w.ok (omega (arith, few)) (omega arith) (λ p h l. ch.other Primary p (λ e. cc)) first.1.entries;
@@ -70,7 +72,8 @@ clears g start size n b kind i t u w below (inl first) ch = record {
   data_ = data_erased g Secondary n start 0 i t u below ch first.1.is_asked.data_;
 }
   where
-    last : ((p : ℕ) → (sectors_of g Secondary - 1 - i) * g.sector ≤ place g Secondary field.Magic + p) × ((p : ℕ) → p < 16 → place g Secondary field.Magic + p < (sectors_of g Secondary - 1 - i) * g.sector + g.sector)
+    last : ((p : ℕ) → (sectors_of g Secondary - 1 - i) * g.sector ≤ place g Secondary field.Magic + p)
+        × ((p : ℕ) → p < 16 → place g Secondary field.Magic + p < (sectors_of g Secondary - 1 - i) * g.sector + g.sector)
     last = at (sectors_of g Secondary - 1 - i) (let leaves = trailer_leaves_one g Secondary w.ok in let zero_ = first.0 in omega arith)
       where
         at : (k : ℕ) → sectors_of g Secondary ≡ k + 1 → ((p : ℕ) → k * g.sector ≤ place g Secondary field.Magic + p) × ((p : ℕ) → p < 16 → place g Secondary field.Magic + p < k * g.sector + g.sector)
@@ -86,11 +89,13 @@ clears g start size n b kind i t u w below (inr under) ch = record {
   data_ = data_erased g Secondary n start 0 i t u below ch under.data_;
 }
 
-clearing_bears : (R : Content → Type 0) (g : Geometry) (start : Content) (size n : ℕ) (b : Bool) (kind : SwapType) (i : ℕ) (t : Content) → IsSwapOf b kind → Clearing g start size n b kind i t → Phase R g start size n b t × IsSized g t
+clearing_bears : (R : Content → Type 0) (g : Geometry) (start : Content) (size n : ℕ) (b : Bool) (kind : SwapType) (i : ℕ) (t : Content) → IsSwapOf b kind → Clearing g start size n b kind i t
+    → Phase R g start size n b t × IsSized g t
 clearing_bears R g start size n b kind i t of (inl first) = (asks R g start size n b t first.1.is_asked, first.1.is_asked.data_.sized)
 clearing_bears R g start size n b kind i t of (inr under) = (runs R g start size n b kind 0 t of (omega arith) under, under.data_.sized)
 
-pub clearing_keeps : (R : Content → Type 0) (g : Geometry) (start : Content) (size n : ℕ) (b : Bool) (kind : SwapType) (s : Content) → Swap g start size n → IsSwapOf b kind → Clearing g start size n b kind 0 s
+pub clearing_keeps : (R : Content → Type 0) (g : Geometry) (start : Content) (size n : ℕ) (b : Bool) (kind : SwapType) (s : Content) → Swap g start size n → IsSwapOf b kind
+    → Clearing g start size n b kind 0 s
     → Keeps g (Phase R g start size n b) (resumed_list g n 0 true false) s (Ended g start size n b)
 clearing_keeps R g start size n b kind s w of is =
     keeps_append g (Phase R g start size n b) _ (Ended g start size n b) (trailer_erases g Secondary) (from_transfer g n 0 false) s
@@ -104,7 +109,8 @@ clearing_keeps R g start size n b kind s w of is =
     cleared t (inr under) = under
 
 -- no transfer made: the secondary's trailer is erased again
-pub resumed_keeps : (R : Content → Type 0) (g : Geometry) (start : Content) (size n : ℕ) (b : Bool) (kind : SwapType) (s : Content) → Swap g start size n → IsSwapOf b kind → Under g start size n kind 0 s
+pub resumed_keeps : (R : Content → Type 0) (g : Geometry) (start : Content) (size n : ℕ) (b : Bool) (kind : SwapType) (s : Content) → Swap g start size n → IsSwapOf b kind
+    → Under g start size n kind 0 s
     → Keeps g (Phase R g start size n b) (resumed_list g n 0 true false) s (Ended g start size n b)
 resumed_keeps R g start size n b kind s w of is = clearing_keeps R g start size n b kind s w of (inr is)
 
@@ -115,13 +121,15 @@ pub record Opening (g : Geometry) (start : Content) (n : ℕ) (b : Bool) (v : Fi
   pub is_asked : Asked g start n b s
 
 -- A swap that is asked for bears any change of the primary's trailer, so a field of it may be written in part.
-asked_after : (g : Geometry) (start : Content) (size n : ℕ) (b : Bool) (f : Field) (new : List ℕ) (s t : Content) → Swap g start size n → Asked g start n b s → Changed s t Primary (place g Primary f) new → Asked g start n b t
+asked_after : (g : Geometry) (start : Content) (size n : ℕ) (b : Bool) (f : Field) (new : List ℕ) (s t : Content) → Swap g start size n → Asked g start n b s
+    → Changed s t Primary (place g Primary f) new → Asked g start n b t
 asked_after g start size n b f new s t w is ch = record {
   secondary = fields_same g s t Secondary (asked b) w.ok (λ i _. ch.other Secondary i (λ e. cc)) is.secondary;
   data_ = data_same g n start 0 s t (changed_sized g s t Primary _ _ ch is.data_.sized) (kept_below g s t Primary (place g Primary f) new ch (place_behind_data g Primary f w.ok)) is.data_;
 }
 
-pub opening_field_keeps : (R : Content → Type 0) (g : Geometry) (start : Content) (size n : ℕ) (b : Bool) (c : Grain) (v : Field → List ℕ) (f : Field) (new : List ℕ) (s : Content) → Swap g start size n → Opening g start n b v s → FieldIs g s Primary f (replicate (room f) 255) → length new ≤ room f → length new % g.unit ≡ 0
+pub opening_field_keeps : (R : Content → Type 0) (g : Geometry) (start : Content) (size n : ℕ) (b : Bool) (c : Grain) (v : Field → List ℕ) (f : Field) (new : List ℕ) (s : Content)
+    → Swap g start size n → Opening g start n b v s → FieldIs g s Primary f (replicate (room f) 255) → length new ≤ room f → length new % g.unit ≡ 0
     → Keeps g (Phase R g start size n b) (write c g Primary f new) s (Opening g start n b (set_field v f new))
 opening_field_keeps R g start size n b c v f new s w is free short whole =
     keeps_then g (Phase R g start size n b) (λ t. Changed s t Primary (place g Primary f) new) (Opening g start n b (set_field v f new)) (write c g Primary f new) s
@@ -137,29 +145,37 @@ opening_field_keeps R g start size n b c v f new s w is free short whole =
 abbrev pub marked_by : Geometry → ℕ → (Field → List ℕ) → Field → List ℕ
 marked_by g size v = set_field (set_field v field.SwapSize (size_bytes g size)) field.Magic magic_bytes
 
-pub marking_keeps : (R : Content → Type 0) (c : Grain) (g : Geometry) (start : Content) (size n : ℕ) (b : Bool) (v : Field → List ℕ) (s : Content) → Swap g start size n → Opening g start n b v s → v field.SwapSize ≡ replicate 8 255 → v field.Magic ≡ replicate 16 255
+pub marking_keeps : (R : Content → Type 0) (c : Grain) (g : Geometry) (start : Content) (size n : ℕ) (b : Bool) (v : Field → List ℕ) (s : Content) → Swap g start size n → Opening g start n b v s
+    → v field.SwapSize ≡ replicate 8 255 → v field.Magic ≡ replicate 16 255
     → Keeps g (Phase R g start size n b) (marking c g Primary size) s (Opening g start n b (marked_by g size v))
 marking_keeps R c g start size n b v s w is free_size free_magic =
     keeps_append g (Phase R g start size n b) (Opening g start n b (set_field v field.SwapSize (size_bytes g size))) (Opening g start n b (marked_by g size v))
     (write c g Primary field.SwapSize (size_bytes g size)) (write c g Primary field.Magic magic_bytes) s
-    (opening_field_keeps R g start size n b c v field.SwapSize (size_bytes g size) s w is (field_as g s Primary field.SwapSize (v field.SwapSize) (replicate 8 255) free_size (is.primary field.SwapSize)) (size_bytes_fit g size w.ok) (size_bytes_whole g size w.ok))
-    (λ t k. opening_field_keeps R g start size n b c (set_field v field.SwapSize (size_bytes g size)) field.Magic magic_bytes t w k (field_as g t Primary field.Magic (v field.Magic) (replicate 16 255) free_magic (k.primary field.Magic)) (omega arith) (can_magic g Primary w.ok).units)
+    (opening_field_keeps R g start size n b c v field.SwapSize (size_bytes g size) s w is (field_as g s Primary field.SwapSize (v field.SwapSize) (replicate 8 255) free_size
+    (is.primary field.SwapSize)) (size_bytes_fit g size w.ok) (size_bytes_whole g size w.ok))
+    (λ t k. opening_field_keeps R g start size n b c (set_field v field.SwapSize (size_bytes g size)) field.Magic magic_bytes t w k
+    (field_as g t Primary field.Magic (v field.Magic) (replicate 16 255) free_magic (k.primary field.Magic)) (omega arith) (can_magic g Primary w.ok).units)
 
 -- a field of one unit, before other operations
-first_keeps : (R : Content → Type 0) (g : Geometry) (start : Content) (size n : ℕ) (b : Bool) (v : Field → List ℕ) (f : Field) (m : ℕ) (s : Content) → Swap g start size n → Opening g start n b v s → v f ≡ replicate (room f) 255
+first_keeps : (R : Content → Type 0) (g : Geometry) (start : Content) (size n : ℕ) (b : Bool) (v : Field → List ℕ) (f : Field) (m : ℕ) (s : Content) → Swap g start size n → Opening g start n b v s
+    → v f ≡ replicate (room f) 255
     → Keeps g (Phase R g start size n b) (write grains.Call g Primary f (one_unit g m)) s (Opening g start n b (set_field v f (one_unit g m)))
 first_keeps R g start size n b v f m s w is free =
-    opening_field_keeps R g start size n b grains.Call v f (one_unit g m) s w is (field_as g s Primary f (v f) (replicate (room f) 255) free (is.primary f)) (one_unit_fits g m f w.ok) (one_unit_whole g m w.ok)
+    opening_field_keeps R g start size n b grains.Call v f (one_unit g m) s w is (field_as g s Primary f (v f) (replicate (room f) 255) free (is.primary f)) (one_unit_fits g m f w.ok)
+    (one_unit_whole g m w.ok)
 
-is_ready : (g : Geometry) (start : Content) (size n : ℕ) (b : Bool) (kind : SwapType) (v : Field → List ℕ) (t : Content) → ((f : Field) → v f ≡ opened g kind size f) → Opening g start n b v t → Ready g start size n b kind t
+is_ready : (g : Geometry) (start : Content) (size n : ℕ) (b : Bool) (kind : SwapType) (v : Field → List ℕ) (t : Content) → ((f : Field) → v f ≡ opened g kind size f) → Opening g start n b v t
+    → Ready g start size n b kind t
 is_ready g start size n b kind v t same is = record { primary = fields_as g t Primary v (opened g kind size) same is.primary; entries = is.entries; is_asked = is.is_asked }
 
 opening_test : (R : Content → Type 0) (c : Grain) (g : Geometry) (start : Content) (size n : ℕ) (b : Bool) (s : Content) → Swap g start size n → Opening g start n b blank_fields s
     → Keeps g (Phase R g start size n b) (opening_writes c g kinds.Test size) s (Ready g start size n b kinds.Test)
 opening_test R c g start size n b s w is =
-    keeps_append g (Phase R g start size n b) (Opening g start n b (set_field blank_fields field.SwapInfo (one_unit g 2))) (Ready g start size n b kinds.Test) (info_write g kinds.Test ∷ []) (marking c g Primary size) s
+    keeps_append g (Phase R g start size n b) (Opening g start n b (set_field blank_fields field.SwapInfo (one_unit g 2))) (Ready g start size n b kinds.Test) (info_write g kinds.Test ∷ [])
+    (marking c g Primary size) s
     (first_keeps R g start size n b blank_fields field.SwapInfo 2 s w is refl)
-    (λ t k. keeps_then g (Phase R g start size n b) (Opening g start n b (marked_by g size (set_field blank_fields field.SwapInfo (one_unit g 2)))) (Ready g start size n b kinds.Test) (marking c g Primary size) t
+    (λ t k. keeps_then g (Phase R g start size n b) (Opening g start n b (marked_by g size (set_field blank_fields field.SwapInfo (one_unit g 2)))) (Ready g start size n b kinds.Test)
+    (marking c g Primary size) t
     (λ u k. is_ready g start size n b kinds.Test (marked_by g size (set_field blank_fields field.SwapInfo (one_unit g 2))) u same k)
     (marking_keeps R c g start size n b (set_field blank_fields field.SwapInfo (one_unit g 2)) t w k refl refl))
   where
@@ -173,12 +189,15 @@ opening_test R c g start size n b s w is =
 abbrev staying : Geometry → ℕ → Field → List ℕ
 staying g m = set_field (set_field blank_fields field.SwapInfo (one_unit g m)) field.ImageOk (one_unit g 1)
 
-opening_stays : (R : Content → Type 0) (c : Grain) (g : Geometry) (start : Content) (size n : ℕ) (b : Bool) (kind : SwapType) (s : Content) → Swap g start size n → Opening g start n b blank_fields s → is_test kind ≡ false
+opening_stays : (R : Content → Type 0) (c : Grain) (g : Geometry) (start : Content) (size n : ℕ) (b : Bool) (kind : SwapType) (s : Content) → Swap g start size n → Opening g start n b blank_fields s
+    → is_test kind ≡ false
     → Keeps g (Phase R g start size n b) (opening_writes c g kind size) s (Ready g start size n b kind)
 opening_stays R c g start size n b kind s w is stays =
-    let E : Bool → Type 0 = λ e. Keeps g (Phase R g start size n b) (info_write g kind ∷ (if e then marking c g Primary size else image_ok_write g Primary ∷ marking c g Primary size)) s (Ready g start size n b kind) in
+    let E : Bool → Type 0 = λ e. Keeps g (Phase R g start size n b) (info_write g kind ∷ (if e then marking c g Primary size else image_ok_write g Primary ∷ marking c g Primary size)) s
+    (Ready g start size n b kind) in
     subst E (sym stays)
-    (keeps_append g (Phase R g start size n b) (Opening g start n b (set_field blank_fields field.SwapInfo (one_unit g (number_of kind)))) (Ready g start size n b kind) (info_write g kind ∷ []) (image_ok_write g Primary ∷ marking c g Primary size) s
+    (keeps_append g (Phase R g start size n b) (Opening g start n b (set_field blank_fields field.SwapInfo (one_unit g (number_of kind)))) (Ready g start size n b kind) (info_write g kind ∷ [])
+    (image_ok_write g Primary ∷ marking c g Primary size) s
     (first_keeps R g start size n b blank_fields field.SwapInfo (number_of kind) s w is refl)
     (λ t k. keeps_append g (Phase R g start size n b) (Opening g start n b (staying g (number_of kind))) (Ready g start size n b kind) (image_ok_write g Primary ∷ []) (marking c g Primary size) t
     (first_keeps R g start size n b (set_field blank_fields field.SwapInfo (one_unit g (number_of kind))) field.ImageOk 1 t w k refl)
@@ -193,7 +212,8 @@ opening_stays R c g start size n b kind s w is stays =
     same field.SwapInfo = refl
     same field.SwapSize = refl
 
-pub opening_keeps : (R : Content → Type 0) (c : Grain) (g : Geometry) (start : Content) (size n : ℕ) (b : Bool) (kind : SwapType) (s : Content) → Swap g start size n → IsSwapOf b kind → Opening g start n b blank_fields s
+pub opening_keeps : (R : Content → Type 0) (c : Grain) (g : Geometry) (start : Content) (size n : ℕ) (b : Bool) (kind : SwapType) (s : Content) → Swap g start size n → IsSwapOf b kind
+    → Opening g start n b blank_fields s
     → Keeps g (Phase R g start size n b) (opening_writes c g kind size) s (Ready g start size n b kind)
 opening_keeps R c g start size n b kinds.Test s w of is = opening_test R c g start size n b s w is
 opening_keeps R c g start size n b kinds.Perm s w of is = opening_stays R c g start size n b kinds.Perm s w is refl
@@ -203,22 +223,26 @@ opening_keeps R c g start size n b kinds.Fail s w of is = absurd of
 opening_keeps R c g start size n b kinds.Panic s w of is = absurd of
 
 -- after the primary's trailer is erased
-pub freed : (g : Geometry) (start : Content) (size n : ℕ) (b : Bool) (s : Content) → Swap g start size n → Asked g start n b s → ((p : ℕ) → data_end g Primary ≤ p → p < size_of g Primary → byte s Primary p ≡ 255) → Opening g start n b blank_fields s
+pub freed : (g : Geometry) (start : Content) (size n : ℕ) (b : Bool) (s : Content) → Swap g start size n → Asked g start n b s
+    → ((p : ℕ) → data_end g Primary ≤ p → p < size_of g Primary → byte s Primary p ≡ 255) → Opening g start n b blank_fields s
 freed g start size n b s w is free = record {
   primary = λ f i h within.
       free (place g Primary f + i) (omega (arith, place_behind_data g Primary f w.ok)) (omega (arith, within, field_ends g Primary f w.ok))
       ∙ sym (get_or-replicate (room f) i 255 0 within);
-  entries = entries_none g n s (λ e i below h. free (entry_place g e + i) (omega (arith, entry_inside g e w.ok below, data_before_trailer g Primary w.ok)) (omega (arith, h, entry_ends g e w.ok below)));
+  entries = entries_none g n s (λ e i below h. free (entry_place g e + i) (omega (arith, entry_inside g e w.ok below, data_before_trailer g Primary w.ok))
+      (omega (arith, h, entry_ends g e w.ok below)));
   is_asked = is;
 }
 
-pub asked_erased : (g : Geometry) (start : Content) (size n : ℕ) (b : Bool) (i : ℕ) (t u : Content) → Swap g start size n → i < trailer_sectors g → Asked g start n b t → Erased g Primary i t u → Asked g start n b u
+pub asked_erased : (g : Geometry) (start : Content) (size n : ℕ) (b : Bool) (i : ℕ) (t u : Content) → Swap g start size n → i < trailer_sectors g → Asked g start n b t → Erased g Primary i t u
+    → Asked g start n b u
 asked_erased g start size n b i t u w below is ch = record {
   secondary = fields_same g t u Secondary (asked b) w.ok (λ p h. ch.other Secondary p (λ e. cc)) is.secondary;
   data_ = data_erased g Primary n start 0 i t u below ch is.data_;
 }
 
-pub swap_keeps : (R : Content → Type 0) (c : Grain) (g : Geometry) (start : Content) (size n : ℕ) (b : Bool) (kind : SwapType) (s : Content) → Swap g start size n → IsSwapOf b kind → Asked g start n b s
+pub swap_keeps : (R : Content → Type 0) (c : Grain) (g : Geometry) (start : Content) (size n : ℕ) (b : Bool) (kind : SwapType) (s : Content) → Swap g start size n → IsSwapOf b kind
+    → Asked g start n b s
     → Keeps g (Phase R g start size n b) (swap_list c g kind size n) s (Ended g start size n b)
 swap_keeps R c g start size n b kind s w of is =
     keeps_append g (Phase R g start size n b) _ (Ended g start size n b) (trailer_erases g Primary) (opening_writes c g kind size ++ resumed_list g n 0 true false) s

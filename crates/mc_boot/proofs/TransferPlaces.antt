@@ -14,7 +14,8 @@ get_moved g n t h =
 
 get_pair : (g : Geometry) (n t i j : ℕ) → i < n → j < 2 → t ≡ n + (i * 2 + j) → slice_get (transfers g n) t ≡ slice_get (brought_in g i ∷ taken_out g i ∷ []) j
 get_pair g n t i j h b e =
-    get_behind (map (moved_up n) (range_with_len 0 n)) (flat_map (λ i. brought_in g i ∷ taken_out g i ∷ []) (range_with_len 0 n)) t (i * 2 + j) (omega (arith, e, length-map-range_with_len (moved_up n) 0 n))
+    get_behind (map (moved_up n) (range_with_len 0 n)) (flat_map (λ i. brought_in g i ∷ taken_out g i ∷ []) (range_with_len 0 n)) t (i * 2 + j)
+    (omega (arith, e, length-map-range_with_len (moved_up n) 0 n))
     ∙ get_piece (λ i. brought_in g i ∷ taken_out g i ∷ []) 2 (λ _. refl) (range_with_len 0 n) (i * 2 + j) i j i (get_counted n i h) b refl
 
 pub get_brought : (g : Geometry) (n t i : ℕ) → i < n → t ≡ n + i * 2 → slice_get (transfers g n) t ≡ Some (brought_in g i)

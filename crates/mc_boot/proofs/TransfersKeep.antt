@@ -35,14 +35,16 @@ trailer_outside g n k x o i fits behind same =
     inr (omega (arith, here, sector_in_data g x.to x.to_sector fits.to_data))
 
 -- the trailers after copies of a transfer
-trailers_kept : (g : Geometry) (n k c : ℕ) (s u : Content) (x : Transfer) → IsLayout g → Fits g n k x → Copied g s u x c → (o : Slot) (i : ℕ) → size_of g o ≤ i + trailer_bytes g → byte u o i ≡ byte s o i
+trailers_kept : (g : Geometry) (n k c : ℕ) (s u : Content) (x : Transfer) → IsLayout g → Fits g n k x → Copied g s u x c → (o : Slot) (i : ℕ) → size_of g o ≤ i + trailer_bytes g
+    → byte u o i ≡ byte s o i
 trailers_kept g n k c s u x ok fits so o i behind = so.elsewhere o i (trailer_outside g n k x o i fits (omega (arith, behind, data_before_trailer g o ok)))
 
 field_in_trailer : (g : Geometry) (o : Slot) (i : ℕ) → size_of g o ≤ i + 48 → size_of g o ≤ i + trailer_bytes g
 field_in_trailer g o i h = omega (arith, h)
 
 -- a transfer made in part
-under_half : (g : Geometry) (start : Content) (size n : ℕ) (kind : SwapType) (k c : ℕ) (s u : Content) (x : Transfer) → Swap g start size n → k ≤ 3 * n → slice_get (transfers g n) k ≡ Some x → Under g start size n kind k s → Copied g s u x c → Under g start size n kind k u
+under_half : (g : Geometry) (start : Content) (size n : ℕ) (kind : SwapType) (k c : ℕ) (s u : Content) (x : Transfer) → Swap g start size n → k ≤ 3 * n → slice_get (transfers g n) k ≡ Some x
+    → Under g start size n kind k s → Copied g s u x c → Under g start size n kind k u
 under_half g start size n kind k c s u x w most at is so =
     let fits = fits_at g n k x w.ok w.few at in
     let kept = trailers_kept g n k c s u x w.ok fits so in
@@ -55,7 +57,8 @@ under_half g start size n kind k c s u x w most at is so =
     }
 
 -- a transfer made
-under_next : (g : Geometry) (start : Content) (size n : ℕ) (kind : SwapType) (k : ℕ) (s v : Content) (x : Transfer) → Swap g start size n → slice_get (transfers g n) k ≡ Some x → Under g start size n kind k s → Transferred g s v x → Under g start size n kind (k + 1) v
+under_next : (g : Geometry) (start : Content) (size n : ℕ) (kind : SwapType) (k : ℕ) (s v : Content) (x : Transfer) → Swap g start size n → slice_get (transfers g n) k ≡ Some x
+    → Under g start size n kind k s → Transferred g s v x → Under g start size n kind (k + 1) v
 under_next g start size n kind k s v x w at is so = record {
   primary = fields_same g u v Primary (opened g kind size) w.ok (λ i h. written.behind i (omega (arith, h, len, ends))) half.primary;
   entries = entry_step g n k u v w.ok (omega (arith, few)) below half.entries written;
@@ -93,7 +96,8 @@ under_next g start size n kind k s v x w at is so = record {
     inside = entry_inside g (entry_number g n k) w.ok (number_below g n k (omega (arith, few)) below)
 
 -- one transfer
-one_keeps : (R : Content → Type 0) (g : Geometry) (start : Content) (size n : ℕ) (b : Bool) (kind : SwapType) (k : ℕ) (s : Content) (x : Transfer) → Swap g start size n → IsSwapOf b kind → slice_get (transfers g n) k ≡ Some x → Under g start size n kind k s
+one_keeps : (R : Content → Type 0) (g : Geometry) (start : Content) (size n : ℕ) (b : Bool) (kind : SwapType) (k : ℕ) (s : Content) (x : Transfer) → Swap g start size n → IsSwapOf b kind
+    → slice_get (transfers g n) k ≡ Some x → Under g start size n kind k s
     → Keeps g (Phase R g start size n b) (steps g x) s (λ v. Transferred g s v x)
 one_keeps R g start size n b kind k s x w of at is =
     let fits = fits_at g n k x w.ok w.few at in
@@ -113,7 +117,8 @@ one_keeps R g start size n b kind k s x w of at is =
     over : (k : ℕ) → 0 < k → entry_number g n (k - 1) < entry_number g n k
     over k some = let few = w.few in number_up g n (k - 1) k (omega (arith, few)) (omega (arith, some))
 
-pub transfers_keep : (R : Content → Type 0) (g : Geometry) (start : Content) (size n : ℕ) (b : Bool) (kind : SwapType) (m k : ℕ) (s : Content) → Swap g start size n → IsSwapOf b kind → k + m ≡ 3 * n → Under g start size n kind k s
+pub transfers_keep : (R : Content → Type 0) (g : Geometry) (start : Content) (size n : ℕ) (b : Bool) (kind : SwapType) (m k : ℕ) (s : Content) → Swap g start size n → IsSwapOf b kind → k + m ≡ 3 * n
+    → Under g start size n kind k s
     → Keeps g (Phase R g start size n b) (flat_map (steps g) (drop k (transfers g n))) s (Under g start size n kind (3 * n))
 transfers_keep R g start size n b kind zero k s w of whole is =
     let E : List Transfer → Type 0 = λ l. Keeps g (Phase R g start size n b) (flat_map (steps g) l) s (Under g start size n kind (3 * n)) in
@@ -132,7 +137,8 @@ transfers_keep R g start size n b kind (suc m) k s w of whole is =
     (λ v so. transfers_keep R g start size n b kind m (k + 1) v w of (omega (arith, whole)) (under_next g start size n kind k s v there.0 w there.1 is so)))
 
 -- copy-done
-closing_keeps : (R : Content → Type 0) (g : Geometry) (start : Content) (size n : ℕ) (b : Bool) (kind : SwapType) (s : Content) → Swap g start size n → IsSwapOf b kind → Under g start size n kind (3 * n) s
+closing_keeps : (R : Content → Type 0) (g : Geometry) (start : Content) (size n : ℕ) (b : Bool) (kind : SwapType) (s : Content) → Swap g start size n → IsSwapOf b kind
+    → Under g start size n kind (3 * n) s
     → Keeps g (Phase R g start size n b) (closing g false) s (Ended g start size n b)
 closing_keeps R g start size n b kind s w of is =
     let does = field_write g s Primary field.CopyDone (one_unit g 1) w.ok is.data_.sized (is.primary field.CopyDone) (one_unit_fits g 1 field.CopyDone w.ok) in (
@@ -144,9 +150,11 @@ closing_keeps R g start size n b kind s w of is =
           kind,
           of,
           record {
-            primary = fields_as g does.0 Primary _ (closed g kind size) closes (write_field g s does.0 Primary (opened g kind size) field.CopyDone (one_unit g 1) w.ok (one_unit_fits g 1 field.CopyDone w.ok) is.primary does.2);
+            primary = fields_as g does.0 Primary _ (closed g kind size) closes (write_field g s does.0 Primary (opened g kind size) field.CopyDone (one_unit g 1) w.ok
+                (one_unit_fits g 1 field.CopyDone w.ok) is.primary does.2);
             secondary = fields_same g s does.0 Secondary unasked w.ok (λ i h. does.2.other Secondary i (λ e. cc)) is.secondary;
-            data_ = data_same g n start (3 * n) s does.0 (changed_sized g s does.0 Primary _ _ does.2 is.data_.sized) (kept_below g s does.0 Primary (place g Primary field.CopyDone) (one_unit g 1) does.2 (place_behind_data g Primary field.CopyDone w.ok)) is.data_;
+            data_ = data_same g n start (3 * n) s does.0 (changed_sized g s does.0 Primary _ _ does.2 is.data_.sized)
+                (kept_below g s does.0 Primary (place g Primary field.CopyDone) (one_unit g 1) does.2 (place_behind_data g Primary field.CopyDone w.ok)) is.data_;
           },
         ),
       ),
@@ -160,7 +168,8 @@ closing_keeps R g start size n b kind s w of is =
     closes field.SwapSize = refl
 
 -- all that is left
-pub rest_keeps : (R : Content → Type 0) (g : Geometry) (start : Content) (size n : ℕ) (b : Bool) (kind : SwapType) (k : ℕ) (s : Content) → Swap g start size n → IsSwapOf b kind → k ≤ 3 * n → Under g start size n kind k s
+pub rest_keeps : (R : Content → Type 0) (g : Geometry) (start : Content) (size n : ℕ) (b : Bool) (kind : SwapType) (k : ℕ) (s : Content) → Swap g start size n → IsSwapOf b kind → k ≤ 3 * n
+    → Under g start size n kind k s
     → Keeps g (Phase R g start size n b) (from_transfer g n k false) s (Ended g start size n b)
 rest_keeps R g start size n b kind k s w of most is =
     keeps_append g (Phase R g start size n b) (Under g start size n kind (3 * n)) (Ended g start size n b) (flat_map (steps g) (drop k (transfers g n))) (closing g false) s

@@ -15,7 +15,8 @@ use Rattle.mc_boot.specs.Image.{image_size}
 use Rattle.mc_boot.specs.Plan.{Plan, plan}
 use Rattle.mc_boot.specs.Restart.{BeginsImage}
 use Rattle.mc_boot.specs.Runs.{first_then, happening, is_faulted, ops_of}
-use Rattle.mc_boot.specs.Start.{image_bytes, start_flash, test, test_flash}
+use Rattle.mc_boot.specs.Start.{image_bytes, start_flash, test_flash}
+use Rattle.mc_boot.specs.declared.kind.Kind.TheVariants as starts
 use Rattle.mc_boot.specs.WholeSwap.{MakesSwap}
 use Rattle.mc_flash.specs.Apply.{apply}
 use Rattle.mc_flash.specs.Changes.{same_content}
@@ -69,7 +70,7 @@ pub makes_swap : ImageLaws → (c : Grain) (g : Geometry) (n : ℕ) → IsLayout
 unfolding start_flash
 makes_swap laws c g n ok long r a b s of most start =
     let start_is = same_content (test_flash g (image_bytes a) (image_bytes b)) s start in
-    let end = restart_law laws r g test a b s s [] ok most.first most.second (λ e. absurd (cc)) start refl in
+    let end = restart_law laws r g starts.Test a b s s [] ok most.first most.second (λ e. absurd (cc)) start refl in
     let count : count_of g s ≡ greatest_sectors g = ap (λ m. div_ceil m g.sector) (larger_is laws r g a b s ok most.first most.second start_is) ∙ most.most in
     length-ops_of r g s end.1.whole
     ∙ ap (λ (p : Plan). length p.list) (test_plan laws r g a b s ok most.first most.second start_is)

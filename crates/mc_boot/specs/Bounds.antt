@@ -1,6 +1,7 @@
 -- How much a boot does at most: how many operations, and how many bytes their erases save. Proved here, so that the
 -- crates above can cite it.
-use Rattle.std.specs.Prelude.{◌≡◌, ◌⊎◌, ℕ, zero, suc, ◌+◌, ◌-◌, ◌*◌, ◌/◌, ◌≤◌, ◌==◌, ◌||◌, not, nat_lt, Bool, true, false, if◌then◌else◌, List, [], ◌∷◌, ◌++◌, length, take, drop, map, flat_map, Option, Some, None, refl}
+use Rattle.std.specs.Prelude.{◌≡◌, ◌⊎◌, ℕ, zero, suc, ◌+◌, ◌-◌, ◌*◌, ◌/◌, ◌≤◌, ◌==◌, ◌||◌, not, nat_lt, Bool, true, false, if◌then◌else◌, List, [], ◌∷◌, ◌++◌, length, take, drop, map, flat_map}
+use Rattle.std.specs.Prelude.{Option, Some, None, refl}
 use Rattle.std.specs.Int.{div_ceil}
 use Rattle.std.specs.List.{range_with_len}
 use Rattle.std.proofs.Common.{arith, sym, ap, subst, length-append, inl, inr}
@@ -142,7 +143,8 @@ marked : (g : Geometry) (c : Grain) (l : Geometry) (slot : Slot) (size : ℕ) �
 marked g c l slot size ok =
     let a = write_count c l (length (size_bytes l size)) in
     let b = write_count c l (length magic_bytes) in
-    let both = join g (write c l slot field.SwapSize (size_bytes l size)) (write c l slot field.Magic magic_bytes) a 0 b 0 (field_write g c l slot field.SwapSize (size_bytes l size)) (field_write g c l slot field.Magic magic_bytes) in
+    let both = join g (write c l slot field.SwapSize (size_bytes l size)) (write c l slot field.Magic magic_bytes) a 0 b 0 (field_write g c l slot field.SwapSize (size_bytes l size))
+    (field_write g c l slot field.Magic magic_bytes) in
     wider g (marking c l slot size) (a + b) (0 + 0) (marking_count c l) 0 (marking_few c l size ok) (omega arith) both
 
 prepared : (g : Geometry) (c : Grain) (l : Geometry) (size : ℕ) → IsLayout l → IsBounded g (preparation_writes c l size) (1 + marking_count c l) 0
@@ -204,16 +206,20 @@ transferred g l n start =
     (pieces g (steps l) (l.sector / l.chunk + 2) g.sector (stepped g l) left)
 
 finished : (g l : Geometry) (n start : ℕ) (image_ok : Bool) → IsBounded g (from_transfer l n start image_ok) (3 * n * (l.sector / l.chunk + 2) + closing_count image_ok) (3 * n * g.sector + 0)
-finished g l n start image_ok = join g (flat_map (steps l) (drop start (transfers l n))) (closing l image_ok) (3 * n * (l.sector / l.chunk + 2)) (3 * n * g.sector) (closing_count image_ok) 0 (transferred g l n start) (closed g l image_ok)
+finished g l n start image_ok = join g (flat_map (steps l) (drop start (transfers l n))) (closing l image_ok) (3 * n * (l.sector / l.chunk + 2)) (3 * n * g.sector) (closing_count image_ok) 0
+    (transferred g l n start) (closed g l image_ok)
 
 resumed : (g l : Geometry) (n start : ℕ) (erased image_ok : Bool)
     → IsBounded g (resumed_list l n start erased image_ok) (trailer_sectors l + (3 * n * (l.sector / l.chunk + 2) + closing_count image_ok)) (trailer_sectors l * g.sector + (3 * n * g.sector + 0))
 resumed g l n start erased image_ok =
     let rest = finished g l n start image_ok in
-    let all = join g (trailer_erases l Secondary) (from_transfer l n start image_ok) (trailer_sectors l) (trailer_sectors l * g.sector) (3 * n * (l.sector / l.chunk + 2) + closing_count image_ok) (3 * n * g.sector + 0) (erases g l Secondary) rest in
-    let short = wider g (from_transfer l n start image_ok) (3 * n * (l.sector / l.chunk + 2) + closing_count image_ok) (3 * n * g.sector + 0) (trailer_sectors l + (3 * n * (l.sector / l.chunk + 2) + closing_count image_ok)) (trailer_sectors l * g.sector + (3 * n * g.sector + 0))
+    let all = join g (trailer_erases l Secondary) (from_transfer l n start image_ok) (trailer_sectors l) (trailer_sectors l * g.sector) (3 * n * (l.sector / l.chunk + 2) + closing_count image_ok)
+    (3 * n * g.sector + 0) (erases g l Secondary) rest in
+    let short = wider g (from_transfer l n start image_ok) (3 * n * (l.sector / l.chunk + 2) + closing_count image_ok) (3 * n * g.sector + 0)
+    (trailer_sectors l + (3 * n * (l.sector / l.chunk + 2) + closing_count image_ok)) (trailer_sectors l * g.sector + (3 * n * g.sector + 0))
     (behind (trailer_sectors l) (3 * n * (l.sector / l.chunk + 2) + closing_count image_ok)) (behind (trailer_sectors l * g.sector) (3 * n * g.sector + 0)) rest in
-    chosen g erased (trailer_erases l Secondary ++ from_transfer l n start image_ok) (from_transfer l n start image_ok) (trailer_sectors l + (3 * n * (l.sector / l.chunk + 2) + closing_count image_ok)) (trailer_sectors l * g.sector + (3 * n * g.sector + 0)) all short
+    chosen g erased (trailer_erases l Secondary ++ from_transfer l n start image_ok) (from_transfer l n start image_ok)
+    (trailer_sectors l + (3 * n * (l.sector / l.chunk + 2) + closing_count image_ok)) (trailer_sectors l * g.sector + (3 * n * g.sector + 0)) all short
   where
     behind : (a b : ℕ) → b ≤ a + b
     behind a b = omega arith
@@ -223,23 +229,31 @@ abbrev swap_count : (t m z : ℕ) → ℕ
 swap_count t m z = t + (1 + (1 + m) + (t + (z + 1)))
 
 swapped : (g : Geometry) (c : Grain) (l : Geometry) (kind : SwapType) (size n : ℕ) → IsLayout l
-    → IsBounded g (swap_list c l kind size n) (swap_count (trailer_sectors l) (marking_count c l) (3 * n * (l.sector / l.chunk + 2))) (trailer_sectors l * g.sector + (0 + (trailer_sectors l * g.sector + (3 * n * g.sector + 0))))
+    → IsBounded g (swap_list c l kind size n) (swap_count (trailer_sectors l) (marking_count c l) (3 * n * (l.sector / l.chunk + 2)))
+    (trailer_sectors l * g.sector + (0 + (trailer_sectors l * g.sector + (3 * n * g.sector + 0))))
 swapped g c l kind size n ok =
     let t = trailer_sectors l in
     let z = 3 * n * (l.sector / l.chunk + 2) in
-    join g (trailer_erases l Primary) (opening_writes c l kind size ++ resumed_list l n 0 true false) t (t * g.sector) (1 + (1 + marking_count c l) + (t + (z + 1))) (0 + (t * g.sector + (3 * n * g.sector + 0))) (erases g l Primary)
-    (join g (opening_writes c l kind size) (resumed_list l n 0 true false) (1 + (1 + marking_count c l)) 0 (t + (z + 1)) (t * g.sector + (3 * n * g.sector + 0)) (opened g c l kind size ok) (resumed g l n 0 true false))
+    join g (trailer_erases l Primary) (opening_writes c l kind size ++ resumed_list l n 0 true false) t (t * g.sector) (1 + (1 + marking_count c l) + (t + (z + 1)))
+    (0 + (t * g.sector + (3 * n * g.sector + 0))) (erases g l Primary)
+    (join g (opening_writes c l kind size) (resumed_list l n 0 true false) (1 + (1 + marking_count c l)) 0 (t + (z + 1)) (t * g.sector + (3 * n * g.sector + 0)) (opened g c l kind size ok)
+    (resumed g l n 0 true false))
 
 begun : (g : Geometry) (c : Grain) (l : Geometry) (kind : SwapType) (size n : ℕ) → IsLayout l
-    → IsBounded g (new_list c l kind size n) (trailer_sectors l + (1 + marking_count c l + swap_count (trailer_sectors l) (marking_count c l) (3 * n * (l.sector / l.chunk + 2)))) (3 * (trailer_sectors l * g.sector) + 3 * n * g.sector)
-begun g c l kind size n ok = made (trailer_sectors l) (marking_count c l) (3 * n * (l.sector / l.chunk + 2)) (trailer_sectors l * g.sector) (3 * n * g.sector) (erases g l Secondary) (prepared g c l size ok) (swapped g c l kind size n ok)
+    → IsBounded g (new_list c l kind size n) (trailer_sectors l + (1 + marking_count c l + swap_count (trailer_sectors l) (marking_count c l) (3 * n * (l.sector / l.chunk + 2))))
+    (3 * (trailer_sectors l * g.sector) + 3 * n * g.sector)
+begun g c l kind size n ok = made (trailer_sectors l) (marking_count c l) (3 * n * (l.sector / l.chunk + 2)) (trailer_sectors l * g.sector) (3 * n * g.sector) (erases g l Secondary)
+    (prepared g c l size ok) (swapped g c l kind size n ok)
   where
-    made : (t m z e f : ℕ) → IsBounded g (trailer_erases l Secondary) t e → IsBounded g (preparation_writes c l size) (1 + m) 0 → IsBounded g (swap_list c l kind size n) (swap_count t m z) (e + (0 + (e + (f + 0))))
+    made : (t m z e f : ℕ) → IsBounded g (trailer_erases l Secondary) t e → IsBounded g (preparation_writes c l size) (1 + m) 0
+        → IsBounded g (swap_list c l kind size n) (swap_count t m z) (e + (0 + (e + (f + 0))))
         → IsBounded g (new_list c l kind size n) (t + (1 + m + swap_count t m z)) (3 * e + f)
     made t m z e f p q s =
-        let long = join g (trailer_erases l Secondary) (preparation_writes c l size ++ swap_list c l kind size n) t e (1 + m + swap_count t m z) (0 + (e + (0 + (e + (f + 0))))) p (join g (preparation_writes c l size) (swap_list c l kind size n) (1 + m) 0 (swap_count t m z) (e + (0 + (e + (f + 0)))) q s) in
+        let long = join g (trailer_erases l Secondary) (preparation_writes c l size ++ swap_list c l kind size n) t e (1 + m + swap_count t m z) (0 + (e + (0 + (e + (f + 0))))) p
+        (join g (preparation_writes c l size) (swap_list c l kind size n) (1 + m) 0 (swap_count t m z) (e + (0 + (e + (f + 0)))) q s) in
         chosen g (is_revert kind) (trailer_erases l Secondary ++ (preparation_writes c l size ++ swap_list c l kind size n)) (swap_list c l kind size n) (t + (1 + m + swap_count t m z)) (3 * e + f)
-        (wider g (trailer_erases l Secondary ++ (preparation_writes c l size ++ swap_list c l kind size n)) (t + (1 + m + swap_count t m z)) (e + (0 + (e + (0 + (e + (f + 0)))))) (t + (1 + m + swap_count t m z)) (3 * e + f) (omega arith) (omega arith) long)
+        (wider g (trailer_erases l Secondary ++ (preparation_writes c l size ++ swap_list c l kind size n)) (t + (1 + m + swap_count t m z)) (e + (0 + (e + (0 + (e + (f + 0))))))
+        (t + (1 + m + swap_count t m z)) (3 * e + f) (omega arith) (omega arith) long)
         (wider g (swap_list c l kind size n) (swap_count t m z) (e + (0 + (e + (f + 0)))) (t + (1 + m + swap_count t m z)) (3 * e + f) (omega arith) (omega arith) s)
 
 -- ---- plans
@@ -269,11 +283,13 @@ two_magics u is = elim is [
 
 begun_few : (c : Grain) (g : Geometry) (n : ℕ) → IsLayout g → n ≤ greatest_sectors g
     → (let l : Geometry = in_pieces c g in trailer_sectors l + (1 + marking_count c l + swap_count (trailer_sectors l) (marking_count c l) (3 * n * (l.sector / l.chunk + 2)))) ≤ most_operations c g
-begun_few grains.Call g n ok few = total (trailer_sectors g) (3 * n * (g.sector / g.chunk + 2)) (3 * greatest_sectors g * (g.sector / g.chunk + 2)) (more_sectors n (greatest_sectors g) (g.sector / g.chunk + 2) few)
+begun_few grains.Call g n ok few = total (trailer_sectors g) (3 * n * (g.sector / g.chunk + 2)) (3 * greatest_sectors g * (g.sector / g.chunk + 2))
+    (more_sectors n (greatest_sectors g) (g.sector / g.chunk + 2) few)
   where
     total : (t z y : ℕ) → z ≤ y → t + (1 + 2 + swap_count t 2 z) ≤ 3 * t + 9 + y
     total t z y h = omega (arith, h)
-begun_few grains.Unit g n ok few = total (trailer_sectors g) (div_ceil 4 g.unit) (16 / g.unit) (32 / g.unit) (3 * n * (g.sector / g.unit + 2)) (3 * greatest_sectors g * (g.sector / g.unit + 2)) (two_magics g.unit ok.unit) (more_sectors n (greatest_sectors g) (g.sector / g.unit + 2) few)
+begun_few grains.Unit g n ok few = total (trailer_sectors g) (div_ceil 4 g.unit) (16 / g.unit) (32 / g.unit) (3 * n * (g.sector / g.unit + 2)) (3 * greatest_sectors g * (g.sector / g.unit + 2))
+    (two_magics g.unit ok.unit) (more_sectors n (greatest_sectors g) (g.sector / g.unit + 2) few)
   where
     total : (t d m k z y : ℕ) → 2 * m ≤ k → z ≤ y → t + (1 + (d + m) + swap_count t (d + m) z) ≤ 3 * t + 5 + 2 * d + k + y
     total t d m k z y a h = omega (arith, a, h)
@@ -284,12 +300,14 @@ begun_saves grains.Unit g n few = three_sections (trailer_sectors g) g.sector n 
 
 resumed_few : (c : Grain) (g : Geometry) (n : ℕ) (image_ok : Bool) → n ≤ greatest_sectors g
     → (let l : Geometry = in_pieces c g in trailer_sectors l + (3 * n * (l.sector / l.chunk + 2) + closing_count image_ok)) ≤ most_operations c g
-resumed_few grains.Call g n image_ok few = total (trailer_sectors g) (3 * n * (g.sector / g.chunk + 2)) (3 * greatest_sectors g * (g.sector / g.chunk + 2)) image_ok (more_sectors n (greatest_sectors g) (g.sector / g.chunk + 2) few)
+resumed_few grains.Call g n image_ok few = total (trailer_sectors g) (3 * n * (g.sector / g.chunk + 2)) (3 * greatest_sectors g * (g.sector / g.chunk + 2)) image_ok
+    (more_sectors n (greatest_sectors g) (g.sector / g.chunk + 2) few)
   where
     total : (t z y : ℕ) (b : Bool) → z ≤ y → t + (z + closing_count b) ≤ 3 * t + 9 + y
     total t z y true h = omega (arith, h)
     total t z y false h = omega (arith, h)
-resumed_few grains.Unit g n image_ok few = total (trailer_sectors g) (2 * div_ceil 4 g.unit) (32 / g.unit) (3 * n * (g.sector / g.unit + 2)) (3 * greatest_sectors g * (g.sector / g.unit + 2)) image_ok (more_sectors n (greatest_sectors g) (g.sector / g.unit + 2) few)
+resumed_few grains.Unit g n image_ok few = total (trailer_sectors g) (2 * div_ceil 4 g.unit) (32 / g.unit) (3 * n * (g.sector / g.unit + 2)) (3 * greatest_sectors g * (g.sector / g.unit + 2)) image_ok
+    (more_sectors n (greatest_sectors g) (g.sector / g.unit + 2) few)
   where
     total : (t d k z y : ℕ) (b : Bool) → z ≤ y → t + (z + closing_count b) ≤ 3 * t + 5 + d + k + y
     total t d k z y true h = omega (arith, h)
@@ -304,13 +322,15 @@ resumed_saves c g n few = less (trailer_sectors (in_pieces c g) * g.sector) (3 *
 new_list_bounded : (c : Grain) (g : Geometry) (kind : SwapType) (size n : ℕ) → IsLayout g → n ≤ greatest_sectors g → IsBoot c g (new_list c (in_pieces c g) kind size n)
 new_list_bounded c g kind size n ok few =
     let l : Geometry = in_pieces c g in
-    wider g (new_list c l kind size n) (trailer_sectors l + (1 + marking_count c l + swap_count (trailer_sectors l) (marking_count c l) (3 * n * (l.sector / l.chunk + 2)))) (3 * (trailer_sectors l * g.sector) + 3 * n * g.sector) (most_operations c g) (most_saved g)
+    wider g (new_list c l kind size n) (trailer_sectors l + (1 + marking_count c l + swap_count (trailer_sectors l) (marking_count c l) (3 * n * (l.sector / l.chunk + 2))))
+    (3 * (trailer_sectors l * g.sector) + 3 * n * g.sector) (most_operations c g) (most_saved g)
     (begun_few c g n ok few) (begun_saves c g n few) (begun g c l kind size n (pieces_layout c g ok))
 
 resumed_list_bounded : (c : Grain) (g : Geometry) (n start : ℕ) (erased image_ok : Bool) → n ≤ greatest_sectors g → IsBoot c g (resumed_list (in_pieces c g) n start erased image_ok)
 resumed_list_bounded c g n start erased image_ok few =
     let l : Geometry = in_pieces c g in
-    wider g (resumed_list l n start erased image_ok) (trailer_sectors l + (3 * n * (l.sector / l.chunk + 2) + closing_count image_ok)) (trailer_sectors l * g.sector + (3 * n * g.sector + 0)) (most_operations c g) (most_saved g)
+    wider g (resumed_list l n start erased image_ok) (trailer_sectors l + (3 * n * (l.sector / l.chunk + 2) + closing_count image_ok)) (trailer_sectors l * g.sector + (3 * n * g.sector + 0))
+    (most_operations c g) (most_saved g)
     (resumed_few c g n image_ok few) (resumed_saves c g n few) (resumed g l n start erased image_ok)
 
 chosen_plan : (c : Grain) (g : Geometry) (b : Bool) (p q : Plan) → (b ≡ true → IsBoot c g p.list) → (b ≡ false → IsBoot c g q.list) → IsBoot c g (if b then p else q).list
@@ -339,7 +359,8 @@ new_plan_bounded c g images kinds.Revert ok = new_swap_bounded c g images kinds.
 new_plan_bounded c g images kinds.Fail ok = idle_plan c g kinds.Fail
 new_plan_bounded c g images kinds.Panic ok = idle_plan c g kinds.Panic
 
-resumed_from_bounded : (c : Grain) (g : Geometry) (image_ok : Flag) (highest : Option ℕ) (kind : SwapType) (n : ℕ) (start : Option ℕ) → n ≤ greatest_sectors g → IsBoot c g (resumed_from c g image_ok highest kind n start).list
+resumed_from_bounded : (c : Grain) (g : Geometry) (image_ok : Flag) (highest : Option ℕ) (kind : SwapType) (n : ℕ) (start : Option ℕ) → n ≤ greatest_sectors g
+    → IsBoot c g (resumed_from c g image_ok highest kind n start).list
 resumed_from_bounded c g image_ok highest kind n None few = idle_plan c g kinds.Panic
 resumed_from_bounded c g image_ok highest kind n (Some start) few = resumed_list_bounded c g n start _ _ few
 
@@ -436,7 +457,8 @@ come_few r g s p t ok come =
     let P : List Op → Type 0 = λ ops. p.count + length ops ≤ most_operations r.grain g in
     subst P (sym come.rest) (left_over p.faulted (drop p.count (plan r g s).list) P (omega (arith, within, few)) (omega (arith, within, few, length-drop p.count (plan r g s).list)))
 
-pub come_saves : (r : Rules) (g : Geometry) (s : Content) (p : Progress) (t : Content) → IsLayout g → HasCome r g s p t → all_saves g (take p.count (plan r g s).list) + all_saves g p.to_come ≤ most_saved g
+pub come_saves : (r : Rules) (g : Geometry) (s : Content) (p : Progress) (t : Content) → IsLayout g → HasCome r g s p t
+    → all_saves g (take p.count (plan r g s).list) + all_saves g p.to_come ≤ most_saved g
 come_saves r g s p t ok come =
     let few = plan_saves r g s ok in
     let both = take_and_drop g p.count (plan r g s).list in

@@ -48,6 +48,16 @@ transfer_reach g n first erases =
     if first == 3 * n then 0
     else (if erases then trailer_sectors g else 0) + (g.sector / g.chunk + 1)
 
+-- How many erases a course of n sectors begins with that begins so, before it writes in their sectors: of a trailer, and of the
+-- sector that a transfer copies to. After the last transfer none.
+abbrev pub erases_at : Geometry → ℕ → Opening → ℕ
+erases_at g n (New kind size) = trailer_sectors g
+erases_at g n (Resumed first erases image_ok) =
+    if first == 3 * n then 0 else (if erases then trailer_sectors g else 0) + 1
+
+abbrev pub erases_of : Course → ℕ
+erases_of b = erases_at b.layout b.sectors b.opening
+
 -- The course a was cut after c operations, and the course b of the next boot begins so: how many operations of a are not
 -- made again, where b goes on with a. A swap from its start goes on with the same swap that was cut in its opening: all are
 -- made again. A swap that was cut goes on where a comes to it, and what a made of it wrote only in sectors that b erases first.

@@ -15,6 +15,8 @@ pub mod StepFacts
 pub mod WriteFacts
 pub mod Outcome
 pub mod Joins
+pub mod Idle
+pub mod Rejoin
 pub mod After
 pub mod Texts
 pub mod Start

@@ -18,7 +18,9 @@ use Rattle.mc_boot.specs.Image.{image_size}
 use Rattle.mc_boot.specs.Outcome.{outcome_of}
 use Rattle.mc_boot.specs.Plan.{plan}
 use Rattle.mc_boot.specs.Runs.{after, is_faulted, left_by}
-use Rattle.mc_boot.specs.Start.{StartKind, no_swap, test, perm, revert, start_flash, image_bytes, named, other}
+use Rattle.mc_boot.specs.Start.{start_flash, image_bytes, named, other}
+use Rattle.mc_boot.specs.declared.kind.Kind.{Kind}
+use Rattle.mc_boot.specs.declared.kind.Kind.TheVariants as starts
 
 -- Bytes that begin with a valid image which fits.
 pub record BeginsImage (g : Geometry) (b : List ℕ) : Type 0 where
@@ -50,15 +52,15 @@ pub record IsSettled (r : Rules) (g : Geometry) (z : Content) : Type 0 where
   pub idle : (plan r g z).list ≡ []
 
 -- What the kind of start asks for is done, where the start was s, the last boot began at u and left z.
-abbrev pub IsSwapped : Rules → Geometry → StartKind → Content → Content → Content → Type 0
-IsSwapped r g no_swap s u z = (plan r g u).list ≡ []
-IsSwapped r g test s u z = AreExchanged g (plan r g s).sectors s z × IsTested r g z
-IsSwapped r g perm s u z = AreExchanged g (plan r g s).sectors s z × IsSettled r g z
-IsSwapped r g revert s u z = AreExchanged g (plan r g s).sectors s z × IsSettled r g z
+abbrev pub IsSwapped : Rules → Geometry → Kind → Content → Content → Content → Type 0
+IsSwapped r g starts.None s u z = (plan r g u).list ≡ []
+IsSwapped r g starts.Test s u z = AreExchanged g (plan r g s).sectors s z × IsTested r g z
+IsSwapped r g starts.Perm s u z = AreExchanged g (plan r g s).sectors s z × IsSettled r g z
+IsSwapped r g starts.Revert s u z = AreExchanged g (plan r g s).sectors s z × IsSettled r g z
 
 -- The boot from u is the last, and ends what the start s of the images of a and b asked for: it leaves z, no operation of
 -- it is refused, its type is no panic and its result is to boot; the images stand in their slots.
-pub record EndsIn (r : Rules) (g : Geometry) (kind : StartKind) (a b : List ℕ) (s u z : Content) : Type 0 where
+pub record EndsIn (r : Rules) (g : Geometry) (kind : Kind) (a b : List ℕ) (s u z : Content) : Type 0 where
   pub end : left_by r g u ≡ Some z
   pub whole : is_faulted r g u ≡ false
   pub calm : (plan r g u).kind ≢ kinds.Panic
@@ -78,7 +80,7 @@ forgets_reverts grains.Unit profiles.Two = false
 -- Each layout, kind and pair of images has a start.
 abbrev pub StartsExist : Type 0
 StartsExist =
-    (g : Geometry) (kind : StartKind) (a b : List ℕ) → IsLayout g → BeginsImage g a → BeginsImage g b
+    (g : Geometry) (kind : Kind) (a b : List ℕ) → IsLayout g → BeginsImage g a → BeginsImage g b
     → (s : Content) × (start_flash g kind a b ≡ Some s)
 
 -- By these rules, for every layout, kind of start and pair of images, and every list of cuts of any length that can occur:
@@ -86,7 +88,7 @@ StartsExist =
 -- so that this says it of each boot on the way too: none refuses an operation, none panics, and uncut each would end so.
 abbrev pub RestartLaw : Rules → Type 0
 RestartLaw r =
-    (g : Geometry) (kind : StartKind) (a b : List ℕ) (s u : Content) (cuts : List ℕ)
-    → IsLayout g → BeginsImage g a → BeginsImage g b → (kind ≡ revert → forgets_reverts r.grain r.profile ≡ false)
+    (g : Geometry) (kind : Kind) (a b : List ℕ) (s u : Content) (cuts : List ℕ)
+    → IsLayout g → BeginsImage g a → BeginsImage g b → (kind ≡ starts.Revert → forgets_reverts r.grain r.profile ≡ false)
     → start_flash g kind a b ≡ Some s → after r g s cuts ≡ Some u
     → (z : Content) × EndsIn r g kind a b s u z

@@ -8,7 +8,9 @@ use Rattle.mc_boot.specs.Confirm.{confirmed_if}
 use Rattle.mc_boot.specs.Plan.{plan}
 use Rattle.mc_boot.specs.Restart.{BeginsImage, EndsIn, forgets_reverts}
 use Rattle.mc_boot.specs.Runs.{after, left_by}
-use Rattle.mc_boot.specs.Start.{StartKind, no_swap, test, perm, revert, start_flash}
+use Rattle.mc_boot.specs.Start.{start_flash}
+use Rattle.mc_boot.specs.declared.kind.Kind.{Kind}
+use Rattle.mc_boot.specs.declared.kind.Kind.TheVariants as starts
 
 -- The first n sectors of the two slots of s stand in z again, byte for byte.
 pub record AreBack (g : Geometry) (n : ℕ) (s z : Content) : Type 0 where
@@ -22,31 +24,31 @@ pub record IsIdle (r : Rules) (g : Geometry) (m u : Content) : Type 0 where
 
 -- What the last boot of the second round, from u, ends in. The start was s of the images of a and b, and the first round left x;
 -- the image that it left in the primary has confirmed itself or not.
-abbrev pub EndsAgain : Rules → Geometry → StartKind → Bool → List ℕ → List ℕ → Content → Content → Content → Content → Type 0
+abbrev pub EndsAgain : Rules → Geometry → Kind → Bool → List ℕ → List ℕ → Content → Content → Content → Content → Type 0
 -- A test that was left alone is taken back: it ends as a revert of the exchanged images does, and all is where it was.
-EndsAgain r g test false a b s x u z = EndsIn r g revert b a x u z × AreBack g (plan r g s).sectors s z
+EndsAgain r g starts.Test false a b s x u z = EndsIn r g starts.Revert b a x u z × AreBack g (plan r g s).sectors s z
 -- A test that was confirmed stays, as an upgrade does.
-EndsAgain r g test true a b s x u z = EndsIn r g perm a b s u z × IsIdle r g (confirmed_if true g x) u
+EndsAgain r g starts.Test true a b s x u z = EndsIn r g starts.Perm a b s u z × IsIdle r g (confirmed_if true g x) u
 -- Of the others nothing is confirmed, and the first round's end stays.
-EndsAgain r g no_swap confirms a b s x u z =
-    EndsIn r g no_swap a b s u z × IsIdle r g x u × (confirmed_if confirms g x ≡ x)
-EndsAgain r g perm confirms a b s x u z = EndsIn r g perm a b s u z × IsIdle r g x u × (confirmed_if confirms g x ≡ x)
-EndsAgain r g revert confirms a b s x u z =
-    EndsIn r g revert a b s u z × IsIdle r g x u × (confirmed_if confirms g x ≡ x)
+EndsAgain r g starts.None confirms a b s x u z =
+    EndsIn r g starts.None a b s u z × IsIdle r g x u × (confirmed_if confirms g x ≡ x)
+EndsAgain r g starts.Perm confirms a b s x u z = EndsIn r g starts.Perm a b s u z × IsIdle r g x u × (confirmed_if confirms g x ≡ x)
+EndsAgain r g starts.Revert confirms a b s x u z =
+    EndsIn r g starts.Revert a b s u z × IsIdle r g x u × (confirmed_if confirms g x ≡ x)
 
 -- One of the two rounds makes a revert.
-abbrev pub has_revert : StartKind → Bool → Bool
-has_revert no_swap confirms = false
-has_revert test true = false
-has_revert test false = true
-has_revert perm confirms = false
-has_revert revert confirms = true
+abbrev pub has_revert : Kind → Bool → Bool
+has_revert starts.None confirms = false
+has_revert starts.Test true = false
+has_revert starts.Test false = true
+has_revert starts.Perm confirms = false
+has_revert starts.Revert confirms = true
 
 -- By these rules, for every layout, kind of start, pair of images and choice, and lists of cuts of any length in both rounds: the
 -- boot from the flash that they leave ends so. Of the first round the restart law says what its last boot ends in.
 abbrev pub RoundsLaw : Rules → Type 0
 RoundsLaw r =
-    (g : Geometry) (kind : StartKind) (confirms : Bool) (a b : List ℕ) (s t x u : Content) (first second : List ℕ)
+    (g : Geometry) (kind : Kind) (confirms : Bool) (a b : List ℕ) (s t x u : Content) (first second : List ℕ)
     → IsLayout g → BeginsImage g a → BeginsImage g b
     → (has_revert kind confirms ≡ true → forgets_reverts r.grain r.profile ≡ false)
     → start_flash g kind a b ≡ Some s → after r g s first ≡ Some t → left_by r g t ≡ Some x

@@ -1,5 +1,6 @@
 -- What follows from where a boot is on its way. Proved here, so that the crates above can cite it.
-use Rattle.std.specs.Prelude.{◌≡◌, ℕ, zero, suc, ◌+◌, ◌<◌, ◌≤◌, nat_lt, Bool, true, false, if◌then◌else◌, List, [], ◌∷◌, ◌++◌, length, take, drop, Option, Some, None, option_and_then, option_map, Result, Ok, Err, refl}
+use Rattle.std.specs.Prelude.{◌≡◌, ℕ, zero, suc, ◌+◌, ◌<◌, ◌≤◌, nat_lt, Bool, true, false, if◌then◌else◌, List, [], ◌∷◌, ◌++◌, length, take, drop, Option, Some, None, option_and_then, option_map}
+use Rattle.std.specs.Prelude.{Result, Ok, Err, refl}
 use Rattle.std.proofs.Common.{arith, inl, inr, sym, ap, subst, ◌∙◌}
 use Rattle.std.proofs.lemmas.Bool.Decides.{nat_tests}
 use Rattle.std.proofs.lemmas.List.{length-take-le, length-drop, take_at, append-nil}
@@ -40,7 +41,8 @@ first_applied g ops more t u behind None e = absurd cc
 first_applied g ops more t u behind (Some x) e = behind x e
 
 -- One more operation is applied.
-pub applied_next : (g : Geometry) (ops rest : List Op) (op : Op) (k : ℕ) (s t u : Content) → applied g (take k ops) s ≡ Some t → drop k ops ≡ op ∷ rest → apply g op t ≡ Some u → applied g (take (suc k) ops) s ≡ Some u
+pub applied_next : (g : Geometry) (ops rest : List Op) (op : Op) (k : ℕ) (s t u : Content) → applied g (take k ops) s ≡ Some t → drop k ops ≡ op ∷ rest → apply g op t ≡ Some u
+    → applied g (take (suc k) ops) s ≡ Some u
 applied_next g [] rest op zero s t u is next given = absurd cc
 applied_next g [] rest op (suc k) s t u is next given = absurd cc
 applied_next g (first ∷ ops) rest op zero s t u is next given =
@@ -106,8 +108,10 @@ come_steps r s p q old new result come steps = go p.to_come refl result steps
           rules = come.rules;
           kind = come.kind;
           within = omega (arith, more_left (plan r old.geometry s).list rest op p.count next.1);
-          happened = ap (λ n. applied old.geometry (take n (plan r old.geometry s).list) s) (plus_one p.count) ∙ applied_next old.geometry (plan r old.geometry s).list rest op p.count s old.content new.content come.happened next.1 given;
-          rest = left_is p.faulted rest (drop (p.count + 1) (plan r old.geometry s).list) next.0 (sym (ap (λ n. drop n (plan r old.geometry s).list) (plus_one p.count) ∙ drop_next (plan r old.geometry s).list rest op p.count next.1));
+          happened = ap (λ n. applied old.geometry (take n (plan r old.geometry s).list) s) (plus_one p.count) ∙ applied_next old.geometry (plan r old.geometry s).list rest op p.count s old.content
+              new.content come.happened next.1 given;
+          rest = left_is p.faulted rest (drop (p.count + 1) (plan r old.geometry s).list) next.0
+              (sym (ap (λ n. drop n (plan r old.geometry s).list) (plus_one p.count) ∙ drop_next (plan r old.geometry s).list rest op p.count next.1));
           refused = λ e. let q : true ≡ false = sym e ∙ next.0 in absurd cc;
         }
 
@@ -164,7 +168,12 @@ come_count r g s p t come = length-take-le p.count (plan r g s).list come.within
 
 pub come_within : (r : Rules) (g : Geometry) (s : Content) (p : Progress) (t : Content) → HasCome r g s p t → p.count ≤ length (ops_of r g s)
 come_within r g s p t come =
-    omega (arith, come_count r g s p t come, ap (λ (ops : List Op). length ops) (come_front r g s p t come), length-append (take p.count (plan r g s).list) (happening g (drop p.count (plan r g s).list) t))
+    omega (
+      arith,
+      come_count r g s p t come,
+      ap (λ (ops : List Op). length ops) (come_front r g s p t come),
+      length-append (take p.count (plan r g s).list) (happening g (drop p.count (plan r g s).list) t),
+    )
 
 -- The flash is what the first operations of the uncut boot leave.
 pub come_at : (r : Rules) (g : Geometry) (s : Content) (p : Progress) (t : Content) → HasCome r g s p t → at r g s p.count ≡ Some t
@@ -176,7 +185,8 @@ come_at r g s p t come =
 
 pub come_ops : (r : Rules) (g : Geometry) (s : Content) (p : Progress) (t : Content) → HasCome r g s p t → p.to_come ≡ [] → length (ops_of r g s) ≡ p.count
 come_ops r g s p t come end =
-    ap (λ (ops : List Op). length ops) (come_front r g s p t come ∙ ap (λ (ops : List Op). take p.count (plan r g s).list ++ ops) (ends r g s p t come end).0 ∙ append-nil (take p.count (plan r g s).list))
+    ap (λ (ops : List Op). length ops) (come_front r g s p t come ∙ ap (λ (ops : List Op). take p.count (plan r g s).list ++ ops) (ends r g s p t come end).0 ∙ append-nil
+    (take p.count (plan r g s).list))
     ∙ come_count r g s p t come
 
 pub come_faulted : (r : Rules) (g : Geometry) (s : Content) (p : Progress) (t : Content) → HasCome r g s p t → p.to_come ≡ [] → is_faulted r g s ≡ p.faulted

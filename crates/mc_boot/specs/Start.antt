@@ -9,13 +9,8 @@ use Rattle.mc_trailer.specs.declared.places.Field.TheVariants as field
 use Rattle.mc_boot.specs.Image.{image_size}
 use Rattle.mc_boot.specs.Plan.{plain}
 use Rattle.mc_boot.specs.Runs.{left_by}
-
--- What the flash asks for: nothing, a swap for a test, one for good, or that a test is taken back.
-pub data StartKind : Type 0 where
-  no_swap : StartKind
-  test : StartKind
-  perm : StartKind
-  revert : StartKind
+use Rattle.mc_boot.specs.declared.kind.Kind.{Kind}
+use Rattle.mc_boot.specs.declared.kind.Kind.TheVariants as starts
 
 -- The image that the bytes begin with, without what follows it.
 abbrev pub image_bytes : List ℕ → List ℕ
@@ -45,21 +40,21 @@ perm_flash g a b = with_image_ok g (with_magic g (placed g a b))
 
 -- The start of the images that a and b begin with. That of a revert is what the whole swap of b and a for a test leaves, by
 -- whole calls and the first profile, whatever the rules of the boots from there on.
-unfoldable pub start_flash : Geometry → StartKind → List ℕ → List ℕ → Option Content
-start_flash g no_swap a b = Some (placed g (image_bytes a) (image_bytes b))
-start_flash g test a b = Some (test_flash g (image_bytes a) (image_bytes b))
-start_flash g perm a b = Some (perm_flash g (image_bytes a) (image_bytes b))
-start_flash g revert a b = left_by plain g (test_flash g (image_bytes b) (image_bytes a))
+unfoldable pub start_flash : Geometry → Kind → List ℕ → List ℕ → Option Content
+start_flash g starts.None a b = Some (placed g (image_bytes a) (image_bytes b))
+start_flash g starts.Test a b = Some (test_flash g (image_bytes a) (image_bytes b))
+start_flash g starts.Perm a b = Some (perm_flash g (image_bytes a) (image_bytes b))
+start_flash g starts.Revert a b = left_by plain g (test_flash g (image_bytes b) (image_bytes a))
 
 -- The image that the primary is to hold at the end, and the secondary's.
-abbrev pub named : StartKind → List ℕ → List ℕ → List ℕ
-named no_swap a b = a
-named test a b = b
-named perm a b = b
-named revert a b = b
+abbrev pub named : Kind → List ℕ → List ℕ → List ℕ
+named starts.None a b = a
+named starts.Test a b = b
+named starts.Perm a b = b
+named starts.Revert a b = b
 
-abbrev pub other : StartKind → List ℕ → List ℕ → List ℕ
-other no_swap a b = b
-other test a b = a
-other perm a b = a
-other revert a b = a
+abbrev pub other : Kind → List ℕ → List ℕ → List ℕ
+other starts.None a b = b
+other starts.Test a b = a
+other starts.Perm a b = a
+other starts.Revert a b = a

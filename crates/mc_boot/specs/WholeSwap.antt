@@ -13,7 +13,8 @@ use Rattle.mc_boot.specs.Course.{new_list}
 use Rattle.mc_boot.specs.Image.{image_size}
 use Rattle.mc_boot.specs.Restart.{BeginsImage}
 use Rattle.mc_boot.specs.Runs.{ops_of}
-use Rattle.mc_boot.specs.Start.{start_flash, test}
+use Rattle.mc_boot.specs.Start.{start_flash}
+use Rattle.mc_boot.specs.declared.kind.Kind.TheVariants as starts
 
 -- Its operations.
 abbrev pub largest_swap : Grain → Geometry → List Op
@@ -31,5 +32,5 @@ pub record TakeMost (g : Geometry) (a b : List ℕ) : Type 0 where
 -- So many operations happen in the boot that swaps such images for a test, by either profile.
 abbrev pub MakesSwap : Grain → Geometry → ℕ → Type 0
 MakesSwap c g n =
-    (r : Rules) (a b : List ℕ) (s : Content) → r.grain ≡ c → TakeMost g a b → start_flash g test a b ≡ Some s
+    (r : Rules) (a b : List ℕ) (s : Content) → r.grain ≡ c → TakeMost g a b → start_flash g starts.Test a b ≡ Some s
     → length (ops_of r g s) ≡ n

@@ -322,6 +322,13 @@ impl Boot {
         }
     }
 
+    /// The course of its operations; none where it has none.
+    pub(crate) fn course(&self) -> Option<Course>
+        ensures { result ≡ self.now.course }
+    {
+        self.course
+    }
+
     /// How many operations happened.
     pub fn count(&self) -> u32
         ensures { result ≡ (progress self.now).count }

@@ -1,5 +1,5 @@
 //! Where the boot after a power cut goes on with the boot that was cut.
-ghost use Rattle.std.specs.Prelude.{◌≡◌, ℕ, ◌≤◌};
+ghost use Rattle.std.specs.Prelude.{◌≡◌, ℕ, ◌≤◌, IfSome};
 ghost use Rattle.mc_flash.specs.Geometry.{IsLayout};
 ghost use Rattle.mc_boot.specs.Joins.{is_same_swap, starts_as, comes_to, opening_reach, transfer_reach, joins_from, joins_of};
 ghost use Rattle.mc_boot.specs.declared.course.Opening.TheVariants.{New, Resumed};
@@ -83,7 +83,8 @@ fn transfer_reach(course: &Course, first: u32, erases: bool) -> u32
 
 /// `joins` where the next course is a swap from its start.
 fn begins_anew(cut: &Course, done: u32, next: &Course, kind: SwapType, size: u32) -> Option<u32>
-    ensures { result ≡ joins_from cut.now done next.now (New kind size) }
+    ensures test { result ≡ joins_from cut.now done next.now (New kind size) }
+    ensures few { IfSome result (λ kept. kept ≤ 204000000) }
 {
     if !is_same_swap(cut, next) {
         return None;
@@ -104,7 +105,8 @@ fn goes_on(
     erases: bool,
     image_ok: bool,
 ) -> Option<u32>
-    ensures { result ≡ joins_from cut.now done next.now (Resumed first erases image_ok) }
+    ensures test { result ≡ joins_from cut.now done next.now (Resumed first erases image_ok) }
+    ensures few { IfSome result (λ kept. kept ≤ 204000000) }
 {
     // Each number of a layout tells that it is one.
     let _sector = next.layout.sector();
@@ -133,6 +135,7 @@ fn goes_on(
 /// None elsewhere.
 pub fn joins(cut: &Course, done: u32, next: &Course) -> Option<u32>
     ensures test { result ≡ joins_of cut.now done next.now }
+    ensures few { IfSome result (λ kept. kept ≤ 204000000) }
     ensures valid { IsLayout next.now.layout }
 {
     // Each number of a layout tells that it is one.

@@ -9,7 +9,11 @@ overflow_mul-result c =
 pub overflow_add-result : goal.overflow_add-result
 overflow_add-result c =
     let small = c.closing_len-closing.ensures.few in
-    rw (c.saturating_sub-left.ensures, c.transfer_len-width.ensures.len) (omega (arith, small, few_transfers c.args.layout.now c.args.sectors c.args.first c.transfer_len-width.ensures.valid c.requires))
+    rw (c.saturating_sub-left.ensures, c.transfer_len-width.ensures.len) (omega (
+      arith,
+      small,
+      few_transfers c.args.layout.now c.args.sectors c.args.first c.transfer_len-width.ensures.valid c.requires,
+    ))
 
 pub returns-clause-len : goal.returns-clause-len
 returns-clause-len c =
@@ -19,4 +23,8 @@ returns-clause-len c =
 pub returns-clause-few : goal.returns-clause-few
 returns-clause-few c =
     let small = c.closing_len-closing.ensures.few in
-    rw (c.saturating_sub-left.ensures, c.transfer_len-width.ensures.len) (omega (arith, small, few_transfers c.args.layout.now c.args.sectors c.args.first c.transfer_len-width.ensures.valid c.requires))
+    rw (c.saturating_sub-left.ensures, c.transfer_len-width.ensures.len) (omega (
+      arith,
+      small,
+      few_transfers c.args.layout.now c.args.sectors c.args.first c.transfer_len-width.ensures.valid c.requires,
+    ))

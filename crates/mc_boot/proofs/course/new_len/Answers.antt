@@ -12,7 +12,14 @@ returns-then-is_revert-clause-len c size =
     let swap = length-swap_list c.args.grain c.args.layout.now c.args.kind size c.args.sectors in
     let opens = c.opening_len-opening.ensures.len size in
     let prepares = c.preparation_len.ensures.len size in
-    rw (revert, c.trailer_sectors-count.ensures.value, c.resumed_len.ensures.len) (omega (arith, whole, swap, opens, prepares, length-append (preparation_writes c.args.grain c.args.layout.now size) (swap_list c.args.grain c.args.layout.now c.args.kind size c.args.sectors)))
+    rw (revert, c.trailer_sectors-count.ensures.value, c.resumed_len.ensures.len) (omega (
+      arith,
+      whole,
+      swap,
+      opens,
+      prepares,
+      length-append (preparation_writes c.args.grain c.args.layout.now size) (swap_list c.args.grain c.args.layout.now c.args.kind size c.args.sectors),
+    ))
 
 pub returns-else-is_revert-clause-len : goal.returns-else-is_revert-clause-len
 returns-else-is_revert-clause-len c size =

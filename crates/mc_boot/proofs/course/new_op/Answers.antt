@@ -11,15 +11,18 @@ pub returns-then-index-count-clause-at : goal.returns-then-index-count-clause-at
 returns-then-index-count-clause-at c =
     let revert : is_revert c.args.kind ≡ true = sym c.is_revert.ensures ∙ c.if-not-is_revert.false in
     rw (revert, c.trailer_erase.ensures.at)
-    (sym (get_erase c.args.layout.now Secondary (preparation_writes c.args.grain c.args.layout.now c.args.size ++ swap_list c.args.grain c.args.layout.now c.args.kind c.args.size c.args.sectors) c.args.index
+    (sym (get_erase c.args.layout.now Secondary (preparation_writes c.args.grain c.args.layout.now c.args.size ++ swap_list c.args.grain c.args.layout.now c.args.kind c.args.size c.args.sectors)
+    c.args.index
     (rw c.trailer_sectors-count.ensures.value at c.if-index-count.true)))
 
 pub returns-then-written-len-clause-at : goal.returns-then-written-len-clause-at
 returns-then-written-len-clause-at c =
     let revert : is_revert c.args.kind ≡ true = sym c.is_revert.ensures ∙ c.if-not-is_revert.false in
-    rw revert (sym (get_after_erases c.args.layout.now Secondary (preparation_writes c.args.grain c.args.layout.now c.args.size ++ swap_list c.args.grain c.args.layout.now c.args.kind c.args.size c.args.sectors) c.args.index
+    rw revert (sym (get_after_erases c.args.layout.now Secondary (preparation_writes c.args.grain c.args.layout.now c.args.size ++ swap_list c.args.grain c.args.layout.now c.args.kind c.args.size
+    c.args.sectors) c.args.index
     (rw c.trailer_sectors-count.ensures.value at c.if-index-count.false)
-    ∙ get_front (preparation_writes c.args.grain c.args.layout.now c.args.size) (swap_list c.args.grain c.args.layout.now c.args.kind c.args.size c.args.sectors) (c.args.index - trailer_sectors c.args.layout.now) c.preparation_write.result
+    ∙ get_front (preparation_writes c.args.grain c.args.layout.now c.args.size) (swap_list c.args.grain c.args.layout.now c.args.kind c.args.size c.args.sectors)
+    (c.args.index - trailer_sectors c.args.layout.now) c.preparation_write.result
     (rw c.trailer_sectors-count.ensures.value at c.preparation_write.ensures.at)))
 
 pub returns-clause-at : goal.returns-clause-at
@@ -28,6 +31,8 @@ returns-clause-at c =
     let len = c.preparation_len-len.ensures.len c.args.size in
     let past = rw c.trailer_sectors-count.ensures.value at c.if-written-len.false in
     rw revert ((rw c.trailer_sectors-count.ensures.value at c.swap_op-2.ensures.at)
-    ∙ sym (get_after_erases c.args.layout.now Secondary (preparation_writes c.args.grain c.args.layout.now c.args.size ++ swap_list c.args.grain c.args.layout.now c.args.kind c.args.size c.args.sectors) c.args.index
+    ∙ sym (get_after_erases c.args.layout.now Secondary (preparation_writes c.args.grain c.args.layout.now c.args.size ++ swap_list c.args.grain c.args.layout.now c.args.kind c.args.size
+    c.args.sectors) c.args.index
     (rw c.trailer_sectors-count.ensures.value at c.if-index-count.false)
-    ∙ get_behind (preparation_writes c.args.grain c.args.layout.now c.args.size) (swap_list c.args.grain c.args.layout.now c.args.kind c.args.size c.args.sectors) (c.args.index - trailer_sectors c.args.layout.now) (c.args.index - trailer_sectors c.args.layout.now - c.preparation_len-len.result) (omega (arith, len, past))))
+    ∙ get_behind (preparation_writes c.args.grain c.args.layout.now c.args.size) (swap_list c.args.grain c.args.layout.now c.args.kind c.args.size c.args.sectors)
+    (c.args.index - trailer_sectors c.args.layout.now) (c.args.index - trailer_sectors c.args.layout.now - c.preparation_len-len.result) (omega (arith, len, past))))

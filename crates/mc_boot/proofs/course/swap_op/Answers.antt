@@ -19,7 +19,8 @@ returns-then-written-len-clause-at c =
     let rest = resumed_list c.args.layout.now c.args.sectors 0 true false in
     sym (get_after_erases c.args.layout.now Primary (opening_writes c.args.grain c.args.layout.now c.args.kind c.args.size ++ resumed_list c.args.layout.now c.args.sectors 0 true false) c.args.index
     (rw c.trailer_sectors-count.ensures.value at c.if-index-count.false)
-    ∙ get_front (opening_writes c.args.grain c.args.layout.now c.args.kind c.args.size) (resumed_list c.args.layout.now c.args.sectors 0 true false) (c.args.index - trailer_sectors c.args.layout.now) c.opening_write.result
+    ∙ get_front (opening_writes c.args.grain c.args.layout.now c.args.kind c.args.size) (resumed_list c.args.layout.now c.args.sectors 0 true false) (c.args.index - trailer_sectors c.args.layout.now)
+    c.opening_write.result
     (rw c.trailer_sectors-count.ensures.value at c.opening_write.ensures.at))
 
 pub returns-clause-at : goal.returns-clause-at
@@ -29,4 +30,5 @@ returns-clause-at c =
     (rw c.trailer_sectors-count.ensures.value at c.resumed_op.ensures.at)
     ∙ sym (get_after_erases c.args.layout.now Primary (opening_writes c.args.grain c.args.layout.now c.args.kind c.args.size ++ resumed_list c.args.layout.now c.args.sectors 0 true false) c.args.index
     (rw c.trailer_sectors-count.ensures.value at c.if-index-count.false)
-    ∙ get_behind (opening_writes c.args.grain c.args.layout.now c.args.kind c.args.size) (resumed_list c.args.layout.now c.args.sectors 0 true false) (c.args.index - trailer_sectors c.args.layout.now) (c.args.index - trailer_sectors c.args.layout.now - c.opening_len-len.result) (omega (arith, len, past)))
+    ∙ get_behind (opening_writes c.args.grain c.args.layout.now c.args.kind c.args.size) (resumed_list c.args.layout.now c.args.sectors 0 true false) (c.args.index - trailer_sectors c.args.layout.now)
+    (c.args.index - trailer_sectors c.args.layout.now - c.opening_len-len.result) (omega (arith, len, past)))

@@ -8,7 +8,8 @@ use Rattle.mc_boot.proofs.transfer.first_left.Goals.{else-entry-max_sectors-via-
 pub returns-then-entry-sectors : goal.returns-then-entry-sectors
 returns-then-entry-sectors c =
     let fits = c.requires in
-    rw c.in-Some.is (sym (left_after c.args.layout.now c.args.sectors c.in-Some.entry c.in-Some.entry (moved_up c.args.sectors c.in-Some.entry) (omega (arith, fits)) (get_moved c.args.layout.now c.args.sectors c.in-Some.entry c.if-entry-sectors.true) refl))
+    rw c.in-Some.is (sym (left_after c.args.layout.now c.args.sectors c.in-Some.entry c.in-Some.entry (moved_up c.args.sectors c.in-Some.entry) (omega (arith, fits))
+    (get_moved c.args.layout.now c.args.sectors c.in-Some.entry c.if-entry-sectors.true) refl))
 
 pub returns-then-entry-max_sectors-2 : goal.returns-then-entry-max_sectors-2
 returns-then-entry-max_sectors-2 c =

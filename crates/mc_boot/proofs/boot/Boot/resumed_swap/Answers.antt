@@ -11,7 +11,8 @@ invariant_of-result g c = record {
 
 pub returns-clause-progress : goal.returns-clause-progress
 returns-clause-progress g c =
-    resumed_begun c.args.rules (g.F.Flash.seen c.args.flash.now).geometry c.args.image_ok c.highest_entry-highest.result c.args.kind c.args.sectors c.in-Some.first c.in_pieces.result c.is_none.result c.confirms.result
+    resumed_begun c.args.rules (g.F.Flash.seen c.args.flash.now).geometry c.args.image_ok c.highest_entry-highest.result c.args.kind c.args.sectors c.in-Some.first c.in_pieces.result c.is_none.result
+    c.confirms.result
     (omega (arith, c.if-sectors-eq0.false))
     (omega (arith, ap greatest_sectors c.layout-layout.ensures, c.greatest_sectors.ensures.value, c.if-greatest_sectors-sectors.false))
     (rw c.layout-layout.ensures at (sym c.first_left.ensures ∙ c.in-Some.is))

@@ -22,4 +22,5 @@ returns-in-Ok-clause-layout g c = rw (returns-in-Ok-clause-keeps g c).geometry c
 pub returns-in-Err-NotErased-clause-come : goal.returns-in-Err-NotErased-clause-come
 returns-in-Err-NotErased-clause-come g c r s come =
     come_steps r s _ _ (g.F.Flash.seen c.args.flash.now) (g.F.Flash.seen c.perform.new.flash) _ come
-    (refused_step c.args.self.now c.in-Some.op (g.F.Flash.seen c.args.flash.now) (g.F.Flash.seen c.perform.new.flash) (sym c.in-Some.ensures.first) (rw c.in-Err-NotErased.field-0-is at c.in-Err-NotErased.ensures))
+    (refused_step c.args.self.now c.in-Some.op (g.F.Flash.seen c.args.flash.now) (g.F.Flash.seen c.perform.new.flash) (sym c.in-Some.ensures.first)
+    (rw c.in-Err-NotErased.field-0-is at c.in-Err-NotErased.ensures))
