@@ -33,7 +33,11 @@ later_end old mid new ops cut number rest true true is e d f =
     (f.0 ∙ ap (λ l. l ++ rest) at, path_back kind_of old mid new.path d.2 f.1, same_both old mid new d.2 f.2, f.3)
 later_end old mid new ops cut number rest true false is e d f =
     let at : mid.path ≡ old.path ++ (ops + cut) ∷ [] = d.0 ∙ ap (λ n. old.path ++ n ∷ []) is in
-    inr (inr (f.steps, λ m. f.no_child (path_back kind_of mid old (mid.path ++ take (f.steps + 1) rest) (same_back kind_of old mid d.2) (subst (λ l. IsPathIn old (l ++ take (f.steps + 1) rest)) (sym at) m))))
+    inr (inr (
+      f.steps,
+      λ m. f.no_child (path_back kind_of mid old (mid.path ++ take (f.steps + 1) rest) (same_back kind_of old mid d.2)
+          (subst (λ l. IsPathIn old (l ++ take (f.steps + 1) rest)) (sym at) m)),
+    ))
 
 -- ---- along a campaign
 
@@ -54,12 +58,15 @@ module _ (old mid : Walked Twice) (c : Places) (root : old.path ≡ []) where
     gone true e x = (x.0 ∙ ap (λ l. l ++ c.first) root, x.1, x.2, x.3)
     gone false e x = absurd cc
 
-    told_there : AreTold old.branches.once.rules old.branches.once.layout old.branches.confirms (landed (rounds old.branches.once.rules old.branches.once.layout old.branches.confirms) (first (start_of old.seen)) c.first) told
+    told_there : AreTold old.branches.once.rules old.branches.once.layout old.branches.confirms
+        (landed (rounds old.branches.once.rules old.branches.once.layout old.branches.confirms) (first (start_of old.seen)) c.first) told
     told_there =
         let x = gone went is f in
         let P : Twice → Type 0 = λ b. AreTold b.once.rules b.once.layout b.confirms (landed (rounds b.once.rules b.once.layout b.confirms) (first (start_of mid.seen)) mid.path) told in
-        let Q : Content → Type 0 = λ s. AreTold old.branches.once.rules old.branches.once.layout old.branches.confirms (landed (rounds old.branches.once.rules old.branches.once.layout old.branches.confirms) (first s) mid.path) told in
-        let R : List ℕ → Type 0 = λ l. AreTold old.branches.once.rules old.branches.once.layout old.branches.confirms (landed (rounds old.branches.once.rules old.branches.once.layout old.branches.confirms) (first (start_of old.seen)) l) told in
+        let Q : Content → Type 0 = λ s. AreTold old.branches.once.rules old.branches.once.layout old.branches.confirms
+        (landed (rounds old.branches.once.rules old.branches.once.layout old.branches.confirms) (first s) mid.path) told in
+        let R : List ℕ → Type 0 = λ l. AreTold old.branches.once.rules old.branches.once.layout old.branches.confirms
+        (landed (rounds old.branches.once.rules old.branches.once.layout old.branches.confirms) (first (start_of old.seen)) l) told in
         subst R x.0 (subst Q x.2.start (subst P x.2.branches there.told_is))
 
     -- There it is in the second round already.
@@ -78,7 +85,8 @@ module _ (old mid : Walked Twice) (c : Places) (root : old.path ≡ []) where
         a : Allowed (boots old.branches.once.rules old.branches.once.layout) (start_of old.seen) c.first
         a = allowed_first old.branches.once.rules old.branches.once.layout old.branches.confirms (start_of old.seen) old.bound c told (subst (IsPathIn old) x.0 x.1) told_there early
 
-        ops : told.first.outcome.ops ≡ length (ops_of old.branches.once.rules old.branches.once.layout (cut old.branches.once.rules old.branches.once.layout old.branches.confirms (start_of old.seen) old.bound c))
+        ops : told.first.outcome.ops ≡ length (ops_of old.branches.once.rules old.branches.once.layout
+            (cut old.branches.once.rules old.branches.once.layout old.branches.confirms (start_of old.seen) old.bound c))
         ops = ops_there old.branches.once.rules old.branches.once.layout old.branches.confirms (start_of old.seen) old.bound c told a told_there
 
         by : (l : List ℕ) (w : Bool) → c.second ≡ l → FollowsLater mid told.first.outcome.ops l w new → FollowsCampaign old c w new
@@ -102,7 +110,8 @@ module _ (old mid : Walked Twice) (c : Places) (root : old.path ≡ []) where
             sum_is_small old.branches.once.rules old.branches.once.layout old.branches.confirms (start_of old.seen) old.bound c j rest e told.first.outcome.ops ops valid big
         by (j ∷ rest) false e (inr (inl none)) =
             not_that_child old.branches.once.rules old.branches.once.layout old.branches.confirms (start_of old.seen) old.bound c j rest e told.first.outcome.ops ops
-            (λ m. none (path_back kind_of mid old (mid.path ++ (told.first.outcome.ops + j) ∷ []) (same_back kind_of old mid x.2) (subst (λ l. IsPathIn old (l ++ (told.first.outcome.ops + j) ∷ [])) (sym x.0) m)))
+            (λ m. none (path_back kind_of mid old (mid.path ++ (told.first.outcome.ops + j) ∷ []) (same_back kind_of old mid x.2)
+            (subst (λ l. IsPathIn old (l ++ (told.first.outcome.ops + j) ∷ [])) (sym x.0) m)))
         by (j ∷ rest) false e (inr (inr (steps, none))) =
             not_in_second old.branches.once.rules old.branches.once.layout old.branches.confirms (start_of old.seen) old.bound c j rest e told.first.outcome.ops ops steps
             (λ m. none (path_back kind_of mid old ((mid.path ++ (told.first.outcome.ops + j) ∷ []) ++ take (steps + 1) rest) (same_back kind_of old mid x.2)

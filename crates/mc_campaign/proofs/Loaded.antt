@@ -10,13 +10,11 @@ use Rattle.mc_flash.specs.declared.flash.Grain.{Grain}
 use Rattle.mc_flash.specs.declared.flash.Grain.TheVariants as grains
 use Rattle.mc_trailer.specs.declared.tables.Rules.{Rules}
 use Rattle.mc_walk.specs.Walks.{IsClear, IsFresh, IsOf, Walked, start_of}
-use Rattle.mc_explore.specs.Start.{Begun, start_digest}
+use Rattle.mc_explore.specs.Start.{Begun}
 use Rattle.mc_explore.specs.facts.Room.{limits_are}
-use Rattle.mc_campaign.specs.Cursor.{Names}
-use Rattle.mc_campaign.specs.Places.{no_places, pairs_of}
+use Rattle.mc_campaign.specs.Places.{Places, no_places, pairs_of}
 use Rattle.mc_campaign.specs.Twice.{twice_kind}
 use Rattle.mc_campaign.specs.View.{IsLoaded, IsSound}
-use Rattle.mc_campaign.specs.declared.cursor.CampaignCursor.{CampaignCursor}
 use Rattle.mc_campaign.specs.declared.rounds.Twice.{Twice}
 use Rattle.mc_walk.specs.declared.tour.Phase.TheVariants as phases
 
@@ -31,7 +29,8 @@ module _ (counted : Bool) (g : Geometry) (primary secondary : List ℕ) (f : See
   clear r confirms bound boots many l =
       let limits = limits_are r.grain g boots f.ledger.limits l.room in
       let some = some_operations r.grain g in
-      let entries : boots * most_operations r.grain g ≡ bound * most_operations r.grain g + 3 * most_operations r.grain g = ap (λ n. n * most_operations r.grain g) many ∙ three bound (most_operations r.grain g) in
+      let entries : boots * most_operations r.grain g ≡ bound * most_operations r.grain g + 3 * most_operations r.grain g =
+      ap (λ n. n * most_operations r.grain g) many ∙ three bound (most_operations r.grain g) in
       let saved : boots * most_saved g ≡ bound * most_saved g + 3 * most_saved g = ap (λ n. n * most_saved g) many ∙ three bound (most_saved g) in
       record {
         none = l.none;
@@ -69,19 +68,10 @@ loaded counted start confirms primary secondary bound many f b w l is content of
     }
 
 -- An explorer at its start.
-pub started : (counted : Bool) (start : Begun) (confirms : Bool) (bound : ℕ) (c : CampaignCursor) (w : Walked Twice) → IsLoaded counted start confirms bound w → Names start confirms bound c
-    → c.campaign ≡ no_places → bound ≤ 16 → IsSound counted (record { walk = w; phase = phases.Fresh }) c
-started counted start confirms bound c w l names none few = λ _. (
-  record {
-    names = record {
-      digest_is = names.digest_is ∙ ap start_digest (sym l.start_is);
-      rules_are = names.rules_are ∙ ap (λ (s : Begun). s.rules) (sym l.start_is);
-      choice_is = names.choice_is ∙ sym l.choice_is;
-      bound_is = names.bound_is ∙ sym l.bound_is;
-    };
-    few = omega (arith, l.bound_is, few);
-    counted_is = l.counted_is;
-  },
+pub started : (counted : Bool) (start : Begun) (confirms : Bool) (bound : ℕ) (last : Places) (w : Walked Twice) → IsLoaded counted start confirms bound w → last ≡ no_places → bound ≤ 16
+    → IsSound counted start confirms bound (record { walk = w; phase = phases.Fresh }) last
+started counted start confirms bound last w l none few = λ _. (
+  record { start_is = l.start_is; choice_is = l.choice_is; bound_is = l.bound_is; few = few; counted_is = l.counted_is },
   record {
     path = [];
     path_is = record { member = (omega arith, tt); pairs_are = ap pairs_of (sym none) };

@@ -25,7 +25,8 @@ module _ (start : Started) (confirms : Bool) (c : Places) (r : Rules) (g : Geome
       (replayed : IsReplayed r g (record { primary = p; secondary = q }) cuts one middle) where
     first_round : IsReplayed start.rules start.geometry start.content c.first one middle
     first_round =
-        moved (λ a b x y l. IsReplayed a b (record { primary = x; secondary = y }) l one middle) r start.rules g start.geometry p start.content.primary q start.content.secondary cuts c.first rules layout p_is q_is cuts_are replayed
+        moved (λ a b x y l. IsReplayed a b (record { primary = x; secondary = y }) l one middle) r start.rules g start.geometry p start.content.primary q start.content.secondary cuts c.first rules
+        layout p_is q_is cuts_are replayed
 
     module _ (at : Geometry) (left : Content) (same : at ≡ g) (left_is : left ≡ confirmed_if confirms at middle) (p' q' later_cuts : List ℕ)
         (p'_is : p' ≡ left.primary) (q'_is : q' ≡ left.secondary)
@@ -50,7 +51,8 @@ module _ (start : Started) (confirms : Bool) (c : Places) (r : Rules) (g : Geome
           }
 
       -- The second round ends too.
-      pub replayed_both : (two : Report) (z : Content) → IsReplayed r g (record { primary = p'; secondary = q' }) later_cuts two z → AreReplayed start.rules start.geometry confirms start.content c one two z
+      pub replayed_both : (two : Report) (z : Content) → IsReplayed r g (record { primary = p'; secondary = q' }) later_cuts two z
+          → AreReplayed start.rules start.geometry confirms start.content c one two z
       replayed_both two z done =
           let m : Content = confirmed_if confirms start.geometry middle in
           record {

@@ -12,7 +12,9 @@ use Rattle.mc_boot.specs.Plan.{plan}
 use Rattle.mc_boot.specs.Restart.{EndsIn, RestartLaw, forgets_reverts}
 use Rattle.mc_boot.specs.Rounds.{EndsAgain, IsIdle, RoundsLaw, has_revert}
 use Rattle.mc_boot.specs.Runs.{after, left_by, ops_of}
-use Rattle.mc_boot.specs.Start.{StartKind, no_swap, test, perm, revert, named, other}
+use Rattle.mc_boot.specs.Start.{named, other}
+use Rattle.mc_boot.specs.declared.kind.Kind.{Kind}
+use Rattle.mc_boot.specs.declared.kind.Kind.TheVariants as starts
 use Rattle.mc_explore.specs.facts.Restarts.{idle_ops, swap_outcome, told_end, told_slots, uncut}
 use Rattle.mc_explore.specs.Start.{Begun}
 use Rattle.mc_explore.specs.facts.Telling.{outcome_ops}
@@ -28,25 +30,25 @@ module _ (r : Rules) (g : Geometry) where
       let none = idle_ops r g m idle.idle in
       (outcome_ops r g u o is ∙ ap (λ (x : Content). length (ops_of r g x)) idle.uncut ∙ none, uncut r g m u cuts none occurs)
 
-  -- The second round of a start that was no test: the flash is not confirmed, and nothing is left to do.
+  -- The second round of a start that was no starts.Test: the flash is not confirmed, and nothing is left to do.
   idle_again : (confirms : Bool) (x u : Content) (cuts : List ℕ) (o : Report) → outcome_of r g u ≡ Some o → after r g (confirmed_if confirms g x) cuts ≡ Some u
       → IsIdle r g x u → confirmed_if confirms g x ≡ x → (o.ops ≡ 0) × (cuts ≡ [])
   idle_again confirms x u cuts o is occurs idle same =
       idle_round x u cuts o is (subst (λ (m : Content). after r g m cuts ≡ Some u) same occurs) idle
 
   -- The boot that ends the second round leaves that flash.
-  ends_left : (kind : StartKind) (confirms : Bool) (a b : List ℕ) (s x u z : Content) → EndsAgain r g kind confirms a b s x u z → left_by r g u ≡ Some z
-  ends_left no_swap confirms a b s x u z ends = ends.0.end
-  ends_left test true a b s x u z ends = ends.0.end
-  ends_left test false a b s x u z ends = ends.0.end
-  ends_left perm confirms a b s x u z ends = ends.0.end
-  ends_left revert confirms a b s x u z ends = ends.0.end
+  ends_left : (kind : Kind) (confirms : Bool) (a b : List ℕ) (s x u z : Content) → EndsAgain r g kind confirms a b s x u z → left_by r g u ≡ Some z
+  ends_left starts.None confirms a b s x u z ends = ends.0.end
+  ends_left starts.Test true a b s x u z ends = ends.0.end
+  ends_left starts.Test false a b s x u z ends = ends.0.end
+  ends_left starts.Perm confirms a b s x u z ends = ends.0.end
+  ends_left starts.Revert confirms a b s x u z ends = ends.0.end
 
   module _ (u z : Content) (cuts : List ℕ) (o : Report) (is : outcome_of r g u ≡ Some o) where
     -- A last boot whose images stand as those of another kind of start.
-    told_as : (k : StartKind) (a b : List ℕ) (s : Content) → EndsIn r g k a b s u z → (kind : StartKind) (confirms : Bool) (a' b' : List ℕ)
-        → named k a b ≡ named (lasting kind confirms) a' b' → other k a b ≡ other (lasting kind confirms) a' b' → (kind ≢ no_swap → (plan r g z).kind ≡ kinds.None)
-        → ((kind ≡ test → confirms ≡ true) → (o.ops ≡ 0) × (cuts ≡ [])) → IsLastOutcome kind confirms a' b' cuts o
+    told_as : (k : Kind) (a b : List ℕ) (s : Content) → EndsIn r g k a b s u z → (kind : Kind) (confirms : Bool) (a' b' : List ℕ)
+        → named k a b ≡ named (lasting kind confirms) a' b' → other k a b ≡ other (lasting kind confirms) a' b' → (kind ≢ starts.None → (plan r g z).kind ≡ kinds.None)
+        → ((kind ≡ starts.Test → confirms ≡ true) → (o.ops ≡ 0) × (cuts ≡ [])) → IsLastOutcome kind confirms a' b' cuts o
     told_as k a b s ends kind confirms a' b' first second next idle =
         let told = told_end r g k a b s u z o is ends in
         record {
@@ -58,22 +60,22 @@ module _ (r : Rules) (g : Geometry) where
         }
 
     -- What the second round ends in is what is told of it.
-    last_outcome : (kind : StartKind) (confirms : Bool) (a b : List ℕ) (s x : Content) → after r g (confirmed_if confirms g x) cuts ≡ Some u
+    last_outcome : (kind : Kind) (confirms : Bool) (a b : List ℕ) (s x : Content) → after r g (confirmed_if confirms g x) cuts ≡ Some u
         → EndsAgain r g kind confirms a b s x u z → IsLastOutcome kind confirms a b cuts o
-    last_outcome no_swap confirms a b s x occurs ends =
-        told_as no_swap a b s ends.0 no_swap confirms a b refl refl (λ not. absurd (not refl)) (λ _. idle_again confirms x u cuts o is occurs ends.1 ends.2)
-    last_outcome test true a b s x occurs ends =
-        told_as perm a b s ends.0 test true a b refl refl (λ _. ends.0.swapped.1.next) (λ _. idle_round (confirmed_if true g x) u cuts o is occurs ends.1)
-    last_outcome test false a b s x occurs ends =
-        told_as revert b a x ends.0 test false a b refl refl (λ _. ends.0.swapped.1.next) (λ stays. absurd (let no : false ≡ true = stays refl in cc))
-    last_outcome perm confirms a b s x occurs ends =
-        told_as perm a b s ends.0 perm confirms a b refl refl (λ _. ends.0.swapped.1.next) (λ _. idle_again confirms x u cuts o is occurs ends.1 ends.2)
-    last_outcome revert confirms a b s x occurs ends =
-        told_as revert a b s ends.0 revert confirms a b refl refl (λ _. ends.0.swapped.1.next) (λ _. idle_again confirms x u cuts o is occurs ends.1 ends.2)
+    last_outcome starts.None confirms a b s x occurs ends =
+        told_as starts.None a b s ends.0 starts.None confirms a b refl refl (λ not. absurd (not refl)) (λ _. idle_again confirms x u cuts o is occurs ends.1 ends.2)
+    last_outcome starts.Test true a b s x occurs ends =
+        told_as starts.Perm a b s ends.0 starts.Test true a b refl refl (λ _. ends.0.swapped.1.next) (λ _. idle_round (confirmed_if true g x) u cuts o is occurs ends.1)
+    last_outcome starts.Test false a b s x occurs ends =
+        told_as starts.Revert b a x ends.0 starts.Test false a b refl refl (λ _. ends.0.swapped.1.next) (λ stays. absurd (let no : false ≡ true = stays refl in cc))
+    last_outcome starts.Perm confirms a b s x occurs ends =
+        told_as starts.Perm a b s ends.0 starts.Perm confirms a b refl refl (λ _. ends.0.swapped.1.next) (λ _. idle_again confirms x u cuts o is occurs ends.1 ends.2)
+    last_outcome starts.Revert confirms a b s x occurs ends =
+        told_as starts.Revert a b s ends.0 starts.Revert confirms a b refl refl (λ _. ends.0.swapped.1.next) (λ _. idle_again confirms x u cuts o is occurs ends.1 ends.2)
 
-  -- Rules that do not forget a revert of either round do not forget one of the first.
-  first_rules : (kind : StartKind) (confirms : Bool) → (has_revert kind confirms ≡ true → forgets_reverts r.grain r.profile ≡ false) → kind ≡ revert → forgets_reverts r.grain r.profile ≡ false
-  first_rules kind confirms rules is = rules (ap (λ (k : StartKind). has_revert k confirms) is)
+  -- Rules that do not forget a starts.Revert of either round do not forget one of the first.
+  first_rules : (kind : Kind) (confirms : Bool) → (has_revert kind confirms ≡ true → forgets_reverts r.grain r.profile ≡ false) → kind ≡ starts.Revert → forgets_reverts r.grain r.profile ≡ false
+  first_rules kind confirms rules is = rules (ap (λ (k : Kind). has_revert k confirms) is)
 
   pub campaign_restarts : (confirms : Bool) (s : Content) (c : Places) (one two : Report) (z : Content) → IsLayout g → RestartLaw r → RoundsLaw r
       → AreReplayed r g confirms s c one two z → Restarts r g confirms s c one two z

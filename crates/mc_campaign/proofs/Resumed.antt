@@ -1,25 +1,24 @@
 -- An explorer of campaigns behind a cursor.
 use Rattle.std.specs.Prelude.{◌≡◌, ◌≤◌, ℕ, Bool, true, false, refl}
-use Rattle.std.proofs.Common.{arith, sym, ap, subst, ◌∙◌}
+use Rattle.std.proofs.Common.{sym, ap, subst, ◌∙◌}
 use Rattle.mc_tree.specs.Paths.{After}
 use Rattle.mc_flash.specs.Geometry.{IsLayout}
 use Rattle.mc_flash.specs.Ledger.{Limits}
 use Rattle.mc_flash.specs.Spends.{Spent}
 use Rattle.mc_walk.specs.Walks.{Walked, Begins, start_of}
 use Rattle.mc_walk.specs.declared.tour.Phase.TheVariants as phases
-use Rattle.mc_explore.specs.Start.{Begun, start_digest}
+use Rattle.mc_explore.specs.Start.{Begun}
 use Rattle.mc_campaign.specs.Campaigns.{IsMember}
-use Rattle.mc_campaign.specs.Cursor.{Names}
+use Rattle.mc_campaign.specs.Places.{Places}
 use Rattle.mc_campaign.specs.Resume.{behind}
 use Rattle.mc_campaign.specs.Twice.{twice_kind}
 use Rattle.mc_campaign.specs.View.{FollowsCampaign, IsCalm, IsLoaded, IsSound, begun_of, state_of}
-use Rattle.mc_campaign.specs.declared.cursor.CampaignCursor.{CampaignCursor}
 use Rattle.mc_campaign.specs.declared.rounds.Both.{Both}
 use Rattle.mc_campaign.specs.declared.rounds.Twice.{Twice}
 use Rattle.mc_campaign.specs.facts.Paths.{member_of}
 use Rattle.mc_campaign.proofs.Telling.{path_there, same_begun, same_state}
 
-module _ (counted : Bool) (start : Begun) (confirms : Bool) (bound n : ℕ) (c : CampaignCursor) (zero_walk one two : Walked Twice) (told : Both)
+module _ (counted : Bool) (start : Begun) (confirms : Bool) (bound n : ℕ) (last : Places) (zero_walk one two : Walked Twice) (told : Both)
     (l : IsLoaded counted start confirms bound zero_walk)
     (b : Begins (twice_kind zero_walk.branches.once.rules zero_walk.branches.once.layout zero_walk.branches.confirms) zero_walk told one) (spent : Spent n zero_walk.seen one.seen) where
   one_start : begun_of one ≡ start
@@ -34,49 +33,45 @@ module _ (counted : Bool) (start : Begun) (confirms : Bool) (bound n : ℕ) (c :
   pub valid_there : IsLayout one.branches.once.layout
   valid_there = subst (λ (s : Begun). IsLayout s.geometry) (sym one_start) l.valid
 
-  listed_there : (IsMember one.branches.once.rules one.branches.once.layout one.branches.confirms (start_of one.seen) one.bound c.campaign)
-      ≡ (IsMember start.rules start.geometry confirms start.content bound c.campaign)
+  listed_there : (IsMember one.branches.once.rules one.branches.once.layout one.branches.confirms (start_of one.seen) one.bound last)
+      ≡ (IsMember start.rules start.geometry confirms start.content bound last)
   listed_there =
-      ap (λ (s : Begun). IsMember s.rules s.geometry one.branches.confirms s.content one.bound c.campaign) one_start
-      ∙ ap (λ x. IsMember start.rules start.geometry x start.content one.bound c.campaign) one_choice
-      ∙ ap (λ m. IsMember start.rules start.geometry confirms start.content m c.campaign) one_bound
+      ap (λ (s : Begun). IsMember s.rules s.geometry one.branches.confirms s.content one.bound last) one_start
+      ∙ ap (λ x. IsMember start.rules start.geometry x start.content one.bound last) one_choice
+      ∙ ap (λ m. IsMember start.rules start.geometry confirms start.content m last) one_bound
 
-  pub not_listed : (went : Bool) → went ≡ false → FollowsCampaign one c.campaign went two → IsMember start.rules start.geometry confirms start.content bound c.campaign → ⊥
+  pub not_listed : (went : Bool) → went ≡ false → FollowsCampaign one last went two → IsMember start.rules start.geometry confirms start.content bound last → ⊥
   not_listed true is f m = absurd cc
   not_listed false is f m = f (subst (λ (T : Type 0). T) (sym listed_there) m)
 
-  module _ (went : Bool) (is : went ≡ true) (f : FollowsCampaign one c.campaign went two) (calm : IsCalm one.seen two.seen) (names : Names start confirms bound c) (few : bound ≤ 16) where
-    there : (w : Bool) → w ≡ true → FollowsCampaign one c.campaign w two → FollowsCampaign one c.campaign true two
+  module _ (went : Bool) (is : went ≡ true) (f : FollowsCampaign one last went two) (calm : IsCalm one.seen two.seen) (few : bound ≤ 16) where
+    there : (w : Bool) → w ≡ true → FollowsCampaign one last w two → FollowsCampaign one last true two
     there true e x = x
     there false e x = absurd cc
 
-    pub listed : IsMember start.rules start.geometry confirms start.content bound c.campaign
+    pub listed : IsMember start.rules start.geometry confirms start.content bound last
     listed =
         let x = there went is f in
-        subst (λ (T : Type 0). T) listed_there (member_of one.branches.once.rules one.branches.once.layout one.branches.confirms (start_of one.seen) one.bound c.campaign two.path x.0)
+        subst (λ (T : Type 0). T) listed_there (member_of one.branches.once.rules one.branches.once.layout one.branches.confirms (start_of one.seen) one.bound last two.path x.0)
 
-    pub behind_it : state_of two (After c.campaign) ≡ behind start confirms bound c.campaign
+    pub behind_it : state_of two (After last) ≡ behind start confirms bound last
     behind_it =
         let x = there went is f in
-        same_state one two (After c.campaign) x.1 calm.failed
-        ∙ ap (λ (s : Begun). record { start = s; confirms = one.branches.confirms; bound = one.bound; position = After c.campaign; failed = one.seen.ledger.failed }) one_start
-        ∙ ap (λ k. record { start = start; confirms = k; bound = one.bound; position = After c.campaign; failed = one.seen.ledger.failed }) one_choice
-        ∙ ap (λ m. record { start = start; confirms = confirms; bound = m; position = After c.campaign; failed = one.seen.ledger.failed }) one_bound
-        ∙ ap (λ k. record { start = start; confirms = confirms; bound = bound; position = After c.campaign; failed = k }) (spent.failed ∙ l.calm)
+        same_state one two (After last) x.1 calm.failed
+        ∙ ap (λ (s : Begun). record { start = s; confirms = one.branches.confirms; bound = one.bound; position = After last; failed = one.seen.ledger.failed }) one_start
+        ∙ ap (λ k. record { start = start; confirms = k; bound = one.bound; position = After last; failed = one.seen.ledger.failed }) one_choice
+        ∙ ap (λ m. record { start = start; confirms = confirms; bound = m; position = After last; failed = one.seen.ledger.failed }) one_bound
+        ∙ ap (λ k. record { start = start; confirms = confirms; bound = bound; position = After last; failed = k }) (spent.failed ∙ l.calm)
 
-    pub resumed : IsSound counted (record { walk = two; phase = phases.Going }) c
+    pub resumed : IsSound counted start confirms bound (record { walk = two; phase = phases.Going }) last
     resumed = λ _.
-        let x = there went is f in
-        let at : begun_of two ≡ start = same_begun one two x.1 ∙ one_start in (
+        let x = there went is f in (
           record {
-            names = record {
-              digest_is = names.digest_is ∙ ap start_digest (sym at);
-              rules_are = names.rules_are ∙ ap (λ (s : Begun). s.rules) (sym at);
-              choice_is = names.choice_is ∙ sym (ap (λ (k : Twice). k.confirms) x.1.branches ∙ one_choice);
-              bound_is = names.bound_is ∙ sym (x.1.bound ∙ one_bound);
-            };
-            few = omega (arith, few, x.1.bound, one_bound);
+            start_is = same_begun one two x.1 ∙ one_start;
+            choice_is = ap (λ (k : Twice). k.confirms) x.1.branches ∙ one_choice;
+            bound_is = x.1.bound ∙ one_bound;
+            few = few;
             counted_is = ap (λ (y : Limits). y.counted) (calm.limits ∙ spent.limits) ∙ l.counted_is;
           },
-          record { path = two.path; path_is = path_there one two two.path c.campaign x.1 x.0; stands = refl },
+          record { path = two.path; path_is = path_there one two two.path last x.1 x.0; stands = refl },
         )

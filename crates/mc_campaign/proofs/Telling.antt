@@ -21,7 +21,7 @@ use Rattle.mc_walk.specs.declared.tour.Phase.{Phase}
 use Rattle.mc_walk.specs.declared.tour.Phase.TheVariants as phases
 use Rattle.mc_explore.specs.Boots.{boots}
 use Rattle.mc_explore.specs.Once.{IsTold}
-use Rattle.mc_explore.specs.Start.{Begun, start_digest}
+use Rattle.mc_explore.specs.Start.{Begun}
 use Rattle.mc_explore.specs.View.{position_of}
 use Rattle.mc_campaign.specs.Boots.{IsPathOf, pairs_along, rounds, second_start}
 use Rattle.mc_campaign.specs.Campaigns.{IsMember, Precedes}
@@ -31,7 +31,6 @@ use Rattle.mc_campaign.specs.State as states
 use Rattle.mc_campaign.specs.State.{State, Finds, HasOutcomes, moved_to}
 use Rattle.mc_campaign.specs.Twice.{AreTold, began_at, later_from, twice_kind}
 use Rattle.mc_campaign.specs.View.{IsOurs, IsSound, StandsBehind, begun_of, state_of}
-use Rattle.mc_campaign.specs.declared.cursor.CampaignCursor.{CampaignCursor}
 use Rattle.mc_campaign.specs.declared.rounds.Both.{Both}
 use Rattle.mc_campaign.specs.declared.rounds.OnWay.{OnWay}
 use Rattle.mc_campaign.specs.declared.rounds.Twice.{Twice}
@@ -87,7 +86,8 @@ module _ (r : Rules) (g : Geometry) (confirms : Bool) (s : Content) (bound : ℕ
   outcomes_told path c told p t =
       let along = campaign_along r g confirms s bound path p.member in
       let same : along.0 ≡ c = sym (placed_pairs along.0) ∙ ap placed (sym along.2.pairs_are ∙ p.pairs_are) ∙ placed_pairs c in
-      subst (λ d. (z : Content) × AreReplayed r g confirms s d (shown told.first.outcome) (shown told.second.outcome) z) same (here along.0 along.1 (subst (λ l. AreTold r g confirms (landed (rounds r g confirms) (first s) l) told) along.3 t))
+      subst (λ d. (z : Content) × AreReplayed r g confirms s d (shown told.first.outcome) (shown told.second.outcome) z) same
+      (here along.0 along.1 (subst (λ l. AreTold r g confirms (landed (rounds r g confirms) (first s) l) told) along.3 t))
     where
       here : (d : Places) → IsMember r g confirms s bound d → AreTold r g confirms (landed (rounds r g confirms) (first s) (in_both (boots r g) (second_start r g confirms) s d.first d.second)) told
           → (z : Content) × AreReplayed r g confirms s d (shown told.first.outcome) (shown told.second.outcome) z
@@ -135,28 +135,25 @@ pairs_there old new path s =
 
 -- ---- what a visit finds
 
-module _ (counted : Bool) (old new : Toured Twice) (c : CampaignCursor) (works : old.phase ≢ phases.Broken) (sound : IsSound counted old c) where
+module _ (counted : Bool) (start : Begun) (confirms : Bool) (bound : ℕ) (old new : Toured Twice) (last : Places) (works : old.phase ≢ phases.Broken)
+    (sound : IsSound counted start confirms bound old last) where
   abbrev pub w : Walked Twice
   w = old.walk
 
   abbrev pub here : Position Places
-  here = position_of old.phase c.campaign
+  here = position_of old.phase last
 
-  abbrev pub behind : StandsBehind old c.campaign
+  abbrev pub behind : StandsBehind old last
   behind = (sound works).1
 
-  ours_there : IsSame old.walk new.walk → new.walk.seen.ledger.limits ≡ old.walk.seen.ledger.limits → (l : Places)
-      → IsOurs new.walk counted (record { rules = c.rules; confirms = c.confirms; digest = c.digest; bound = c.bound; campaign = l })
-  ours_there same limits l =
+  ours_there : IsSame old.walk new.walk → new.walk.seen.ledger.limits ≡ old.walk.seen.ledger.limits → IsOurs counted start confirms bound new.walk
+  ours_there same limits =
       let ours = (sound works).0 in
       record {
-        names = record {
-          digest_is = ours.names.digest_is ∙ ap start_digest (sym (same_begun old.walk new.walk same));
-          rules_are = ours.names.rules_are ∙ ap (λ (b : Twice). b.once.rules) (sym same.branches);
-          choice_is = ours.names.choice_is ∙ ap (λ (b : Twice). b.confirms) (sym same.branches);
-          bound_is = ours.names.bound_is ∙ sym same.bound;
-        };
-        few = omega (arith, ours.few, same.bound);
+        start_is = same_begun old.walk new.walk same ∙ ours.start_is;
+        choice_is = ap (λ (b : Twice). b.confirms) same.branches ∙ ours.choice_is;
+        bound_is = same.bound ∙ ours.bound_is;
+        few = ours.few;
         counted_is = ap (λ (x : Limits). x.counted) limits ∙ ours.counted_is;
       }
 
@@ -179,7 +176,7 @@ module _ (counted : Bool) (old new : Toured Twice) (c : CampaignCursor) (works :
         let Q : Outcome → Type 0 = λ o. (z : Content) × AreReplayed r g k (start_of w.seen) row.campaign (shown o) (shown told.second.outcome) z in
         let R : Outcome → Type 0 = λ o. (z : Content) × AreReplayed r g k (start_of w.seen) row.campaign (shown row.first) (shown o) z in (
           subst (IsNextIn Precedes (IsMember r g k (start_of w.seen) w.bound) here) (sym is)
-              (next_campaign r g k (start_of w.seen) w.bound behind.path c.campaign behind.path_is old.phase new.walk.path (placed cuts) path_is visits.0),
+              (next_campaign r g k (start_of w.seen) w.bound behind.path last behind.path_is old.phase new.walk.path (placed cuts) path_is visits.0),
           subst R (sym two) (subst Q (sym one) (subst P (sym is) outcomes)),
         )
 
@@ -187,9 +184,9 @@ module _ (counted : Bool) (old new : Toured Twice) (c : CampaignCursor) (works :
     moved_on l calm = ap (λ p. state_of new.walk (position_of p l)) visits.3 ∙ same_state w new.walk (After l) visits.2 calm
 
     pub sound_on : (l : Places) → l ≡ placed cuts → new.walk.seen.ledger.limits ≡ old.walk.seen.ledger.limits
-        → IsSound counted new (record { rules = c.rules; confirms = c.confirms; digest = c.digest; bound = c.bound; campaign = l })
+        → IsSound counted start confirms bound new l
     sound_on l is limits = λ _. (
-      ours_there visits.2 limits l,
+      ours_there visits.2 limits,
       record {
         path = new.walk.path;
         path_is = path_there w new.walk new.walk.path l visits.2 (subst (IsPathFor w new.walk.path) (sym is) path_is);
@@ -200,7 +197,7 @@ module _ (counted : Bool) (old new : Toured Twice) (c : CampaignCursor) (works :
   -- Or there is none.
   module _ (visits : Visits (kind_of w.branches) old (position_of old.phase behind.path) None new) where
     pub finds_none : states.IsOver (state_of w here)
-    finds_none = over_campaign w.branches.once.rules w.branches.once.layout w.branches.confirms (start_of w.seen) w.bound behind.path c.campaign behind.path_is old.phase visits.0
+    finds_none = over_campaign w.branches.once.rules w.branches.once.layout w.branches.confirms (start_of w.seen) w.bound behind.path last behind.path_is old.phase visits.0
 
     stays_there : {K : Type 0} (x : K) → position_of phases.Done x ≡ position_of old.phase x
     stays_there x = by old.phase refl
@@ -213,16 +210,16 @@ module _ (counted : Bool) (old new : Toured Twice) (c : CampaignCursor) (works :
         by phases.Done is = refl
         by phases.Broken is = absurd (works is)
 
-    pub stays_so : new.walk.seen.ledger.failed ≡ old.walk.seen.ledger.failed → state_of new.walk (position_of new.phase c.campaign) ≡ state_of w here
+    pub stays_so : new.walk.seen.ledger.failed ≡ old.walk.seen.ledger.failed → state_of new.walk (position_of new.phase last) ≡ state_of w here
     stays_so calm =
-        ap (λ p. state_of new.walk (position_of p c.campaign)) visits.3 ∙ ap (state_of new.walk) (stays_there c.campaign) ∙ same_state w new.walk here visits.2 calm
+        ap (λ p. state_of new.walk (position_of p last)) visits.3 ∙ ap (state_of new.walk) (stays_there last) ∙ same_state w new.walk here visits.2 calm
 
-    pub sound_over : new.walk.seen.ledger.limits ≡ old.walk.seen.ledger.limits → IsSound counted new c
+    pub sound_over : new.walk.seen.ledger.limits ≡ old.walk.seen.ledger.limits → IsSound counted start confirms bound new last
     sound_over limits = λ _. (
-      ours_there visits.2 limits c.campaign,
+      ours_there visits.2 limits,
       record {
         path = behind.path;
-        path_is = path_there w new.walk behind.path c.campaign visits.2 behind.path_is;
+        path_is = path_there w new.walk behind.path last visits.2 behind.path_is;
         stands = subst (λ p. StandsAt (kind_of new.walk.branches) (record { walk = new.walk; phase = p }) (position_of p behind.path)) (sym visits.3)
             (subst (paths.IsOver (IsPath (kind_of new.walk.branches) new.walk)) (sym (stays_there behind.path)) (over_there kind_of w new.walk (position_of old.phase behind.path) visits.2 visits.0));
       },

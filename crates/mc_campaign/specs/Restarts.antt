@@ -10,7 +10,9 @@ use Rattle.mc_boot.specs.Outcome.{Report}
 use Rattle.mc_boot.specs.Restart.{BeginsImage, EndsIn, forgets_reverts}
 use Rattle.mc_boot.specs.Rounds.{EndsAgain, has_revert}
 use Rattle.mc_boot.specs.Runs.{after}
-use Rattle.mc_boot.specs.Start.{StartKind, no_swap, test, perm, revert, start_flash, named, other}
+use Rattle.mc_boot.specs.Start.{start_flash, named, other}
+use Rattle.mc_boot.specs.declared.kind.Kind.{Kind}
+use Rattle.mc_boot.specs.declared.kind.Kind.TheVariants as starts
 use Rattle.mc_boot.specs.declared.outcome.BootResult.TheVariants as results
 use Rattle.mc_explore.specs.Replay.{IsSwapOutcome}
 use Rattle.mc_explore.specs.Start.{Begun}
@@ -18,25 +20,25 @@ use Rattle.mc_campaign.specs.Places.{Places}
 use Rattle.mc_campaign.specs.State.{Told}
 
 -- What stands of a start after both rounds. A test that was left alone is taken back: it is as if no swap had been asked for.
-abbrev pub lasting : StartKind → Bool → StartKind
-lasting no_swap confirms = no_swap
-lasting test true = test
-lasting test false = no_swap
-lasting perm confirms = perm
-lasting revert confirms = revert
+abbrev pub lasting : Kind → Bool → Kind
+lasting starts.None confirms = starts.None
+lasting starts.Test true = starts.Test
+lasting starts.Test false = starts.None
+lasting starts.Perm confirms = starts.Perm
+lasting starts.Revert confirms = starts.Revert
 
 -- What is told of the second round: it boots, and the images stand as they will stay. Unless it takes a test back it has no
 -- operation, and so no cut.
-pub record IsLastOutcome (kind : StartKind) (confirms : Bool) (a b cuts : List ℕ) (outcome : Report) : Type 0 where
+pub record IsLastOutcome (kind : Kind) (confirms : Bool) (a b cuts : List ℕ) (outcome : Report) : Type 0 where
   pub result : outcome.result ≡ results.Boot
   pub primary : outcome.primary ≡ id_of (named (lasting kind confirms) a b)
   pub secondary : outcome.secondary ≡ id_of (other (lasting kind confirms) a b)
-  pub next : kind ≢ no_swap → outcome.next ≡ kinds.None
-  pub idle : (kind ≡ test → confirms ≡ true) → (outcome.ops ≡ 0) × (cuts ≡ [])
+  pub next : kind ≢ starts.None → outcome.next ≡ kinds.None
+  pub idle : (kind ≡ starts.Test → confirms ≡ true) → (outcome.ops ≡ 0) × (cuts ≡ [])
 
 -- The first round leaves x, as the restart theorem says of its cuts; the second begins there, where the image has confirmed itself
 -- or not, and leaves z, as the theorem says of a second round. What is told of both is so.
-pub record BothEnd (r : Rules) (g : Geometry) (kind : StartKind) (confirms : Bool) (a b : List ℕ) (s : Content) (c : Places) (one two : Report) (z : Content) : Type 0 where
+pub record BothEnd (r : Rules) (g : Geometry) (kind : Kind) (confirms : Bool) (a b : List ℕ) (s : Content) (c : Places) (one two : Report) (z : Content) : Type 0 where
   pub t : Content
   pub x : Content
   pub u : Content
@@ -51,7 +53,7 @@ pub record BothEnd (r : Rules) (g : Geometry) (kind : StartKind) (confirms : Boo
 -- of the campaign end so.
 abbrev pub Restarts : Rules → Geometry → Bool → Content → Places → Report → Report → Content → Type 0
 Restarts r g confirms s c one two z =
-    (kind : StartKind) (a b : List ℕ) → BeginsImage g a → BeginsImage g b
+    (kind : Kind) (a b : List ℕ) → BeginsImage g a → BeginsImage g b
     → (has_revert kind confirms ≡ true → forgets_reverts r.grain r.profile ≡ false)
     → start_flash g kind a b ≡ Some s → BothEnd r g kind confirms a b s c one two z
 

@@ -10,11 +10,9 @@ use Rattle.mc_explore.specs.Start.{Begun}
 use Rattle.mc_explore.specs.View.{position_of}
 use Rattle.mc_campaign.specs.Boots.{IsPathOf}
 use Rattle.mc_campaign.specs.Campaigns.{IsMember}
-use Rattle.mc_campaign.specs.Cursor.{Names}
 use Rattle.mc_campaign.specs.Places.{Places}
 use Rattle.mc_campaign.specs.State.{State, Explored}
 use Rattle.mc_campaign.specs.Twice.{twice_kind}
-use Rattle.mc_campaign.specs.declared.cursor.CampaignCursor.{CampaignCursor}
 use Rattle.mc_campaign.specs.declared.rounds.Twice.{Twice}
 
 -- The start of a walk.
@@ -39,10 +37,12 @@ explored w position = record {
   marked = length w.seen.marks;
 }
 
--- The cursor is one of the walk's start, choice and bound, and the flash counts where its kind does.
-pub record IsOurs (w : Walked Twice) (counted : Bool) (c : CampaignCursor) : Type 0 where
-  pub names : Names (begun_of w) w.branches.confirms w.bound c
-  pub few : w.bound ≤ 16
+-- The walk is one from that start with that choice and so many cuts, and the flash counts where its kind does.
+pub record IsOurs (counted : Bool) (start : Begun) (confirms : Bool) (bound : ℕ) (w : Walked Twice) : Type 0 where
+  pub start_is : begun_of w ≡ start
+  pub choice_is : w.branches.confirms ≡ confirms
+  pub bound_is : w.bound ≡ bound
+  pub few : bound ≤ 16
   pub counted_is : w.seen.ledger.limits.counted ≡ counted
 
 -- The tour stands where the last row says: at the end of the path of its campaign.
@@ -52,8 +52,9 @@ pub record StandsBehind (t : Toured Twice) (c : Places) : Type 0 where
   pub stands : StandsAt (twice_kind t.walk.branches.once.rules t.walk.branches.once.layout t.walk.branches.confirms) t (position_of t.phase path)
 
 -- What holds of an explorer's fields until it fails.
-abbrev pub IsSound : Bool → Toured Twice → CampaignCursor → Type 0
-IsSound counted t c = t.phase ≢ Broken → IsOurs t.walk counted c × StandsBehind t c.campaign
+abbrev pub IsSound : Bool → Begun → Bool → ℕ → Toured Twice → Places → Type 0
+IsSound counted start confirms bound t last =
+    t.phase ≢ Broken → IsOurs counted start confirms bound t.walk × StandsBehind t last
 
 -- A walk that was just loaded for a start.
 pub record IsLoaded (counted : Bool) (start : Begun) (confirms : Bool) (bound : ℕ) (w : Walked Twice) : Type 0 where

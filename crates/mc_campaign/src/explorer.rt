@@ -31,22 +31,29 @@ use std::marker::Model;
 /// Goes through all campaigns of at most so many cuts that can occur, in their order, each with the outcomes of both rounds, over
 /// one flash.
 #[derive(Drop)]
-pub struct CampaignExplorer<F: Flash> {
+pub struct CampaignExplorer<'a, F: Flash> {
+    start: &'a Start,
+    // What tells the start apart, where a cursor told it.
+    digest: Option<[u8; 32]>,
+    confirms: bool,
+    bound: u8,
     tour: Tour<F, Twice>,
-    // Where to go on behind the last row.
-    cursor: CampaignCursor,
+    // The campaign of the last row.
+    last: Campaign,
 }
 
-impl<F: Flash> Model for CampaignExplorer<F> {
-    ghost use Rattle.mc_explore.specs.View.{position_of};
+impl<'a, F: Flash> Model for CampaignExplorer<'a, F> {
+    ghost use Rattle.mc_explore.specs.Start.{begun};
+    ghost use Rattle.mc_explore.specs.View.{position_of, IsDigestOf};
     ghost use Rattle.mc_campaign.specs.State.{Explored};
     ghost use Rattle.mc_campaign.specs.View.{explored, IsSound};
 
     ghost Value = { Explored };
 
-    ghost view = { λ e. explored e.tour.walk (position_of e.tour.phase e.cursor.campaign) };
+    ghost view = { λ e. explored e.tour.walk (position_of e.tour.phase e.last) };
 
-    ghost invariant = { λ e. IsSound F.counted e.tour e.cursor };
+    ghost invariant = { λ e. IsSound F.counted (begun e.start.now) e.confirms e.bound e.tour e.last
+        × IsDigestOf (begun e.start.now) e.digest };
 }
 
 // The campaign of the path at whose end a walk stands.
@@ -66,7 +73,7 @@ fn campaign_at<F: Flash>(walk: &Walk<F, Twice>) -> Campaign
     campaign
 }
 
-impl<F: Flash + Drop> CampaignExplorer<F> {
+impl<'a, F: Flash + Drop> CampaignExplorer<'a, F> {
     /// An explorer at the start. Between the rounds the image confirms itself or not. It takes its own memory here, and none
     /// later but through the flash, which it loads for three boots more than there are cuts.
     ///
@@ -75,10 +82,10 @@ impl<F: Flash + Drop> CampaignExplorer<F> {
     /// `Memory` where an allocation failed.
     pub fn start(
         alloc: Global,
-        start: &Start,
+        start: &'a Start,
         bound: u8,
         confirms: bool,
-    ) -> Result<CampaignExplorer<F>, ExploreError>
+    ) -> Result<CampaignExplorer<'a, F>, ExploreError>
         requires { bound ≤ 16 }
         ensures ok { IfOk result (λ explorer. explorer.state
             ≡ at_start (begun start.now) confirms bound) }
@@ -90,8 +97,12 @@ impl<F: Flash + Drop> CampaignExplorer<F> {
     {
         let walk = load(alloc, start, bound, confirms)?;
         Ok(CampaignExplorer {
+            start,
+            digest: None,
+            confirms,
+            bound,
             tour: Tour::fresh(walk),
-            cursor: CampaignCursor::of(start, bound, confirms, &Campaign::new()),
+            last: Campaign::new(),
         })
     }
 
@@ -104,11 +115,11 @@ impl<F: Flash + Drop> CampaignExplorer<F> {
     /// `Memory`.
     pub fn resume(
         alloc: Global,
-        start: &Start,
+        start: &'a Start,
         bound: u8,
         confirms: bool,
         cursor: &CampaignCursor,
-    ) -> Result<CampaignExplorer<F>, ExploreError>
+    ) -> Result<CampaignExplorer<'a, F>, ExploreError>
         requires { bound ≤ 16 }
         ensures resumes { Resumes (begun start.now) confirms bound cursor.now result }
         ensures exact { IfOk result (λ explorer. F.counted ≡ true → explorer.ledger.limits
@@ -121,8 +132,12 @@ impl<F: Flash + Drop> CampaignExplorer<F> {
             return Err(ExploreError::CannotOccur);
         }
         Ok(CampaignExplorer {
+            start,
+            digest: Some(cursor.digest),
+            confirms,
+            bound,
             tour: Tour::behind(walk),
-            cursor: *cursor,
+            last: cursor.campaign,
         })
     }
 
@@ -151,7 +166,7 @@ impl<F: Flash + Drop> CampaignExplorer<F> {
             return Ok(None);
         };
         let campaign = campaign_at(self.tour.walk());
-        self.cursor.campaign = campaign;
+        self.last = campaign;
         Ok(Some(CampaignRow {
             campaign,
             first: told.first.outcome,
@@ -168,16 +183,27 @@ impl<F: Flash + Drop> CampaignExplorer<F> {
         self.tour.walk().flash()
     }
 
-    // Where to go on behind the last row.
+    // Where to go on behind the last row. Only here the start is hashed, where no cursor told its digest.
     fn cursor(&self) -> CampaignCursor
         ensures { (last : Places) → self.now.state.position ≡ After last → result ≡ cursor_of
             self.now.state.start self.now.state.confirms self.now.state.bound last }
     {
-        self.cursor
+        let start = self.start;
+        let digest = match self.digest {
+            Some(digest) => digest,
+            None => start.digest(),
+        };
+        CampaignCursor {
+            rules: start.rules(),
+            confirms: self.confirms,
+            digest,
+            bound: self.bound,
+            campaign: self.last,
+        }
     }
 }
 
-impl<F: Flash + Drop> RowSource for CampaignExplorer<F> {
+impl<'a, F: Flash + Drop> RowSource for CampaignExplorer<'a, F> {
     ghost use Rattle.std.specs.Prelude.{None, refl};
     ghost use Rattle.mc_campaign.specs.Explores.{most_for_row};
     ghost use Rattle.mc_campaign.specs.Rest.{campaigns};
@@ -219,7 +245,7 @@ impl<F: Flash + Drop> RowSource for CampaignExplorer<F> {
         self.next_row()
     }
 
-    fn write_row<W: Write>(row: CampaignRow, writer: &mut W) -> Result<(), ExploreError> {
+    fn write_row<W: Write>(&self, row: CampaignRow, writer: &mut W) -> Result<(), ExploreError> {
         write_line(writer, row)
     }
 

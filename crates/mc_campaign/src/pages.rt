@@ -15,7 +15,7 @@ use std::io::Write;
 ///
 /// `Write`, `Memory`, `Failed`: a prefix of that page is out, and from then on the explorer returns `Failed`.
 pub fn write_campaign_page<F: Flash + Drop, W: Write>(
-    explorer: &mut CampaignExplorer<F>,
+    explorer: &mut CampaignExplorer<'_, F>,
     limit: u32,
     writer: &mut W,
 ) -> Result<(), ExploreError>

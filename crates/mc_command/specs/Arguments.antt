@@ -12,8 +12,8 @@ use Rattle.mc_explore.specs.CursorText.{cursor_text}
 use Rattle.mc_campaign.specs.CursorText as campaigns
 use Rattle.mc_campaign.specs.declared.cursor.CampaignCursor.{CampaignCursor}
 use Rattle.mc_explore.specs.Texts.{schedule_text}
-use Rattle.mc_explore.specs.declared.kind.Kind.{Kind}
-use Rattle.mc_explore.specs.declared.kind.Kind.TheVariants as kinds
+use Rattle.mc_boot.specs.declared.kind.Kind.{Kind}
+use Rattle.mc_boot.specs.declared.kind.Kind.TheVariants as kinds
 use Rattle.mc_flash.specs.Texts.{grain_text}
 use Rattle.mc_trailer.specs.declared.tables.Rules.{Rules}
 use Rattle.mc_trailer.specs.Texts.{profile_text}

@@ -5,7 +5,7 @@ use Rattle.std.proofs.Math.Nat.{mul-le-mul_right}
 use Rattle.std.proofs.lemmas.List.{length-take-le, take_all}
 use Rattle.mc_tree.specs.Tree as tree
 use Rattle.mc_tree.specs.Tree.{Allowed, landed}
-use Rattle.mc_tree.specs.Paths.{After}
+use Rattle.mc_tree.specs.Paths.{After, Lost}
 use Rattle.mc_tree.specs.facts.Order.{allowed_front}
 use Rattle.mc_flash.specs.Content.{Content}
 use Rattle.mc_flash.specs.Geometry.{Geometry, IsLayout}
@@ -25,12 +25,13 @@ use Rattle.mc_boot.specs.Runs.{after, ops_of}
 use Rattle.mc_explore.specs.Boots.{at_cut, boots}
 use Rattle.mc_explore.specs.Once.{IsTold, most_of, once}
 use Rattle.mc_explore.specs.Replay.{CannotOccurAt, IsReplayed}
-use Rattle.mc_explore.specs.Resume.{Names, behind}
+use Rattle.mc_explore.specs.Resume.{behind}
 use Rattle.mc_explore.specs.Schedules.{IsMember, CanOccur}
-use Rattle.mc_explore.specs.Start.{Begun}
+use Rattle.mc_explore.specs.Start.{Begun, start_digest}
+use Rattle.mc_explore.specs.State.{State}
+use Rattle.mc_walk.specs.Tours.{Toured}
 use Rattle.mc_walk.specs.declared.tour.Phase.TheVariants as phases
-use Rattle.mc_explore.specs.View.{Followed, IsLoaded, IsSound, begun_of, state_of}
-use Rattle.mc_explore.specs.declared.cursor.Cursor.{Cursor}
+use Rattle.mc_explore.specs.View.{Followed, IsLoaded, IsSound, begun_of, position_of, state_of}
 use Rattle.mc_explore.specs.declared.once.Once.{Once}
 use Rattle.mc_explore.specs.declared.once.Told.{Told}
 use Rattle.mc_explore.proofs.Moving.{same_begun}
@@ -71,14 +72,16 @@ module _ (counted : Bool) (start : Begun) (bound : ℕ) (path : List ℕ) (zero_
       subst (λ n. tree.IsMember (boots start.rules start.geometry) start.content n l) one_bound (subst P one_start m)
 
   -- And those of its start are its own.
-  at_one : (l : List ℕ) → tree.IsMember (boots start.rules start.geometry) start.content bound l → tree.IsMember (boots one.branches.rules one.branches.layout) (start_of one.seen) one.bound (one.path ++ l)
+  at_one : (l : List ℕ) → tree.IsMember (boots start.rules start.geometry) start.content bound l
+      → tree.IsMember (boots one.branches.rules one.branches.layout) (start_of one.seen) one.bound (one.path ++ l)
   at_one l m =
       let P : Begun → Type 0 = λ s. tree.IsMember (boots s.rules s.geometry) s.content one.bound l in
       let here = subst P (sym one_start) (subst (λ n. tree.IsMember (boots start.rules start.geometry) start.content n l) (sym one_bound) m) in
       subst (tree.IsMember (boots one.branches.rules one.branches.layout) (start_of one.seen) one.bound) (sym (from_root l)) here
 
   -- There.
-  pub followed : (went : Bool) → went ≡ true → Follows (once one.branches.rules one.branches.layout) path one went two → Spent (telling (once zero_walk.branches.rules zero_walk.branches.layout)) zero_walk.seen one.seen
+  pub followed : (went : Bool) → went ≡ true → Follows (once one.branches.rules one.branches.layout) path one went two
+      → Spent (telling (once zero_walk.branches.rules zero_walk.branches.layout)) zero_walk.seen one.seen
       → Spent (path_cost (once one.branches.rules one.branches.layout) path) one.seen two.seen → Followed counted start bound path two
   followed false is f s t = absurd cc
   followed true is f s t =
@@ -89,7 +92,8 @@ module _ (counted : Bool) (start : Begun) (bound : ℕ) (path : List ℕ) (zero_
       let first : Spent (telling (once start.rules start.geometry)) zero_walk.seen one.seen = subst P l.start_is s in
       let along : Spent (path_cost (once start.rules start.geometry) path) one.seen two.seen = subst Q one_start t in
       let cost = cost_few start.rules start.geometry start.content path l.valid allowed.1 in
-      let few : length path * (2 * most_operations start.rules.grain start.geometry) ≤ bound * (2 * most_operations start.rules.grain start.geometry) = mul-le-mul_right (2 * most_operations start.rules.grain start.geometry) allowed.0 in
+      let few : length path * (2 * most_operations start.rules.grain start.geometry) ≤ bound * (2 * most_operations start.rules.grain start.geometry) =
+      mul-le-mul_right (2 * most_operations start.rules.grain start.geometry) allowed.0 in
       record {
         start_is = same_begun one two f.2 ∙ one_start;
         bound_is = f.2.bound ∙ one_bound;
@@ -98,7 +102,8 @@ module _ (counted : Bool) (start : Begun) (bound : ℕ) (path : List ℕ) (zero_
         allowed = allowed;
         counted_is = ap (λ (x : Limits). x.counted) (along.limits ∙ first.limits) ∙ l.counted_is;
         calm = along.failed ∙ first.failed ∙ l.calm;
-        applied = sum (most_operations start.rules.grain start.geometry) bound (path_cost (once start.rules start.geometry) path) (length path * (2 * most_operations start.rules.grain start.geometry)) zero_walk.seen.ledger.applied one.seen.ledger.applied two.seen.ledger.applied l.idle first.applied along.applied cost few;
+        applied = sum (most_operations start.rules.grain start.geometry) bound (path_cost (once start.rules start.geometry) path) (length path * (2 * most_operations start.rules.grain start.geometry))
+            zero_walk.seen.ledger.applied one.seen.ledger.applied two.seen.ledger.applied l.idle first.applied along.applied cost few;
       }
     where
       sum : (most n cost many a b c : ℕ) → a ≡ 0 → b ≤ a + most → c ≤ b + cost → cost ≤ many → many ≤ n * (2 * most) → c ≤ 2 * (n + 1) * most
@@ -136,33 +141,34 @@ module _ (counted : Bool) (start : Begun) (bound : ℕ) (path : List ℕ) (zero_
           let len : length (take n path) ≤ bound = omega (arith, length-take-le n path (omega (arith, f.inside)), f.inside, whole) in
           absurd (f.no_child (at_one (take n path) (len, occurs_allowed start.rules start.geometry start.content (take n path) occurs)))
 
--- ---- an explorer behind a cursor
+-- ---- an explorer behind a schedule
 
-pub resumed : (counted : Bool) (start : Begun) (bound : ℕ) (c : Cursor) (w : Walked Once) → Followed counted start bound c.schedule w → Names start bound c → bound ≤ 16 → IsSound counted (record { walk = w; phase = phases.Going }) c
-resumed counted start bound c w f names few = λ _. (
-  record {
-    names = subst (λ (s : Begun). Names s w.bound c) (sym f.start_is) (subst (λ n. Names start n c) (sym f.bound_is) names);
-    few = omega (arith, f.bound_is, few);
-    counted_is = f.counted_is;
-  },
+pub resumed : (counted : Bool) (start : Begun) (bound : ℕ) (path : List ℕ) (w : Walked Once) → Followed counted start bound path w → bound ≤ 16
+    → IsSound counted start bound (record { walk = w; phase = phases.Going }) path
+resumed counted start bound path w f few = λ _. (
+  record { start_is = f.start_is; bound_is = f.bound_is; few = few; counted_is = f.counted_is },
   ap (λ l. After l) (sym f.path_is),
 )
 
-pub started : (counted : Bool) (start : Begun) (bound : ℕ) (c : Cursor) (w : Walked Once) → IsLoaded counted start bound w → Names start bound c → bound ≤ 16 → IsSound counted (record { walk = w; phase = phases.Fresh }) c
-started counted start bound c w l names few = λ _. (
-  record {
-    names = subst (λ (s : Begun). Names s w.bound c) (sym l.start_is) (subst (λ n. Names start n c) (sym l.bound_is) names);
-    few = omega (arith, l.bound_is, few);
-    counted_is = l.counted_is;
-  },
+pub started : (counted : Bool) (start : Begun) (bound : ℕ) (path : List ℕ) (w : Walked Once) → IsLoaded counted start bound w → bound ≤ 16
+    → IsSound counted start bound (record { walk = w; phase = phases.Fresh }) path
+started counted start bound path w l few = λ _. (
+  record { start_is = l.start_is; bound_is = l.bound_is; few = few; counted_is = l.counted_is },
   refl,
 )
 
-pub behind_it : (counted : Bool) (start : Begun) (bound : ℕ) (c : Cursor) (w : Walked Once) → Followed counted start bound c.schedule w → state_of w (After c.schedule) ≡ behind start bound c.schedule
-behind_it counted start bound c w f =
-    ap (λ (s : Begun). record { start = s; bound = w.bound; position = After c.schedule; failed = w.seen.ledger.failed }) f.start_is
-    ∙ ap (λ (n : ℕ). record { start = start; bound = n; position = After c.schedule; failed = w.seen.ledger.failed }) f.bound_is
-    ∙ ap (λ (b : Bool). record { start = start; bound = bound; position = After c.schedule; failed = b }) f.calm
+pub behind_it : (counted : Bool) (start : Begun) (bound : ℕ) (path : List ℕ) (w : Walked Once) → Followed counted start bound path w → state_of w (After path) ≡ behind start bound path
+behind_it counted start bound path w f =
+    ap (λ (s : Begun). record { start = s; bound = w.bound; position = After path; failed = w.seen.ledger.failed }) f.start_is
+    ∙ ap (λ (n : ℕ). record { start = start; bound = n; position = After path; failed = w.seen.ledger.failed }) f.bound_is
+    ∙ ap (λ (b : Bool). record { start = start; bound = bound; position = After path; failed = b }) f.calm
+
+-- The start of an explorer behind a schedule is the one that it tells.
+pub same_digest : (counted : Bool) (start : Begun) (bound : ℕ) (t : Toured Once) (last : List ℕ) (told : Begun) (many : ℕ) (path d : List ℕ) → IsSound counted start bound t last
+    → state_of t.walk (position_of t.phase last) ≡ behind told many path → d ≡ start_digest told → d ≡ start_digest start
+same_digest counted start bound t last told many path d sound is at =
+    let ours = (sound (λ broken. let q : Lost ≡ After path = ap (λ p. position_of p last) (sym broken) ∙ ap (λ (s : State). s.position) is in absurd cc)).0 in
+    at ∙ ap start_digest (sym (ap (λ (s : State). s.start) is) ∙ ours.start_is)
 
 pub listed : (counted : Bool) (start : Begun) (bound : ℕ) (path : List ℕ) (w : Walked Once) → Followed counted start bound path w → IsMember start.rules start.geometry start.content bound path
 listed counted start bound path w f = member_of start.rules start.geometry start.content bound path f.allowed
@@ -196,12 +202,19 @@ module _ (counted : Bool) (start : Begun) (bound : ℕ) (path : List ℕ) (w : W
       let t = told_here in
       let few : LeaveRoom w.seen.ledger.counts (left_of start.geometry (progress told.boot)) (room_of w.seen.ledger.limits) = record {
         entries = omega (arith, there.room.allows.entries, t.few.few, ap (λ (p : Progress). length p.to_come) t.boot_is, ap (λ (s : Begun). most_operations s.rules.grain s.geometry) f.start_is);
-        saved = omega (arith, there.room.allows.saved, t.few.saves, ap (λ (p : Progress). (left_of start.geometry p).saved) t.boot_is, ap (λ (s : Begun). (most_of s.rules s.geometry).saved) f.start_is);
+        saved = omega (
+          arith,
+          there.room.allows.saved,
+          t.few.saves,
+          ap (λ (p : Progress). (left_of start.geometry p).saved) t.boot_is,
+          ap (λ (s : Begun). (most_of s.rules s.geometry).saved) f.start_is,
+        );
       } in
       subst (λ (x : Geometry). LeaveRoom w.seen.ledger.counts (left_of x (progress told.boot)) (room_of w.seen.ledger.limits)) (sym layout_here) few
 
   -- What it leaves is what the replay leaves.
-  pub replayed : (q : Progress) (new : Seen) → ((r : Rules) (s : Content) → HasCome r w.seen.geometry s (progress told.boot) w.seen.content → HasCome r w.seen.geometry s q new.content) → q.to_come ≡ []
+  pub replayed : (q : Progress) (new : Seen) → ((r : Rules) (s : Content) → HasCome r w.seen.geometry s (progress told.boot) w.seen.content → HasCome r w.seen.geometry s q new.content)
+      → q.to_come ≡ []
       → IsReplayed start.rules start.geometry start.content path (shown told.outcome) new.content
   replayed q new come end =
       let t = told_here in

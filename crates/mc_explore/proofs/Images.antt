@@ -10,10 +10,9 @@ use Rattle.mc_image.specs.ValidFacts.{front_within}
 use Rattle.mc_boot.specs.Image.{image_size, identity_of}
 use Rattle.mc_boot.specs.SizeFacts.{size_read}
 use Rattle.mc_boot.specs.declared.image.ImageId.{ImageId}
-use Rattle.mc_explore.specs.Slots.{kind_of}
 use Rattle.mc_explore.specs.Start.{in_order, named_ids}
-use Rattle.mc_explore.specs.declared.kind.Kind.{Kind}
-use Rattle.mc_explore.specs.declared.kind.Kind.TheVariants as kinds
+use Rattle.mc_boot.specs.declared.kind.Kind.{Kind}
+use Rattle.mc_boot.specs.declared.kind.Kind.TheVariants as kinds
 
 none_first : (o p : Option ImageError) → (o <+> p) ≡ None → o ≡ None
 none_first None p is = refl
@@ -35,7 +34,7 @@ read_front b v size fine is begins size_is =
     (length-take-le size b (omega (arith, size_is, front_within b v begins)) ∙ same, ap (λ n. take n b) same)
 
 -- The identities of two valid images, the named one first.
-pub names : (kind : Kind) (a b : List ℕ) (x y : Identity) → id_of a ≡ Some x → id_of b ≡ Some y → Some (in_order (kind_of kind) x y) ≡ named_ids (kind_of kind) a b
+pub names : (kind : Kind) (a b : List ℕ) (x y : Identity) → id_of a ≡ Some x → id_of b ≡ Some y → Some (in_order kind x y) ≡ named_ids kind a b
 names kinds.None a b x y first second = rw first (rw second refl)
 names kinds.Test a b x y first second = rw first (rw second refl)
 names kinds.Perm a b x y first second = rw first (rw second refl)
@@ -47,8 +46,8 @@ pair x y = (x, y)
 two : (a b x y : Identity) → a ≡ x → b ≡ y → pair a b ≡ pair x y
 two a b x y first second = ap (λ z. pair z b) first ∙ ap (pair x) second
 
-pub told_ids : (kind : Kind) (p : ImageId × ImageId) (i j : ImageId) (x y : Identity) → p ≡ in_order (kind_of kind) i j → identity_of i ≡ x → identity_of j ≡ y
-    → pair (identity_of p.0) (identity_of p.1) ≡ in_order (kind_of kind) x y
+pub told_ids : (kind : Kind) (p : ImageId × ImageId) (i j : ImageId) (x y : Identity) → p ≡ in_order kind i j → identity_of i ≡ x → identity_of j ≡ y
+    → pair (identity_of p.0) (identity_of p.1) ≡ in_order kind x y
 told_ids kinds.None p i j x y is first second = ap (λ (q : ImageId × ImageId). pair (identity_of q.0) (identity_of q.1)) is ∙ two (identity_of i) (identity_of j) x y first second
 told_ids kinds.Test p i j x y is first second = ap (λ (q : ImageId × ImageId). pair (identity_of q.0) (identity_of q.1)) is ∙ two (identity_of j) (identity_of i) y x second first
 told_ids kinds.Perm p i j x y is first second = ap (λ (q : ImageId × ImageId). pair (identity_of q.0) (identity_of q.1)) is ∙ two (identity_of j) (identity_of i) y x second first

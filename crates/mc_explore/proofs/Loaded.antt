@@ -68,14 +68,17 @@ same_start start once primary secondary rules layout one two =
     ∙ ap (λ (x : List ℕ). record { geometry = start.geometry; rules = start.rules; content = record { primary = start.content.primary; secondary = x } }) two
 
 -- A walk from there.
-pub loaded : (counted : Bool) (start : Begun) (primary secondary : List ℕ) (bound many : ℕ) (f : Seen) (b : Once) (w : Walked Once) → Loads counted start.geometry primary secondary start.rules.grain many f
-    → b ≡ record { rules = start.rules; layout = start.geometry } → start.content ≡ record { primary = primary; secondary = secondary } → IsOf b bound f w → IsFresh (once b.rules b.layout) w → Spent 0 f w.seen → IsLayout start.geometry
+pub loaded : (counted : Bool) (start : Begun) (primary secondary : List ℕ) (bound many : ℕ) (f : Seen) (b : Once) (w : Walked Once)
+    → Loads counted start.geometry primary secondary start.rules.grain many f
+    → b ≡ record { rules = start.rules; layout = start.geometry } → start.content ≡ record { primary = primary; secondary = secondary } → IsOf b bound f w → IsFresh (once b.rules b.layout) w
+    → Spent 0 f w.seen → IsLayout start.geometry
     → IsLoaded counted start bound w
 loaded counted start primary secondary bound many f b w l is content of fresh spent valid =
     let at : start_of w.seen ≡ start.content = of.start ∙ l.content_is ∙ sym content in
     let branches : w.branches ≡ record { rules = start.rules; layout = start.geometry } = of.branches_are ∙ is in
     record {
-      start_is = ap (λ (x : Once). record { geometry = x.layout; rules = x.rules; content = start_of w.seen }) branches ∙ ap (λ (x : Content). record { geometry = start.geometry; rules = start.rules; content = x }) at;
+      start_is = ap (λ (x : Once). record { geometry = x.layout; rules = x.rules; content = start_of w.seen }) branches ∙ ap
+          (λ (x : Content). record { geometry = start.geometry; rules = start.rules; content = x }) at;
       bound_is = of.bound_is;
       fresh = subst (λ (x : Once). IsFresh (once x.rules x.layout) w) (sym of.branches_are) fresh;
       counted_is = ap (λ (x : Limits). x.counted) spent.limits ∙ l.counted_is;

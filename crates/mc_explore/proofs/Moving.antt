@@ -18,13 +18,11 @@ use Rattle.mc_boot.specs.Outcome.{shown}
 use Rattle.mc_boot.specs.declared.boot.Boot.{Boot}
 use Rattle.mc_explore.specs.Boots.{boots}
 use Rattle.mc_explore.specs.Once.{IsTold, once}
-use Rattle.mc_explore.specs.Resume.{Names}
 use Rattle.mc_explore.specs.Schedules.{IsMember}
 use Rattle.mc_explore.specs.Start.{Begun}
 use Rattle.mc_explore.specs.State as states
 use Rattle.mc_explore.specs.State.{State, Finds, moved_to}
 use Rattle.mc_explore.specs.View.{IsOurs, IsSound, begun_of, position_of, state_of}
-use Rattle.mc_explore.specs.declared.cursor.Cursor.{Cursor}
 use Rattle.mc_explore.specs.declared.once.Once.{Once}
 use Rattle.mc_explore.specs.declared.once.Told.{Told}
 use Rattle.mc_explore.specs.declared.row.Row.{Row}
@@ -62,25 +60,22 @@ same_state old new position s calm =
 
 -- ---- what a visit finds
 
-module _ (counted : Bool) (old new : Toured Once) (c : Cursor) (works : old.phase ≢ phases.Broken) (sound : IsSound counted old c) where
+module _ (counted : Bool) (start : Begun) (bound : ℕ) (old new : Toured Once) (last : List ℕ) (works : old.phase ≢ phases.Broken) (sound : IsSound counted start bound old last) where
   abbrev here : Position (List ℕ)
-  here = position_of old.phase c.schedule
+  here = position_of old.phase last
 
-  ours_there : IsSame old.walk new.walk → new.walk.seen.ledger.limits ≡ old.walk.seen.ledger.limits → (d : Cursor) → d.rules ≡ c.rules → d.digest ≡ c.digest → d.bound ≡ c.bound → IsOurs new.walk counted d
-  ours_there same limits d rules digest bound =
+  ours_there : IsSame old.walk new.walk → new.walk.seen.ledger.limits ≡ old.walk.seen.ledger.limits → IsOurs counted start bound new.walk
+  ours_there same limits =
       let ours = (sound works).0 in
       record {
-        names = subst (λ (s : Begun). Names s new.walk.bound d) (sym (same_begun old.walk new.walk same)) (subst (λ n. Names (begun_of old.walk) n d) (sym same.bound) (record {
-          digest_is = digest ∙ ours.names.digest_is;
-          rules_are = rules ∙ ours.names.rules_are;
-          bound_is = bound ∙ ours.names.bound_is;
-        }));
-        few = omega (arith, ours.few, same.bound);
+        start_is = same_begun old.walk new.walk same ∙ ours.start_is;
+        bound_is = same.bound ∙ ours.bound_is;
+        few = ours.few;
         counted_is = ap (λ (l : Limits). l.counted) limits ∙ ours.counted_is;
       }
 
   pub few_there : IsSame old.walk new.walk → new.walk.bound ≤ 16
-  few_there same = omega (arith, (sound works).0.few, same.bound)
+  few_there same = let ours = (sound works).0 in omega (arith, ours.few, ours.bound_is, same.bound)
 
   -- The next row.
   module _ (told : Told) (visits : Visits (kind_of old.walk.branches) old here (Some told) new) where
@@ -97,10 +92,10 @@ module _ (counted : Bool) (old new : Toured Once) (c : Cursor) (works : old.phas
     moved_on l calm =
         ap (λ p. state_of new.walk (position_of p l)) visits.3 ∙ same_state old.walk new.walk (After l) visits.2 calm
 
-    pub sound_on : (d : Cursor) → d.rules ≡ c.rules → d.digest ≡ c.digest → d.bound ≡ c.bound → d.schedule ≡ new.walk.path → new.walk.seen.ledger.limits ≡ old.walk.seen.ledger.limits → IsSound counted new d
-    sound_on d rules digest bound path limits = λ _. (
-      ours_there visits.2 limits d rules digest bound,
-      subst (λ p. StandsAt (kind_of new.walk.branches) (record { walk = new.walk; phase = p }) (position_of p d.schedule)) (sym visits.3) (ap (λ l. After l) path),
+    pub sound_on : (l : List ℕ) → l ≡ new.walk.path → new.walk.seen.ledger.limits ≡ old.walk.seen.ledger.limits → IsSound counted start bound new l
+    sound_on l path limits = λ _. (
+      ours_there visits.2 limits,
+      subst (λ p. StandsAt (kind_of new.walk.branches) (record { walk = new.walk; phase = p }) (position_of p l)) (sym visits.3) (ap (λ x. After x) path),
     )
 
   -- Or there is none.
@@ -108,24 +103,24 @@ module _ (counted : Bool) (old new : Toured Once) (c : Cursor) (works : old.phas
     pub finds_none : states.IsOver (state_of old.walk here)
     finds_none = over_listed old.walk here visits.0
 
-    stays_there : position_of phases.Done c.schedule ≡ here
+    stays_there : position_of phases.Done last ≡ here
     stays_there = by old.phase refl
       where
-        by : (p : Phase) → old.phase ≡ p → After c.schedule ≡ position_of p c.schedule
+        by : (p : Phase) → old.phase ≡ p → After last ≡ position_of p last
         by phases.Fresh is =
-            let over = subst (λ q. paths.IsOver (IsPath (kind_of old.walk.branches) old.walk) (position_of q c.schedule)) is visits.0 in
+            let over = subst (λ q. paths.IsOver (IsPath (kind_of old.walk.branches) old.walk) (position_of q last)) is visits.0 in
             absurd (over [] (omega arith, tt) tt)
         by phases.Going is = refl
         by phases.Done is = refl
         by phases.Broken is = absurd (works is)
 
-    pub stays_so : new.walk.seen.ledger.failed ≡ old.walk.seen.ledger.failed → state_of new.walk (position_of new.phase c.schedule) ≡ state_of old.walk here
+    pub stays_so : new.walk.seen.ledger.failed ≡ old.walk.seen.ledger.failed → state_of new.walk (position_of new.phase last) ≡ state_of old.walk here
     stays_so calm =
-        ap (λ p. state_of new.walk (position_of p c.schedule)) visits.3 ∙ ap (state_of new.walk) stays_there ∙ same_state old.walk new.walk here visits.2 calm
+        ap (λ p. state_of new.walk (position_of p last)) visits.3 ∙ ap (state_of new.walk) stays_there ∙ same_state old.walk new.walk here visits.2 calm
 
-    pub sound_over : new.walk.seen.ledger.limits ≡ old.walk.seen.ledger.limits → IsSound counted new c
+    pub sound_over : new.walk.seen.ledger.limits ≡ old.walk.seen.ledger.limits → IsSound counted start bound new last
     sound_over limits = λ _. (
-      ours_there visits.2 limits c refl refl refl,
-      subst (λ p. StandsAt (kind_of new.walk.branches) (record { walk = new.walk; phase = p }) (position_of p c.schedule)) (sym visits.3)
+      ours_there visits.2 limits,
+      subst (λ p. StandsAt (kind_of new.walk.branches) (record { walk = new.walk; phase = p }) (position_of p last)) (sym visits.3)
           (subst (paths.IsOver (IsPath (kind_of new.walk.branches) new.walk)) (sym stays_there) (over_there kind_of old.walk new.walk here visits.2 visits.0)),
     )

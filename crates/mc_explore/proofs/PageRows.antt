@@ -71,7 +71,8 @@ module _ {S K R C : Type 0} (l : Listing S K R C) (laws : IsLawful l) where
   module _ (until : Option K) where
     -- The next row is the first of them.
     shown_on : (row : R) (rows shown : List R) → IsBefore l until (l.key row) → AreBefore l until (row ∷ rows) shown → (left : List R) × (shown ≡ row ∷ left) × AreBefore l until rows left
-    shown_on row rows [] before are = absurd (All-head (λ x. IsBefore l until (l.key x) → ⊥) row rows (All-same (λ x. IsBefore l until (l.key x) → ⊥) (row ∷ rows) are.others are.parted are.none) before)
+    shown_on row rows [] before are = absurd (All-head (λ x. IsBefore l until (l.key x) → ⊥) row rows (All-same (λ x. IsBefore l until (l.key x) → ⊥) (row ∷ rows) are.others are.parted are.none)
+        before)
     shown_on row rows (x ∷ shown) before are =
         let parted : row ∷ rows ≡ x ∷ (shown ++ are.others) = are.parted in
         let first : x ≡ row = cc in
@@ -169,7 +170,8 @@ module _ {S K R C : Type 0} (l : Listing S K R C) (laws : IsLawful l) where
       one_more new row (found, shows, moved) of =
           let p = so_far of in
           let n = next_of row p.left found shows in
-          let taken : rows_taken l room p.left.shown ≡ suc (rows_taken l k n.others.shown) = ap (λ z. rows_taken l z p.left.shown) is ∙ ap (λ z. rows_taken l (suc k) z) n.shown_are ∙ taken_on l k row n.others.shown in
+          let taken : rows_taken l room p.left.shown ≡ suc (rows_taken l k n.others.shown) =
+          ap (λ z. rows_taken l z p.left.shown) is ∙ ap (λ z. rows_taken l (suc k) z) n.shown_are ∙ taken_on l k row n.others.shown in
           subst (λ s. SoFar until old limit s k (some ++ row ∷ []) of.rows of.shown) (sym moved) (record {
             left = n.others;
             shown_are = p.shown_are ∙ ap (λ z. some ++ z) n.shown_are ∙ sym (append_assoc some (row ∷ []) n.others.shown);

@@ -7,7 +7,9 @@ use Rattle.mc_trailer.specs.declared.tables.Rules.{Rules}
 use Rattle.mc_boot.specs.Outcome.{Report, outcome_of}
 use Rattle.mc_boot.specs.Restart.{BeginsImage, EndsIn, RestartLaw, forgets_reverts}
 use Rattle.mc_boot.specs.Runs.{after}
-use Rattle.mc_boot.specs.Start.{StartKind, revert, start_flash}
+use Rattle.mc_boot.specs.Start.{start_flash}
+use Rattle.mc_boot.specs.declared.kind.Kind.{Kind}
+use Rattle.mc_boot.specs.declared.kind.Kind.TheVariants as starts
 use Rattle.mc_explore.specs.Replay.{IsReplayed, IsSwapOutcome, Restarts}
 use Rattle.mc_explore.specs.Restarts.{RowRestarts}
 use Rattle.mc_explore.specs.Start.{Begun}
@@ -23,8 +25,8 @@ replay_restarts r g s z cuts o layout law done = λ kind a b first second rules 
     let ends_in : EndsIn r g kind a b s done.cut z = subst P same ends.1 in
     (done.cut, done.occurs, ends_in, swap_outcome r g kind a b s done.cut begins.0 z cuts o done.outcome_is done.occurs begins.1 ends_in)
 
-row_ends : (start : Begun) (row : Told) (kind : StartKind) (a b : List ℕ) → RestartLaw start.rules → IsLayout start.geometry → BeginsImage start.geometry a → BeginsImage start.geometry b
-    → (kind ≡ revert → forgets_reverts start.rules.grain start.rules.profile ≡ false) → start_flash start.geometry kind a b ≡ Some start.content
+row_ends : (start : Begun) (row : Told) (kind : Kind) (a b : List ℕ) → RestartLaw start.rules → IsLayout start.geometry → BeginsImage start.geometry a → BeginsImage start.geometry b
+    → (kind ≡ starts.Revert → forgets_reverts start.rules.grain start.rules.profile ≡ false) → start_flash start.geometry kind a b ≡ Some start.content
     → (o : Option Content) → after start.rules start.geometry start.content row.schedule ≡ o → option_and_then (λ u. outcome_of start.rules start.geometry u) o ≡ Some row.outcome
     → (u : Content) × (z : Content) × (after start.rules start.geometry start.content row.schedule ≡ Some u)
     × EndsIn start.rules start.geometry kind a b start.content u z × IsSwapOutcome kind a b row.schedule row.outcome

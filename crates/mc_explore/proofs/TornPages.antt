@@ -1,5 +1,6 @@
 -- The whole row lines of a page of which only a beginning is there.
-use Rattle.std.specs.Prelude.{◌≡◌, ◌⊎◌, ℕ, suc, ◌+◌, ◌-◌, ◌<◌, ◌≤◌, ◌^◌, List, [], ◌∷◌, ◌++◌, length, take, map, flat_map, codes, decimal, All, Contains, Option, Some, None, Result, Ok, Err, IfNone, refl}
+use Rattle.std.specs.Prelude.{◌≡◌, ◌⊎◌, ℕ, suc, ◌+◌, ◌-◌, ◌<◌, ◌≤◌, ◌^◌, List, [], ◌∷◌, ◌++◌, length, take, map, flat_map, codes, decimal, All, Contains, Option, Some, None, Result, Ok, Err, IfNone}
+use Rattle.std.specs.Prelude.{refl}
 use Rattle.std.specs.Result.{result_ok}
 use Rattle.std.specs.Str.Iter.{LacksByte}
 use Rattle.std.proofs.Common.{inl, inr, arith, sym, ap, subst, ◌∙◌, append_assoc, append-nil, length-append}

@@ -9,7 +9,9 @@ use Rattle.mc_boot.specs.Run.{HasCome}
 use Rattle.mc_boot.specs.Runs.{after, left_by}
 use Rattle.mc_boot.specs.Outcome.{Report, outcome_of, shown}
 use Rattle.mc_boot.specs.Restart.{BeginsImage, EndsIn, forgets_reverts}
-use Rattle.mc_boot.specs.Start.{StartKind, no_swap, revert, start_flash, named, other}
+use Rattle.mc_boot.specs.Start.{start_flash, named, other}
+use Rattle.mc_boot.specs.declared.kind.Kind.{Kind}
+use Rattle.mc_boot.specs.declared.kind.Kind.TheVariants as starts
 use Rattle.mc_boot.specs.declared.outcome.BootResult.TheVariants as results
 use Rattle.mc_boot.specs.declared.outcome.Outcome.{Outcome}
 use Rattle.mc_image.specs.Valid.{id_of}
@@ -42,16 +44,16 @@ Refuses r g s cuts errors.Memory = ⊤
 
 -- What is told of the boot after the cuts: the named image in the primary, the other in the secondary. Where no swap is asked
 -- for there is no operation at all: it makes none, and none came before it, so that nothing was cut.
-pub record IsSwapOutcome (kind : StartKind) (a b : List ℕ) (cuts : List ℕ) (outcome : Report) : Type 0 where
+pub record IsSwapOutcome (kind : Kind) (a b : List ℕ) (cuts : List ℕ) (outcome : Report) : Type 0 where
   pub result : outcome.result ≡ results.Boot
   pub primary : outcome.primary ≡ id_of (named kind a b)
   pub secondary : outcome.secondary ≡ id_of (other kind a b)
-  pub idle : kind ≡ no_swap → (outcome.ops ≡ 0) × (cuts ≡ [])
+  pub idle : kind ≡ starts.None → (outcome.ops ≡ 0) × (cuts ≡ [])
 
 -- From the start of two valid images that fit, under rules that do not forget reverts, a replay that is not refused ends
 -- what the start asks for: the boot after the cuts leaves z, its result is to boot, and the images stand in their slots.
 abbrev pub Restarts : Rules → Geometry → Content → List ℕ → Report → Content → Type 0
 Restarts r g s cuts outcome z =
-    (kind : StartKind) (a b : List ℕ) → BeginsImage g a → BeginsImage g b → (kind ≡ revert → forgets_reverts r.grain r.profile ≡ false)
+    (kind : Kind) (a b : List ℕ) → BeginsImage g a → BeginsImage g b → (kind ≡ starts.Revert → forgets_reverts r.grain r.profile ≡ false)
     → start_flash g kind a b ≡ Some s
     → (u : Content) × (after r g s cuts ≡ Some u) × EndsIn r g kind a b s u z × IsSwapOutcome kind a b cuts outcome

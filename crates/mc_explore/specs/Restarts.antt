@@ -4,7 +4,9 @@ use Rattle.mc_flash.specs.Geometry.{IsLayout}
 use Rattle.mc_flash.specs.Content.{Content}
 use Rattle.mc_boot.specs.Restart.{BeginsImage, EndsIn, forgets_reverts}
 use Rattle.mc_boot.specs.Runs.{after}
-use Rattle.mc_boot.specs.Start.{StartKind, revert, start_flash}
+use Rattle.mc_boot.specs.Start.{start_flash}
+use Rattle.mc_boot.specs.declared.kind.Kind.{Kind}
+use Rattle.mc_boot.specs.declared.kind.Kind.TheVariants as starts
 use Rattle.mc_explore.specs.Replay.{IsSwapOutcome}
 use Rattle.mc_explore.specs.Start.{Begun}
 use Rattle.mc_explore.specs.State.{Told}
@@ -13,8 +15,8 @@ use Rattle.mc_explore.specs.State.{Told}
 -- what the start asks for: its result is to boot, and the images stand in their slots.
 abbrev pub RowRestarts : Begun → Told → Type 0
 RowRestarts start row =
-    (kind : StartKind) (a b : List ℕ) → IsLayout start.geometry → BeginsImage start.geometry a → BeginsImage start.geometry b
-    → (kind ≡ revert → forgets_reverts start.rules.grain start.rules.profile ≡ false)
+    (kind : Kind) (a b : List ℕ) → IsLayout start.geometry → BeginsImage start.geometry a → BeginsImage start.geometry b
+    → (kind ≡ starts.Revert → forgets_reverts start.rules.grain start.rules.profile ≡ false)
     → start_flash start.geometry kind a b ≡ Some start.content
     → (u : Content) × (z : Content) × (after start.rules start.geometry start.content row.schedule ≡ Some u)
     × EndsIn start.rules start.geometry kind a b start.content u z × IsSwapOutcome kind a b row.schedule row.outcome

@@ -9,11 +9,10 @@ use Rattle.mc_flash.specs.declared.op.Slot.TheVariants.{Primary, Secondary}
 use Rattle.mc_trailer.specs.declared.tables.Rules.{Rules}
 use Rattle.mc_boot.specs.Image.{image_size}
 use Rattle.mc_boot.specs.Plan.{plain}
-use Rattle.mc_boot.specs.Start.{StartKind, start_flash, named, other}
-use Rattle.mc_boot.specs.Start as starts
+use Rattle.mc_boot.specs.Start.{start_flash, named, other}
+use Rattle.mc_boot.specs.declared.kind.Kind.{Kind}
+use Rattle.mc_boot.specs.declared.kind.Kind.TheVariants as starts
 use Rattle.mc_explore.specs.Texts.{layout_line}
-use Rattle.mc_explore.specs.Slots.{kind_of}
-use Rattle.mc_explore.specs.declared.kind.Kind.{Kind}
 use Rattle.mc_explore.specs.declared.start.StartError.{StartError}
 use Rattle.mc_explore.specs.declared.start.StartError.TheVariants as errors
 
@@ -48,26 +47,26 @@ abbrev pub begun : Started → Begun
 begun s = record { geometry = s.geometry; rules = s.rules; content = s.content }
 
 -- The named one first.
-abbrev pub in_order : {A : Type 0} → StartKind → A → A → A × A
-in_order starts.no_swap a b = (a, b)
-in_order starts.test a b = (b, a)
-in_order starts.perm a b = (b, a)
-in_order starts.revert a b = (b, a)
+abbrev pub in_order : {A : Type 0} → Kind → A → A → A × A
+in_order starts.None a b = (a, b)
+in_order starts.Test a b = (b, a)
+in_order starts.Perm a b = (b, a)
+in_order starts.Revert a b = (b, a)
 
 abbrev both : Option Identity → Option Identity → Option (Identity × Identity)
 both (Some x) (Some y) = Some (x, y)
 both _ _ = None
 
 -- The identities of the named image and of the other, of two valid images.
-abbrev pub named_ids : StartKind → List ℕ → List ℕ → Option (Identity × Identity)
+abbrev pub named_ids : Kind → List ℕ → List ℕ → Option (Identity × Identity)
 named_ids kind a b = both (id_of (named kind a b)) (id_of (other kind a b))
 
 -- The start of two images: it has the defined flash, and whole calls and the first profile are its rules. Where there is
 -- none the first refusal is answered. Memory is wanted only for images that are not refused.
 abbrev pub Starts : Geometry → Kind → List ℕ → List ℕ → Result Started StartError → Type 0
 Starts g kind a b (Ok s) =
-    (refusal_of g a b ≡ None) × (s.geometry ≡ g) × (s.rules ≡ plain) × (start_flash g (kind_of kind) a b ≡ Some s.content)
-    × (s.named ≡ named_ids (kind_of kind) a b)
+    (refusal_of g a b ≡ None) × (s.geometry ≡ g) × (s.rules ≡ plain) × (start_flash g kind a b ≡ Some s.content)
+    × (s.named ≡ named_ids kind a b)
 Starts g kind a b (Err errors.Memory) = refusal_of g a b ≡ None
 Starts g kind a b (Err e) = refusal_of g a b ≡ Some e
 

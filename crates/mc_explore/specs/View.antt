@@ -1,5 +1,5 @@
 -- What an explorer's fields stand for, and what holds of them.
-use Rattle.std.specs.Prelude.{◌≡◌, ◌≢◌, ℕ, ◌+◌, ◌*◌, ◌≤◌, Bool, true, false, List, length}
+use Rattle.std.specs.Prelude.{◌≡◌, ◌≢◌, ℕ, ◌+◌, ◌*◌, ◌≤◌, Bool, true, false, List, length, Option, IfSome}
 use Rattle.mc_tree.specs.Tree as tree
 use Rattle.mc_tree.specs.Paths.{Position, AtStart, After, Lost}
 use Rattle.mc_flash.specs.Geometry.{IsLayout}
@@ -7,10 +7,8 @@ use Rattle.mc_flash.specs.Ledger.{most_operations}
 use Rattle.mc_walk.specs.Walks.{Walked, IsFresh, start_of}
 use Rattle.mc_explore.specs.Boots.{boots}
 use Rattle.mc_explore.specs.Once.{once}
-use Rattle.mc_explore.specs.Resume.{Names}
-use Rattle.mc_explore.specs.Start.{Begun}
+use Rattle.mc_explore.specs.Start.{Begun, start_digest}
 use Rattle.mc_explore.specs.State.{State, Explored}
-use Rattle.mc_explore.specs.declared.cursor.Cursor.{Cursor}
 use Rattle.mc_explore.specs.declared.once.Once.{Once}
 use Rattle.mc_walk.specs.Tours.{Toured, StandsAt}
 use Rattle.mc_walk.specs.declared.tour.Phase.{Phase}
@@ -47,17 +45,22 @@ explored w position = record {
   marked = length w.seen.marks;
 }
 
--- The cursor is one of the walk's start and bound, and the flash counts where its kind does.
-pub record IsOurs (w : Walked Once) (counted : Bool) (c : Cursor) : Type 0 where
-  pub names : Names (begun_of w) w.bound c
-  pub few : w.bound ≤ 16
+-- The walk is one from that start with so many cuts, and the flash counts where its kind does.
+pub record IsOurs (counted : Bool) (start : Begun) (bound : ℕ) (w : Walked Once) : Type 0 where
+  pub start_is : begun_of w ≡ start
+  pub bound_is : w.bound ≡ bound
+  pub few : bound ≤ 16
   pub counted_is : w.seen.ledger.limits.counted ≡ counted
 
--- What holds of an explorer's fields until it fails: the tour stands where the last row says, which the cursor names.
-abbrev pub IsSound : Bool → Toured Once → Cursor → Type 0
-IsSound counted t c =
+-- What holds of an explorer's fields until it fails: the tour stands where the last row says.
+abbrev pub IsSound : Bool → Begun → ℕ → Toured Once → List ℕ → Type 0
+IsSound counted start bound t last =
     t.phase ≢ Broken
-    → IsOurs t.walk counted c × StandsAt (once t.walk.branches.rules t.walk.branches.layout) t (position_of t.phase c.schedule)
+    → IsOurs counted start bound t.walk × StandsAt (once t.walk.branches.rules t.walk.branches.layout) t (position_of t.phase last)
+
+-- It is the digest of that start, where there is one.
+abbrev pub IsDigestOf : Begun → Option (List ℕ) → Type 0
+IsDigestOf start digest = IfSome digest (λ d. d ≡ start_digest start)
 
 -- A walk that was just loaded for a start.
 pub record IsLoaded (counted : Bool) (start : Begun) (bound : ℕ) (w : Walked Once) : Type 0 where

@@ -28,31 +28,41 @@ use std::marker::Model;
 /// Goes through all schedules of at most so many cuts that can occur, in their order, each with its outcome, over one
 /// flash.
 #[derive(Drop)]
-pub struct Explorer<F: Flash> {
+pub struct Explorer<'a, F: Flash> {
+    start: &'a Start,
+    // What tells the start apart, where a cursor told it.
+    digest: Option<[u8; 32]>,
+    bound: u8,
     tour: Tour<F, Once>,
-    // Where to go on behind the last row.
-    cursor: Cursor,
+    // The schedule of the last row.
+    last: Schedule,
 }
 
-impl<F: Flash> Model for Explorer<F> {
+impl<'a, F: Flash> Model for Explorer<'a, F> {
+    ghost use Rattle.mc_explore.specs.Start.{begun};
     ghost use Rattle.mc_explore.specs.State.{Explored};
-    ghost use Rattle.mc_explore.specs.View.{explored, position_of, IsSound};
+    ghost use Rattle.mc_explore.specs.View.{explored, position_of, IsDigestOf, IsSound};
 
     ghost Value = { Explored };
 
-    ghost view = { λ e. explored e.tour.walk (position_of e.tour.phase e.cursor.schedule) };
+    ghost view = { λ e. explored e.tour.walk (position_of e.tour.phase e.last) };
 
-    ghost invariant = { λ e. IsSound F.counted e.tour e.cursor };
+    ghost invariant = { λ e. IsSound F.counted (begun e.start.now) e.bound e.tour e.last
+        × IsDigestOf (begun e.start.now) e.digest };
 }
 
-impl<F: Flash + Drop> Explorer<F> {
+impl<'a, F: Flash + Drop> Explorer<'a, F> {
     /// An explorer at the start. It takes its own memory here, and none later but through the flash, which it loads for
     /// one boot more than there are cuts.
     ///
     /// # Errors
     ///
     /// `Memory` where an allocation failed.
-    pub fn start(alloc: Global, start: &Start, bound: u8) -> Result<Explorer<F>, ExploreError>
+    pub fn start(
+        alloc: Global,
+        start: &'a Start,
+        bound: u8,
+    ) -> Result<Explorer<'a, F>, ExploreError>
         requires { bound ≤ 16 }
         ensures ok { IfOk result (λ explorer. explorer.state ≡ at_start (begun start.now) bound) }
         // No operation is done yet, and a flash that counts has room for exactly so many boots.
@@ -63,8 +73,49 @@ impl<F: Flash + Drop> Explorer<F> {
     {
         let walk = load(alloc, start, bound)?;
         Ok(Explorer {
+            start,
+            digest: None,
+            bound,
             tour: Tour::fresh(walk),
-            cursor: Cursor::of(start, bound, &Schedule::new()),
+            last: Schedule::new(),
+        })
+    }
+
+    /// An explorer that goes on after a schedule, straight down along its cuts. It takes memory as one at the start does.
+    ///
+    /// # Errors
+    ///
+    /// `CannotOccur` where it is none of the schedules to go through; `Memory`.
+    pub fn behind(
+        alloc: Global,
+        start: &'a Start,
+        bound: u8,
+        last: &Schedule,
+    ) -> Result<Explorer<'a, F>, ExploreError>
+        requires { bound ≤ 16 }
+        ensures resumes { Resumes (begun start.now) bound
+            (cursor_of (begun start.now) bound last.now) result }
+        // It takes at most two boots a cut, and one.
+        ensures applied { IfOk result (λ explorer. explorer.ledger.applied ≤ 2 * (bound + 1)
+            * most_operations start.now.rules.grain start.now.geometry) }
+        ensures exact { IfOk result (λ explorer. F.counted ≡ true → explorer.ledger.limits
+            ≡ limits_for start.now.rules.grain start.now.geometry (bound + 1)) }
+    {
+        let cuts = last.cuts();
+        if cuts.len() > usize::from(bound) {
+            return Err(ExploreError::CannotOccur);
+        }
+        let mut walk = load(alloc, start, bound)?;
+        walk.begin()?;
+        if !walk.follow(cuts)? {
+            return Err(ExploreError::CannotOccur);
+        }
+        Ok(Explorer {
+            start,
+            digest: None,
+            bound,
+            tour: Tour::behind(walk),
+            last: *last,
         })
     }
 
@@ -76,10 +127,10 @@ impl<F: Flash + Drop> Explorer<F> {
     /// The first of `OtherStart`, `OtherRules`, `OtherBound` and `CannotOccur` that holds of the cursor; `Memory`.
     pub fn resume(
         alloc: Global,
-        start: &Start,
+        start: &'a Start,
         bound: u8,
         cursor: &Cursor,
-    ) -> Result<Explorer<F>, ExploreError>
+    ) -> Result<Explorer<'a, F>, ExploreError>
         requires { bound ≤ 16 }
         ensures resumes { Resumes (begun start.now) bound cursor.now result }
         // It takes at most two boots a cut, and one.
@@ -89,19 +140,9 @@ impl<F: Flash + Drop> Explorer<F> {
             ≡ limits_for start.now.rules.grain start.now.geometry (bound + 1)) }
     {
         ask(start, bound, cursor)?;
-        let cuts = cursor.schedule.cuts();
-        if cuts.len() > usize::from(bound) {
-            return Err(ExploreError::CannotOccur);
-        }
-        let mut walk = load(alloc, start, bound)?;
-        walk.begin()?;
-        if !walk.follow(cuts)? {
-            return Err(ExploreError::CannotOccur);
-        }
-        Ok(Explorer {
-            tour: Tour::behind(walk),
-            cursor: *cursor,
-        })
+        let mut explorer = Explorer::behind(alloc, start, bound, &cursor.schedule)?;
+        explorer.digest = Some(cursor.digest);
+        Ok(explorer)
     }
 
     /// The row of the next schedule, and none where there is no further one.
@@ -129,7 +170,7 @@ impl<F: Flash + Drop> Explorer<F> {
             return Ok(None);
         };
         let schedule = Schedule::of(self.tour.walk().path().as_slice());
-        self.cursor.schedule = schedule;
+        self.last = schedule;
         Ok(Some(Row {
             schedule,
             outcome: told.outcome,
@@ -145,16 +186,26 @@ impl<F: Flash + Drop> Explorer<F> {
         self.tour.walk().flash()
     }
 
-    /// Where to go on behind the last row.
+    /// Where to go on behind the last row. Only here the start is hashed, where no cursor told its digest.
     pub(crate) fn cursor(&self) -> Cursor
         ensures { (last : List ℕ) → self.now.state.position ≡ After last → result
             ≡ cursor_of self.now.state.start self.now.state.bound last }
     {
-        self.cursor
+        let start = self.start;
+        let digest = match self.digest {
+            Some(digest) => digest,
+            None => start.digest(),
+        };
+        Cursor {
+            rules: start.rules(),
+            digest,
+            bound: self.bound,
+            schedule: self.last,
+        }
     }
 }
 
-impl<F: Flash + Drop> RowSource for Explorer<F> {
+impl<'a, F: Flash + Drop> RowSource for Explorer<'a, F> {
     ghost use Rattle.std.specs.Prelude.{List, ℕ, refl};
     ghost use Rattle.mc_explore.specs.Bounds.{most_for_row};
     ghost use Rattle.mc_explore.specs.Rest.{schedules};
@@ -202,7 +253,7 @@ impl<F: Flash + Drop> RowSource for Explorer<F> {
         }
     }
 
-    fn write_row<W: Write>(row: Row, writer: &mut W) -> Result<(), ExploreError> {
+    fn write_row<W: Write>(&self, row: Row, writer: &mut W) -> Result<(), ExploreError> {
         write_line(writer, row)
     }
 

@@ -40,7 +40,7 @@ fn write_lines<S: RowSource, W: Write>(
     let mut room = limit;
     'fill: while room > 0 {
         match source.next_before(until)? {
-            Some(row) => S::write_row(row, writer)?,
+            Some(row) => source.write_row(row, writer)?,
             None => return write_text(writer, b"end\n"),
         }
         room -= 1;
@@ -92,7 +92,7 @@ pub fn write_rows<S: RowSource, W: Write>(
 ///
 /// `Write`, `Memory`, `Failed`: a prefix of that page is out, and from then on the explorer returns `Failed`.
 pub fn write_page_until<F: Flash + Drop, W: Write>(
-    explorer: &mut Explorer<F>,
+    explorer: &mut Explorer<'_, F>,
     until: Option<Schedule>,
     limit: u32,
     writer: &mut W,
@@ -122,7 +122,7 @@ pub fn write_page_until<F: Flash + Drop, W: Write>(
 ///
 /// `Write`, `Memory`, `Failed`: a prefix of that page is out, and from then on the explorer returns `Failed`.
 pub fn write_page<F: Flash + Drop, W: Write>(
-    explorer: &mut Explorer<F>,
+    explorer: &mut Explorer<'_, F>,
     limit: u32,
     writer: &mut W,
 ) -> Result<(), ExploreError>

@@ -6,10 +6,9 @@ ghost use Rattle.mc_trailer.specs.Places.{place, magic_bytes};
 ghost use Rattle.mc_boot.specs.Plan.{plain};
 ghost use Rattle.mc_boot.specs.Runs.{left_by};
 ghost use Rattle.mc_boot.specs.Start.{image_bytes, filled, placed, test_flash, perm_flash, start_flash};
-ghost use Rattle.mc_explore.specs.Slots.{content_of, kind_of};
+ghost use Rattle.mc_explore.specs.Slots.{content_of};
 
-use crate::kind::Kind;
-use mc_boot::Boot;
+use mc_boot::{Boot, Kind};
 use mc_flash::{Flash, FlashError, Layout, Slot, SnapFlash};
 use mc_trailer::{Field, MAGIC, Rules, place};
 use std::alloc::{AllocError, Global};
@@ -170,7 +169,7 @@ pub(crate) fn start_slots(
     requires second { (length second.now ≤ size_of layout.now Primary)
         × (length second.now ≤ size_of layout.now Secondary) }
     ensures content { (a b : List ℕ) → first.now ≡ image_bytes a → second.now ≡ image_bytes b
-        → IfOk result (λ s. start_flash layout.now (kind_of kind) a b ≡ Some (content_of s)) }
+        → IfOk result (λ s. start_flash layout.now kind a b ≡ Some (content_of s)) }
     ensures sized { IfOk result (λ s. IsSized layout.now (content_of s)) }
     ensures err { IfErr result (λ e. e ≡ FlashError.Memory) }
 {

@@ -66,7 +66,7 @@ pub trait RowSource {
     /// # Errors
     ///
     /// `Write` where a write fails or takes no bytes.
-    fn write_row<W: Write>(row: Self::Row, writer: &mut W) -> Result<(), ExploreError>
+    fn write_row<W: Write>(&self, row: Self::Row, writer: &mut W) -> Result<(), ExploreError>
         ensures whole { OnOk result (Appends (W.contents writer.old) (W.contents writer.new)
             (row_line listing (shown row))) }
         ensures front { OnErr result (AppendsFront (W.contents writer.old) (W.contents writer.new)

@@ -10,11 +10,9 @@ ghost use Rattle.mc_boot.specs.Image.{image_size, identity_of};
 ghost use Rattle.mc_boot.specs.Start.{image_bytes};
 ghost use Rattle.mc_explore.specs.Texts.{layout_line};
 ghost use Rattle.mc_explore.specs.Start.{Starts, Gives, begun, in_order, of_flash, start_digest};
-ghost use Rattle.mc_explore.specs.Slots.{kind_of};
 
-use crate::kind::Kind;
 use crate::slots::{Slots, start_slots};
-use mc_boot::ImageId;
+use mc_boot::{ImageId, Kind};
 use mc_flash::{FlashError, Layout, Slot};
 use mc_image::{ImageError, ImageView};
 use mc_trailer::Rules;
@@ -164,7 +162,7 @@ impl<'a> ValidImage<'a> {
 
 // The image that a kind of start names, and the other.
 fn named_of(kind: Kind, first: ImageId, second: ImageId) -> (ImageId, ImageId)
-    ensures { result ≡ in_order (kind_of kind) first second }
+    ensures { result ≡ in_order kind first second }
 {
     match kind {
         Kind::None => (first, second),

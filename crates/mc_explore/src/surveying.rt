@@ -96,7 +96,7 @@ impl fmt::Display for Tally {
 ///
 /// `Memory`, `Failed`: those of `next_row`.
 pub fn survey_until<F: Flash + Drop>(
-    explorer: &mut Explorer<F>,
+    explorer: &mut Explorer<'_, F>,
     until: Option<Schedule>,
     limit: u32,
 ) -> Result<Tally, ExploreError>
@@ -126,7 +126,7 @@ pub fn survey_until<F: Flash + Drop>(
 ///
 /// `Memory`, `Failed`: those of `next_row`.
 pub fn survey<F: Flash + Drop>(
-    explorer: &mut Explorer<F>,
+    explorer: &mut Explorer<'_, F>,
     limit: u32,
 ) -> Result<Tally, ExploreError>
     requires { 1 ≤ limit }

@@ -13,7 +13,7 @@ fn assert_bounds(rt: &impl Abort, flash: &JournalFlash) {
 }
 
 /// Goes on to the next row, if there is one.
-fn goes_on(rt: &impl Abort, explorer: &mut Explorer<JournalFlash>) -> Result<bool, Fail> {
+fn goes_on(rt: &impl Abort, explorer: &mut Explorer<'_, JournalFlash>) -> Result<bool, Fail> {
     let goes_on = explorer.next_row()?.is_some();
     assert_bounds(rt, explorer.flash());
     Ok(goes_on)

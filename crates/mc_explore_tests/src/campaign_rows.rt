@@ -2,22 +2,21 @@
 use crate::common::swap;
 use mc_boot::BootResult;
 use mc_campaign::{Campaign, CampaignCursor, CampaignExplorer, CampaignRow};
-use mc_explore::{ExploreError, Kind};
+use mc_explore::{ExploreError, Kind, Start};
 use mc_flash::JournalFlash;
 use mc_trailer::SwapType;
 use std::alloc::Global;
 use std::process::Abort;
 use std::test::Fail;
 
-/// An explorer of the campaigns of a swap of both images, of at most 16 cuts.
-fn explorer(
+/// An explorer of the campaigns of a start, of at most 16 cuts.
+fn explorer<'a>(
     alloc: Global,
-    kind: Kind,
+    start: &'a Start,
     confirms: bool,
     bound: u8,
-) -> Result<CampaignExplorer<JournalFlash>, Fail> {
-    let start = swap(alloc, kind)?;
-    Ok(CampaignExplorer::start(alloc, &start, bound.min(16), confirms)?)
+) -> Result<CampaignExplorer<'a, JournalFlash>, Fail> {
+    Ok(CampaignExplorer::start(alloc, start, bound.min(16), confirms)?)
 }
 
 #[test]
@@ -33,7 +32,8 @@ fn campaigns_are_counted(rt: HostRuntime) -> Result<(), Fail> {
         (Kind::Revert, false, 1, 24),
         (Kind::Revert, true, 1, 24),
     ] {
-        let mut explorer = explorer(rt.alloc(), kind, confirms, bound)?;
+        let start = swap(rt.alloc(), kind)?;
+        let mut explorer = explorer(rt.alloc(), &start, confirms, bound)?;
         let mut rows = 1000;
         for place in 0u32..1000 {
             if explorer.next_row()?.is_none() {
@@ -52,7 +52,8 @@ fn row_and_next(
     bound: u8,
     text: &str,
 ) -> Result<(Option<CampaignRow>, Option<CampaignRow>), Fail> {
-    let mut explorer = explorer(alloc, Kind::Test, false, bound)?;
+    let start = swap(alloc, Kind::Test)?;
+    let mut explorer = explorer(alloc, &start, false, bound)?;
     for _place in 0..1000 {
         let Some(row) = explorer.next_row()? else {
             return Ok((None, None));
@@ -121,6 +122,8 @@ fn behind(
         &cursor,
     ) {
         Ok(explorer) => explorer,
+        // The test ends where an allocation failed (`scripts/refuse-tests`).
+        Err(ExploreError::Memory) => return Err(Fail::from(ExploreError::Memory)),
         Err(error) => return Ok(Err(error)),
     };
     match explorer.next_row()? {
@@ -166,7 +169,8 @@ fn assert_bounds(rt: &impl Abort, flash: &JournalFlash) {
 
 #[test]
 fn a_walk_keeps_its_bounds(rt: HostRuntime) -> Result<(), Fail> {
-    let mut explorer = explorer(rt.alloc(), Kind::Test, false, 1)?;
+    let start = swap(rt.alloc(), Kind::Test)?;
+    let mut explorer = explorer(rt.alloc(), &start, false, 1)?;
     assert_eq!(rt; explorer.flash().applied(), 0);
     let mut rows = 1000;
     for place in 0u32..1000 {

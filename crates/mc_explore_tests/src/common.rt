@@ -14,16 +14,12 @@ pub fn swap(alloc: Global, kind: Kind) -> Result<Start, Fail> {
     Ok(Start::from_images(alloc, &layout, kind, &FIRST_IMAGE, &SECOND_IMAGE)?)
 }
 
-/// An explorer of a test swap with at most so many cuts.
-pub fn explorer(alloc: Global, bound: u8) -> Result<Explorer<SnapFlash>, Fail>
-    requires { bound ≤ 16 }
-{
-    let start = swap(alloc, Kind::Test)?;
-    Ok(Explorer::start(alloc, &start, bound)?)
-}
-
 /// The page of at most so many rows.
-pub fn page(alloc: Global, explorer: &mut Explorer<SnapFlash>, limit: u32) -> Result<String, Fail>
+pub fn page(
+    alloc: Global,
+    explorer: &mut Explorer<'_, SnapFlash>,
+    limit: u32,
+) -> Result<String, Fail>
     requires { 1 ≤ limit }
 {
     let mut page = Vec::with_capacity(alloc, 2048)?;

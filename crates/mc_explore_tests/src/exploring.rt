@@ -1,8 +1,9 @@
 //! The rows of a test swap of two small images.
 ghost use Rattle.std.specs.Prelude.{◌≤◌};
 
-use crate::common::explorer;
-use mc_explore::Row;
+use crate::common::swap;
+use mc_explore::{Explorer, Kind, Row};
+use mc_flash::SnapFlash;
 use std::alloc::Global;
 use std::test::Fail;
 
@@ -10,7 +11,8 @@ use std::test::Fail;
 fn rows(alloc: Global, bound: u8) -> Result<Vec<Row>, Fail>
     requires { bound ≤ 16 }
 {
-    let mut explorer = explorer(alloc, bound)?;
+    let start = swap(alloc, Kind::Test)?;
+    let mut explorer = Explorer::<SnapFlash>::start(alloc, &start, bound)?;
     let mut rows = Vec::new(alloc);
     for _ in 0..1000 {
         match explorer.next_row()? {

@@ -1,14 +1,16 @@
 //! The pages of a test swap of two small images.
 ghost use Rattle.std.specs.Prelude.{◌≤◌};
 
-use crate::common::{explorer, is_between, page};
-use mc_explore::{Schedule, write_page_until};
+use crate::common::{is_between, page, swap};
+use mc_explore::{Explorer, Kind, Schedule, write_page_until};
+use mc_flash::SnapFlash;
 use std::alloc::{AllocError, Global};
 use std::test::Fail;
 
 #[test]
 fn a_full_page_ends_with_a_cursor(rt: HostRuntime) -> Result<(), Fail> {
-    let mut explorer = explorer(rt.alloc(), 0)?;
+    let start = swap(rt.alloc(), Kind::Test)?;
+    let mut explorer = Explorer::<SnapFlash>::start(rt.alloc(), &start, 0)?;
     let first = page(rt.alloc(), &mut explorer, 1)?;
     let row = "- boot test 18 2.0.0+0/80 1.0.0+0/80 revert\nnext mc1:";
     assert!(rt; is_between(first.as_str(), row, ":0:-\n"));
@@ -19,7 +21,9 @@ fn a_full_page_ends_with_a_cursor(rt: HostRuntime) -> Result<(), Fail> {
 
 #[test]
 fn a_page_with_room_left_ends(rt: HostRuntime) -> Result<(), Fail> {
-    let page = page(rt.alloc(), &mut explorer(rt.alloc(), 1)?, 20)?;
+    let start = swap(rt.alloc(), Kind::Test)?;
+    let mut explorer = Explorer::<SnapFlash>::start(rt.alloc(), &start, 1)?;
+    let page = page(rt.alloc(), &mut explorer, 20)?;
     let page = page.as_str();
     let row = "\n17 boot test 1 2.0.0+0/80 1.0.0+0/80 revert\nend\n";
     assert!(rt; page.lines().count() == 20 && page.ends_with(row));
@@ -32,7 +36,9 @@ fn page_until(alloc: Global, until: &str, limit: u32) -> Result<String, Fail>
 {
     let until = Schedule::read(until)?;
     let mut page = Vec::with_capacity(alloc, 2048)?;
-    write_page_until(&mut explorer(alloc, 1)?, Some(until), limit, &mut page)?;
+    let start = swap(alloc, Kind::Test)?;
+    let mut explorer = Explorer::<SnapFlash>::start(alloc, &start, 1)?;
+    write_page_until(&mut explorer, Some(until), limit, &mut page)?;
     Ok(String::from_utf8(page)?)
 }
 

@@ -104,20 +104,22 @@ fn told(alloc: Global, start: &Start, bound: u8, text: &str) -> Result<String, F
     }
 }
 
+/// What is said of a cursor with its letters.
+fn told_of(alloc: Global, start: &Start, bound: &str, cursor: &str) -> Result<String, Fail> {
+    let digest = hex::encode(alloc, start.digest())?;
+    let text = cursor.replace(alloc, "D", digest.as_str())?;
+    let text = text.as_str().replace(alloc, "O", OTHER)?;
+    told(alloc, start, bound.parse::<u8>()?.min(16), text.as_str())
+}
+
 #[test]
 fn cursors_serve_or_are_refused(rt: HostRuntime) -> Result<(), Fail> {
-    let alloc = rt.alloc();
-    let start = swap(alloc, Kind::Test)?;
-    let digest = hex::encode(alloc, start.digest())?;
+    let start = swap(rt.alloc(), Kind::Test)?;
     for row in CURSORS.lines() {
-        let fields: Vec<&str> = row.splitn(3, ' ').collect(alloc)?;
-        let [bound, cursor, want] = fields.as_slice() else {
-            return Err(Fail::from("a line has three fields"));
-        };
-        let text = cursor.replace(alloc, "D", digest.as_str())?;
-        let text = text.as_str().replace(alloc, "O", OTHER)?;
-        let told = told(alloc, &start, bound.parse::<u8>()?.min(16), text.as_str())?;
-        assert_eq!(rt; told.as_str(), *want, "{row}");
+        let (bound, rest) = row.split_once(' ').ok_or("a cursor")?;
+        let (cursor, want) = rest.split_once(' ').ok_or("what is said of it")?;
+        let told = told_of(rt.alloc(), &start, bound, cursor)?;
+        assert_eq!(rt; told.as_str(), want, "{row}");
     }
     Ok(())
 }

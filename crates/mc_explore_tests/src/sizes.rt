@@ -4,7 +4,6 @@ use mc_explore::{Cursor, Explorer, Kind, Schedule, Start, replay};
 use mc_fixtures::image_of;
 use mc_flash::{Flash, JournalFlash, Layout, Slot, SnapFlash};
 use std::alloc::Global;
-use std::process::Abort;
 use std::test::Fail;
 
 /// The payload of an image that takes all of the 253 sectors that can be swapped in slots of 256 and 255 sectors.
@@ -30,20 +29,26 @@ fn holds(slot: &[u8], fill: u8) -> bool {
 fn large_images_are_placed(rt: HostRuntime) -> Result<(), Fail> {
     for kind in [Kind::None, Kind::Test, Kind::Perm, Kind::Revert] {
         let start = large(rt.alloc(), kind)?;
-        assert!(rt; holds(start.primary(), 1), "{kind:?}");
-        assert!(rt; holds(start.secondary(), 2), "{kind:?}");
+        let are_placed = holds(start.primary(), 1) && holds(start.secondary(), 2);
+        assert!(rt; are_placed, "{kind:?}");
     }
     Ok(())
 }
 
+/// Whether a large flash without an image has one row.
+fn has_one_row(alloc: Global) -> Result<bool, Fail> {
+    let layout = Layout::new(4096, 8, 256, 512, 256, 255)?;
+    let bytes = vec![in alloc; 0xffu8; 511 * 4096]?;
+    let start = Start::from_flash(alloc, &layout, bytes.as_slice())?;
+    let mut explorer = Explorer::<SnapFlash>::start(alloc, &start, 16)?;
+    let first = explorer.next_row()?;
+    let second = explorer.next_row()?;
+    Ok(first.is_some() && second.is_none())
+}
+
 #[test]
 fn a_large_flash_is_explored(rt: HostRuntime) -> Result<(), Fail> {
-    let layout = Layout::new(4096, 8, 256, 512, 256, 255)?;
-    let bytes = vec![in rt.alloc(); 0xffu8; 511 * 4096]?;
-    let start = Start::from_flash(rt.alloc(), &layout, bytes.as_slice())?;
-    let mut explorer = Explorer::<SnapFlash>::start(rt.alloc(), &start, 16)?;
-    assert!(rt; explorer.next_row()?.is_some());
-    assert!(rt; explorer.next_row()?.is_none());
+    assert!(rt; has_one_row(rt.alloc())?);
     Ok(())
 }
 
@@ -67,20 +72,20 @@ fn goes_on<F: Flash + Drop>(alloc: Global, start: &Start) -> Result<bool, Fail> 
     Ok(matches!(row.outcome.result, BootResult::Boot) && row.schedule.cuts() == next.cuts())
 }
 
-/// Replays a schedule of 16 cuts of a swap of large images, and goes on after it.
-fn many_cuts_are_replayed<F: Flash + Drop>(rt: &impl Abort, alloc: Global) -> Result<(), Fail> {
+/// Whether a schedule of 16 cuts of a swap of large images is replayed, and an exploration goes on after it.
+fn are_replayed<F: Flash + Drop>(alloc: Global) -> Result<bool, Fail> {
     let start = large(alloc, Kind::Test)?;
-    assert!(rt; is_swapped::<F>(alloc, &start)?);
-    assert!(rt; goes_on::<F>(alloc, &start)?);
-    Ok(())
+    Ok(is_swapped::<F>(alloc, &start)? && goes_on::<F>(alloc, &start)?)
 }
 
 #[test]
 fn many_cuts_are_replayed_over_copies(rt: HostRuntime) -> Result<(), Fail> {
-    many_cuts_are_replayed::<SnapFlash>(&rt, rt.alloc())
+    assert!(rt; are_replayed::<SnapFlash>(rt.alloc())?);
+    Ok(())
 }
 
 #[test]
 fn many_cuts_are_replayed_over_a_journal(rt: HostRuntime) -> Result<(), Fail> {
-    many_cuts_are_replayed::<JournalFlash>(&rt, rt.alloc())
+    assert!(rt; are_replayed::<JournalFlash>(rt.alloc())?);
+    Ok(())
 }

@@ -5,7 +5,7 @@ use crate::common::{rules_of, swap};
 use crate::hostile::flash_of;
 use mc_explore::{Explorer, Kind, Schedule, Start, survey, survey_until};
 use mc_fixtures::worked;
-use mc_flash::{JournalFlash, SnapFlash};
+use mc_flash::{Flash, JournalFlash, SnapFlash};
 use std::alloc::Global;
 use std::test::Fail;
 
@@ -20,14 +20,25 @@ fn kind_of(word: &str) -> Kind {
 }
 
 /// The lines of the tally of so many rows at most, joined by commas.
+fn lines_of<F: Flash + Drop>(
+    alloc: Global,
+    explorer: &mut Explorer<F>,
+    limit: u32,
+) -> Result<String, Fail>
+    requires { 1 ≤ limit }
+{
+    let tally = survey(explorer, limit)?;
+    let text = format!(in alloc; "{tally}")?;
+    Ok(text.as_str().replace(alloc, "\n", ",")?)
+}
+
+/// The same from a start.
 fn tally_of(alloc: Global, start: &Start, bound: u8, limit: u32) -> Result<String, Fail>
     requires few { bound ≤ 16 }
     requires some { 1 ≤ limit }
 {
-    let mut explorer: Explorer<SnapFlash> = Explorer::start(alloc, start, bound)?;
-    let tally = survey(&mut explorer, limit)?;
-    let text = format!(in alloc; "{tally}")?;
-    Ok(text.as_str().replace(alloc, "\n", ",")?)
+    let mut explorer = Explorer::<SnapFlash>::start(alloc, start, bound)?;
+    lines_of(alloc, &mut explorer, limit)
 }
 
 /// A line has the kind of the start, the grain, the profile, the most cuts, the most rows, and the lines of the tally.
@@ -68,7 +79,7 @@ fn the_rows_of_a_page_are_counted(rt: HostRuntime) -> Result<(), Fail> {
 #[test]
 fn a_survey_goes_on_where_its_page_would(rt: HostRuntime) -> Result<(), Fail> {
     let start = swap(rt.alloc(), Kind::Test)?;
-    let mut explorer: Explorer<JournalFlash> = Explorer::start(rt.alloc(), &start, 2)?;
+    let mut explorer = Explorer::<JournalFlash>::start(rt.alloc(), &start, 2)?;
     let until = Some(Schedule::read("17.0")?);
     let before = survey_until(&mut explorer, until, 1000)?;
     assert_eq!(rt; before.rows, 221);

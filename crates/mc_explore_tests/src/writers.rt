@@ -1,10 +1,10 @@
 //! Pages over writers that take one byte a call, and fail at each call in turn.
 ghost use Rattle.std.specs.Prelude.{◌≡◌, ◌≤◌, IfOk};
 
-use crate::common::{explorer, swap};
+use crate::common::swap;
 use crate::tearing::PAGE;
 use mc_campaign::{CampaignExplorer, write_campaign_page};
-use mc_explore::{ExploreError, Explorer, Kind, write_page};
+use mc_explore::{ExploreError, Explorer, Kind, Start, write_page};
 use mc_flash::SnapFlash;
 use std::alloc::Global;
 use std::io;
@@ -71,48 +71,69 @@ impl Write for Narrow {
     }
 }
 
-/// An explorer whose pages are written.
+/// What was told of a page, of another page where that failed, and then of the next row: their errors.
+type Errors = [Option<ExploreError>; 3];
+
+/// What is told where a write of a page fails.
+static STOPPED: Errors = [
+    Some(ExploreError::Write),
+    Some(ExploreError::Failed),
+    Some(ExploreError::Failed),
+];
+
+/// A kind of exploration whose pages are written.
 trait Paged {
     ghost use Rattle.std.specs.Prelude.{◌≤◌};
 
-    /// An explorer of a test swap with at most so many cuts.
-    fn started(alloc: Global, bound: u8) -> Result<Self, Fail>
-        requires { bound ≤ 16 };
-
-    /// Writes a page of at most so many rows.
-    fn write(&mut self, limit: u32, narrow: &mut Narrow) -> Result<(), ExploreError>
-        requires { 1 ≤ limit };
-
-    /// The error of its next row.
-    fn error(&mut self) -> Option<ExploreError>;
+    /// Writes the first page of at most so many rows of a start, with at most so many cuts.
+    fn errors(
+        alloc: Global,
+        start: &Start,
+        bound: u8,
+        limit: u32,
+        narrow: &mut Narrow,
+    ) -> Result<Errors, Fail>
+        requires bound { bound ≤ 16 }
+        requires limit { 1 ≤ limit };
 }
 
-impl Paged for Explorer<SnapFlash> {
-    fn started(alloc: Global, bound: u8) -> Result<Explorer<SnapFlash>, Fail> {
-        explorer(alloc, bound)
-    }
+/// Explorations of schedules.
+struct Schedules;
 
-    fn write(&mut self, limit: u32, narrow: &mut Narrow) -> Result<(), ExploreError> {
-        write_page(self, limit, narrow)
-    }
-
-    fn error(&mut self) -> Option<ExploreError> {
-        self.next_row().err()
+impl Paged for Schedules {
+    fn errors(
+        alloc: Global,
+        start: &Start,
+        bound: u8,
+        limit: u32,
+        narrow: &mut Narrow,
+    ) -> Result<Errors, Fail> {
+        let mut explorer = Explorer::<SnapFlash>::start(alloc, start, bound)?;
+        let Err(first) = ended(write_page(&mut explorer, limit, narrow))? else {
+            return Ok([None; 3]);
+        };
+        let again = write_page(&mut explorer, limit, narrow).err();
+        Ok([Some(first), again, explorer.next_row().err()])
     }
 }
 
-impl Paged for CampaignExplorer<SnapFlash> {
-    fn started(alloc: Global, bound: u8) -> Result<CampaignExplorer<SnapFlash>, Fail> {
-        let start = swap(alloc, Kind::Test)?;
-        Ok(CampaignExplorer::start(alloc, &start, bound, false)?)
-    }
+/// Explorations of campaigns, without a confirmation.
+struct Campaigns;
 
-    fn write(&mut self, limit: u32, narrow: &mut Narrow) -> Result<(), ExploreError> {
-        write_campaign_page(self, limit, narrow)
-    }
-
-    fn error(&mut self) -> Option<ExploreError> {
-        self.next_row().err()
+impl Paged for Campaigns {
+    fn errors(
+        alloc: Global,
+        start: &Start,
+        bound: u8,
+        limit: u32,
+        narrow: &mut Narrow,
+    ) -> Result<Errors, Fail> {
+        let mut explorer = CampaignExplorer::<SnapFlash>::start(alloc, start, bound, false)?;
+        let Err(first) = ended(write_campaign_page(&mut explorer, limit, narrow))? else {
+            return Ok([None; 3]);
+        };
+        let again = write_campaign_page(&mut explorer, limit, narrow).err();
+        Ok([Some(first), again, explorer.next_row().err()])
     }
 }
 
@@ -127,25 +148,6 @@ fn page_of(alloc: Global, rows: usize, last: &[u8]) -> Result<Vec<u8>, Fail> {
     Ok(page)
 }
 
-/// Writes a page over a writer that fails after so many bytes of it: a prefix of it is out, and nothing comes after it.
-fn page_stops<P: Paged>(
-    rt: &impl Abort,
-    explorer: &mut P,
-    limit: u32,
-    narrow: &mut Narrow,
-    prefix: &[u8],
-) -> Result<(), Fail>
-    requires { 1 ≤ limit }
-{
-    let told = ended(explorer.write(limit, narrow))?;
-    assert_eq!(rt; told, Err(ExploreError::Write));
-    let again = explorer.write(limit, narrow);
-    assert_eq!(rt; again, Err(ExploreError::Failed));
-    assert_eq!(rt; explorer.error(), Some(ExploreError::Failed));
-    assert_eq!(rt; narrow.taken.as_slice(), prefix);
-    Ok(())
-}
-
 /// How a write fails, and whether each later one does.
 static FAULTS: [(Fault, bool); 6] = [
     (Fault::Error, true),
@@ -156,8 +158,9 @@ static FAULTS: [(Fault, bool); 6] = [
     (Fault::NoBytes, false),
 ];
 
-/// Writes a page over a writer that fails at each call in turn, and over one that never does.
-fn meets_failing_writes<P: Paged + Drop>(
+/// Writes a page over a writer that fails at each call in turn, and over one that never does: where it fails a prefix of the page
+/// is out, and nothing comes after it.
+fn meets_failing_writes<P: Paged>(
     rt: &impl Abort,
     alloc: Global,
     bound: u8,
@@ -167,6 +170,7 @@ fn meets_failing_writes<P: Paged + Drop>(
     requires bound { bound ≤ 16 }
     requires limit { 1 ≤ limit }
 {
+    let start = swap(alloc, Kind::Test)?;
     for room in 0..page.len() {
         for (fault, lasts) in FAULTS {
             let mut narrow = Narrow {
@@ -175,8 +179,9 @@ fn meets_failing_writes<P: Paged + Drop>(
                 fault,
                 lasts,
             };
-            let mut explorer = P::started(alloc, bound)?;
-            page_stops(rt, &mut explorer, limit, &mut narrow, &page[..room])?;
+            let told = P::errors(alloc, &start, bound, limit, &mut narrow)?;
+            assert_eq!(rt; told, STOPPED);
+            assert_eq!(rt; narrow.taken.as_slice(), &page[..room]);
         }
     }
     let mut narrow = Narrow {
@@ -185,8 +190,8 @@ fn meets_failing_writes<P: Paged + Drop>(
         fault: Fault::Error,
         lasts: true,
     };
-    let told = ended(P::started(alloc, bound)?.write(limit, &mut narrow))?;
-    assert_eq!(rt; told, Ok(()));
+    let told = P::errors(alloc, &start, bound, limit, &mut narrow)?;
+    assert_eq!(rt; told, [None; 3]);
     assert_eq!(rt; narrow.taken.as_slice(), page);
     Ok(())
 }
@@ -194,9 +199,9 @@ fn meets_failing_writes<P: Paged + Drop>(
 #[test]
 fn a_failed_write_ends_the_exploration(rt: HostRuntime) -> Result<(), Fail> {
     let full = page_of(rt.alloc(), 132, NEXT)?;
-    meets_failing_writes::<Explorer<SnapFlash>>(&rt, rt.alloc(), 1, 3, full.as_slice())?;
+    meets_failing_writes::<Schedules>(&rt, rt.alloc(), 1, 3, full.as_slice())?;
     let last = page_of(rt.alloc(), 44, b"end\n")?;
-    meets_failing_writes::<Explorer<SnapFlash>>(&rt, rt.alloc(), 0, 2, last.as_slice())
+    meets_failing_writes::<Schedules>(&rt, rt.alloc(), 0, 2, last.as_slice())
 }
 
 /// A page of two campaigns, and one of all that there are without a cut.
@@ -215,8 +220,8 @@ end
 #[test]
 fn a_failed_write_ends_an_exploration_of_campaigns(rt: HostRuntime) -> Result<(), Fail> {
     let [full, last] = CAMPAIGNS;
-    meets_failing_writes::<CampaignExplorer<SnapFlash>>(&rt, rt.alloc(), 1, 2, full.as_bytes())?;
-    meets_failing_writes::<CampaignExplorer<SnapFlash>>(&rt, rt.alloc(), 0, 2, last.as_bytes())
+    meets_failing_writes::<Campaigns>(&rt, rt.alloc(), 1, 2, full.as_bytes())?;
+    meets_failing_writes::<Campaigns>(&rt, rt.alloc(), 0, 2, last.as_bytes())
 }
 
 #[test]
@@ -227,7 +232,12 @@ fn a_page_of_all_rows_is_cut_off(rt: HostRuntime) -> Result<(), Fail> {
         fault: Fault::Error,
         lasts: true,
     };
-    let mut explorer = explorer(rt.alloc(), 1)?;
-    let prefix = PAGE.get(..100).unwrap_or_default();
-    page_stops(&rt, &mut explorer, 19, &mut narrow, prefix)
+    let start = swap(rt.alloc(), Kind::Test)?;
+    let told = Schedules::errors(rt.alloc(), &start, 1, 19, &mut narrow)?;
+    assert_eq!(rt; told, STOPPED);
+    assert_eq!(rt;
+        narrow.taken.as_slice(),
+        PAGE.get(..100).unwrap_or_default()
+    );
+    Ok(())
 }

@@ -65,11 +65,13 @@ spot_with a b = record { content = record { primary = a; secondary = b }; counts
 same_spot : (a b c d : List ℕ) → c ≡ a → d ≡ b → spot_with c d ≡ spot_with a b
 same_spot a b c d p q = cc
 
-pub copies_mark : (g : Geometry) (s : Content) (items more : List Snapshot) (copy : Snapshot) (failed : Bool) (place : ℕ) → more ≡ items ++ copy ∷ [] → copy.primary.items ≡ s.primary → copy.secondary.items ≡ s.secondary → place ≡ length items
+pub copies_mark : (g : Geometry) (s : Content) (items more : List Snapshot) (copy : Snapshot) (failed : Bool) (place : ℕ) → more ≡ items ++ copy ∷ [] → copy.primary.items ≡ s.primary
+    → copy.secondary.items ≡ s.secondary → place ≡ length items
     → Marks (copies_seen g s (map copy_seen items) failed) (Ok place) (copies_seen g s (map copy_seen more) failed)
 copies_mark g s items more copy failed place is first second at = (
   at ∙ sym (length-map items copy_seen),
-  ap (λ (ms : List Spot). copies_seen g s ms failed) (ap (map copy_seen) is ∙ map-append copy_seen items (copy ∷ []) ∙ ap (λ (x : Spot). map copy_seen items ++ x ∷ []) (same_spot s.primary s.secondary copy.primary.items copy.secondary.items first second)),
+  ap (λ (ms : List Spot). copies_seen g s ms failed) (ap (map copy_seen) is ∙ map-append copy_seen items (copy ∷ []) ∙ ap (λ (x : Spot). map copy_seen items ++ x ∷ [])
+      (same_spot s.primary s.secondary copy.primary.items copy.secondary.items first second)),
   λ counted full. counts_nothing g counted,
 )
 
@@ -81,7 +83,8 @@ at_place (m ∷ ms) (suc place) copy below is = at_place ms place copy (omega (a
 back_parts : (g h : Geometry) (s t : Content) (ms ns : List Spot) (b : Bool) → h ≡ g → s ≡ t → ms ≡ ns → copies_seen h s ms b ≡ copies_seen g t ns b
 back_parts g h s t ms ns b p q r = cc
 
-pub copies_back : (g h : Geometry) (s t : Content) (items left : List Snapshot) (copy : Snapshot) (failed : Bool) (place : ℕ) → h ≡ g → place < length items → copy ≡ get_or items place copy → left ≡ take place items
+pub copies_back : (g h : Geometry) (s t : Content) (items left : List Snapshot) (copy : Snapshot) (failed : Bool) (place : ℕ) → h ≡ g → place < length items → copy ≡ get_or items place copy
+    → left ≡ take place items
     → t ≡ record { primary = copy.primary.items; secondary = copy.secondary.items }
     → copies_seen h t (map copy_seen left) failed ≡ went_back place (copies_seen g s (map copy_seen items) failed)
 unfolding went_back

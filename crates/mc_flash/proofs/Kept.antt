@@ -75,7 +75,8 @@ sound_erase g limits er sr mr er' sr' es es' saved saved' old marks slot at len 
     }
 
 -- one entry more leaves the marked contents
-marks_push : (es es' : List Entry) (saved saved' marks : List ℕ) (s t : Content) (e : Entry) (c : Change) → Ascend 0 marks (length es) → es' ≡ es ++ e ∷ [] → changes es' saved' ≡ changes es saved ++ c ∷ [] → taken_back c t ≡ s
+marks_push : (es es' : List Entry) (saved saved' marks : List ℕ) (s t : Content) (e : Entry) (c : Change) → Ascend 0 marks (length es) → es' ≡ es ++ e ∷ []
+    → changes es' saved' ≡ changes es saved ++ c ∷ [] → taken_back c t ≡ s
     → map (spot_after es' saved' t) marks ≡ map (spot_after es saved s) marks
 marks_push es es' saved saved' marks s t e c order more noted back =
     same_marks (spot_after es' saved' t) (spot_after es saved s) 0 marks (length es) order (λ n early.
@@ -177,7 +178,8 @@ earlier es es' saved saved' marks marks' s t place count order is below front sa
 
 -- a copy, by whether its target is blank
 copy_is : (g : Geometry) (s : Content) (from to : Slot) (at offset len : ℕ) → at + len ≤ length (bytes_of s from)
-    → apply g (ops.Copy from at to offset len) s ≡ in_slot s to (if is_blank (between offset (offset + len) (bytes_of s to)) then Some (put (bytes_of s to) offset (between at (at + len) (bytes_of s from))) else None)
+    → apply g (ops.Copy from at to offset len) s ≡ in_slot s to (if is_blank (between offset (offset + len) (bytes_of s to)) then Some
+    (put (bytes_of s to) offset (between at (at + len) (bytes_of s from))) else None)
 unfolding apply
 copy_is g s from to at offset len fits =
     let new : List ℕ = between at (at + len) (bytes_of s from) in

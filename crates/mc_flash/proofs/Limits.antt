@@ -16,11 +16,13 @@ ample_allows grain g boots few = record {
 }
   where
     enough : (grain : Grain) → boots * most_operations grain g ≤ 32 * (most_operations grains.Call g + most_operations grains.Unit g)
-    enough grains.Call = let h : boots * most_operations grains.Call g ≤ 32 * most_operations grains.Call g = mul-le-mul_right (most_operations grains.Call g) few in more (boots * most_operations grains.Call g) (most_operations grains.Call g) (most_operations grains.Unit g) h
+    enough grains.Call = let h : boots * most_operations grains.Call g ≤ 32 * most_operations grains.Call g = mul-le-mul_right (most_operations grains.Call g) few in
+        more (boots * most_operations grains.Call g) (most_operations grains.Call g) (most_operations grains.Unit g) h
       where
         more : (z a b : ℕ) → z ≤ 32 * a → z ≤ 32 * (a + b)
         more z a b h = omega arith
-    enough grains.Unit = let h : boots * most_operations grains.Unit g ≤ 32 * most_operations grains.Unit g = mul-le-mul_right (most_operations grains.Unit g) few in more (boots * most_operations grains.Unit g) (most_operations grains.Call g) (most_operations grains.Unit g) h
+    enough grains.Unit = let h : boots * most_operations grains.Unit g ≤ 32 * most_operations grains.Unit g = mul-le-mul_right (most_operations grains.Unit g) few in
+        more (boots * most_operations grains.Unit g) (most_operations grains.Call g) (most_operations grains.Unit g) h
       where
         more : (z a b : ℕ) → z ≤ 32 * b → z ≤ 32 * (a + b)
         more z a b h = omega arith

@@ -83,7 +83,8 @@ pub push_erased : (es : List Entry) (saved old : List ℕ) (slot : Slot) (at len
     → changes (es ++ Erased slot at len ∷ []) (saved ++ old) ≡ changes es saved ++ record { slot = slot; at = at; old = old } ∷ []
 push_erased [] [] old slot at len e l = ap (λ (z : List ℕ). record { slot = slot; at = at; old = z } ∷ []) (take_all len old (omega (arith, l)))
 push_erased [] (x ∷ xs) old slot at len e l = absurd (omega (arith, e))
-push_erased (Written o a k ∷ es) saved old slot at len e l = ap (λ (cs : List Change). record { slot = o; at = a; old = replicate k 255 } ∷ cs) (push_erased es saved old slot at len (omega (arith, e)) l)
+push_erased (Written o a k ∷ es) saved old slot at len e l = ap (λ (cs : List Change). record { slot = o; at = a; old = replicate k 255 } ∷ cs)
+    (push_erased es saved old slot at len (omega (arith, e)) l)
 push_erased (Erased o a k ∷ es) saved old slot at len e l =
     let enough : k ≤ length saved = omega (arith, e) in
     ap (λ (z : List ℕ). record { slot = o; at = a; old = z } ∷ changes (es ++ Erased slot at len ∷ []) (drop k (saved ++ old))) (take-append-le k saved old enough)
@@ -114,7 +115,8 @@ spot_push n es es' saved saved' s e c more noted early =
 pub spot_now : (es : List Entry) (saved : List ℕ) (s : Content) → length saved ≡ all_saved es
     → spot_after es saved s (length es) ≡ record { content = s; counts = record { entries = length es; saved = length saved } }
 spot_now es saved s e =
-    ap (λ (cs : List Change). record { content = all_taken_back cs s; counts = record { entries = length es; saved = all_saved (take (length es) es) } }) (drop_all (length es) (changes es saved) (omega (arith, length-changes es saved)))
+    ap (λ (cs : List Change). record { content = all_taken_back cs s; counts = record { entries = length es; saved = all_saved (take (length es) es) } })
+    (drop_all (length es) (changes es saved) (omega (arith, length-changes es saved)))
     ∙ ap (λ (k : ℕ). record { content = s; counts = record { entries = length es; saved = k } }) (ap all_saved (take_all (length es) es (omega arith)) ∙ sym e)
 
 -- the marks' places

@@ -110,7 +110,8 @@ erase_changes g s slot sector fits = (
   changed s slot (sector * g.sector) (replicate g.sector 255) (omega (arith, fits, length-replicate {A = ℕ} g.sector 255)),
 )
 
-programs : (s : Content) (slot : Slot) (at : ℕ) (new : List ℕ) → is_blank (between at (at + length new) (bytes_of s slot)) ≡ true → in_slot s slot (programmed (bytes_of s slot) at new) ≡ Some (with_bytes s slot (put (bytes_of s slot) at new))
+programs : (s : Content) (slot : Slot) (at : ℕ) (new : List ℕ) → is_blank (between at (at + length new) (bytes_of s slot)) ≡ true
+    → in_slot s slot (programmed (bytes_of s slot) at new) ≡ Some (with_bytes s slot (put (bytes_of s slot) at new))
 programs s slot at new blank = rw blank refl
 
 -- A program is defined where each byte is 0xff, and changes these bytes alone.

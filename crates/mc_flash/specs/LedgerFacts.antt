@@ -48,11 +48,13 @@ few_writes u is = elim is [
 ]
 
 pub few_operations : (c : Grain) (g : Geometry) → IsLayout g → most_operations c g ≤ 204000000
-few_operations grains.Call g ok = sum_of (trailer_sectors g) (3 * greatest_sectors g * (g.sector / g.chunk + 2)) (few_trailer_sectors g ok) (few_pieces (greatest_sectors g) (g.sector / g.chunk) (few_sectors g ok) (few_chunks g ok))
+few_operations grains.Call g ok = sum_of (trailer_sectors g) (3 * greatest_sectors g * (g.sector / g.chunk + 2)) (few_trailer_sectors g ok)
+    (few_pieces (greatest_sectors g) (g.sector / g.chunk) (few_sectors g ok) (few_chunks g ok))
   where
     sum_of : (t z : ℕ) → t ≤ 262144 → z ≤ 201332736 → 3 * t + 9 + z ≤ 204000000
     sum_of t z a b = omega (arith, a, b)
-few_operations grains.Unit g ok = sum_of (trailer_sectors g) (2 * div_ceil 4 g.unit) (32 / g.unit) (3 * greatest_sectors g * (g.sector / g.unit + 2)) (few_trailer_sectors g ok) (few_writes g.unit ok.unit) (few_pieces (greatest_sectors g) (g.sector / g.unit) (few_sectors g ok) (few_units g ok))
+few_operations grains.Unit g ok = sum_of (trailer_sectors g) (2 * div_ceil 4 g.unit) (32 / g.unit) (3 * greatest_sectors g * (g.sector / g.unit + 2)) (few_trailer_sectors g ok)
+    (few_writes g.unit ok.unit) (few_pieces (greatest_sectors g) (g.sector / g.unit) (few_sectors g ok) (few_units g ok))
   where
     sum_of : (t d m z : ℕ) → t ≤ 262144 → d + m ≤ 40 → z ≤ 201332736 → 3 * t + 5 + d + m + z ≤ 204000000
     sum_of t d m z a b c = omega (arith, a, b, c)

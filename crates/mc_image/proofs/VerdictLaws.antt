@@ -1,5 +1,6 @@
 -- The answer for a plain area that is whole.
-use Rattle.std.proofs.Common.{◌≡◌, ℕ, ◌+◌, ◌<◌, ◌≤◌, Bool, true, false, List, [], ◌∷◌, ◌++◌, length, get_or, take, drop, Option, None, Some, Ok, Err, refl, sym, ap, subst, ◌∙◌, arith, append_assoc, length-append, is_some}
+use Rattle.std.proofs.Common.{◌≡◌, ℕ, ◌+◌, ◌<◌, ◌≤◌, Bool, true, false, List, [], ◌∷◌, ◌++◌, length, get_or, take, drop, Option, None, Some, Ok, Err, refl, sym, ap, subst, ◌∙◌, arith, append_assoc}
+use Rattle.std.proofs.Common.{length-append, is_some}
 use Rattle.std.specs.Prelude.{nat_lt, ◌==◌, ◌||◌, not, is_none, Result}
 use Rattle.std.proofs.lemmas.Bool.{le-ltb, lt-ltb}
 use Rattle.std.proofs.lemmas.List.{take_at, append_cancel_right}
@@ -7,7 +8,8 @@ use Rattle.sha2.specs.Sha256.{sha256}
 use Rattle.mc_image.specs.Bytes.{u16_at, IsBytes}
 use Rattle.mc_image.specs.Entries.{Entry, entries_of, entries_in, digests}
 use Rattle.mc_image.specs.Headers.{head_fault, entries_fault}
-use Rattle.mc_image.specs.Image.{Image, IsGood, image_in, image_text, header_text, protected_text, plain_text, covered_text, digest_of, header_in, payload_in, protected_in, protected_end, after_body, area_in, version_in}
+use Rattle.mc_image.specs.Image.{Image, IsGood, image_in, image_text, header_text, protected_text, plain_text, covered_text, digest_of, header_in, payload_in, protected_in, protected_end, after_body}
+use Rattle.mc_image.specs.Image.{area_in, version_in}
 use Rattle.mc_image.specs.Faults.{fault_if, ◌<+>◌, plain_fault, digest_fault, first_fault}
 use Rattle.mc_image.specs.Valid.{is_good, image_fault}
 use Rattle.mc_image.specs.Judging.{verdict, judged_of, judged_or_fault, IsSealed, IsPlain}

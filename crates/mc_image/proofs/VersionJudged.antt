@@ -1,5 +1,6 @@
 -- What reading gives for a text, by the form alone.
-use Rattle.std.proofs.Common.{◌≡◌, ℕ, zero, suc, ◌^◌, ◌<◌, ◌≤◌, Bool, true, false, cond, List, [], ◌∷◌, ◌++◌, length, get_or, Some, None, Result, Ok, Err, refl, sym, ap, subst, ◌∙◌, arith, rules, inl, inr, append_assoc}
+use Rattle.std.proofs.Common.{◌≡◌, ℕ, zero, suc, ◌^◌, ◌<◌, ◌≤◌, Bool, true, false, cond, List, [], ◌∷◌, ◌++◌, length, get_or, Some, None, Result, Ok, Err, refl, sym, ap, subst, ◌∙◌, arith, rules, inl}
+use Rattle.std.proofs.Common.{inr, append_assoc}
 use Rattle.std.specs.Prelude.{nat_lt, ◌&&◌, ◌⊎◌, MatchResult, decimal, codes}
 use Rattle.std.specs.Char.{is_ascii_digit}
 use Rattle.std.specs.List.{list_all}
@@ -27,7 +28,8 @@ padded_four t (a ∷ b ∷ c ∷ d ∷ ns) f = refl
 
 -- the four tests of a field's range
 abbrev all_fit : List ℕ → Bool
-all_fit ns = nat_lt (capped_number (get_or ns 0 0)) (2 ^ 8) && (nat_lt (capped_number (get_or ns 1 0)) (2 ^ 8) && (nat_lt (capped_number (get_or ns 2 0)) (2 ^ 16) && nat_lt (capped_number (get_or ns 3 0)) (2 ^ 32)))
+all_fit ns = nat_lt (capped_number (get_or ns 0 0)) (2 ^ 8) && (nat_lt (capped_number (get_or ns 1 0)) (2 ^ 8) &&
+    (nat_lt (capped_number (get_or ns 2 0)) (2 ^ 16) && nat_lt (capped_number (get_or ns 3 0)) (2 ^ 32)))
 
 both_true : (a b : Bool) → a ≡ true → b ≡ true → (a && b) ≡ true
 both_true true b e f = f
@@ -67,8 +69,10 @@ same_version e1 e2 e3 e4 = cc
 below_is : (n k : ℕ) → k ≤ 2 ^ 32 → n < k → capped_number n ≡ n
 below_is n k le lt = omega arith
 
-capped_version : (ns : List ℕ) → AreInRange ns → version_from (capped_number (get_or ns 0 0)) (capped_number (get_or ns 1 0)) (capped_number (get_or ns 2 0)) (capped_number (get_or ns 3 0)) ≡ version_of ns
-capped_version ns h = same_version (below_is _ (2 ^ 8) (omega arith) h.major) (below_is _ (2 ^ 8) (omega arith) h.minor) (below_is _ (2 ^ 16) (omega arith) h.revision) (below_is _ (2 ^ 32) (omega arith) h.build)
+capped_version : (ns : List ℕ) → AreInRange ns → version_from (capped_number (get_or ns 0 0)) (capped_number (get_or ns 1 0)) (capped_number (get_or ns 2 0))
+    (capped_number (get_or ns 3 0)) ≡ version_of ns
+capped_version ns h = same_version (below_is _ (2 ^ 8) (omega arith) h.major) (below_is _ (2 ^ 8) (omega arith) h.minor) (below_is _ (2 ^ 16) (omega arith) h.revision)
+    (below_is _ (2 ^ 32) (omega arith) h.build)
 
 ok_version : Version → Result Version VersionError
 ok_version v = Ok v
@@ -82,7 +86,8 @@ fitted_in ns h =
 pub fitted_out : (ns : List ℕ) → (AreInRange ns → ⊥) → fitted (four ns) ≡ Err Range
 unfolding fitted
 fitted_out ns h =
-    elim (all_fit ns) as (λ b. all_fit ns ≡ b → cond b (Ok (version_from (capped_number (get_or ns 0 0)) (capped_number (get_or ns 1 0)) (capped_number (get_or ns 2 0)) (capped_number (get_or ns 3 0)))) (Err Range) ≡ Err Range) [
+    elim (all_fit ns) as (λ b. all_fit ns ≡ b → cond b (Ok (version_from (capped_number (get_or ns 0 0)) (capped_number (get_or ns 1 0)) (capped_number (get_or ns 2 0))
+    (capped_number (get_or ns 3 0)))) (Err Range) ≡ Err Range) [
       | true ↦ λ e. absurd (h (all_fits ns e))
       | false ↦ λ e. refl
     ] refl

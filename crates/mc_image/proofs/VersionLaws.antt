@@ -80,7 +80,8 @@ numeral_again (c ∷ cs) n rest is stops =
           let first = parts.0 in
           let start : 10 * 0 + (c - 48) ≡ c - 48 = omega arith in
           let v : n ≡ value_after (c - 48) cs = is.value ∙ ap (λ (x : ℕ). value_after x cs) start in
-          rw first (ap (λ (x : ℕ). Some (number_from x (cs ++ rest))) (small c first) ∙ ap (λ (x : ℕ × List ℕ). Some x) (number_again cs (c - 48) rest parts.1 stops) ∙ ap (λ (x : ℕ). Some (capped_number x, rest)) (sym v))
+          rw first (ap (λ (x : ℕ). Some (number_from x (cs ++ rest))) (small c first) ∙ ap (λ (x : ℕ × List ℕ). Some x) (number_again cs (c - 48) rest parts.1 stops) ∙ ap
+          (λ (x : ℕ). Some (capped_number x, rest)) (sym v))
     ] refl
 
 -- what is read is a numeral

@@ -1,5 +1,6 @@
 -- Whole entries and the one that is begun behind them: what a piece more makes of them, and what is found in them.
-use Rattle.std.proofs.Common.{◌≡◌, ◌≢◌, ℕ, zero, suc, ◌+◌, ◌-◌, ◌<◌, ◌≤◌, Bool, true, false, cond, List, [], ◌∷◌, ◌++◌, length, get_or, take, drop, min, Option, Some, None, refl, sym, ap, subst, ◌∙◌, arith, is_some, append_assoc, length-append, eq-eqb}
+use Rattle.std.proofs.Common.{◌≡◌, ◌≢◌, ℕ, zero, suc, ◌+◌, ◌-◌, ◌<◌, ◌≤◌, Bool, true, false, cond, List, [], ◌∷◌, ◌++◌, length, get_or, take, drop, min, Option, Some, None, refl, sym, ap, subst, ◌∙◌}
+use Rattle.std.proofs.Common.{arith, is_some, append_assoc, length-append, eq-eqb}
 use Rattle.std.specs.Prelude.{nat_lt, ◌==◌, unwrap_or}
 use Rattle.std.specs.Option.{option_map}
 use Rattle.std.proofs.lemmas.Bool.{ltb-false, le-ltb, lt-ltb, ne_eqb}

@@ -27,14 +27,16 @@ refused_reading wanted is known w SlotTooSmall h = absurd h
 refused_reading wanted is known w NeedsSlotSize h = absurd h
 refused_reading wanted is known w Write h = absurd h
 
-known_refusal : (wanted : List ℕ → Result (List ℕ) ToolError) (known : Option (List ℕ)) (xs : List ℕ) (e : ToolError) → IfSome known (λ ys. xs ≡ ys) → wanted xs ≡ Err e → IfSome known (λ ys. wanted ys ≡ Err e)
+known_refusal : (wanted : List ℕ → Result (List ℕ) ToolError) (known : Option (List ℕ)) (xs : List ℕ) (e : ToolError) → IfSome known (λ ys. xs ≡ ys) → wanted xs ≡ Err e
+    → IfSome known (λ ys. wanted ys ≡ Err e)
 known_refusal wanted None xs e same h = tt
 known_refusal wanted (Some ys) xs e same h = ap wanted (sym same) ∙ h
 
 is_memory : (e : ToolError) → e ≡ Memory → (wanted : List ℕ → Result (List ℕ) ToolError) (known w : Option (List ℕ)) → Refuses wanted known w w e
 is_memory e h wanted known w = let P : ToolError → Type 0 = λ x. Refuses wanted known w w x in subst P (sym h) (Keeps-refl w)
 
-pub refused_making : (wanted : List ℕ → Result (List ℕ) ToolError) → IsWanted wanted → (known w : Option (List ℕ)) (xs : List ℕ) (e : ToolError) → IfSome known (λ ys. xs ≡ ys) → (e ≡ Memory) ⊎ (wanted xs ≡ Err e) → Refuses wanted known w w e
+pub refused_making : (wanted : List ℕ → Result (List ℕ) ToolError) → IsWanted wanted → (known w : Option (List ℕ)) (xs : List ℕ) (e : ToolError) → IfSome known (λ ys. xs ≡ ys)
+    → (e ≡ Memory) ⊎ (wanted xs ≡ Err e) → Refuses wanted known w w e
 refused_making wanted is known w xs e same (inl h) = is_memory e h wanted known w
 refused_making wanted is known w xs Read same (inr h) = Keeps-refl w
 refused_making wanted is known w xs Memory same (inr h) = Keeps-refl w
@@ -46,14 +48,17 @@ refused_making wanted is known w xs NeedsSlotSize same (inr h) = (known_refusal 
 refused_making wanted is known w xs InputTooLong same (inr h) = (known_refusal wanted known xs InputTooLong same h, Keeps-refl w)
 
 -- a fact of the text that is wanted
-known_text : (wanted : List ℕ → Result (List ℕ) ToolError) (known : Option (List ℕ)) (xs text : List ℕ) (P : List ℕ → Type 0) → IfSome known (λ ys. xs ≡ ys) → wanted xs ≡ Ok text → P text → IfSome known (λ ys. (t : List ℕ) × (wanted ys ≡ Ok t) × P t)
+known_text : (wanted : List ℕ → Result (List ℕ) ToolError) (known : Option (List ℕ)) (xs text : List ℕ) (P : List ℕ → Type 0) → IfSome known (λ ys. xs ≡ ys) → wanted xs ≡ Ok text → P text
+    → IfSome known (λ ys. (t : List ℕ) × (wanted ys ≡ Ok t) × P t)
 known_text wanted None xs text P same h p = tt
 known_text wanted (Some ys) xs text P same h p = (text, ap wanted (sym same) ∙ h, p)
 
-at_write : (wanted : List ℕ → Result (List ℕ) ToolError) (known old new : Option (List ℕ)) (e : ToolError) → e ≡ Write → IfSome known (λ xs. (text : List ℕ) × (wanted xs ≡ Ok text) × AppendsFront old new text) → Refuses wanted known old new e
+at_write : (wanted : List ℕ → Result (List ℕ) ToolError) (known old new : Option (List ℕ)) (e : ToolError) → e ≡ Write
+    → IfSome known (λ xs. (text : List ℕ) × (wanted xs ≡ Ok text) × AppendsFront old new text) → Refuses wanted known old new e
 at_write wanted known old new e h front = let P : ToolError → Type 0 = λ x. Refuses wanted known old new x in subst P (sym h) front
 
-pub answered_writing : {A : Type 0} (wanted : List ℕ → Result (List ℕ) ToolError) (known old new : Option (List ℕ)) (xs text : List ℕ) (r : Result A ToolError) → IfSome known (λ ys. xs ≡ ys) → wanted xs ≡ Ok text
+pub answered_writing : {A : Type 0} (wanted : List ℕ → Result (List ℕ) ToolError) (known old new : Option (List ℕ)) (xs text : List ℕ) (r : Result A ToolError) → IfSome known (λ ys. xs ≡ ys)
+    → wanted xs ≡ Ok text
     → OnOk r (Appends old new text) → IfErr r (λ e. (e ≡ Write) × AppendsFront old new text) → Answers wanted known old new r
 answered_writing wanted known old new xs text (Ok x) same h whole front = known_text wanted known xs text (Appends old new) same h whole
 answered_writing wanted known old new xs text (Err e) same h whole front = at_write wanted known old new e front.0 (known_text wanted known xs text (AppendsFront old new) same h front.1)

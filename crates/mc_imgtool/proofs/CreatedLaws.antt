@@ -1,5 +1,6 @@
 -- The image of the parts that `create` hands on is the created one.
-use Rattle.std.proofs.Common.{◌≡◌, ℕ, ◌-◌, ◌≤◌, ◌^◌, Bool, true, false, cond, List, [], length, Option, None, Some, Result, Ok, Err, sym, ap, subst, ◌∙◌, replicate, ◌++◌, inl, inr, append_assoc, arith, drop, length-drop}
+use Rattle.std.proofs.Common.{◌≡◌, ℕ, ◌-◌, ◌≤◌, ◌^◌, Bool, true, false, cond, List, [], length, Option, None, Some, Result, Ok, Err, sym, ap, subst, ◌∙◌, replicate, ◌++◌, inl, inr, append_assoc}
+use Rattle.std.proofs.Common.{arith, drop, length-drop}
 use Rattle.std.specs.Prelude.{◌⊎◌, nat_lt, IfOk}
 use Rattle.mc_image.specs.Image.{Image, image_text}
 use Rattle.mc_image.specs.Entries.{Entry}
@@ -17,10 +18,12 @@ use Rattle.mc_imgtool.specs.declared.error.ToolError.TheVariants.{NotZeros, Slot
 abbrev plain_image : ℕ → Version → ℕ → List ℕ → List ℕ → Option (List Entry) → List Entry → Image
 plain_image load version padding rest payload protected plain = record { load = load; version = version; padding = padding; rest = rest; payload = payload; protected = protected; plain = plain }
 
-same_image : {l l' p p' : ℕ} {v v' : Version} {r r' x x' : List ℕ} {q q' : Option (List Entry)} {e e' : List Entry} → l ≡ l' → v ≡ v' → p ≡ p' → r ≡ r' → x ≡ x' → q ≡ q' → e ≡ e' → plain_image l v p r x q e ≡ plain_image l' v' p' r' x' q' e'
+same_image : {l l' p p' : ℕ} {v v' : Version} {r r' x x' : List ℕ} {q q' : Option (List Entry)} {e e' : List Entry} → l ≡ l' → v ≡ v' → p ≡ p' → r ≡ r' → x ≡ x' → q ≡ q' → e ≡ e'
+    → plain_image l v p r x q e ≡ plain_image l' v' p' r' x' q' e'
 same_image e1 e2 e3 e4 e5 e6 e7 = cc
 
-pub bare_parts : (p : ImageParts) (o : CreateOptions) (payload : List ℕ) → p.load ≡ 0 → p.version ≡ o.version → p.padding ≡ 0 → p.header_rest.now ≡ replicate (o.header_size - 32) 0 → p.payload.now ≡ payload → area_of (views p.protected.now) ≡ counter_area o.security_counter → p.plain.now ≡ []
+pub bare_parts : (p : ImageParts) (o : CreateOptions) (payload : List ℕ) → p.load ≡ 0 → p.version ≡ o.version → p.padding ≡ 0 → p.header_rest.now ≡ replicate (o.header_size - 32) 0
+    → p.payload.now ≡ payload → area_of (views p.protected.now) ≡ counter_area o.security_counter → p.plain.now ≡ []
     → undigested p ≡ bare_image o payload
 unfolding undigested bare_image
 bare_parts p o payload e1 e2 e3 e4 e5 e6 e7 = same_image e1 e2 e3 e4 e5 e6 (ap views e7)
@@ -74,7 +77,8 @@ slotted_no_image : (o : CreateOptions) (image : List ℕ) (e : ImageError) → s
 unfolding slotted
 slotted_no_image o image e h = slot_no_image (is_too_small o (length image) o.slot_size) _ e h
 
-three_no_image : (a b c : Bool) (r : Result (List ℕ) ToolError) (e : ImageError) → (r ≡ Err (image_error e) → ⊥) → cond a (Err NeedsSlotSize) (cond b (Err InputTooLong) (cond c (Err NotZeros) r)) ≡ Err (image_error e) → ⊥
+three_no_image : (a b c : Bool) (r : Result (List ℕ) ToolError) (e : ImageError) → (r ≡ Err (image_error e) → ⊥)
+    → cond a (Err NeedsSlotSize) (cond b (Err InputTooLong) (cond c (Err NotZeros) r)) ≡ Err (image_error e) → ⊥
 three_no_image true b c r e h q = cc
 three_no_image false true c r e h q = cc
 three_no_image false false true r e h q = cc
@@ -102,7 +106,8 @@ pub never_error : (o : CreateOptions) (xs : List ℕ) (d : ToolError) → (d ≡
 never_error o xs d made e h = let P : ToolError → Type 0 = λ x. (x ≡ Memory) ⊎ (created o xs ≡ Err x) in never_image o xs e (subst P (same_error d (image_error e) h) made)
 
 -- once its size is told no slot size is missing
-needs_no_more : (a b c : Bool) (r : Result (List ℕ) ToolError) → a ≡ false → (r ≡ Err NeedsSlotSize → ⊥) → cond a (Err NeedsSlotSize) (cond b (Err InputTooLong) (cond c (Err NotZeros) r)) ≡ Err NeedsSlotSize → ⊥
+needs_no_more : (a b c : Bool) (r : Result (List ℕ) ToolError) → a ≡ false → (r ≡ Err NeedsSlotSize → ⊥)
+    → cond a (Err NeedsSlotSize) (cond b (Err InputTooLong) (cond c (Err NotZeros) r)) ≡ Err NeedsSlotSize → ⊥
 needs_no_more true b c r e h q = absurd cc
 needs_no_more false true c r e h q = cc
 needs_no_more false false true r e h q = cc
@@ -132,7 +137,8 @@ pub told_error : (o : CreateOptions) (xs : List ℕ) (d : ToolError) → needs_s
 told_error o xs d told made h = let P : ToolError → Type 0 = λ x. (x ≡ Memory) ⊎ (created o xs ≡ Err x) in told_made o xs told (subst P (same_error d NeedsSlotSize h) made)
 
 -- what is made for its slot is what is wanted
-pub made_slotted : {A : Type 0} (view : A → List ℕ) (o : CreateOptions) (r : Result A ToolError) (wanted : Result (List ℕ) ToolError) (image : List ℕ) → wanted ≡ slotted o image → Gives view r (slotted o image) → Gives view r wanted
+pub made_slotted : {A : Type 0} (view : A → List ℕ) (o : CreateOptions) (r : Result A ToolError) (wanted : Result (List ℕ) ToolError) (image : List ℕ) → wanted ≡ slotted o image
+    → Gives view r (slotted o image) → Gives view r wanted
 made_slotted view o r wanted image e gives = let P : Result (List ℕ) ToolError → Type 0 = λ w. Gives view r w in subst P (sym e) gives
 
 pub false_true : {b : Bool} → b ≡ false → b ≡ true → ⊥

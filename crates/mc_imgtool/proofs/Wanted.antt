@@ -57,7 +57,8 @@ dumped_short xs h = let t : nat_lt (2 ^ 24) (length xs) ≡ false = le-ltb _ _ h
 pub dumped_bad : (xs : List ℕ) (e : ImageError) → length xs ≤ 2 ^ 24 → first_fault xs ≡ Some e → dumped xs ≡ Err (image_error e)
 dumped_bad xs e h some = dumped_short xs h ∙ ap (report_or_fault xs) some
 
-pub dumped_good : (xs text : List ℕ) (v : Image) (size rest : ℕ) → length xs ≤ 2 ^ 24 → first_fault xs ≡ None → v ≡ image_in xs → size ≡ length (image_text v) → rest ≡ length xs - size → text ≡ report v rest → dumped xs ≡ Ok text
+pub dumped_good : (xs text : List ℕ) (v : Image) (size rest : ℕ) → length xs ≤ 2 ^ 24 → first_fault xs ≡ None → v ≡ image_in xs → size ≡ length (image_text v) → rest ≡ length xs - size
+    → text ≡ report v rest → dumped xs ≡ Ok text
 dumped_good xs text v size rest h none is total behind line =
     let n : rest ≡ length xs - length (image_text (image_in xs)) = behind ∙ ap (λ (k : ℕ). length xs - k) (total ∙ ap (λ (w : Image). length (image_text w)) is) in
     dumped_short xs h ∙ ap (report_or_fault xs) none ∙ ap (λ (k : ℕ). Ok (report (image_in xs) k)) (sym n) ∙ ap (λ (w : Image). Ok (report w rest)) (sym is) ∙ ap (λ (l : List ℕ). Ok l) (sym line)
@@ -97,7 +98,8 @@ pub created_refused : (o : CreateOptions) (xs : List ℕ) → needs_slot_size o 
 unfolding created
 created_refused o xs told h lacks = let t : nat_lt (2 ^ 24) (length xs) ≡ false = le-ltb _ _ h in rw (told, t, lacks) refl
 
-pub created_made : (o : CreateOptions) (xs payload : List ℕ) → needs_slot_size o ≡ false → length xs ≤ 2 ^ 24 → lacks_zeros o xs ≡ false → payload ≡ payload_in o xs → created o xs ≡ slotted o (image_text (with_digest (bare_image o payload)))
+pub created_made : (o : CreateOptions) (xs payload : List ℕ) → needs_slot_size o ≡ false → length xs ≤ 2 ^ 24 → lacks_zeros o xs ≡ false → payload ≡ payload_in o xs
+    → created o xs ≡ slotted o (image_text (with_digest (bare_image o payload)))
 unfolding created
 created_made o xs payload told h lacks is =
     let t : nat_lt (2 ^ 24) (length xs) ≡ false = le-ltb _ _ h in

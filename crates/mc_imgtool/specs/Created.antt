@@ -1,5 +1,6 @@
 -- Created bytes: what `create` makes of options and input (imgtool's documentation, `create`).
-use Rattle.std.specs.Prelude.{ℕ, ◌+◌, ◌-◌, ◌*◌, ◌^◌, Bool, false, List, [], ◌∷◌, ◌++◌, length, take, drop, replicate, nat_lt, ◌==◌, ◌&&◌, ◌||◌, not, is_none, if◌then◌else◌, Option, None, Some, Result, Ok, Err}
+use Rattle.std.specs.Prelude.{ℕ, ◌+◌, ◌-◌, ◌*◌, ◌^◌, Bool, false, List, [], ◌∷◌, ◌++◌, length, take, drop, replicate, nat_lt, ◌==◌, ◌&&◌, ◌||◌, not, is_none, if◌then◌else◌, Option, None, Some, Result}
+use Rattle.std.specs.Prelude.{Ok, Err}
 use Rattle.std.specs.List.{list_all}
 use Rattle.byteorder.specs.Endian.{little_bytes}
 use Rattle.mc_image.specs.Entries.{Entry}

@@ -47,7 +47,8 @@ load_lines v = codes "magic 0x96f3b83d\nload 0x" ++ (eight_digits v.load ++ 10 �
 
 -- the lines of the sizes of header, protected area and payload
 unfoldable pub size_lines : Image → List ℕ
-size_lines v = codes "header-size " ++ (decimal (length (header_text v)) ++ (codes "\nprotected-size " ++ (decimal (length (protected_text v)) ++ (codes "\nimage-size " ++ (decimal (length v.payload) ++ 10 ∷ [])))))
+size_lines v = codes "header-size " ++ (decimal (length (header_text v)) ++ (codes "\nprotected-size " ++
+    (decimal (length (protected_text v)) ++ (codes "\nimage-size " ++ (decimal (length v.payload) ++ 10 ∷ [])))))
 
 -- the lines of flags, version and padding
 unfoldable pub version_lines : Image → List ℕ

@@ -4,7 +4,8 @@ use Rattle.std.specs.Prelude.{IfSome, is_err}
 use Rattle.std.specs.Fmt.{WritesText}
 use Rattle.std.proofs.lemmas.Fmt.{contents_after_writes}
 
-pub text_made : {W E : Type 0} (took : W → List ℕ → W → Type 0) (contents : W → List ℕ) (appends : (w : W) (bs : List ℕ) (v : W) → took w bs v → contents v ≡ contents w ++ bs) (o : Option (List ℕ)) (w v : W) (r : Result (Unit {0}) E)
+pub text_made : {W E : Type 0} (took : W → List ℕ → W → Type 0) (contents : W → List ℕ) (appends : (w : W) (bs : List ℕ) (v : W) → took w bs v
+    → contents v ≡ contents w ++ bs) (o : Option (List ℕ)) (w v : W) (r : Result (Unit {0}) E)
     → contents w ≡ [] → OnOk r (WritesText took w o v) → false ≡ is_err r → IfSome o (λ bs. contents v ≡ bs)
 text_made took contents appends None w v r none wrote fine = tt
 text_made took contents appends (Some bs) w v (Err e) none wrote fine = absurd cc

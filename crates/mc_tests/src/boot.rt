@@ -4,6 +4,7 @@ ghost use Rattle.mc_boot.specs.Boot.{IsBootOf};
 
 mod confirms;
 mod cuts;
+mod places;
 
 use mc_boot::{Boot, BootResult, ImageId, Outcome, confirm, outcome_after};
 use mc_fixtures::{FIRST_IMAGE, SECOND_IMAGE, worked};

@@ -109,7 +109,8 @@ module _ (r : Rules) (g : Geometry) (s : Content) where
 
           module _ (op : Op) (next : slice_get list cut ≡ Some op) (last : Option (List ℕ)) where
             at_op : IsOut before new (cut_text r g boot s cut) (cut_line g cut (Some op) ++ [])
-            at_op = subst (IsOut before new (cut_text r g boot s cut)) (sym (append-nil (cut_line g cut (Some op)))) (subst (λ o. IsOut before new (cut_text r g boot s cut) (cut_line g cut o)) next come_out)
+            at_op = subst (IsOut before new (cut_text r g boot s cut)) (sym (append-nil (cut_line g cut (Some op))))
+                (subst (λ o. IsOut before new (cut_text r g boot s cut) (cut_line g cut o)) next come_out)
 
             pub cut_out : (x : Geometry) → x ≡ g → Appends new last (cut_line x cut (Some op)) → Appends before last (cut_text r g boot s cut)
             cut_out x place q = out_all before last _ (out_more before new last _ (cut_line g cut (Some op)) [] at_op (subst (λ y. Appends new last (cut_line y cut (Some op))) place q))

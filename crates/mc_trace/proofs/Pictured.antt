@@ -38,14 +38,16 @@ module _ (g : Geometry) (start : Content) (slot : List ℕ) (i n : ℕ) where
       → now ++ sector_words g start slot (i + 1) (n - (i + 1)) ≡ whole
   grew text spaced now whole below one two told =
       let rest : List ℕ = sector_words g start slot (i + 1) (n - (i + 1)) in
-      let regroup : ((text ++ codes " ") ++ sector_word g start (sector_of g slot i)) ++ sector_words g start slot (i + 1) (n - (i + 1)) ≡ text ++ (codes " " ++ (sector_word g start (sector_of g slot i) ++ sector_words g start slot (i + 1) (n - (i + 1)))) = simp append_assoc in
+      let regroup : ((text ++ codes " ") ++ sector_word g start (sector_of g slot i)) ++ sector_words g start slot (i + 1) (n - (i + 1)) ≡ text ++
+      (codes " " ++ (sector_word g start (sector_of g slot i) ++ sector_words g start slot (i + 1) (n - (i + 1)))) = simp append_assoc in
       ap (λ xs. xs ++ sector_words g start slot (i + 1) (n - (i + 1))) (two ∙ ap (λ xs. xs ++ sector_word g start (sector_of g slot i)) one)
       ∙ regroup
       ∙ ap (λ xs. text ++ xs) (sym (words_next below))
       ∙ told
 
   -- And its end.
-  pub ended : (before named text now : List ℕ) (whole : List ℕ) → n ≤ i → text ++ sector_words g start slot i (n - i) ≡ (before ++ named) ++ whole → now ≡ text ++ 10 ∷ [] → now ≡ before ++ (named ++ (whole ++ 10 ∷ []))
+  pub ended : (before named text now : List ℕ) (whole : List ℕ) → n ≤ i → text ++ sector_words g start slot i (n - i) ≡ (before ++ named) ++ whole → now ≡ text ++ 10 ∷ []
+      → now ≡ before ++ (named ++ (whole ++ 10 ∷ []))
   ended before named text now whole over told last =
       let all : text ≡ (before ++ named) ++ whole = sym (append-nil text) ∙ sym (ap (λ xs. text ++ xs) (words_none over)) ∙ told in
       let regroup : ((before ++ named) ++ whole) ++ 10 ∷ [] ≡ before ++ (named ++ (whole ++ 10 ∷ [])) = simp append_assoc in

@@ -32,11 +32,13 @@ none_left (Some m) n = none_of_none (m - n)
 
 module _ (old new : Seen) (p q : Progress) (op : Op) (until : Option ℕ) (first : slice_get p.to_come 0 ≡ Some op) (going : IfSome until (λ m. p.count < m)) where
   -- The next operation happened.
-  pub happened : (result : Result (Unit {0}) FlashError) → result ≡ Ok tt → Steps p old result q new → left_to_tell until old p ≡ (numbered_text old.geometry p.count op ++ 10 ∷ []) ++ left_to_tell until new q
+  pub happened : (result : Result (Unit {0}) FlashError) → result ≡ Ok tt → Steps p old result q new
+      → left_to_tell until old p ≡ (numbered_text old.geometry p.count op ++ 10 ∷ []) ++ left_to_tell until new q
   happened (Err e) is steps = absurd cc
   happened (Ok v) is steps = at p.to_come refl first steps
     where
-      at : (ops : List Op) → p.to_come ≡ ops → slice_get ops 0 ≡ Some op → StepsAlong ops p old (Ok v) q new → left_to_tell until old p ≡ (numbered_text old.geometry p.count op ++ 10 ∷ []) ++ left_to_tell until new q
+      at : (ops : List Op) → p.to_come ≡ ops → slice_get ops 0 ≡ Some op → StepsAlong ops p old (Ok v) q new
+          → left_to_tell until old p ≡ (numbered_text old.geometry p.count op ++ 10 ∷ []) ++ left_to_tell until new q
       at [] to one d = absurd cc
       at (x ∷ rest) to one d =
           let same : x ≡ op = cc in
@@ -50,7 +52,8 @@ module _ (old new : Seen) (p q : Progress) (op : Op) (until : Option ℕ) (first
           ∙ ap (λ (z : Progress). line ++ left_to_tell until new z) (sym d.0)
 
   -- It was refused, and none is to come.
-  pub refused : (result : Result (Unit {0}) FlashError) → result ≡ Err errors.NotErased → Steps p old result q new → left_to_tell until old p ≡ ((numbered_text old.geometry p.count op ++ codes " refused") ++ 10 ∷ []) ++ left_to_tell until new q
+  pub refused : (result : Result (Unit {0}) FlashError) → result ≡ Err errors.NotErased → Steps p old result q new
+      → left_to_tell until old p ≡ ((numbered_text old.geometry p.count op ++ codes " refused") ++ 10 ∷ []) ++ left_to_tell until new q
   refused (Ok v) is steps = absurd cc
   refused (Err errors.Memory) is steps = absurd cc
   refused (Err errors.NotErased) is steps = at p.to_come refl first steps
@@ -113,7 +116,8 @@ one_more p q old new (Some m) (Ok v) is steps going = at p.to_come steps
     at [] d = omega (arith, going, ap (λ (z : Progress). z.count) d.0)
     at (x ∷ rest) d = omega (arith, going, ap (λ (z : Progress). z.count) d.0)
 
-pub none_more : (p q : Progress) (old new : Seen) (until : Option ℕ) (result : Result (Unit {0}) FlashError) → result ≡ Err errors.NotErased → Steps p old result q new → IfSome until (λ m. p.count < m)
+pub none_more : (p q : Progress) (old new : Seen) (until : Option ℕ) (result : Result (Unit {0}) FlashError) → result ≡ Err errors.NotErased → Steps p old result q new
+    → IfSome until (λ m. p.count < m)
     → IfSome until (λ m. q.count ≤ m)
 none_more p q old new None result is steps going = tt
 none_more p q old new (Some m) (Ok v) is steps going = absurd cc

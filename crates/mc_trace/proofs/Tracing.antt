@@ -72,17 +72,20 @@ module _ (start : Begun) (cuts : List ℕ) (before : Option (List ℕ)) where
     pub cut_inside : cut < length (ops_of start.rules f.geometry f.content)
     cut_inside = subst (λ g. cut < length (ops_of start.rules g f.content)) (sym are.layout) (inside start.rules start.geometry f.content cut rest u path_here)
 
-    out_here : IsOut before now (trace_text start cuts) (cut_text start.rules start.geometry boot f.content cut ++ boots_text start.rules start.geometry (boot + 1) (at_cut start.rules start.geometry f.content cut) rest)
+    out_here : IsOut before now (trace_text start cuts) (cut_text start.rules start.geometry boot f.content cut ++ boots_text start.rules start.geometry (boot + 1)
+        (at_cut start.rules start.geometry f.content cut) rest)
     out_here = subst (λ cs. IsOut before now (trace_text start cuts) (boots_text start.rules start.geometry boot f.content cs)) next_is are.out
 
     pub one_begun : AppendsFront now new (cut_text start.rules f.geometry boot f.content cut) → AppendsFront before new (trace_text start cuts)
-    one_begun p = out_front before now new _ (cut_text start.rules start.geometry boot f.content cut) _ out_here (subst (λ g. AppendsFront now new (cut_text start.rules g boot f.content cut)) are.layout p)
+    one_begun p = out_front before now new _ (cut_text start.rules start.geometry boot f.content cut) _ out_here
+        (subst (λ g. AppendsFront now new (cut_text start.rules g boot f.content cut)) are.layout p)
 
     pub one_told : (h : Seen) → Appends now new (cut_text start.rules f.geometry boot f.content cut) → h.content ≡ at_cut start.rules f.geometry f.content cut → h.geometry ≡ f.geometry
         → AreTold start cuts before new (told + 1) (boot + 1) h
     one_told h p left layout =
         let content : h.content ≡ at_cut start.rules start.geometry f.content cut = left ∙ ap (λ g. at_cut start.rules g f.content cut) are.layout in
-        let shown = out_more before now new _ (cut_text start.rules start.geometry boot f.content cut) _ out_here (subst (λ g. Appends now new (cut_text start.rules g boot f.content cut)) are.layout p) in
+        let shown = out_more before now new _ (cut_text start.rules start.geometry boot f.content cut) _ out_here
+        (subst (λ g. Appends now new (cut_text start.rules g boot f.content cut)) are.layout p) in
         record {
           out = subst (λ (c : Content). IsOut before new (trace_text start cuts) (boots_text start.rules start.geometry (boot + 1) c rest)) (sym content) shown;
           path = ap (λ (c : Content). after start.rules start.geometry c rest) content ∙ behind start.rules start.geometry f.content cut rest u path_here ∙ sym occurs;
@@ -109,7 +112,8 @@ module _ (start : Begun) (cuts : List ℕ) (before : Option (List ℕ)) where
 
     module _ (mid : Option (List ℕ)) where
       pub last_begun : AppendsFront now mid (last_text start.rules f.geometry boot f.content) → AppendsFront before mid (trace_text start cuts)
-      last_begun p = out_front before now mid _ (last_text start.rules start.geometry boot f.content) _ out_end (subst (λ g. AppendsFront now mid (last_text start.rules g boot f.content)) are.layout p)
+      last_begun p = out_front before now mid _ (last_text start.rules start.geometry boot f.content) _ out_end
+          (subst (λ g. AppendsFront now mid (last_text start.rules g boot f.content)) are.layout p)
 
       module _ (last : Appends now mid (last_text start.rules f.geometry boot f.content)) (new : Option (List ℕ)) where
         out_last : IsOut before mid (trace_text start cuts) (outcome_text outcome ++ [])

@@ -111,7 +111,11 @@ highest_one g s (Some e) is = highest_at g s e is.0 (λ d over below. not_writte
 
 -- An entry that begins with another byte than 0xff is written, and one of bytes 0xff is not.
 pub written_entry : (g : Geometry) (s : Content) (e value : ℕ) → IsLayout g → IsSized g s → e < 3 * g.max_sectors → value ≢ 255 → byte s Primary (entry_place g e) ≡ value → IsWritten g s e
-written_entry g s e value ok sized below other here = record { below = below; written = elim (cases_Bool (is_written g s e)) [ inl is ↦ is | inr blank ↦ absurd (other (sym here ∙ first (not_blank (is_blank (bytes_at s Primary (entry_place g e) g.unit)) blank))) ] }
+written_entry g s e value ok sized below other here = record {
+  below = below;
+  written = elim (cases_Bool (is_written g s e))
+      [ inl is ↦ is | inr blank ↦ absurd (other (sym here ∙ first (not_blank (is_blank (bytes_at s Primary (entry_place g e) g.unit)) blank))) ];
+}
   where
     not_blank : (b : Bool) → not b ≡ false → b ≡ true
     not_blank true is = refl
@@ -123,7 +127,8 @@ written_entry g s e value ok sized below other here = record { below = below; wr
         ap (byte s Primary) (sym (add-zero (entry_place g e)))
         ∙ range_blank s.primary (entry_place g e) g.unit 0 (omega (arith, entry_ends g e ok below, sized.primary)) blank (omega arith)
 
-pub blank_entry : (g : Geometry) (s : Content) (e : ℕ) → IsLayout g → IsSized g s → e < 3 * g.max_sectors → ((i : ℕ) → i < g.unit → byte s Primary (entry_place g e + i) ≡ 255) → is_written g s e ≡ false
+pub blank_entry : (g : Geometry) (s : Content) (e : ℕ) → IsLayout g → IsSized g s → e < 3 * g.max_sectors → ((i : ℕ) → i < g.unit → byte s Primary (entry_place g e + i) ≡ 255)
+    → is_written g s e ≡ false
 blank_entry g s e ok sized below each = ap not (blank_range s.primary (entry_place g e) g.unit (omega (arith, entry_ends g e ok below, sized.primary)) each)
 
 -- A blank entry can be written.
@@ -144,12 +149,14 @@ abbrev pub SameEntry : Geometry → Content → Content → ℕ → Type 0
 SameEntry g s t e = (i : ℕ) → i < g.unit → byte t Primary (entry_place g e + i) ≡ byte s Primary (entry_place g e + i)
 
 pub same_entry : (g : Geometry) (s t : Content) (e : ℕ) → IsLayout g → IsSized g s → IsSized g t → e < 3 * g.max_sectors → SameEntry g s t e → is_written g t e ≡ is_written g s e
-same_entry g s t e ok sized_s sized_t below same = ap (λ (xs : List ℕ). not (is_blank xs)) (same_number_lists (bytes_at t Primary (entry_place g e) g.unit) (bytes_at s Primary (entry_place g e) g.unit) (long t sized_t ∙ sym (long s sized_s)) each)
+same_entry g s t e ok sized_s sized_t below same = ap (λ (xs : List ℕ). not (is_blank xs))
+    (same_number_lists (bytes_at t Primary (entry_place g e) g.unit) (bytes_at s Primary (entry_place g e) g.unit) (long t sized_t ∙ sym (long s sized_s)) each)
   where
     long : (u : Content) → IsSized g u → length (bytes_at u Primary (entry_place g e) g.unit) ≡ g.unit
     long u sized = length-between u.primary (entry_place g e) (entry_place g e + g.unit) (omega (arith, entry_ends g e ok below, sized.primary)) ∙ omega arith
 
-    each : (i : ℕ) → i < length (bytes_at t Primary (entry_place g e) g.unit) → slice_index (bytes_at t Primary (entry_place g e) g.unit) i ≡ slice_index (bytes_at s Primary (entry_place g e) g.unit) i
+    each : (i : ℕ) → i < length (bytes_at t Primary (entry_place g e) g.unit) → slice_index (bytes_at t Primary (entry_place g e) g.unit) i ≡ slice_index (bytes_at s Primary (entry_place g e) g.unit)
+        i
     each i short =
         let within : i < g.unit = omega (arith, short, long t sized_t) in
         get_or-between t.primary (entry_place g e) (entry_place g e + g.unit) i 0 (omega (arith, within))
@@ -161,7 +168,8 @@ pub entry_kept : (g : Geometry) (s t : Content) (at : ℕ) (new : List ℕ) (e :
 entry_kept g s t at new e ch (inl behind) i within = ch.behind (entry_place g e + i) (omega (arith, behind))
 entry_kept g s t at new e ch (inr before) i within = ch.before (entry_place g e + i) (omega (arith, before, within))
 
-pub entry_kept_beside : (g : Geometry) (s t : Content) (d e value : ℕ) → IsLayout g → d < 3 * g.max_sectors → e < 3 * g.max_sectors → d ≢ e → Changed s t Primary (entry_place g d) (one_unit g value) → SameEntry g s t e
+pub entry_kept_beside : (g : Geometry) (s t : Content) (d e value : ℕ) → IsLayout g → d < 3 * g.max_sectors → e < 3 * g.max_sectors → d ≢ e → Changed s t Primary (entry_place g d) (one_unit g value)
+    → SameEntry g s t e
 entry_kept_beside g s t d e value ok below_d below_e other ch = elim (cases_order d e) [
   | inl same ↦ absurd (other same)
   | inr (inl before) ↦ entry_kept g s t (entry_place g d) (one_unit g value) e ch (inl (omega (arith, one_unit_len g value ok, entries_apart g d e ok before below_e)))
@@ -172,7 +180,8 @@ pub entry_kept_elsewhere : (g : Geometry) (s t : Content) (at : ℕ) (new : List
 entry_kept_elsewhere g s t at new e ch i within = ch.other Primary (entry_place g e + i) (λ same. absurd cc)
 
 -- Where the part of the trailer before the fields is the same, so is each entry.
-pub entries_same : (g : Geometry) (s t : Content) → IsLayout g → ((i : ℕ) → size_of g Primary ≤ i + trailer_bytes g → i + 48 < size_of g Primary → byte t Primary i ≡ byte s Primary i) → (e : ℕ) → e < 3 * g.max_sectors → SameEntry g s t e
+pub entries_same : (g : Geometry) (s t : Content) → IsLayout g → ((i : ℕ) → size_of g Primary ≤ i + trailer_bytes g → i + 48 < size_of g Primary → byte t Primary i ≡ byte s Primary i) → (e : ℕ)
+    → e < 3 * g.max_sectors → SameEntry g s t e
 entries_same g s t ok same e below i within = same (entry_place g e + i) (omega (arith, entry_inside g e ok below)) (omega (arith, within, entry_ends g e ok below))
 
 -- The highest entry where one is written and none above it; where none is written; and where the entries are the same.

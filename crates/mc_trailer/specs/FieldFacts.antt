@@ -58,14 +58,16 @@ pub field_front : (g : Geometry) (s : Content) (slot : Slot) (f : Field) (xs res
 field_front g s slot f xs rest is i short within = is i (omega (arith, short, length-append xs rest)) within ∙ get_or_append_left xs rest 0 i short
 
 -- A write that does not touch a field keeps it: in the same slot, in the other, and at another field.
-pub field_kept : (g : Geometry) (s t : Content) (slot : Slot) (at : ℕ) (new : List ℕ) (f : Field) → Changed s t slot at new → (at + length new ≤ place g slot f) ⊎ (place g slot f + room f ≤ at) → SameField g s t slot f
+pub field_kept : (g : Geometry) (s t : Content) (slot : Slot) (at : ℕ) (new : List ℕ) (f : Field) → Changed s t slot at new → (at + length new ≤ place g slot f) ⊎ (place g slot f + room f ≤ at)
+    → SameField g s t slot f
 field_kept g s t slot at new f ch (inl behind) i within = ch.behind (place g slot f + i) (omega (arith, behind))
 field_kept g s t slot at new f ch (inr before) i within = ch.before (place g slot f + i) (omega (arith, before, within))
 
 pub field_kept_elsewhere : (g : Geometry) (s t : Content) (slot o : Slot) (at : ℕ) (new : List ℕ) (f : Field) → Changed s t slot at new → o ≢ slot → SameField g s t o f
 field_kept_elsewhere g s t slot o at new f ch other i within = ch.other o (place g o f + i) other
 
-pub field_kept_beside : (g : Geometry) (s t : Content) (slot : Slot) (e f : Field) (new : List ℕ) → IsLayout g → Changed s t slot (place g slot e) new → length new ≤ room e → e ≢ f → SameField g s t slot f
+pub field_kept_beside : (g : Geometry) (s t : Content) (slot : Slot) (e f : Field) (new : List ℕ) → IsLayout g → Changed s t slot (place g slot e) new → length new ≤ room e → e ≢ f
+    → SameField g s t slot f
 field_kept_beside g s t slot e f new ok ch short other = elim (fields_apart g slot e f ok other) [
   | inl before ↦ field_kept g s t slot (place g slot e) new f ch (inl (omega (arith, before, short)))
   | inr behind ↦ field_kept g s t slot (place g slot e) new f ch (inr behind)
@@ -79,7 +81,8 @@ same_field_is g s t slot f xs same is i short within = same i within ∙ is i sh
 pub field_same : (g : Geometry) (s t : Content) (slot : Slot) (f : Field) → IsLayout g → ((i : ℕ) → size_of g slot ≤ i + 48 → byte t slot i ≡ byte s slot i) → SameField g s t slot f
 field_same g s t slot f ok same i within = same (place g slot f + i) (omega (arith, place_inside g slot f ok, most_before_end f))
 
-pub fields_same : (g : Geometry) (s t : Content) (slot : Slot) (v : Field → List ℕ) → IsLayout g → ((i : ℕ) → size_of g slot ≤ i + 48 → byte t slot i ≡ byte s slot i) → FieldsAre g s slot v → FieldsAre g t slot v
+pub fields_same : (g : Geometry) (s t : Content) (slot : Slot) (v : Field → List ℕ) → IsLayout g → ((i : ℕ) → size_of g slot ≤ i + 48 → byte t slot i ≡ byte s slot i) → FieldsAre g s slot v
+    → FieldsAre g t slot v
 fields_same g s t slot v ok same are f = same_field_is g s t slot f (v f) (field_same g s t slot f ok same) (are f)
 
 pub fields_as : (g : Geometry) (s : Content) (slot : Slot) (v w : Field → List ℕ) → ((f : Field) → v f ≡ w f) → FieldsAre g s slot v → FieldsAre g s slot w
@@ -107,7 +110,8 @@ set_other v e f new other = rw (ne_eqb (before_end e) (before_end f) differ) ref
     ]
 
 -- A write of a field sets it, and keeps the others.
-pub write_field : (g : Geometry) (s t : Content) (slot : Slot) (v : Field → List ℕ) (f : Field) (new : List ℕ) → IsLayout g → length new ≤ room f → FieldsAre g s slot v → Changed s t slot (place g slot f) new → FieldsAre g t slot (set_field v f new)
+pub write_field : (g : Geometry) (s t : Content) (slot : Slot) (v : Field → List ℕ) (f : Field) (new : List ℕ) → IsLayout g → length new ≤ room f → FieldsAre g s slot v
+    → Changed s t slot (place g slot f) new → FieldsAre g t slot (set_field v f new)
 write_field g s t slot v f new ok short are ch e = elim (same_or_apart e f) [
   | inl same ↦
       let P : Field → Type 0 = λ x. FieldIs g t slot x (set_field v f new x) in
@@ -125,7 +129,8 @@ field_write g s slot f new ok sized blank short =
     program_changes g s slot (place g slot f) new (omega (arith, short, field_ends g slot f ok, sized_is g s slot sized)) (λ i within. blank_byte g s slot f i blank (omega (arith, within, short)))
 
 -- The bytes that are read of a field, and its first.
-pub field_bytes : (g : Geometry) (s : Content) (slot : Slot) (f : Field) (n : ℕ) (xs : List ℕ) → IsLayout g → IsSized g s → length xs ≡ n → n ≤ room f → FieldIs g s slot f xs → bytes_at s slot (place g slot f) n ≡ xs
+pub field_bytes : (g : Geometry) (s : Content) (slot : Slot) (f : Field) (n : ℕ) (xs : List ℕ) → IsLayout g → IsSized g s → length xs ≡ n → n ≤ room f → FieldIs g s slot f xs
+    → bytes_at s slot (place g slot f) n ≡ xs
 field_bytes g s slot f n xs ok sized len within is =
     let fits : place g slot f + n ≤ length (bytes_of s slot) = omega (arith, field_ends g slot f ok, sized_is g s slot sized) in
     let long : length (bytes_at s slot (place g slot f) n) ≡ n = length-between (bytes_of s slot) (place g slot f) (place g slot f + n) fits ∙ omega arith in
@@ -184,7 +189,8 @@ pub reads_info : (g : Geometry) (s : Content) (slot : Slot) (value : ℕ) (rest 
 unfolding trailer_of
 reads_info g s slot value rest is = field_byte g s slot field.SwapInfo value rest is
 
-pub reads_size : (g : Geometry) (s : Content) (slot : Slot) (size : ℕ) (rest : List ℕ) → IsLayout g → IsSized g s → size < 256 ^ 4 → FieldIs g s slot field.SwapSize (little_bytes 4 size ++ rest) → (trailer_of g s slot).swap_size ≡ size
+pub reads_size : (g : Geometry) (s : Content) (slot : Slot) (size : ℕ) (rest : List ℕ) → IsLayout g → IsSized g s → size < 256 ^ 4 → FieldIs g s slot field.SwapSize (little_bytes 4 size ++ rest)
+    → (trailer_of g s slot).swap_size ≡ size
 unfolding trailer_of
 reads_size g s slot size rest ok sized small is =
     ap (little_number 4) (field_bytes g s slot field.SwapSize 4 (little_bytes 4 size) ok sized refl (omega arith) (field_front g s slot field.SwapSize (little_bytes 4 size) rest is))
@@ -216,7 +222,8 @@ reads_erased g s slot ok sized are =
     (reads_size g s slot 4294967295 (replicate 4 255) ok sized (omega arith) (are field.SwapSize))
 
 -- A field that holds the same bytes reads the same, and so does a trailer whose fields do.
-kept_bytes : (g : Geometry) (s t : Content) (slot : Slot) (f : Field) (n : ℕ) → IsLayout g → IsSized g s → IsSized g t → n ≤ room f → SameField g s t slot f → bytes_at t slot (place g slot f) n ≡ bytes_at s slot (place g slot f) n
+kept_bytes : (g : Geometry) (s t : Content) (slot : Slot) (f : Field) (n : ℕ) → IsLayout g → IsSized g s → IsSized g t → n ≤ room f → SameField g s t slot f
+    → bytes_at t slot (place g slot f) n ≡ bytes_at s slot (place g slot f) n
 kept_bytes g s t slot f n ok sized_s sized_t within same =
     let fits : place g slot f + n ≤ length (bytes_of s slot) = omega (arith, field_ends g slot f ok, sized_is g s slot sized_s) in
     let long : length (bytes_at s slot (place g slot f) n) ≡ n = length-between (bytes_of s slot) (place g slot f) (place g slot f + n) fits ∙ omega arith in
@@ -243,7 +250,8 @@ pub same_info : (g : Geometry) (s t : Content) (slot : Slot) → SameField g s t
 unfolding trailer_of
 same_info g s t slot same = kept_byte g s t slot field.SwapInfo same
 
-pub same_size : (g : Geometry) (s t : Content) (slot : Slot) → IsLayout g → IsSized g s → IsSized g t → SameField g s t slot field.SwapSize → (trailer_of g t slot).swap_size ≡ (trailer_of g s slot).swap_size
+pub same_size : (g : Geometry) (s t : Content) (slot : Slot) → IsLayout g → IsSized g s → IsSized g t → SameField g s t slot field.SwapSize
+    → (trailer_of g t slot).swap_size ≡ (trailer_of g s slot).swap_size
 unfolding trailer_of
 same_size g s t slot ok sized_s sized_t same = ap (little_number 4) (kept_bytes g s t slot field.SwapSize 4 ok sized_s sized_t (omega arith) same)
 
@@ -263,7 +271,8 @@ SameReading field.CopyDone t u = t.copy_done ≡ u.copy_done
 SameReading field.SwapInfo t u = t.swap_info ≡ u.swap_info
 SameReading field.SwapSize t u = t.swap_size ≡ u.swap_size
 
-pub same_reading : (g : Geometry) (s t : Content) (slot : Slot) (f : Field) → IsLayout g → IsSized g s → IsSized g t → SameField g s t slot f → SameReading f (trailer_of g t slot) (trailer_of g s slot)
+pub same_reading : (g : Geometry) (s t : Content) (slot : Slot) (f : Field) → IsLayout g → IsSized g s → IsSized g t → SameField g s t slot f
+    → SameReading f (trailer_of g t slot) (trailer_of g s slot)
 same_reading g s t slot field.Magic ok sized_s sized_t same = same_magic g s t slot ok sized_s sized_t same
 same_reading g s t slot field.ImageOk ok sized_s sized_t same = same_image_ok g s t slot same
 same_reading g s t slot field.CopyDone ok sized_s sized_t same = same_copy_done g s t slot same
@@ -271,12 +280,14 @@ same_reading g s t slot field.SwapInfo ok sized_s sized_t same = same_info g s t
 same_reading g s t slot field.SwapSize ok sized_s sized_t same = same_size g s t slot ok sized_s sized_t same
 
 -- A write before the fields keeps the slot's trailer, and a write anywhere that of the other slot.
-pub trailer_kept : (g : Geometry) (s t : Content) (slot : Slot) (at : ℕ) (new : List ℕ) → IsLayout g → IsSized g s → Changed s t slot at new → at + length new + 48 ≤ size_of g slot → trailer_of g t slot ≡ trailer_of g s slot
+pub trailer_kept : (g : Geometry) (s t : Content) (slot : Slot) (at : ℕ) (new : List ℕ) → IsLayout g → IsSized g s → Changed s t slot at new → at + length new + 48 ≤ size_of g slot
+    → trailer_of g t slot ≡ trailer_of g s slot
 trailer_kept g s t slot at new ok sized ch before =
     same_trailer g s t slot ok sized (changed_sized g s t slot at new ch sized)
     (λ f. field_kept g s t slot at new f ch (inl (omega (arith, before, place_inside g slot f ok, most_before_end f))))
 
-pub trailer_kept_elsewhere : (g : Geometry) (s t : Content) (slot o : Slot) (at : ℕ) (new : List ℕ) → IsLayout g → IsSized g s → Changed s t slot at new → o ≢ slot → trailer_of g t o ≡ trailer_of g s o
+pub trailer_kept_elsewhere : (g : Geometry) (s t : Content) (slot o : Slot) (at : ℕ) (new : List ℕ) → IsLayout g → IsSized g s → Changed s t slot at new → o ≢ slot
+    → trailer_of g t o ≡ trailer_of g s o
 trailer_kept_elsewhere g s t slot o at new ok sized ch other =
     same_trailer g s t o ok sized (changed_sized g s t slot at new ch sized) (λ f. field_kept_elsewhere g s t slot o at new f ch other)
 

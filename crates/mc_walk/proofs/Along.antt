@@ -20,7 +20,8 @@ module _ {N A T B : Type 0} (kind : B → Kind N A T) where
       (subst (IsNext (IsMember k.tree (root_of k old) old.bound) (After old.path)) (sym d.0) (next_below k.tree (root_of k old) old.bound old.path (subst (IsPath old) d.0 d.1)), d.2, d.3)
   advanced_down old new false e d = absurd (cc)
 
-  advanced_from : (old new : Walked B) (up : Bool) → length old.path ≤ old.bound → (IsPath old (old.path ++ 0 ∷ []) → ⊥) → Climbs (kind old.branches) old up new → Advances (kind old.branches) old up new
+  advanced_from : (old new : Walked B) (up : Bool) → length old.path ≤ old.bound → (IsPath old (old.path ++ 0 ∷ []) → ⊥) → Climbs (kind old.branches) old up new
+      → Advances (kind old.branches) old up new
   advanced_from old new true few none c =
       let k : Kind N A T = kind old.branches in
       (next_above k.tree (root_of k old) old.bound old.path new.path few (childless k.tree (root_of k old) old.bound old.path none) c.0, c.1, c.2)
@@ -28,7 +29,8 @@ module _ {N A T B : Type 0} (kind : B → Kind N A T) where
       let k : Kind N A T = kind old.branches in
       (none_above k.tree (root_of k old) old.bound old.path (childless k.tree (root_of k old) old.bound old.path none) c.0, c.1, c.2)
 
-  pub advanced_up : (old mid new : Walked B) (down up : Bool) → length old.path ≤ old.bound → down ≡ false → GoesDown (kind old.branches) 0 old down mid → Climbs (kind mid.branches) mid up new → Advances (kind old.branches) old up new
+  pub advanced_up : (old mid new : Walked B) (down up : Bool) → length old.path ≤ old.bound → down ≡ false → GoesDown (kind old.branches) 0 old down mid → Climbs (kind mid.branches) mid up new
+      → Advances (kind old.branches) old up new
   advanced_up old mid new true up few e d c = absurd (cc)
   advanced_up old mid new false up few e d c =
       advanced_from old new up few d.0 (subst (λ z. Climbs (kind z.branches) z up new) d.1 c)
@@ -59,7 +61,8 @@ module _ {N A T B : Type 0} (kind : B → Kind N A T) where
   path_cost-take k [] (suc n) = omega arith
   path_cost-take k (y ∷ ys) (suc n) = omega (arith, path_cost-take k ys n)
 
-  pub along_more : (path : List ℕ) (n : ℕ) (old mid new : Walked B) (went : Bool) → IsAlong path n old mid → n < length path → went ≡ true → GoesDown (kind mid.branches) (get_or path n 0) mid went new → Spent (child_cost (kind mid.branches) (get_or path n 0)) mid.seen new.seen → IsAlong path (n + 1) old new
+  pub along_more : (path : List ℕ) (n : ℕ) (old mid new : Walked B) (went : Bool) → IsAlong path n old mid → n < length path → went ≡ true → GoesDown (kind mid.branches) (get_or path n 0) mid went new
+      → Spent (child_cost (kind mid.branches) (get_or path n 0)) mid.seen new.seen → IsAlong path (n + 1) old new
   along_more path n old mid new false a lt e d s = absurd (cc)
   along_more path n old mid new true a lt e d s =
       let more : take (n + 1) path ≡ take n path ++ get_or path n 0 ∷ [] = take_more path n 0 lt in
@@ -75,7 +78,8 @@ module _ {N A T B : Type 0} (kind : B → Kind N A T) where
         spent = subst (λ z. Spent z old.seen new.seen) cost (spent_both (path_cost k (take n path)) (child_cost k (get_or path n 0)) old.seen mid.seen new.seen a.spent step);
       }
 
-  pub along_none : (path : List ℕ) (n : ℕ) (old mid new : Walked B) (went : Bool) → IsAlong path n old mid → n < length path → went ≡ false → GoesDown (kind mid.branches) (get_or path n 0) mid went new → StopsOn (kind old.branches) path old new
+  pub along_none : (path : List ℕ) (n : ℕ) (old mid new : Walked B) (went : Bool) → IsAlong path n old mid → n < length path → went ≡ false
+      → GoesDown (kind mid.branches) (get_or path n 0) mid went new → StopsOn (kind old.branches) path old new
   along_none path n old mid new true a lt e d = absurd (cc)
   along_none path n old mid new false a lt e d =
       let k : Kind N A T = kind old.branches in
@@ -91,13 +95,15 @@ module _ {N A T B : Type 0} (kind : B → Kind N A T) where
         stands = a.stands;
       })
 
-  pub along_none_spent : (path : List ℕ) (n : ℕ) (old mid new : Walked B) (went : Bool) → IsAlong path n old mid → went ≡ false → GoesDown (kind mid.branches) (get_or path n 0) mid went new → Spent (path_cost (kind old.branches) path) old.seen new.seen
+  pub along_none_spent : (path : List ℕ) (n : ℕ) (old mid new : Walked B) (went : Bool) → IsAlong path n old mid → went ≡ false → GoesDown (kind mid.branches) (get_or path n 0) mid went new
+      → Spent (path_cost (kind old.branches) path) old.seen new.seen
   along_none_spent path n old mid new true a e d = absurd (cc)
   along_none_spent path n old mid new false a e d =
       let k : Kind N A T = kind old.branches in
       subst (λ z. Spent (path_cost k path) old.seen z.seen) (sym d.1) (spent_more (path_cost k (take n path)) (path_cost k path) old.seen mid.seen (path_cost-take k path n) a.spent)
 
-  pub along_all : (path : List ℕ) (n : ℕ) (old now : Walked B) → IsAlong path n old now → length path ≤ n → Follows (kind old.branches) path old true now × Spent (path_cost (kind old.branches) path) old.seen now.seen
+  pub along_all : (path : List ℕ) (n : ℕ) (old now : Walked B) → IsAlong path n old now → length path ≤ n → Follows (kind old.branches) path old true now
+      × Spent (path_cost (kind old.branches) path) old.seen now.seen
   along_all path n old now a le =
       let all : take n path ≡ path = take_all n path le in
       ((a.path_is ∙ ap (λ z. old.path ++ z) all, a.member, a.same, a.stands), subst (λ z. Spent (path_cost (kind old.branches) z) old.seen now.seen) all a.spent)

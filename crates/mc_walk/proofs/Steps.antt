@@ -1,5 +1,6 @@
 -- A walk on its way to a further node.
-use Rattle.std.proofs.Common.{◌≡◌, ℕ, ◌+◌, ◌*◌, ◌<◌, ◌≤◌, true, false, List, [], ◌∷◌, ◌++◌, length, Option, Some, None, Ok, IfSome, is_some, slice_index_or, refl, sym, ap, subst, ◌∙◌, arith, length-append}
+use Rattle.std.proofs.Common.{◌≡◌, ℕ, ◌+◌, ◌*◌, ◌<◌, ◌≤◌, true, false, List, [], ◌∷◌, ◌++◌, length, Option, Some, None, Ok, IfSome, is_some, slice_index_or, refl, sym, ap, subst, ◌∙◌, arith}
+use Rattle.std.proofs.Common.{length-append}
 use Rattle.std.proofs.Math.Nat.{mul-le-mul_right}
 use Rattle.std.proofs.lemmas.List.{map-append, length-map}
 use Rattle.mc_tree.specs.Tree.{Allowed, IsMember}
@@ -283,7 +284,8 @@ module _ {N A T : Type 0} (k : Kind N A T) where
       let new : path_of (fs ++ g ∷ []) ≡ path_of fs ++ (f.number + 1) ∷ [] = path-push fs g ∙ ap (λ z. path_of fs ++ z ∷ []) e in
       let allowed = frames_allowed k (k.root start) 0 st.above all st.frames in
       let spent = frames_last k (k.tree.child (node_of k start fs) f.number) ((0 + length fs) + 1) r.after last.more r.rest last.spent in
-      let beyond = next_beyond k.tree (k.root start) (path_of fs) f.number (path_of last.more) (subst (Allowed k.tree (k.root start)) path allowed) spent (last.open_is (node_of k start fs) r.frame.told_is) in
+      let beyond = next_beyond k.tree (k.root start) (path_of fs) f.number (path_of last.more) (subst (Allowed k.tree (k.root start)) path allowed) spent
+      (last.open_is (node_of k start fs) r.frame.told_is) in
       subst (λ z. IsNextBeyond k.tree (k.root start) z (path_of (fs ++ g ∷ []))) (sym path)
       (subst (IsNextBeyond k.tree (k.root start) (path_of fs ++ f.number ∷ path_of last.more)) (sym new) beyond)
 

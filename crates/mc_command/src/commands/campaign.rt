@@ -1,55 +1,67 @@
 //! `campaign`: every campaign of power cuts in two rounds, with what the boots that end its rounds do.
 ghost use Rattle.std.specs.Prelude.{◌≤◌, IfOk};
 
-use crate::options::{campaign_cursor, explore_options, flash_options};
+use crate::options::{ExploreOptions, campaign_cursor, explore_options, flash_options};
 use crate::refusal::Refusal;
 use crate::source::read_start;
 use clap::ArgMatches;
-use mc_campaign::{CampaignExplorer, write_campaign_page};
-use mc_explore::ExploreError;
+use mc_campaign::{CampaignCursor, CampaignExplorer, write_campaign_page};
+use mc_explore::{ExploreError, Start};
 use mc_flash::JournalFlash;
 use std::alloc::Global;
 use std::io::{BufWriter, Write};
 use std::rt::Files;
 
-/// An exploration that the words tell, and how many rows are wanted of it.
+/// An exploration that the words tell: where it starts, and the rows that are wanted of it.
 #[derive(Drop)]
 struct Exploration {
-    explorer: CampaignExplorer<JournalFlash>,
-    /// The most rows.
-    limit: u32,
+    start: Start,
+    extent: ExploreOptions,
+    /// Whether the image confirms itself between the rounds.
+    confirms: bool,
+    /// The cursor of an earlier page, after which it goes on.
+    cursor: Option<CampaignCursor>,
 }
 
-/// Reads the words, and makes an explorer of what they tell, at the first row or behind the one that they tell. The words are
-/// checked before a file is touched.
+/// Reads the words, and the start that they tell. The words are checked before a file is touched.
 ///
 /// # Errors
 ///
-/// `Source`, `Layout`, the numbers and `Cursor` of the words; what `read_start` refuses; `Explore` where the cursor does not serve
-/// here, or an allocation failed.
+/// `Source`, `Layout`, the numbers and `Cursor` of the words; what `read_start` refuses.
 fn read<F: Files>(
     files: &F,
     alloc: Global,
     arguments: &ArgMatches<'_>,
 ) -> Result<Exploration, Refusal>
-    ensures { IfOk result (λ exploration. 1 ≤ exploration.limit) }
+    ensures { IfOk result (λ e. (e.extent.cuts ≤ 16) × (1 ≤ e.extent.limit)) }
 {
     let options = match flash_options(arguments) {
         Ok(options) => options,
         Err(refusal) => return Err(refusal),
     };
-    let extent = explore_options(arguments)?;
-    let cursor = campaign_cursor(arguments)?;
-    let confirms = arguments.get_flag("confirm");
-    let start = read_start(files, alloc, &options)?;
-    let explorer = match &cursor {
-        Some(cursor) => CampaignExplorer::resume(alloc, &start, extent.cuts, confirms, cursor)?,
-        None => CampaignExplorer::start(alloc, &start, extent.cuts, confirms)?,
-    };
     Ok(Exploration {
-        explorer,
-        limit: extent.limit,
+        extent: explore_options(arguments)?,
+        cursor: campaign_cursor(arguments)?,
+        confirms: arguments.get_flag("confirm"),
+        start: read_start(files, alloc, &options)?,
     })
+}
+
+impl Exploration {
+    /// Makes an explorer at the first row, or behind the one that the words tell.
+    ///
+    /// # Errors
+    ///
+    /// `Explore` where the cursor does not serve here, or an allocation failed.
+    fn explorer(&self, alloc: Global) -> Result<CampaignExplorer<'_, JournalFlash>, Refusal>
+        requires { self.now.extent.cuts ≤ 16 }
+    {
+        let (start, cuts, confirms) = (&self.start, self.extent.cuts, self.confirms);
+        match &self.cursor {
+            Some(cursor) => Ok(CampaignExplorer::resume(alloc, start, cuts, confirms, cursor)?),
+            None => Ok(CampaignExplorer::start(alloc, start, cuts, confirms)?),
+        }
+    }
 }
 
 /// Prints a page of rows: one for each campaign of at most so many cuts that can occur, in their order, from the first or after
@@ -64,9 +76,10 @@ pub fn run<F: Files, O: Write>(
     arguments: &ArgMatches<'_>,
     out: &mut O,
 ) -> Result<(), Refusal> {
-    let mut exploration = read(files, alloc, arguments)?;
+    let exploration = read(files, alloc, arguments)?;
+    let mut explorer = exploration.explorer(alloc)?;
     let mut page = BufWriter::new(alloc, out).map_err(|_| ExploreError::Memory)?;
-    write_campaign_page(&mut exploration.explorer, exploration.limit, &mut page)?;
+    write_campaign_page(&mut explorer, exploration.extent.limit, &mut page)?;
     page.flush().map_err(|_| ExploreError::Write)?;
     Ok(())
 }

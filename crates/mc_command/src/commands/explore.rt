@@ -1,60 +1,65 @@
 //! `explore` and `survey`: every schedule of power cuts, with what the boot after it does, and how many do what.
 ghost use Rattle.std.specs.Prelude.{◌≤◌, IfOk};
 
-use crate::options::{explore_options, flash_options, range_options};
+use crate::options::{ExploreOptions, RangeOptions, explore_options, flash_options, range_options};
 use crate::refusal::Refusal;
 use crate::source::read_start;
 use clap::ArgMatches;
-use mc_explore::{Cursor, ExploreError, Explorer, Schedule, survey_until, write_page_until};
+use mc_explore::{ExploreError, Explorer, Start, survey_until, write_page_until};
 use mc_flash::JournalFlash;
 use std::alloc::Global;
 use std::io::{BufWriter, Write};
 use std::rt::Files;
 
-/// An exploration that the words tell, and the rows that are wanted of it.
+/// An exploration that the words tell: where it starts, and the rows that are wanted of it.
 #[derive(Drop)]
 struct Exploration {
-    explorer: Explorer<JournalFlash>,
-    /// The schedule before which it stops.
-    until: Option<Schedule>,
-    /// The most rows.
-    limit: u32,
+    start: Start,
+    extent: ExploreOptions,
+    range: RangeOptions,
 }
 
-/// Reads the words, and makes an explorer of what they tell, at the first row or behind the one that they tell. The words are
-/// checked before a file is touched.
+/// Reads the words, and the start that they tell. The words are checked before a file is touched.
 ///
 /// # Errors
 ///
-/// `Source`, `Layout`, the numbers, `CursorOptions`, `Cursor` and `Schedule` of the words; what `read_start` refuses;
-/// `Explore` where the cursor or the schedule does not serve here, or an allocation failed.
+/// `Source`, `Layout`, the numbers, `CursorOptions`, `Cursor` and `Schedule` of the words; what `read_start` refuses.
 fn read<F: Files>(
     files: &F,
     alloc: Global,
     arguments: &ArgMatches<'_>,
 ) -> Result<Exploration, Refusal>
-    ensures { IfOk result (λ exploration. 1 ≤ exploration.limit) }
+    ensures { IfOk result (λ e. (e.extent.cuts ≤ 16) × (1 ≤ e.extent.limit)) }
 {
     let options = match flash_options(arguments) {
         Ok(options) => options,
         Err(refusal) => return Err(refusal),
     };
-    let extent = explore_options(arguments)?;
-    let range = range_options(arguments)?;
-    let start = read_start(files, alloc, &options)?;
-    let cursor = match &range.after {
-        Some(after) => Some(Cursor::of(&start, extent.cuts, after)),
-        None => range.cursor,
-    };
-    let explorer = match &cursor {
-        Some(cursor) => Explorer::resume(alloc, &start, extent.cuts, cursor)?,
-        None => Explorer::start(alloc, &start, extent.cuts)?,
-    };
     Ok(Exploration {
-        explorer,
-        until: range.until,
-        limit: extent.limit,
+        extent: explore_options(arguments)?,
+        range: range_options(arguments)?,
+        start: read_start(files, alloc, &options)?,
     })
+}
+
+impl Exploration {
+    /// Makes an explorer at the first row, or behind the one that the words tell.
+    ///
+    /// # Errors
+    ///
+    /// `Explore` where the cursor or the schedule does not serve here, or an allocation failed.
+    fn explorer(&self, alloc: Global) -> Result<Explorer<'_, JournalFlash>, Refusal>
+        requires { self.now.extent.cuts ≤ 16 }
+    {
+        let (start, cuts) = (&self.start, self.extent.cuts);
+        if let Some(after) = &self.range.after {
+            return Ok(Explorer::behind(alloc, start, cuts, after)?);
+        }
+        match &self.range.cursor {
+            Some(cursor) => Ok(Explorer::resume(alloc, start, cuts, cursor)?),
+            None => Ok(Explorer::start(alloc, start, cuts)?),
+        }
+    }
 }
 
 /// Prints a page of rows: one for each schedule of at most so many cuts that can occur, in their order, from the first or
@@ -69,14 +74,11 @@ pub fn run<F: Files, O: Write>(
     arguments: &ArgMatches<'_>,
     out: &mut O,
 ) -> Result<(), Refusal> {
-    let mut exploration = read(files, alloc, arguments)?;
+    let exploration = read(files, alloc, arguments)?;
+    let mut explorer = exploration.explorer(alloc)?;
     let mut page = BufWriter::new(alloc, out).map_err(|_| ExploreError::Memory)?;
-    write_page_until(
-        &mut exploration.explorer,
-        exploration.until,
-        exploration.limit,
-        &mut page,
-    )?;
+    let (until, limit) = (exploration.range.until, exploration.extent.limit);
+    write_page_until(&mut explorer, until, limit, &mut page)?;
     page.flush().map_err(|_| ExploreError::Write)?;
     Ok(())
 }
@@ -94,12 +96,10 @@ pub fn survey<F: Files, O: Write>(
     arguments: &ArgMatches<'_>,
     out: &mut O,
 ) -> Result<(), Refusal> {
-    let mut exploration = read(files, alloc, arguments)?;
-    let tally = survey_until(
-        &mut exploration.explorer,
-        exploration.until,
-        exploration.limit,
-    )?;
+    let exploration = read(files, alloc, arguments)?;
+    let mut explorer = exploration.explorer(alloc)?;
+    let (until, limit) = (exploration.range.until, exploration.extent.limit);
+    let tally = survey_until(&mut explorer, until, limit)?;
     write!(out, "{tally}").map_err(|_| Refusal::Write)?;
     if arguments.get_flag("all-boot") && tally.boot != tally.rows {
         return Err(Refusal::NotAllBoot);

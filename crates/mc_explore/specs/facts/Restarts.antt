@@ -12,7 +12,9 @@ use Rattle.mc_boot.specs.Outcome.{Report, report, outcome_of}
 use Rattle.mc_boot.specs.Plan.{plan}
 use Rattle.mc_boot.specs.Restart.{EndsIn, IsSwapped}
 use Rattle.mc_boot.specs.Runs.{after, at, left_by, ops_of, happening, is_faulted}
-use Rattle.mc_boot.specs.Start.{StartKind, no_swap, named, other}
+use Rattle.mc_boot.specs.Start.{named, other}
+use Rattle.mc_boot.specs.declared.kind.Kind.{Kind}
+use Rattle.mc_boot.specs.declared.kind.Kind.TheVariants as starts
 use Rattle.mc_explore.specs.Replay.{IsSwapOutcome}
 use Rattle.mc_explore.specs.facts.Telling.{outcome_ops}
 
@@ -26,7 +28,7 @@ told_slots r g u z o is left =
     (cc, cc, cc)
 
 -- The result and the slots of the last boot are those that the law names.
-pub told_end : (r : Rules) (g : Geometry) (kind : StartKind) (a b : List ℕ) (s u z : Content) (o : Report) → outcome_of r g u ≡ Some o → EndsIn r g kind a b s u z
+pub told_end : (r : Rules) (g : Geometry) (kind : Kind) (a b : List ℕ) (s u z : Content) (o : Report) → outcome_of r g u ≡ Some o → EndsIn r g kind a b s u z
     → (o.result ≡ results.Boot) × (o.primary ≡ id_of (named kind a b)) × (o.secondary ≡ id_of (other kind a b))
 told_end r g kind a b s u z o is ends =
     let slots = told_slots r g u z o is ends.end in
@@ -47,11 +49,12 @@ uncut r g s u (cut ∷ cuts) none is =
     let both : Some u ≡ None = sym is ∙ never in
     absurd cc
 
-idle_start : (r : Rules) (g : Geometry) (kind : StartKind) (s u z : Content) → IsSwapped r g kind s u z → kind ≡ no_swap → length (ops_of r g u) ≡ 0
-idle_start r g kind s u z swapped none = let P : StartKind → Type 0 = λ k. IsSwapped r g k s u z in idle_ops r g u (subst P none swapped)
+idle_start : (r : Rules) (g : Geometry) (kind : Kind) (s u z : Content) → IsSwapped r g kind s u z → kind ≡ starts.None → length (ops_of r g u) ≡ 0
+idle_start r g kind s u z swapped none = let P : Kind → Type 0 = λ k. IsSwapped r g k s u z in idle_ops r g u (subst P none swapped)
 
 -- What the law says of the boot after the cuts, and of the first one, is what is told of them.
-pub swap_outcome : (r : Rules) (g : Geometry) (kind : StartKind) (a b : List ℕ) (s u y z : Content) (cuts : List ℕ) (o : Report) → outcome_of r g u ≡ Some o → after r g s cuts ≡ Some u → EndsIn r g kind a b s s y → EndsIn r g kind a b s u z → IsSwapOutcome kind a b cuts o
+pub swap_outcome : (r : Rules) (g : Geometry) (kind : Kind) (a b : List ℕ) (s u y z : Content) (cuts : List ℕ) (o : Report) → outcome_of r g u ≡ Some o → after r g s cuts ≡ Some u
+    → EndsIn r g kind a b s s y → EndsIn r g kind a b s u z → IsSwapOutcome kind a b cuts o
 swap_outcome r g kind a b s u y z cuts o is occurs first ends =
     let told = told_end r g kind a b s u z o is ends in
     record {

@@ -7,7 +7,6 @@ use mc_imgtool::{ToolError, create, dumpinfo, verify};
 use std::alloc::Global;
 use std::io;
 use std::io::{Read, Write};
-use std::process::Abort;
 use std::test::Fail;
 
 /// What a call does that fails.
@@ -123,116 +122,128 @@ impl Engine {
         })
     }
 
-    fn input(self, alloc: Global) -> Result<Vec<u8>, Fail> {
+    fn input(self) -> &'static [u8] {
         match self {
-            Engine::Create => Ok(PAYLOAD.to_vec(alloc)?),
-            Engine::Verify => Ok(PLAIN_IMAGE.to_vec(alloc)?),
-            Engine::Dumpinfo => Ok(COUNTED_IMAGE.to_vec(alloc)?),
+            Engine::Create => &PAYLOAD,
+            Engine::Verify => &PLAIN_IMAGE,
+            Engine::Dumpinfo => &COUNTED_IMAGE,
         }
     }
 
     /// What is written for that input.
-    fn text(self, alloc: Global) -> Result<Vec<u8>, Fail> {
+    fn text(self) -> &'static [u8] {
         match self {
-            Engine::Create => Ok(PLAIN_IMAGE.to_vec(alloc)?),
-            Engine::Verify => Ok(GOOD_LINE.as_bytes().to_vec(alloc)?),
-            Engine::Dumpinfo => { Ok(REPORT.as_bytes().to_vec(alloc)?) }
+            Engine::Create => &PLAIN_IMAGE,
+            Engine::Verify => GOOD_LINE.as_bytes(),
+            Engine::Dumpinfo => REPORT.as_bytes(),
         }
     }
 }
 
-/// Runs an engine over a reader that fails at each call in turn. The last one would find the end.
-fn meets_failing_reads(
-    rt: &impl Abort,
+/// Whether an engine over a reader that fails so ends with that, and writes nothing.
+fn ends_at_a_read(alloc: Global, engine: Engine, failure: Failure) -> Result<bool, Fail> {
+    let mut reader = FaultyReader {
+        left: engine.input(),
+        failure,
+    };
+    let mut out = Vec::new(alloc);
+    let told = engine.run(alloc, &mut reader, &mut out)?;
+    Ok(told == Err(ToolError::Read) && out.is_empty())
+}
+
+/// The first call of a reader at which an engine ends otherwise where that call fails. The last one would find the end.
+fn read_that_is_missed(
     alloc: Global,
     engine: Engine,
     fault: Fault,
     lasts: bool,
-) -> Result<(), Fail> {
-    let input = engine.input(alloc)?;
-    for calls in 0..=input.len() {
-        let mut reader = FaultyReader {
-            left: input.as_slice(),
-            failure: Failure {
-                calls,
-                fault,
-                lasts,
-            },
+) -> Result<Option<usize>, Fail> {
+    for calls in 0..=engine.input().len() {
+        let failure = Failure {
+            calls,
+            fault,
+            lasts,
         };
-        let mut out = Vec::new(alloc);
-        let told = engine.run(alloc, &mut reader, &mut out)?;
-        assert_eq!(rt;
-            told,
-            Err(ToolError::Read),
-            "{engine:?} {calls} {fault:?} {lasts}"
-        );
-        assert_eq!(rt; out.len(), 0, "{engine:?} {calls} {fault:?} {lasts}");
+        if !ends_at_a_read(alloc, engine, failure)? {
+            return Ok(Some(calls));
+        }
     }
-    Ok(())
+    Ok(None)
 }
 
 #[test]
 fn a_failed_read_writes_nothing(rt: HostRuntime) -> Result<(), Fail> {
     for engine in ENGINES {
-        for fault in [Fault::Error, Fault::Interruption] {
-            meets_failing_reads(&rt, rt.alloc(), engine, fault, true)?;
-            meets_failing_reads(&rt, rt.alloc(), engine, fault, false)?;
+        for (fault, lasts) in [
+            (Fault::Error, true),
+            (Fault::Error, false),
+            (Fault::Interruption, true),
+            (Fault::Interruption, false),
+        ] {
+            let missed = read_that_is_missed(rt.alloc(), engine, fault, lasts)?;
+            assert_eq!(rt; missed, None, "{engine:?} {fault:?} {lasts}");
         }
     }
     Ok(())
 }
 
-/// Runs an engine over a writer that fails at each call in turn, and last at none, and over a reader that gives one byte a
-/// call.
-fn meets_failing_writes(
-    rt: &impl Abort,
+/// Whether an engine over a writer that fails so, and a reader that gives one byte a call, ends as it is to, and has written
+/// the beginning of its text.
+fn ends_at_a_write(alloc: Global, engine: Engine, failure: Failure) -> Result<bool, Fail> {
+    let text = engine.text();
+    let mut reader = FaultyReader {
+        left: engine.input(),
+        failure: Failure {
+            calls: usize::MAX,
+            ..failure
+        },
+    };
+    let mut writer = FaultyWriter {
+        taken: Vec::with_capacity(alloc, text.len())?,
+        failure,
+    };
+    let told = engine.run(alloc, &mut reader, &mut writer)?;
+    let wanted = if failure.calls < text.len() {
+        Err(ToolError::Write)
+    } else {
+        Ok(())
+    };
+    Ok(told == wanted && Some(writer.taken.as_slice()) == text.get(..failure.calls))
+}
+
+/// The first call of a writer at which an engine ends otherwise where that call fails. The last one does not come.
+fn write_that_is_missed(
     alloc: Global,
     engine: Engine,
     fault: Fault,
     lasts: bool,
-) -> Result<(), Fail> {
-    let input = engine.input(alloc)?;
-    let text = engine.text(alloc)?;
-    for calls in 0..=text.len() {
-        let mut reader = FaultyReader {
-            left: input.as_slice(),
-            failure: Failure {
-                calls: usize::MAX,
-                fault,
-                lasts,
-            },
+) -> Result<Option<usize>, Fail> {
+    for calls in 0..=engine.text().len() {
+        let failure = Failure {
+            calls,
+            fault,
+            lasts,
         };
-        let mut writer = FaultyWriter {
-            taken: Vec::with_capacity(alloc, text.len())?,
-            failure: Failure {
-                calls,
-                fault,
-                lasts,
-            },
-        };
-        let told = engine.run(alloc, &mut reader, &mut writer)?;
-        let wanted = if calls < text.len() {
-            Err(ToolError::Write)
-        } else {
-            Ok(())
-        };
-        assert_eq!(rt; told, wanted, "{engine:?} {calls} {fault:?} {lasts}");
-        let FaultyWriter { taken, .. } = &writer;
-        assert_eq!(rt;
-            taken.as_slice(),
-            &text[..calls],
-            "{engine:?} {fault:?} {lasts}"
-        );
+        if !ends_at_a_write(alloc, engine, failure)? {
+            return Ok(Some(calls));
+        }
     }
-    Ok(())
+    Ok(None)
 }
 
 #[test]
 fn a_failed_write_leaves_a_prefix(rt: HostRuntime) -> Result<(), Fail> {
     for engine in ENGINES {
-        for fault in [Fault::Error, Fault::Interruption, Fault::NoBytes] {
-            meets_failing_writes(&rt, rt.alloc(), engine, fault, true)?;
-            meets_failing_writes(&rt, rt.alloc(), engine, fault, false)?;
+        for (fault, lasts) in [
+            (Fault::Error, true),
+            (Fault::Error, false),
+            (Fault::Interruption, true),
+            (Fault::Interruption, false),
+            (Fault::NoBytes, true),
+            (Fault::NoBytes, false),
+        ] {
+            let missed = write_that_is_missed(rt.alloc(), engine, fault, lasts)?;
+            assert_eq!(rt; missed, None, "{engine:?} {fault:?} {lasts}");
         }
     }
     Ok(())

@@ -37,7 +37,10 @@ pub place-requires-clause-round : goal.place-requires-clause-round
 place-requires-clause-round g c =
     let w = c.args.walk.now in
     let b = w.branches in
-    along_round (boots b.once.rules b.once.layout) (second_start b.once.rules b.once.layout b.confirms) (first (begun_of w).content) w.path c.cuts.step (c.in-Some.round, c.in-Some.place) c.in-Some.ensures
+    along_round (boots b.once.rules b.once.layout) (second_start b.once.rules b.once.layout b.confirms) (first (begun_of w).content) w.path c.cuts.step (
+      c.in-Some.round,
+      c.in-Some.place,
+    ) c.in-Some.ensures
 
 pub overflow_add-step : goal.overflow_add-step
 overflow_add-step g c = let small = below g (goal.at.overflow_add-step g c).In-Some in omega (arith, small)

@@ -11,6 +11,7 @@ returns-clause-cut g c =
     let e = c.in_ok-there.ensures in
     let left = (g.F.Flash.seen c.into_flash.result).content in
     let s = begun_of c.in_ok-walk.walk in
-    let at : after s.rules s.geometry s.content c.cuts-cuts.result.now ≡ Some left = rw c.into_flash.ensures (cut_here g.F.Flash.counted s _ _ c.in_ok-there.there c.in_ok-there.field-0-1 e.followed e.told) in
+    let at : after s.rules s.geometry s.content c.cuts-cuts.result.now ≡ Some left = rw c.into_flash.ensures
+    (cut_here g.F.Flash.counted s _ _ c.in_ok-there.there c.in_ok-there.field-0-1 e.followed e.told) in
     let there = subst (λ (x : Begun). after x.rules x.geometry x.content c.cuts-cuts.result.now ≡ Some left) c.in_ok-walk.ensures.loaded.start_is at in
     subst (λ (l : List ℕ). after start.rules start.geometry start.content l ≡ Some left) c.cuts-cuts.ensures.value there

@@ -48,13 +48,15 @@ rows-preserved g c =
     let few : c.add.new.self.rows ≤ c.args.limit = omega (arith, n, c.rows-test.true) in
     let cost = ap (λ (s : Begun). most_for_row s.rules s.geometry) c.rows.invariant.start in
     record {
-      counted = count_on c.args.until c.args.explorer.now.state c.args.limit c.rows.explorer.state c.rows.tally c.rows.invariant.counted _ (told c.in-Some.row) c.add.new.self room found c.add.ensures few;
+      counted = count_on c.args.until c.args.explorer.now.state c.args.limit c.rows.explorer.state c.rows.tally c.rows.invariant.counted _ (told c.in-Some.row) c.add.new.self room found c.add.ensures
+          few;
       not_lost = λ e. let q : Lost ≡ After c.in-Some.row.schedule = sym e ∙ ap (λ (s : State). s.position) moved in absurd cc;
       stuck = λ e. let q : Ok c.in_ok-row.field-0 ≡ Err errors.Failed = rw c.in_ok-row.was at (c.next_before.ensures.explores.goes.stays_lost (c.rows.invariant.stuck e).0) in absurd cc;
       still = λ e. let q : Lost ≡ After c.in-Some.row.schedule = sym e ∙ ap (λ (s : State). s.position) moved in absurd cc;
       start = ap (λ (s : State). s.start) moved ∙ c.rows.invariant.start;
       limits = c.next_before.ensures.explores.goes.limits ∙ c.rows.invariant.limits;
-      applied = row_paid c.rows.explorer.ledger.applied c.next_before.new.self.ledger.applied (c.args.limit - c.rows.tally.rows) (c.args.limit - c.add.new.self.rows) _ _ room (omega (arith, c.in_ok-row.ensures.applied, cost)) c.rows.invariant.applied;
+      applied = row_paid c.rows.explorer.ledger.applied c.next_before.new.self.ledger.applied (c.args.limit - c.rows.tally.rows) (c.args.limit - c.add.new.self.rows) _ _ room
+          (omega (arith, c.in_ok-row.ensures.applied, cost)) c.rows.invariant.applied;
     }
 
 pub returns-in-None-clause-surveys : goal.returns-in-None-clause-surveys

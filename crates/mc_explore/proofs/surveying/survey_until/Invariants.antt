@@ -13,7 +13,8 @@ invariant-rows g l =
       still : l.explorer.state.position ≡ Lost → l.explorer ≡ l.fn.explorer;
       start : l.explorer.state.start ≡ l.fn.explorer.state.start;
       limits : l.explorer.ledger.limits ≡ l.fn.explorer.ledger.limits;
-      applied : l.explorer.ledger.applied + (l.limit - l.tally.rows) * most_for_row l.fn.explorer.state.start.rules l.fn.explorer.state.start.geometry ≤ l.fn.explorer.ledger.applied + l.limit * most_for_row l.fn.explorer.state.start.rules l.fn.explorer.state.start.geometry;
+      applied : l.explorer.ledger.applied + (l.limit - l.tally.rows) * most_for_row l.fn.explorer.state.start.rules l.fn.explorer.state.start.geometry ≤ l.fn.explorer.ledger.applied + l.limit *
+          most_for_row l.fn.explorer.state.start.rules l.fn.explorer.state.start.geometry;
     }
 
 abbrev pub decreases-rows : goal.decreases-rows

@@ -10,7 +10,8 @@ put_protected-requires c = c.requires.protected ∙ ap length (protected_size c.
 pub returns-clause-written : goal.returns-clause-written
 returns-clause-written c =
     on_ok c.put_protected.result c.put_protected.ensures.written
-    (λ last. covered-written c.args.parts.now _ _ _ _ c.args.out.now.items c.put_header.new.out.items c.extend_from_slice.new.self.items _ c.requires c.in_ok-put_header.ensures.written c.in_ok-extend_from_slice.ensures.items last)
+    (λ last. covered-written c.args.parts.now _ _ _ _ c.args.out.now.items c.put_header.new.out.items c.extend_from_slice.new.self.items _ c.requires c.in_ok-put_header.ensures.written
+    c.in_ok-extend_from_slice.ensures.items last)
 
 pub returns-clause-kept : goal.returns-clause-kept
 returns-clause-kept c =

@@ -18,7 +18,8 @@ pub returns-in_err-image-clause-answer : goal.returns-in_err-image-clause-answer
 returns-in_err-image-clause-answer g c =
     let p = err_from_is_err_and c.from_residual-in_err-image.result c.from_residual-in_err-image.ensures.1 in
     rw (p.1, p.2)
-    (refused_making (created c.args.options.now) (created_wanted c.args.options.now (sym c.if-needs_slot_size.ensures)) _ _ c.in_ok-bytes.bytes.items _ c.in_ok-bytes.ensures.whole.1 (rw c.as_slice.ensures.value at c.in_err-image.ensures.made))
+    (refused_making (created c.args.options.now) (created_wanted c.args.options.now (sym c.if-needs_slot_size.ensures)) _ _ c.in_ok-bytes.bytes.items _ c.in_ok-bytes.ensures.whole.1
+    (rw c.as_slice.ensures.value at c.in_err-image.ensures.made))
 
 pub returns-in_err-image-clause-never : goal.returns-in_err-image-clause-never
 returns-in_err-image-clause-never g c =

@@ -10,7 +10,8 @@ use Rattle.mc_trace.proofs.boots.write_operations.Given as goal
 
 abbrev pub invariant-operations : goal.invariant-operations
 invariant-operations g l = record {
-  out : IsOut (g.W.Write.contents l.fn.writer) (g.W.Write.contents l.writer) (left_to_tell l.until (g.F.Flash.seen l.fn.flash) (progress l.fn.boot)) (left_to_tell l.until (g.F.Flash.seen l.flash) (progress l.boot));
+  out : IsOut (g.W.Write.contents l.fn.writer) (g.W.Write.contents l.writer) (left_to_tell l.until (g.F.Flash.seen l.fn.flash) (progress l.fn.boot))
+      (left_to_tell l.until (g.F.Flash.seen l.flash) (progress l.boot));
   come : (r : Rules) (s : Content) → HasCome r (g.F.Flash.seen l.fn.flash).geometry s (progress l.fn.boot) (g.F.Flash.seen l.fn.flash).content
       → HasCome r (g.F.Flash.seen l.fn.flash).geometry s (progress l.boot) (g.F.Flash.seen l.flash).content;
   before : IfSome l.until (λ n. (progress l.boot).count ≤ n);

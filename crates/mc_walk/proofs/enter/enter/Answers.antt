@@ -14,4 +14,5 @@ child-requires g c = record {
 pub returns-clause-stands : goal.returns-clause-stands
 returns-clause-stands g c =
     let seen = g.F.Flash.seen c.args.flash.now in
-    entered_told (g.B.Branches.kind c.args.branches) (start_of seen) seen (g.F.Flash.seen c.mark.new.self) (g.F.Flash.seen c.child.new.flash) c.args.frames.now.items c.push.new.self.items c.args.frame c.child.result c.requires.comes c.in_ok-mark.ensures.1 c.in_ok-push.ensures.items c.child.ensures.tells c.child.ensures.stays
+    entered_told (g.B.Branches.kind c.args.branches) (start_of seen) seen (g.F.Flash.seen c.mark.new.self) (g.F.Flash.seen c.child.new.flash) c.args.frames.now.items c.push.new.self.items c.args.frame
+    c.child.result c.requires.comes c.in_ok-mark.ensures.1 c.in_ok-push.ensures.items c.child.ensures.tells c.child.ensures.stays

@@ -20,9 +20,12 @@ use Rattle.mc_flash.proofs.journal.JournalFlashFlash.copy.Goals as goal
 pub invariant_of-self-2 : goal.invariant_of-self-2
 invariant_of-self-2 c =
     let f = c.self.inside in
-    let can : CanTry f.slots.layout (Copy c.args.from c.args.at c.args.to c.args.offset c.args.len) = subst (λ (j : Seen). CanTry j.geometry (Copy c.args.from c.args.at c.args.to c.args.offset c.args.len)) (sym c.self.view_is) c.requires in
-    subst (λ (g : Geometry). IsSound g (limits_of f.reserve) (vec_capacity c.push.new.self) (vec_capacity f.saved) (vec_capacity f.marks) c.push.new.self.items f.saved.items f.marks.items) (sym c.put_copy.ensures.layout)
-    (sound_write f.slots.layout (limits_of f.reserve) (vec_capacity f.entries) (vec_capacity f.saved) (vec_capacity f.marks) _ f.entries.items c.push.new.self.items f.saved.items f.marks.items c.args.to c.args.offset c.args.len
+    let can : CanTry f.slots.layout (Copy c.args.from c.args.at c.args.to c.args.offset c.args.len) =
+    subst (λ (j : Seen). CanTry j.geometry (Copy c.args.from c.args.at c.args.to c.args.offset c.args.len)) (sym c.self.view_is) c.requires in
+    subst (λ (g : Geometry). IsSound g (limits_of f.reserve) (vec_capacity c.push.new.self) (vec_capacity f.saved) (vec_capacity f.marks) c.push.new.self.items f.saved.items f.marks.items)
+    (sym c.put_copy.ensures.layout)
+    (sound_write f.slots.layout (limits_of f.reserve) (vec_capacity f.entries) (vec_capacity f.saved) (vec_capacity f.marks) _ f.entries.items c.push.new.self.items f.saved.items f.marks.items
+    c.args.to c.args.offset c.args.len
     c.self.invariant c.in_ok-push.ensures.items (omega (arith, f.entries.ok.0)) c.push.ensures.capacity can.1.inside)
 
 pub returns-then-not-is_blank : goal.returns-then-not-is_blank
@@ -46,7 +49,8 @@ returns-then-len-self c =
     let t : Content = with_bytes (held f.slots) c.args.to (put (bytes_of (held f.slots) c.args.to) c.args.offset (between c.args.at (c.args.at + c.args.len) (bytes_of (held f.slots) c.args.from))) in
     subst (λ (j : Seen). Does op j (Err Memory) j) c.self.view_is
     (journal_full f.slots.layout r.entries r.saved r.marks op (held f.slots) f.entries.items f.saved.items f.marks.items f.applied t
-    (copy_done f.slots.layout (held f.slots) t c.args.from c.args.to c.args.at c.args.offset c.args.len (omega (arith, can.0.inside, long)) (sym c.if-not-is_blank.ensures) refl) (inl (omega (arith, f.entries.ok.0))))
+    (copy_done f.slots.layout (held f.slots) t c.args.from c.args.to c.args.at c.args.offset c.args.len (omega (arith, can.0.inside, long)) (sym c.if-not-is_blank.ensures) refl)
+    (inl (omega (arith, f.entries.ok.0))))
 
 pub returns : goal.returns
 returns c =
@@ -57,12 +61,16 @@ returns c =
     let source = length_of f.slots.layout (held f.slots) c.args.from f.slots.primary_sized f.slots.secondary_sized in
     let target = length_of f.slots.layout (held f.slots) c.args.to f.slots.primary_sized f.slots.secondary_sized in
     let new = between c.args.at (c.args.at + c.args.len) (bytes_of (held f.slots) c.args.from) in
-    let n : length (between c.args.at (c.args.at + c.args.len) (bytes_of (held f.slots) c.args.from)) ≡ c.args.len = omega (arith, length-between (bytes_of (held f.slots) c.args.from) c.args.at (c.args.at + c.args.len) (omega (arith, can.0.inside, source))) in
+    let n : length (between c.args.at (c.args.at + c.args.len) (bytes_of (held f.slots) c.args.from)) ≡ c.args.len =
+    omega (arith, length-between (bytes_of (held f.slots) c.args.from) c.args.at (c.args.at + c.args.len) (omega (arith, can.0.inside, source))) in
     let kept = marks_write f.entries.items c.push.new.self.items f.saved.items f.marks.items (held f.slots) (held c.put_copy.new.self) c.args.to c.args.offset c.args.len new
     c.self.invariant.ascend c.in_ok-push.ensures.items c.put_copy.ensures.held n (omega (arith, can.1.inside, target)) (sym c.if-not-is_blank.ensures) in
-    let does = journal_does f.slots.layout r.entries r.saved r.marks op (held f.slots) f.entries.items f.saved.items f.marks.items f.applied (held c.put_copy.new.self) c.push.new.self.items f.saved.items c.saturating_add-self-inside.result
-    (copy_done f.slots.layout (held f.slots) (held c.put_copy.new.self) c.args.from c.args.to c.args.at c.args.offset c.args.len (omega (arith, can.0.inside, source)) (sym c.if-not-is_blank.ensures) c.put_copy.ensures.held) kept
-    (ap length c.in_ok-push.ensures.items ∙ length-append f.entries.items (Written c.args.to c.args.offset c.args.len ∷ [])) (omega arith) c.saturating_add-self-inside.ensures (omega (arith, f.entries.ok.0)) (omega (arith, c.self.invariant.few_saved)) in
+    let does = journal_does f.slots.layout r.entries r.saved r.marks op (held f.slots) f.entries.items f.saved.items f.marks.items f.applied (held c.put_copy.new.self) c.push.new.self.items
+    f.saved.items c.saturating_add-self-inside.result
+    (copy_done f.slots.layout (held f.slots) (held c.put_copy.new.self) c.args.from c.args.to c.args.at c.args.offset c.args.len (omega (arith, can.0.inside, source)) (sym c.if-not-is_blank.ensures)
+    c.put_copy.ensures.held) kept
+    (ap length c.in_ok-push.ensures.items ∙ length-append f.entries.items (Written c.args.to c.args.offset c.args.len ∷ [])) (omega arith) c.saturating_add-self-inside.ensures
+    (omega (arith, f.entries.ok.0)) (omega (arith, c.self.invariant.few_saved)) in
     let after : Geometry → Seen = λ g. journal_of g (held c.put_copy.new.self) (limits_of r) c.push.new.self.items f.saved.items f.marks.items c.saturating_add-self-inside.result in
     subst (λ (g : Geometry). Does op c.args.self.now (Ok tt) (after g)) (sym c.put_copy.ensures.layout)
     (subst (λ (j : Seen). Does op j (Ok tt) (after f.slots.layout)) c.self.view_is does)

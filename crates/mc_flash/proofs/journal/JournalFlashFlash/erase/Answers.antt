@@ -23,9 +23,13 @@ invariant_of-self-2 c =
     let below : c.args.sector < sectors_of f.slots.layout c.args.slot = subst (λ (j : Seen). c.args.sector < sectors_of j.geometry c.args.slot) (sym c.self.view_is) c.requires in
     let size = c.sector-size.ensures.value ∙ ap (λ (g : Geometry). g.sector) c.layout.ensures in
     let fits = sector_inside f.slots.layout c.args.slot c.args.sector below in
-    subst (λ (g : Geometry). IsSound g (limits_of f.reserve) (vec_capacity c.push.new.self) (vec_capacity c.extend_from_slice.new.self) (vec_capacity f.marks) c.push.new.self.items c.extend_from_slice.new.self.items f.marks.items) (sym c.erase.ensures.layout)
-    (sound_erase f.slots.layout (limits_of f.reserve) (vec_capacity f.entries) (vec_capacity f.saved) (vec_capacity f.marks) _ _ f.entries.items c.push.new.self.items f.saved.items c.extend_from_slice.new.self.items c.sector.result.now f.marks.items c.args.slot (c.args.sector * f.slots.layout.sector) f.slots.layout.sector
-    c.self.invariant (c.in_ok-push.ensures.items ∙ ap (λ k. f.entries.items ++ Erased c.args.slot (c.args.sector * k) k ∷ []) (c.sector-size.ensures.value ∙ ap (λ (g : Geometry). g.sector) c.layout.ensures)) c.in_ok-extend_from_slice.ensures.items c.sector.ensures.len (omega (arith, f.entries.ok.0)) (omega (arith, f.saved.ok.0, c.if-self-len.false, size, c.self.invariant.few_saved)) c.push.ensures.capacity c.extend_from_slice.ensures.capacity fits)
+    subst (λ (g : Geometry). IsSound g (limits_of f.reserve) (vec_capacity c.push.new.self) (vec_capacity c.extend_from_slice.new.self) (vec_capacity f.marks) c.push.new.self.items
+    c.extend_from_slice.new.self.items f.marks.items) (sym c.erase.ensures.layout)
+    (sound_erase f.slots.layout (limits_of f.reserve) (vec_capacity f.entries) (vec_capacity f.saved) (vec_capacity f.marks) _ _ f.entries.items c.push.new.self.items f.saved.items
+    c.extend_from_slice.new.self.items c.sector.result.now f.marks.items c.args.slot (c.args.sector * f.slots.layout.sector) f.slots.layout.sector
+    c.self.invariant (c.in_ok-push.ensures.items ∙ ap (λ k. f.entries.items ++ Erased c.args.slot (c.args.sector * k) k ∷ [])
+    (c.sector-size.ensures.value ∙ ap (λ (g : Geometry). g.sector) c.layout.ensures)) c.in_ok-extend_from_slice.ensures.items c.sector.ensures.len (omega (arith, f.entries.ok.0))
+    (omega (arith, f.saved.ok.0, c.if-self-len.false, size, c.self.invariant.few_saved)) c.push.ensures.capacity c.extend_from_slice.ensures.capacity fits)
 
 pub returns-then-len-self : goal.returns-then-len-self
 returns-then-len-self c =
@@ -58,12 +62,18 @@ returns c =
     let fits = sector_inside f.slots.layout c.args.slot c.args.sector below in
     let long = length_of f.slots.layout (held f.slots) c.args.slot f.slots.primary_sized f.slots.secondary_sized in
     let entry = c.in_ok-push.ensures.items ∙ ap (λ k. f.entries.items ++ Erased c.args.slot (c.args.sector * k) k ∷ []) size in
-    let kept = marks_erase f.entries.items c.push.new.self.items f.saved.items c.extend_from_slice.new.self.items f.marks.items (held f.slots) (held c.erase.new.self) c.args.slot (c.args.sector * f.slots.layout.sector) f.slots.layout.sector (replicate f.slots.layout.sector 255)
-    c.self.invariant.ascend c.self.invariant.saved_for entry (c.in_ok-extend_from_slice.ensures.items ∙ ap (λ z. f.saved.items ++ z) c.sector.ensures.value) c.erase.ensures.held (length-replicate f.slots.layout.sector 255) (omega (arith, fits, long)) in
-    let more : length c.push.new.self.items ≡ length f.entries.items + 1 = ap length c.in_ok-push.ensures.items ∙ length-append f.entries.items (Erased c.args.slot (c.args.sector * c.sector-size.result) c.sector-size.result ∷ []) in
-    let fuller : length c.extend_from_slice.new.self.items ≡ length f.saved.items + f.slots.layout.sector = ap length c.in_ok-extend_from_slice.ensures.items ∙ length-append f.saved.items c.sector.result.now ∙ ap (λ n. length f.saved.items + n) c.sector.ensures.len in
-    let does = journal_does f.slots.layout r.entries r.saved r.marks op (held f.slots) f.entries.items f.saved.items f.marks.items f.applied (held c.erase.new.self) c.push.new.self.items c.extend_from_slice.new.self.items c.saturating_add-self-inside.result
-    (erase_done f.slots.layout (held f.slots) (held c.erase.new.self) c.args.slot c.args.sector c.erase.ensures.held) kept more fuller c.saturating_add-self-inside.ensures (omega (arith, f.entries.ok.0))
+    let kept = marks_erase f.entries.items c.push.new.self.items f.saved.items c.extend_from_slice.new.self.items f.marks.items (held f.slots) (held c.erase.new.self) c.args.slot
+    (c.args.sector * f.slots.layout.sector) f.slots.layout.sector (replicate f.slots.layout.sector 255)
+    c.self.invariant.ascend c.self.invariant.saved_for entry (c.in_ok-extend_from_slice.ensures.items ∙ ap (λ z. f.saved.items ++ z) c.sector.ensures.value) c.erase.ensures.held
+    (length-replicate f.slots.layout.sector 255) (omega (arith, fits, long)) in
+    let more : length c.push.new.self.items ≡ length f.entries.items + 1 = ap length c.in_ok-push.ensures.items ∙ length-append f.entries.items
+    (Erased c.args.slot (c.args.sector * c.sector-size.result) c.sector-size.result ∷ []) in
+    let fuller : length c.extend_from_slice.new.self.items ≡ length f.saved.items + f.slots.layout.sector =
+    ap length c.in_ok-extend_from_slice.ensures.items ∙ length-append f.saved.items c.sector.result.now ∙ ap (λ n. length f.saved.items + n) c.sector.ensures.len in
+    let does = journal_does f.slots.layout r.entries r.saved r.marks op (held f.slots) f.entries.items f.saved.items f.marks.items f.applied (held c.erase.new.self) c.push.new.self.items
+    c.extend_from_slice.new.self.items c.saturating_add-self-inside.result
+    (erase_done f.slots.layout (held f.slots) (held c.erase.new.self) c.args.slot c.args.sector c.erase.ensures.held) kept more fuller c.saturating_add-self-inside.ensures
+    (omega (arith, f.entries.ok.0))
     (omega (arith, f.saved.ok.0, c.if-self-len.false, size, c.self.invariant.few_saved)) in
     let after : Geometry → Seen = λ g. journal_of g (held c.erase.new.self) (limits_of r) c.push.new.self.items c.extend_from_slice.new.self.items f.marks.items c.saturating_add-self-inside.result in
     subst (λ (g : Geometry). Does op c.args.self.now (Ok tt) (after g)) (sym c.erase.ensures.layout)

@@ -13,7 +13,8 @@ use Rattle.mc_flash.proofs.journal.JournalFlashFlash.mark.Goals as goal
 pub invariant_of-self-2 : goal.invariant_of-self-2
 invariant_of-self-2 c =
     let f = c.self.inside in
-    sound_mark f.slots.layout (limits_of f.reserve) (vec_capacity f.entries) (vec_capacity f.saved) (vec_capacity f.marks) _ f.entries.items f.saved.items f.marks.items c.push.new.self.items c.self.invariant
+    sound_mark f.slots.layout (limits_of f.reserve) (vec_capacity f.entries) (vec_capacity f.saved) (vec_capacity f.marks) _ f.entries.items f.saved.items f.marks.items c.push.new.self.items
+    c.self.invariant
     (c.in_ok-push.ensures.items ∙ ap (λ z. f.marks.items ++ z ∷ []) (omega (arith, f.entries.ok.0))) (omega (arith, f.marks.ok.0)) c.push.ensures.capacity
 
 pub returns : goal.returns

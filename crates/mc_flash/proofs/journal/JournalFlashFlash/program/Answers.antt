@@ -17,9 +17,12 @@ use Rattle.mc_flash.proofs.journal.JournalFlashFlash.program.Goals as goal
 pub invariant_of-self-2 : goal.invariant_of-self-2
 invariant_of-self-2 c =
     let f = c.self.inside in
-    let fits : c.args.offset + length c.args.bytes.now ≤ size_of f.slots.layout c.args.slot = subst (λ (j : Seen). c.args.offset + length c.args.bytes.now ≤ size_of j.geometry c.args.slot) (sym c.self.view_is) c.requires.inside in
-    subst (λ (g : Geometry). IsSound g (limits_of f.reserve) (vec_capacity c.push.new.self) (vec_capacity f.saved) (vec_capacity f.marks) c.push.new.self.items f.saved.items f.marks.items) (sym c.put.ensures.layout)
-    (sound_write f.slots.layout (limits_of f.reserve) (vec_capacity f.entries) (vec_capacity f.saved) (vec_capacity f.marks) _ f.entries.items c.push.new.self.items f.saved.items f.marks.items c.args.slot c.args.offset (length c.args.bytes.now)
+    let fits : c.args.offset + length c.args.bytes.now ≤ size_of f.slots.layout c.args.slot =
+    subst (λ (j : Seen). c.args.offset + length c.args.bytes.now ≤ size_of j.geometry c.args.slot) (sym c.self.view_is) c.requires.inside in
+    subst (λ (g : Geometry). IsSound g (limits_of f.reserve) (vec_capacity c.push.new.self) (vec_capacity f.saved) (vec_capacity f.marks) c.push.new.self.items f.saved.items f.marks.items)
+    (sym c.put.ensures.layout)
+    (sound_write f.slots.layout (limits_of f.reserve) (vec_capacity f.entries) (vec_capacity f.saved) (vec_capacity f.marks) _ f.entries.items c.push.new.self.items f.saved.items f.marks.items
+    c.args.slot c.args.offset (length c.args.bytes.now)
     c.self.invariant c.in_ok-push.ensures.items (omega (arith, f.entries.ok.0)) c.push.ensures.capacity fits)
 
 pub returns-then-not-is_blank : goal.returns-then-not-is_blank
@@ -46,13 +49,16 @@ returns c =
     let f = c.self.inside in
     let r = f.reserve in
     let op : Op = Program c.args.slot c.args.offset c.args.bytes.now in
-    let fits : c.args.offset + length c.args.bytes.now ≤ size_of f.slots.layout c.args.slot = subst (λ (j : Seen). c.args.offset + length c.args.bytes.now ≤ size_of j.geometry c.args.slot) (sym c.self.view_is) c.requires.inside in
+    let fits : c.args.offset + length c.args.bytes.now ≤ size_of f.slots.layout c.args.slot =
+    subst (λ (j : Seen). c.args.offset + length c.args.bytes.now ≤ size_of j.geometry c.args.slot) (sym c.self.view_is) c.requires.inside in
     let long = length_of f.slots.layout (held f.slots) c.args.slot f.slots.primary_sized f.slots.secondary_sized in
     let kept = marks_write f.entries.items c.push.new.self.items f.saved.items f.marks.items (held f.slots) (held c.put.new.self) c.args.slot c.args.offset (length c.args.bytes.now) c.args.bytes.now
     c.self.invariant.ascend c.in_ok-push.ensures.items c.put.ensures.held refl (omega (arith, fits, long)) (sym c.if-not-is_blank.ensures) in
-    let does = journal_does f.slots.layout r.entries r.saved r.marks op (held f.slots) f.entries.items f.saved.items f.marks.items f.applied (held c.put.new.self) c.push.new.self.items f.saved.items c.saturating_add-self-inside.result
+    let does = journal_does f.slots.layout r.entries r.saved r.marks op (held f.slots) f.entries.items f.saved.items f.marks.items f.applied (held c.put.new.self) c.push.new.self.items f.saved.items
+    c.saturating_add-self-inside.result
     (program_done f.slots.layout (held f.slots) (held c.put.new.self) c.args.slot c.args.offset c.args.bytes.now (sym c.if-not-is_blank.ensures) c.put.ensures.held) kept
-    (ap length c.in_ok-push.ensures.items ∙ length-append f.entries.items (Written c.args.slot c.args.offset (length c.args.bytes.now) ∷ [])) (omega arith) c.saturating_add-self-inside.ensures (omega (arith, f.entries.ok.0)) (omega (arith, c.self.invariant.few_saved)) in
+    (ap length c.in_ok-push.ensures.items ∙ length-append f.entries.items (Written c.args.slot c.args.offset (length c.args.bytes.now) ∷ [])) (omega arith) c.saturating_add-self-inside.ensures
+    (omega (arith, f.entries.ok.0)) (omega (arith, c.self.invariant.few_saved)) in
     let after : Geometry → Seen = λ g. journal_of g (held c.put.new.self) (limits_of r) c.push.new.self.items f.saved.items f.marks.items c.saturating_add-self-inside.result in
     subst (λ (g : Geometry). Does op c.args.self.now (Ok tt) (after g)) (sym c.put.ensures.layout)
     (subst (λ (j : Seen). Does op j (Ok tt) (after f.slots.layout)) c.self.view_is does)

@@ -8,4 +8,5 @@ use Rattle.mc_flash.proofs.snap.SnapFlashFlash.copy.Goals as goal
 pub returns : goal.returns
 returns c =
     let f = c.args.self.now in
-    copies_become (Copy c.args.from c.args.at c.args.to c.args.offset c.args.len) f.slots.layout c.copy.new.self.layout (held f.slots) (held c.copy.new.self) (map copy_seen f.marks.items) f.failed c.copy.ensures.layout c.copy.result c.copy.ensures.does
+    copies_become (Copy c.args.from c.args.at c.args.to c.args.offset c.args.len) f.slots.layout c.copy.new.self.layout (held f.slots) (held c.copy.new.self) (map copy_seen f.marks.items) f.failed
+    c.copy.ensures.layout c.copy.result c.copy.ensures.does

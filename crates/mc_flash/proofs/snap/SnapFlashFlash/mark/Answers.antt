@@ -22,4 +22,5 @@ returns c =
     let f = c.args.self.now in
     let done : is_ok c.push.result ≡ true = search rules in
     let more = c.push.ensures.items ∙ ap (λ b. if b then f.marks.items ++ c.in-Ok.snapshot ∷ [] else f.marks.items) done in
-    copies_mark f.slots.layout (held f.slots) f.marks.items c.push.new.self.items c.in-Ok.snapshot f.failed c.len-place.result more c.in-Ok.ensures.primary c.in-Ok.ensures.secondary (omega (arith, f.marks.ok.0))
+    copies_mark f.slots.layout (held f.slots) f.marks.items c.push.new.self.items c.in-Ok.snapshot f.failed c.len-place.result more c.in-Ok.ensures.primary c.in-Ok.ensures.secondary
+    (omega (arith, f.marks.ok.0))

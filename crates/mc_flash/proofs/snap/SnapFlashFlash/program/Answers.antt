@@ -8,4 +8,5 @@ use Rattle.mc_flash.proofs.snap.SnapFlashFlash.program.Goals as goal
 pub returns : goal.returns
 returns c =
     let f = c.args.self.now in
-    copies_become (Program c.args.slot c.args.offset c.args.bytes.now) f.slots.layout c.program.new.self.layout (held f.slots) (held c.program.new.self) (map copy_seen f.marks.items) f.failed c.program.ensures.layout c.program.result c.program.ensures.does
+    copies_become (Program c.args.slot c.args.offset c.args.bytes.now) f.slots.layout c.program.new.self.layout (held f.slots) (held c.program.new.self) (map copy_seen f.marks.items) f.failed
+    c.program.ensures.layout c.program.result c.program.ensures.does

@@ -10,5 +10,7 @@ pub returns-clause-step : goal.returns-clause-step
 returns-clause-step g c =
     let w = c.self.inside in
     let going = standing (g.B.Branches.kind w.branches) w.bound (g.F.Flash.seen w.flash) w.frames.items w.told (ap (λ (z : Walked _). z.stands) c.self.view_is ∙ c.requires) c.self.invariant.going in
-    let few = subst (λ (z : Walked g.row.B.Denot). length z.path ≤ z.bound) c.self.view_is (omega (arith, going.1.few, length-map w.frames.items (λ (f : Frame g.row.B-At.Denot g.row.B-Told.Denot). f.number))) in
-    advanced_up g.B.Branches.kind c.args.self.now c.go_down.new.self c.climb.new.self c.in_ok-go_down.field-0 c.in_ok-went.went few (search rules) c.in_ok-go_down.ensures.step c.in_ok-went.ensures.step
+    let few = subst (λ (z : Walked g.row.B.Denot). length z.path ≤ z.bound) c.self.view_is
+    (omega (arith, going.1.few, length-map w.frames.items (λ (f : Frame g.row.B-At.Denot g.row.B-Told.Denot). f.number))) in
+    advanced_up g.B.Branches.kind c.args.self.now c.go_down.new.self c.climb.new.self c.in_ok-go_down.field-0 c.in_ok-went.went few (search rules) c.in_ok-go_down.ensures.step
+    c.in_ok-went.ensures.step

@@ -34,9 +34,11 @@ ready g c =
     let old = g.F.Flash.seen w.flash in
     let going = standing k w.bound old w.frames.items w.told (ap (λ (z : Walked _). z.stands) c.self.view_is ∙ c.requires) c.self.invariant.going in
     let place : c.len.result + 1 ≡ length c.take_last_open.new.frames.items + 1 = omega (arith, c.len.ensures, c.take_last_open.new.frames.ok.0) in
-    let back = went_up k w.bound old (g.F.Flash.seen c.back_to.new.self) w.frames.items c.take_last_open.new.frames.items c.in-Some.frame going.0 going.1 c.in-Some.ensures.taken (c.back_to.ensures ∙ ap (λ n. went_back n old) place) in
+    let back = went_up k w.bound old (g.F.Flash.seen c.back_to.new.self) w.frames.items c.take_last_open.new.frames.items c.in-Some.frame going.0 going.1 c.in-Some.ensures.taken
+    (c.back_to.ensures ∙ ap (λ n. went_back n old) place) in
     let h = c.in_ok-next.ensures in
-    ready_up k w.bound old (g.F.Flash.seen c.back_to.new.self) (g.F.Flash.seen c.next.new.flash) w.frames.items c.take_last_open.new.frames.items c.in-Some.frame c.next.new.at going.1.roomy back h.keeps h.goes_on h.spends
+    ready_up k w.bound old (g.F.Flash.seen c.back_to.new.self) (g.F.Flash.seen c.next.new.flash) w.frames.items c.take_last_open.new.frames.items c.in-Some.frame c.next.new.at going.1.roomy back
+    h.keeps h.goes_on h.spends
 
 abbrev WasReady : (g : Over) (c : In_ok-told g) → Type 0
 WasReady g c =
@@ -93,7 +95,8 @@ returns-clause-step g c =
     let h = there g a.In_ok-told (ready g a.In_ok-next) in
     let going = standing k w.bound old w.frames.items w.told (ap (λ (z : Walked _). z.stands) c.self.view_is ∙ c.requires) c.self.invariant.going in
     subst (λ (z : Walked g.row.B.Denot). Climbs (g.B.Branches.kind z.branches) z true (walked w.branches w.bound new c.enter.new.frames.items (Some c.in_ok-told.told))) c.self.view_is
-    (climbed k w.branches w.bound old new w.frames.items c.take_last_open.new.frames.items c.enter.new.frames.items c.in-Some.frame (on g a.In_ok-next) w.told c.in_ok-told.told going.1.stands.stacked c.in-Some.ensures.taken refl c.in_ok-told.ensures.frames h.start)
+    (climbed k w.branches w.bound old new w.frames.items c.take_last_open.new.frames.items c.enter.new.frames.items c.in-Some.frame (on g a.In_ok-next) w.told c.in_ok-told.told going.1.stands.stacked
+    c.in-Some.ensures.taken refl c.in_ok-told.ensures.frames h.start)
 
 pub returns-in_default-clause-step : goal.returns-in_default-clause-step
 returns-in_default-clause-step g c =
@@ -101,7 +104,8 @@ returns-in_default-clause-step g c =
     let k = g.B.Branches.kind w.branches in
     let old = g.F.Flash.seen w.flash in
     let going = standing k w.bound old w.frames.items w.told (ap (λ (z : Walked _). z.stands) c.self.view_is ∙ c.requires) c.self.invariant.going in
-    subst (λ (z : Walked g.row.B.Denot). Climbs (g.B.Branches.kind z.branches) z false (walked {A = g.row.B-At.Denot} {T = g.row.B-Told.Denot} w.branches w.bound old c.take_last_open.new.frames.items None)) c.self.view_is
+    subst (λ (z : Walked g.row.B.Denot). Climbs (g.B.Branches.kind z.branches) z false (walked {A = g.row.B-At.Denot} {T =
+    g.row.B-Told.Denot} w.branches w.bound old c.take_last_open.new.frames.items None)) c.self.view_is
     (none_on k w.branches w.bound old w.frames.items c.take_last_open.new.frames.items w.told going.1.stands.stacked c.in_default.ensures.taken)
 
 pub returns-clause-spends : goal.returns-clause-spends

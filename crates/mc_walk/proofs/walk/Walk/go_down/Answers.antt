@@ -26,7 +26,8 @@ ready g c =
     let k = g.B.Branches.kind w.branches in
     let going = subst (λ z. IfSome z (IsGoing k w.bound (g.F.Flash.seen w.flash) w.frames.items)) c.in-Some.is c.self.invariant.going in
     let h = c.in_ok-at.ensures in
-    ready_down k w.bound c.args.number c.width.result _ _ _ w.frames.items c.in-Some.told c.in_ok-at.at going (omega (arith, c.len.ensures, w.frames.ok.0, c.if-len-self.false)) c.width.ensures c.if-number-width.false h.keeps h.reaches h.spends
+    ready_down k w.bound c.args.number c.width.result _ _ _ w.frames.items c.in-Some.told c.in_ok-at.at going (omega (arith, c.len.ensures, w.frames.ok.0, c.if-len-self.false)) c.width.ensures
+    c.if-number-width.false h.keeps h.reaches h.spends
 
 abbrev WasReady : (g : Over) (c : In_ok-told g) → Type 0
 WasReady g c =
@@ -58,7 +59,8 @@ pub reach-requires : goal.reach-requires
 reach-requires g c =
     let w = c.self.inside in
     let s = (goal.at.reach-requires g c).In-Some in
-    can_reach (g.B.Branches.kind w.branches) w.bound c.args.number c.width.result _ w.frames.items c.in-Some.told (going g s) (omega (arith, c.len.ensures, w.frames.ok.0, c.if-len-self.false)) c.width.ensures c.if-number-width.false
+    can_reach (g.B.Branches.kind w.branches) w.bound c.args.number c.width.result _ w.frames.items c.in-Some.told (going g s) (omega (arith, c.len.ensures, w.frames.ok.0, c.if-len-self.false))
+    c.width.ensures c.if-number-width.false
 
 pub enter-requires : goal.enter-requires
 enter-requires g c =
@@ -83,7 +85,8 @@ returns-clause-step g c =
     let w = c.self.inside in
     let a = goal.at.returns-clause-step g c in
     let h = there g a.In_ok-told (ready g a.In_ok-at) in
-    subst (λ (z : Walked g.row.B.Denot). GoesDown (g.B.Branches.kind z.branches) c.args.number z true (walked w.branches w.bound (g.F.Flash.seen c.enter.new.flash) c.enter.new.frames.items (Some c.in_ok-told.told))) c.self.view_is
+    subst (λ (z : Walked g.row.B.Denot). GoesDown (g.B.Branches.kind z.branches) c.args.number z true
+    (walked w.branches w.bound (g.F.Flash.seen c.enter.new.flash) c.enter.new.frames.items (Some c.in_ok-told.told))) c.self.view_is
     (gone_down (g.B.Branches.kind w.branches) w.branches w.bound _ c.args.number _ _ w.frames.items c.enter.new.frames.items (down g a.In_ok-at) _ w.told h refl c.in_ok-told.ensures.frames)
 
 pub returns-clause-spends : goal.returns-clause-spends

@@ -1,0 +1,584 @@
+//! The commands and the words that they take, as help shows them.
+
+/// A command.
+pub struct Subcommand {
+    pub name: &'static str,
+    pub aliases: &'static [&'static str],
+    pub about: &'static str,
+    /// What usage shows in place of each word.
+    pub usage: Option<&'static str>,
+    pub after_help: Option<&'static str>,
+    pub groups: &'static [Group],
+}
+
+/// Words that help shows together.
+#[derive(Clone, Copy)]
+pub enum Group {
+    Image,
+    Creation,
+    Slot,
+    Layout,
+    Source,
+    Tables,
+    Rules,
+    Output,
+    Replay,
+    Trace,
+    Sectors,
+    Exploration,
+    Survey,
+    Campaign,
+    Refusal,
+}
+
+impl Group {
+    /// What help shows above them.
+    pub fn heading(self) -> Option<&'static str> {
+        match self {
+            Group::Image | Group::Creation | Group::Refusal => None,
+            Group::Slot => Some("Slot"),
+            Group::Layout => Some("Layout (all six)"),
+            Group::Source => Some("Source (--flash, or the other three)"),
+            Group::Tables | Group::Rules => Some("Boot loader"),
+            Group::Output => Some("Output"),
+            Group::Replay => Some("Replay"),
+            Group::Trace => Some("Trace"),
+            Group::Sectors => Some("Sectors"),
+            Group::Exploration | Group::Survey | Group::Campaign => Some("Exploration"),
+        }
+    }
+
+    /// The words, in the order of the help.
+    pub fn words(self) -> &'static [Word] {
+        match self {
+            Group::Image => &IMAGE,
+            Group::Creation => &CREATION,
+            Group::Slot => &SLOT,
+            Group::Layout => &LAYOUT,
+            Group::Source => &SOURCE,
+            Group::Tables => &TABLES,
+            Group::Rules => &RULES,
+            Group::Output => &OUTPUT,
+            Group::Replay => &REPLAY,
+            Group::Trace | Group::Sectors => &SCHEDULE_IF_ANY,
+            Group::Exploration => &EXPLORATION,
+            Group::Survey => &SURVEY,
+            Group::Campaign => &CAMPAIGN,
+            Group::Refusal => &REFUSAL,
+        }
+    }
+}
+
+/// A word that a command takes.
+pub struct Word {
+    pub name: &'static str,
+    pub short: Option<char>,
+    pub takes: Takes,
+    pub required: bool,
+    pub default: Option<&'static str>,
+    pub help: &'static str,
+}
+
+/// What a word takes.
+pub enum Takes {
+    /// No value: an option that is given or not.
+    Nothing,
+    /// No value: the word itself is told, by its place.
+    Itself,
+    /// A value, by what help calls it.
+    Value(&'static str),
+    /// One of some values, by what help calls it.
+    OneOf(&'static str, &'static [&'static str]),
+}
+
+/// An option that is given or not.
+const FLAG: Word = Word {
+    name: "",
+    short: None,
+    takes: Takes::Nothing,
+    required: false,
+    default: None,
+    help: "",
+};
+
+/// What is told by its place.
+const PLACE: Word = Word {
+    takes: Takes::Itself,
+    ..FLAG
+};
+
+/// An option that takes a number. `NumberOption` has the names of these.
+const NUMBER: Word = Word {
+    takes: Takes::Value("N"),
+    ..FLAG
+};
+
+/// An option that takes a path.
+const FILE: Word = Word {
+    takes: Takes::Value("FILE"),
+    ..FLAG
+};
+
+/// An option that takes a schedule.
+const SCHEDULE: Word = Word {
+    takes: Takes::Value("S"),
+    ..FLAG
+};
+
+/// The image that `verify` and `dumpinfo` read.
+static IMAGE: [Word; 1] = [Word {
+    name: "INFILE",
+    help: "The image; standard input if left out",
+    ..PLACE
+}];
+
+/// What tells an image.
+static CREATION: [Word; 6] = [
+    Word {
+        name: "INFILE",
+        required: true,
+        help: "The payload",
+        ..PLACE
+    },
+    Word {
+        name: "OUTFILE",
+        required: true,
+        help: "The image; made, or emptied first",
+        ..PLACE
+    },
+    Word {
+        name: "version",
+        short: Some('v'),
+        takes: Takes::Value("V"),
+        required: true,
+        help: "Version, major[.minor[.revision[+build]]]",
+        ..FLAG
+    },
+    Word {
+        name: "header-size",
+        short: Some('H'),
+        required: true,
+        help: "Header length in bytes, 32 to 65535 (CONFIG_ROM_START_OFFSET)",
+        ..NUMBER
+    },
+    Word {
+        name: "pad-header",
+        help: "INFILE is the bare payload; otherwise it begins with header-size zeros",
+        ..FLAG
+    },
+    Word {
+        name: "security-counter",
+        short: Some('s'),
+        help: "Add a protected security-counter entry, 0 to 4294967295",
+        ..NUMBER
+    },
+];
+
+/// The slot that an image is made for.
+static SLOT: [Word; 5] = [
+    Word {
+        name: "slot-size",
+        short: Some('S'),
+        help: "Slot length in bytes, 1 to 16777216; image and trailer must fit",
+        ..NUMBER
+    },
+    Word {
+        name: "align",
+        default: Some("8"),
+        help: "Write unit of the flash: 1, 2, 4 or 8",
+        ..NUMBER
+    },
+    Word {
+        name: "max-sectors",
+        short: Some('M'),
+        default: Some("128"),
+        help: "Sectors the trailer has room for, 1 to 1024",
+        ..NUMBER
+    },
+    Word {
+        name: "pad",
+        help: "Pad with 0xff, and end with the magic that requests a swap",
+        ..FLAG
+    },
+    Word {
+        name: "confirm",
+        help: "As --pad, and mark the image confirmed (image-ok)",
+        ..FLAG
+    },
+];
+
+/// The six numbers of a layout.
+static LAYOUT: [Word; 6] = [
+    Word {
+        name: "sector",
+        required: true,
+        help: "Erase sector in bytes: a power of two, 64 to 65536 (erase-block-size)",
+        ..NUMBER
+    },
+    Word {
+        name: "unit",
+        required: true,
+        help: "Write unit in bytes: 1, 2, 4 or 8 (write-block-size)",
+        ..NUMBER
+    },
+    Word {
+        name: "max-sectors",
+        required: true,
+        help: "Image sectors the trailer has room for (CONFIG_BOOT_MAX_IMG_SECTORS)",
+        ..NUMBER
+    },
+    Word {
+        name: "chunk",
+        required: true,
+        help: "Bytes per write while a sector is copied (copy buffer)",
+        ..NUMBER
+    },
+    Word {
+        name: "primary",
+        required: true,
+        help: "Sectors of the primary slot: as many as the secondary, or one more",
+        ..NUMBER
+    },
+    Word {
+        name: "secondary",
+        required: true,
+        help: "Sectors of the secondary slot",
+        ..NUMBER
+    },
+];
+
+/// A source: a flash, or two images and what they ask for.
+static SOURCE: [Word; 4] = [
+    Word {
+        name: "flash",
+        help: "A dump of both slots, primary first, with their trailers",
+        ..FILE
+    },
+    Word {
+        name: "kind",
+        takes: Takes::OneOf("KIND", &["none", "test", "perm", "revert"]),
+        help: "Pending swap: none, test, perm (for good) or revert (back to B)",
+        ..FLAG
+    },
+    Word {
+        name: "image-a",
+        help: "The image in the primary slot (bytes after it are ignored)",
+        ..FILE
+    },
+    Word {
+        name: "image-b",
+        help: "The image in the secondary slot",
+        ..FILE
+    },
+];
+
+/// Which swap tables are used.
+const PROFILE: Word = Word {
+    name: "profile",
+    takes: Takes::OneOf("PROFILE", &["1", "2"]),
+    default: Some("1"),
+    help: "Revert at a secondary magic unset (1), or bad too (2)",
+    ..FLAG
+};
+
+/// The swap tables alone.
+static TABLES: [Word; 1] = [PROFILE];
+
+/// The rules of boots: what a power cut can fall between, and the swap tables.
+static RULES: [Word; 2] = [
+    Word {
+        name: "grain",
+        takes: Takes::OneOf("GRAIN", &["call", "unit"]),
+        default: Some("call"),
+        help: "Cuts between write calls (call) or write units (unit)",
+        ..FLAG
+    },
+    PROFILE,
+];
+
+/// Where the flash after the last boot is written.
+const OUT: Word = Word {
+    name: "out",
+    help: "Write the flash after the last boot (primary, then secondary)",
+    ..FILE
+};
+
+static OUTPUT: [Word; 1] = [OUT];
+
+/// What `replay` is told of cuts.
+static REPLAY: [Word; 3] = [
+    Word {
+        name: "schedule",
+        required: true,
+        help: "Cuts joined by points, as 9.4; - for none",
+        ..SCHEDULE
+    },
+    Word {
+        name: "at-cut",
+        help: "Write the flash as it was when the last cut fell",
+        ..FILE
+    },
+    OUT,
+];
+
+/// A schedule, of no cut where none is given.
+static SCHEDULE_IF_ANY: [Word; 1] = [Word {
+    name: "schedule",
+    default: Some("-"),
+    help: "Cuts joined by points, as 9.4; - for none",
+    ..SCHEDULE
+}];
+
+/// The most rows of a page.
+const LIMIT: Word = Word {
+    name: "limit",
+    default: Some("1000"),
+    help: "Rows on this page, 1 to 4294967295",
+    ..NUMBER
+};
+
+/// Where an exploration goes on.
+const CURSOR: Word = Word {
+    name: "cursor",
+    takes: Takes::Value("C"),
+    help: "Go on after an earlier page: the text after its `next`",
+    ..FLAG
+};
+
+/// What tells an exploration of schedules: the most cuts, a page, and which of the rows.
+static EXPLORATION: [Word; 5] = [
+    Word {
+        name: "cuts",
+        takes: Takes::Value("K"),
+        required: true,
+        help: "Most power cuts in a schedule, 0 to 16",
+        ..FLAG
+    },
+    LIMIT,
+    CURSOR,
+    Word {
+        name: "after",
+        help: "Go on after this schedule, as 9.4 (- is the first), in place of --cursor",
+        ..SCHEDULE
+    },
+    Word {
+        name: "until",
+        help: "Stop before this schedule",
+        ..SCHEDULE
+    },
+];
+
+/// What `survey` is told more.
+static SURVEY: [Word; 1] = [Word {
+    name: "all-boot",
+    help: "Refuse, after the counts, where a row's result is not boot",
+    ..FLAG
+}];
+
+/// What tells an exploration of campaigns.
+static CAMPAIGN: [Word; 4] = [
+    Word {
+        name: "cuts",
+        takes: Takes::Value("K"),
+        required: true,
+        help: "Most power cuts in both rounds, 0 to 16",
+        ..FLAG
+    },
+    LIMIT,
+    CURSOR,
+    Word {
+        name: "confirm",
+        help: "The image confirms itself between the rounds",
+        ..FLAG
+    },
+];
+
+/// What `explain` is told.
+static REFUSAL: [Word; 1] = [Word {
+    name: "NUMBER",
+    required: true,
+    help: "The refusal's number, as 33 or E33",
+    ..PLACE
+}];
+
+const AFTER_CREATE: &str = "\
+INFILE and OUTFILE must be two files: OUTFILE is emptied before INFILE is read, and stays empty
+after a refusal. The trailer takes 3 * max-sectors * align + 48 bytes.
+Example:
+  mcsim create --version 1.2.3+4 --header-size 0x200 --pad-header --slot-size 483328 --align 4 \\
+    app.bin app.img";
+
+const AFTER_LAYOUT: &str = "\
+The sizes of a trailer and of the largest image, header and TLV area included; then the first byte of
+the first and last status entry and of each field, as trace names them; then, for cuts between write
+calls and between write units, the operations of a test swap of the largest images, and a bound for
+any boot:
+  image-bytes 512
+  primary 984 swap-info
+  call swap-ops 30";
+
+const AFTER_TRACE: &str = "\
+Each boot begins with a line `boot` with its number, counted from 0, and its type. Each operation that
+happens has a line, with the number that a cut counts:
+  0 erase primary 3
+  1 write primary 984 swap-info 02ffffffffffffff
+  6 copy primary 0 to primary 256 length 128
+`cut before` shows the operation at which power fails, and ` refused` one that meets bytes that are not
+erased. Six lines with the outcome of the last boot come at the end.";
+
+const AFTER_SECTORS: &str = "\
+A line for each slot, a word for each sector: `-` where it is blank, `aN` or `bN` where it holds what
+sector N of the primary or of the secondary held at the start (the first such), `*` where it holds
+something else:
+  primary a0 - * *
+  secondary b0 - -";
+
+const AFTER_EXPLORE: &str = "\
+A row is: SCHEDULE RESULT TYPE OPS PRIMARY SECONDARY NEXT
+  9.4 boot test 5 2.0.0+0/80 1.0.0+0/80 revert
+Power fails after 9 operations of the first boot and after 4 of the second; the third boot runs
+whole. It boots, finishing a test swap in 5 operations. Each slot is VERSION/SIZE; the boot after
+it would revert. RESULT: boot, none (no valid image), panic (the trailer contradicts itself),
+fault (a write met bytes that are not erased).
+Rows come in this order: -, 0, 0.0, 0.1, .., 1, 1.0, 1.1, .. So --after 0 --until 1 gives those that
+begin with 0 and have more cuts.
+How many rows? --cuts 1 has OPS+1; --cuts 2 has 1 more than the sum of OPS over the rows of
+--cuts 1.";
+
+const AFTER_SURVEY: &str = "\
+Seven lines: how many rows the page of explore would have, how many of them with each RESULT (boot,
+none, panic, fault), the most operations of a last boot, and next CURSOR or end, as the page.";
+
+const AFTER_CAMPAIGN: &str = "\
+A row is: CAMPAIGN RESULT TYPE OPS RESULT TYPE OPS PRIMARY SECONDARY NEXT
+  2.4 boot test 18 boot perm 19 1.0.0+0/80 2.0.0+0/80 none
+Two rounds, each power-on with its cuts and one whole boot: here the first round has no cut, and in the
+second power fails after 4 operations of its first boot. RESULT TYPE OPS stand for the boots that end the
+rounds; what lies in the slots, and the next type, for the end. Between the rounds the image in the
+primary confirms itself with --confirm, else not.
+Rows come in this order: -, 1.0, 1.0,1.0, .., 1.0,2.0, .., 1.1, .., 2.0, 2.0,2.0, ..";
+
+/// The commands, in the order of the help.
+pub fn commands() -> &'static [Subcommand] {
+    &COMMANDS
+}
+
+static COMMANDS: [Subcommand; 13] = [
+    Subcommand {
+        name: "create",
+        aliases: &["sign"],
+        about: "Make an image from a payload (imgtool sign, without a key)",
+        usage: None,
+        after_help: Some(AFTER_CREATE),
+        groups: &[Group::Creation, Group::Slot],
+    },
+    Subcommand {
+        name: "verify",
+        aliases: &[],
+        about: "Check an image's structure and SHA-256; print version, size and digest",
+        usage: None,
+        after_help: Some(
+            "Bytes after the image are ignored. Signature entries are listed by dumpinfo, never checked.",
+        ),
+        groups: &[Group::Image],
+    },
+    Subcommand {
+        name: "dumpinfo",
+        aliases: &[],
+        about: "Print an image's header fields and TLV entries, and whether its digest is good",
+        usage: None,
+        after_help: None,
+        groups: &[Group::Image],
+    },
+    Subcommand {
+        name: "layout",
+        aliases: &[],
+        about: "Print the sizes and places that follow from a layout, and how long its boots are",
+        usage: Some("mcsim layout <LAYOUT>"),
+        after_help: Some(AFTER_LAYOUT),
+        groups: &[Group::Layout],
+    },
+    Subcommand {
+        name: "type",
+        aliases: &[],
+        about: "Print both slots' trailers and the swap that they ask for",
+        usage: Some("mcsim type <LAYOUT> <SOURCE> [OPTIONS]"),
+        after_help: None,
+        groups: &[Group::Layout, Group::Source, Group::Tables],
+    },
+    Subcommand {
+        name: "boot",
+        aliases: &[],
+        about: "Run one boot without a power cut and print its outcome",
+        usage: Some("mcsim boot <LAYOUT> <SOURCE> [OPTIONS]"),
+        after_help: None,
+        groups: &[Group::Layout, Group::Source, Group::Rules, Group::Output],
+    },
+    Subcommand {
+        name: "replay",
+        aliases: &[],
+        about: "Run boots cut as a schedule says, then one whole boot; print its outcome",
+        usage: Some("mcsim replay <LAYOUT> <SOURCE> --schedule <S> [OPTIONS]"),
+        after_help: None,
+        groups: &[Group::Layout, Group::Source, Group::Rules, Group::Replay],
+    },
+    Subcommand {
+        name: "trace",
+        aliases: &[],
+        about: "Print the operations of boots cut as a schedule says, and of one whole boot",
+        usage: Some("mcsim trace <LAYOUT> <SOURCE> [OPTIONS]"),
+        after_help: Some(AFTER_TRACE),
+        groups: &[Group::Layout, Group::Source, Group::Rules, Group::Trace],
+    },
+    Subcommand {
+        name: "sectors",
+        aliases: &[],
+        about: "Print what lies in each sector when the last cut of a schedule falls",
+        usage: Some("mcsim sectors <LAYOUT> <SOURCE> [OPTIONS]"),
+        after_help: Some(AFTER_SECTORS),
+        groups: &[Group::Layout, Group::Source, Group::Rules, Group::Sectors],
+    },
+    Subcommand {
+        name: "explore",
+        aliases: &[],
+        about: "List every schedule of at most K power cuts with its outcome",
+        usage: Some("mcsim explore <LAYOUT> <SOURCE> --cuts <K> [OPTIONS]"),
+        after_help: Some(AFTER_EXPLORE),
+        groups: &[
+            Group::Layout,
+            Group::Source,
+            Group::Rules,
+            Group::Exploration,
+        ],
+    },
+    Subcommand {
+        name: "survey",
+        aliases: &[],
+        about: "Count the rows of an exploration by their results",
+        usage: Some("mcsim survey <LAYOUT> <SOURCE> --cuts <K> [OPTIONS]"),
+        after_help: Some(AFTER_SURVEY),
+        groups: &[
+            Group::Layout,
+            Group::Source,
+            Group::Rules,
+            Group::Exploration,
+            Group::Survey,
+        ],
+    },
+    Subcommand {
+        name: "campaign",
+        aliases: &[],
+        about: "List every campaign of at most K power cuts in two rounds, with both outcomes",
+        usage: Some("mcsim campaign <LAYOUT> <SOURCE> --cuts <K> [OPTIONS]"),
+        after_help: Some(AFTER_CAMPAIGN),
+        groups: &[Group::Layout, Group::Source, Group::Rules, Group::Campaign],
+    },
+    Subcommand {
+        name: "explain",
+        aliases: &[],
+        about: "Tell what a refusal means and what to do about it",
+        usage: None,
+        after_help: None,
+        groups: &[Group::Refusal],
+    },
+];

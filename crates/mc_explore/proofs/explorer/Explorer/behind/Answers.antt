@@ -1,0 +1,41 @@
+use Rattle.mc_explore.specs.Start.{begun}
+use Rattle.std.proofs.Common.{arith, refl, sym, ap, subst, ◌∙◌}
+use Rattle.mc_walk.specs.Tours.{Toured}
+use Rattle.mc_explore.specs.View.{Followed, IsSound, position_of, state_of}
+use Rattle.mc_explore.specs.declared.once.Once.{Once}
+use Rattle.mc_explore.proofs.Going.{behind_it, followed, listed, not_listed, resumed}
+use Rattle.mc_explore.proofs.explorer.Explorer.behind.Given.{Over}
+use Rattle.mc_explore.proofs.explorer.Explorer.behind.Goals as goal
+use Rattle.mc_explore.proofs.explorer.Explorer.behind.Goals.{After-result-1}
+
+pub returns-then-not-branch-clause-resumes : goal.returns-then-not-branch-clause-resumes
+returns-then-not-branch-clause-resumes g c = (
+  record { digest_is = refl; rules_are = refl; bound_is = refl },
+  not_listed g.F.Flash.counted (begun c.args.start.now) c.args.bound c.args.last.now c.in_ok-walk.walk c.begin.new.self c.follow.new.self c.in_ok-begin.field-0
+      c.in_ok-walk.ensures.loaded c.in_ok-begin.ensures.begins c.in_ok-follow.field-0 c.if-not-branch.true (rw c.cuts-cuts.ensures.value at c.in_ok-follow.ensures.step),
+)
+
+there : (g : Over) (c : After-result-1 g) → Followed g.F.Flash.counted (begun c.args.start.now) c.args.bound c.args.last.now c.follow.new.self
+there g c =
+    followed g.F.Flash.counted (begun c.args.start.now) c.args.bound c.args.last.now c.in_ok-walk.walk c.begin.new.self c.follow.new.self c.in_ok-begin.field-0
+    c.in_ok-walk.ensures.loaded c.in_ok-begin.ensures.begins c.in_ok-follow.field-0 c.if-not-branch.false (rw c.cuts-cuts.ensures.value at c.in_ok-follow.ensures.step)
+    c.in_ok-begin.ensures.spends (rw c.cuts-cuts.ensures.value at c.in_ok-follow.ensures.spends)
+
+pub invariant_of-result : goal.invariant_of-result
+invariant_of-result g c = (
+  subst (λ (t : Toured Once). IsSound g.F.Flash.counted (begun c.args.start.now) c.args.bound t c.args.last.now) (sym c.behind.ensures)
+      (resumed g.F.Flash.counted (begun c.args.start.now) c.args.bound c.args.last.now c.follow.new.self (there g (goal.at.invariant_of-result g c).After-result-1) c.requires),
+  tt,
+)
+
+pub returns-clause-resumes : goal.returns-clause-resumes
+returns-clause-resumes g c =
+    let f = there g (goal.at.returns-clause-resumes g c).After-result-1 in (
+      record { digest_is = refl; rules_are = refl; bound_is = refl },
+      listed g.F.Flash.counted (begun c.args.start.now) c.args.bound c.args.last.now c.follow.new.self f,
+      ap (λ (t : Toured Once). state_of t.walk (position_of t.phase c.args.last.now)) c.behind.ensures
+          ∙ behind_it g.F.Flash.counted (begun c.args.start.now) c.args.bound c.args.last.now c.follow.new.self f,
+    )
+
+pub returns-clause-applied : goal.returns-clause-applied
+returns-clause-applied g c = omega (arith, ap (λ (t : Toured Once). t.walk.seen.ledger.applied) c.behind.ensures, (there g (goal.at.returns-clause-applied g c).After-result-1).applied)
