@@ -13,6 +13,7 @@ use Rattle.mc_boot.specs.declared.image.Held.{Held}
 use Rattle.mc_boot.specs.declared.image.Images.{Images}
 use Rattle.mc_boot.specs.declared.image.ImageId.{ImageId}
 use Rattle.mc_boot.specs.Image.{image_size, images_of, identity_of}
+use Rattle.mc_boot.proofs.SameImages.{id_parts, size_valid}
 
 pub size_refused : (b : List ℕ) (e : ImageError) → first_fault b ≡ Some e → 0 ≡ image_size b
 unfolding image_size
@@ -73,3 +74,9 @@ module _ (s : Content) (first second : List ℕ) (at_first : first ≡ s.primary
   pub images_known : (size size2 most : ℕ) → size ≡ image_size first → size2 ≡ image_size second → is_valid s.secondary ≡ true → most ≡ max size size2
       → record { valid = true; size = most } ≡ images_of s
   images_known size size2 most size_is size2_is valid most_is = images_are s true most (sym valid) (larger size size2 most size_is size2_is most_is)
+
+-- the size of an image that was told apart
+pub known_size : (b : List ℕ) (id : ImageId) → id_of b ≡ Some (identity_of id) → id.size ≡ image_size b
+known_size b id is =
+    let parts = id_parts b (identity_of id) is in
+    ap (λ (i : Identity). i.size) (sym parts.1) ∙ size_valid b parts.0

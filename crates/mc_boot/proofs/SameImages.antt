@@ -33,7 +33,7 @@ id_valid b valid = rw valid refl
 same_identity : (i j : Identity) → Some i ≡ Some j → i ≡ j
 same_identity i j e = cc
 
-id_parts : (b : List ℕ) (i : Identity) → id_of b ≡ Some i → (is_valid b ≡ true) × (identity (image_in b) ≡ i)
+pub id_parts : (b : List ℕ) (i : Identity) → id_of b ≡ Some i → (is_valid b ≡ true) × (identity (image_in b) ≡ i)
 unfolding id_of
 id_parts b i is = go (is_valid b) refl is
   where

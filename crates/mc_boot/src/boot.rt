@@ -18,6 +18,7 @@ ghost use Rattle.mc_boot.specs.Runs.{left_by};
 use crate::course::{Course, Opening};
 use crate::image::Images;
 use crate::joining::joins;
+use crate::known::KnownImage;
 use crate::outcome::Outcome;
 use crate::transfer::first_left;
 use crate::writes::is_test;
@@ -388,7 +389,22 @@ impl Boot {
             → to_come self.now ≡ [] → outcome_of r (F.seen flash.now).geometry s
             ≡ Some (shown result) }
     {
-        Outcome::read(flash, self.rules, self.kind, self.done, self.faulted)
+        self.outcome_among(flash, &[])
+    }
+
+    /// What the boot has done, to be asked at its end, where `peek` gives none. It reads each slot
+    /// once, and hashes it where its image is none of those that are known.
+    pub fn outcome_among<F: Flash>(&self, flash: &F, known: &[Option<KnownImage<'_>>]) -> Outcome
+        ensures report { let p = progress self.now in shown result
+            ≡ report p.rules (F.seen flash.now).geometry p.kind p.count p.faulted
+            (F.seen flash.now).content }
+        // At the end it is the outcome of the uncut boot from the flash at power-on.
+        ensures end { (r : Rules) (s : Content)
+            → HasCome r (F.seen flash.now).geometry s (progress self.now) (F.seen flash.now).content
+            → to_come self.now ≡ [] → outcome_of r (F.seen flash.now).geometry s
+            ≡ Some (shown result) }
+    {
+        Outcome::read(flash, self.rules, self.kind, self.done, self.faulted, known)
     }
 }
 

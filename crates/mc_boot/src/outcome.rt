@@ -4,6 +4,7 @@ ghost use Rattle.mc_boot.specs.Outcome.{shown, report, result_of};
 
 use crate::boot::Boot;
 use crate::image::{Held, ImageId, Images, slot_bytes};
+use crate::known::KnownImage;
 use mc_flash::{Flash, Slot};
 use mc_trailer::{Rules, SwapType};
 
@@ -53,19 +54,20 @@ fn result_of(kind: SwapType, faulted: bool, boots: bool) -> BootResult
 
 impl Outcome {
     /// The outcome of a boot of that type, of which so many operations happened and one was refused or none, by the flash
-    /// that it left. Each slot is read and hashed once.
+    /// that it left. Each slot is read once, and hashed where its image is none of those that are known.
     pub(crate) fn read<F: Flash>(
         flash: &F,
         rules: Rules,
         kind: SwapType,
         ops: u32,
         faulted: bool,
+        known: &[Option<KnownImage<'_>>],
     ) -> Outcome
         ensures { shown result
             ≡ report rules (F.seen flash.now).geometry kind ops faulted (F.seen flash.now).content }
     {
-        let primary = Held::read(slot_bytes(flash, Slot::Primary));
-        let secondary = Held::read(slot_bytes(flash, Slot::Secondary));
+        let primary = Held::read_among(slot_bytes(flash, Slot::Primary), known);
+        let secondary = Held::read_among(slot_bytes(flash, Slot::Secondary), known);
         let images = Images::new(primary.size, &secondary);
         Outcome {
             result: result_of(kind, faulted, primary.id.is_some()),

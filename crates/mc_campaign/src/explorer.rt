@@ -127,8 +127,8 @@ impl<'a, F: Flash + Drop> CampaignExplorer<'a, F> {
     {
         ask(start, bound, confirms, cursor)?;
         let mut walk = load(alloc, start, bound, confirms)?;
-        walk.begin()?;
-        if !follow(&mut walk, &cursor.campaign)? {
+        walk.begin(start)?;
+        if !follow(&mut walk, &cursor.campaign, start)? {
             return Err(ExploreError::CannotOccur);
         }
         Ok(CampaignExplorer {
@@ -162,7 +162,7 @@ impl<'a, F: Flash + Drop> CampaignExplorer<'a, F> {
         ensures err { IfErr result (λ e. (e ≡ ExploreError.Memory) ⊎ (e ≡ ExploreError.Failed)) }
     {
         restart_law();
-        let Some(told) = self.tour.visit()? else {
+        let Some(told) = self.tour.visit(self.start)? else {
             return Ok(None);
         };
         let campaign = campaign_at(self.tour.walk());

@@ -5,6 +5,7 @@ ghost use Rattle.mc_campaign.specs.View.{FollowsCampaign, FollowsLater, IsCalm};
 
 use crate::campaign::{Campaign, Round};
 use crate::rounds::Twice;
+use mc_explore::Start;
 use mc_flash::{Flash, FlashError};
 use mc_walk::Walk;
 
@@ -13,6 +14,7 @@ fn follow_later<F: Flash>(
     walk: &mut Walk<F, Twice>,
     ops: u32,
     cuts: &[u32],
+    start: &Start,
 ) -> Result<bool, FlashError>
     requires { walk.old.stands ≡ true }
     ensures follows { IfOk result (λ went. FollowsLater walk.old ops cuts.now went walk.new) }
@@ -26,10 +28,10 @@ fn follow_later<F: Flash>(
     let Some(number) = ops.checked_add(*first) else {
         return Ok(false);
     };
-    if !walk.go_down(number)? {
+    if !walk.go_down(number, start)? {
         return Ok(false);
     }
-    let went = walk.follow(rest)?;
+    let went = walk.follow(rest, start)?;
     Ok(went)
 }
 
@@ -41,6 +43,7 @@ fn follow_later<F: Flash>(
 pub(crate) fn follow<F: Flash>(
     walk: &mut Walk<F, Twice>,
     campaign: &Campaign,
+    start: &Start,
 ) -> Result<bool, FlashError>
     requires stands { walk.old.stands ≡ true }
     requires root { walk.old.path ≡ [] }
@@ -49,14 +52,17 @@ pub(crate) fn follow<F: Flash>(
     ensures calm { OnOk result (IsCalm walk.old.seen walk.new.seen) }
     ensures err { IfErr result (λ e. e ≡ FlashError.Memory) }
 {
-    if !walk.follow(campaign.cuts(Round::First))? {
+    if !walk.follow(campaign.cuts(Round::First), start)? {
         return Ok(false);
     }
     let Some(told) = walk.told() else {
         return Ok(false);
     };
     match told.round {
-        Round::First => follow_later(walk, told.first.outcome.ops, campaign.cuts(Round::Second)),
+        Round::First => {
+            let ops = told.first.outcome.ops;
+            follow_later(walk, ops, campaign.cuts(Round::Second), start)
+        }
         Round::Second => Ok(false),
     }
 }

@@ -25,6 +25,7 @@ fn replay_round<F: Flash>(
     secondary: &[u8],
     cuts: &[u32],
     boots: u8,
+    start: &Start,
 ) -> Result<(Outcome, F), ReplayError>
     requires primary { length primary.now ≡ size_of once.now.layout Primary }
     requires secondary { length secondary.now ≡ size_of once.now.layout Secondary }
@@ -38,7 +39,7 @@ fn replay_round<F: Flash>(
         ≡ limits_for once.now.rules.grain once.now.layout boots) }
 {
     let walk = load_for(alloc, *once, primary, secondary, cuts.len() as u8, boots)?;
-    let done = replay_on(walk, cuts)?;
+    let done = replay_on(walk, cuts, start)?;
     Ok(done)
 }
 
@@ -76,10 +77,12 @@ pub fn replay_campaign<F: Flash>(
     let boots = campaign.len() as u8 + 3;
     let (first, second) = (campaign.cuts(Round::First), campaign.cuts(Round::Second));
     let (primary, secondary) = (start.primary(), start.secondary());
-    let (one, mut middle) = replay_round::<F>(alloc, &once, primary, secondary, first, boots)?;
+    let (one, mut middle) = replay_round::<F>(
+        alloc, &once, primary, secondary, first, boots, start,
+    )?;
     go_between(confirms, &mut middle)?;
     let (primary, secondary) = (middle.read(Slot::Primary), middle.read(Slot::Secondary));
-    match replay_round(alloc, &once, primary, secondary, second, boots) {
+    match replay_round(alloc, &once, primary, secondary, second, boots, start) {
         Ok((two, flash)) => Ok((one, two, flash)),
         Err(ReplayError::CannotOccur(later)) => {
             Err(ReplayError::CannotOccur(first.len() + later))

@@ -8,7 +8,7 @@ ghost use Rattle.mc_boot.specs.Confirm.{confirmed_if, one_write};
 
 use crate::campaign::Round;
 use mc_boot::{Boot, confirm};
-use mc_explore::{Once, Told};
+use mc_explore::{Once, Start, Told};
 use mc_flash::{Flash, FlashError};
 
 /// Two rounds of boots of a layout by the same rules, each of which can be cut. Between them the image confirms itself or not.
@@ -63,7 +63,7 @@ impl Twice {
     ghost use Rattle.mc_campaign.specs.Twice.{AreTold, most_of_both};
 
     // Runs the boot at power-on to its end, and then that of the second round.
-    fn run<F: Flash>(&self, flash: &mut F, boot: Boot) -> Result<Both, FlashError>
+    fn run<F: Flash>(&self, flash: &mut F, boot: Boot, start: &Start) -> Result<Both, FlashError>
         requires begun { IsBegun self.now.once.rules (F.seen flash.old) boot }
         requires layout { (F.seen flash.old).geometry ≡ self.now.once.layout }
         requires room { Allows (most_of_both self.now.once.rules self.now.once.layout)
@@ -75,10 +75,10 @@ impl Twice {
             (F.seen flash.old) result (F.seen flash.new) }
         ensures err { IfErr result (λ e. e ≡ FlashError.Memory) }
     {
-        let first = self.once.run(flash, boot)?;
+        let first = self.once.run(flash, boot, start)?;
         go_between(self.confirms, flash)?;
         let then = self.once.boot(flash);
-        let second = self.once.run(flash, then)?;
+        let second = self.once.run(flash, then, start)?;
         Ok(Both {
             round: Round::First,
             first,
@@ -87,7 +87,12 @@ impl Twice {
     }
 
     /// The same, and goes back.
-    pub(crate) fn tell<F: Flash>(&self, flash: &mut F, boot: Boot) -> Result<Both, FlashError>
+    pub(crate) fn tell<F: Flash>(
+        &self,
+        flash: &mut F,
+        boot: Boot,
+        start: &Start,
+    ) -> Result<Both, FlashError>
         requires begun { IsBegun self.now.once.rules (F.seen flash.old) boot }
         requires layout { (F.seen flash.old).geometry ≡ self.now.once.layout }
         requires room { HasRoom (most_of_both self.now.once.rules self.now.once.layout)
@@ -100,7 +105,7 @@ impl Twice {
         ensures err { IfErr result (λ e. e ≡ FlashError.Memory) }
     {
         let here = flash.mark()?;
-        let both = self.run(flash, boot)?;
+        let both = self.run(flash, boot, start)?;
         flash.back_to(here);
         Ok(both)
     }

@@ -2,6 +2,7 @@
 //! round then those of the second round that begins behind it.
 use crate::campaign::Round;
 use crate::rounds::{Both, OnWay, Twice, go_between};
+use mc_explore::Start;
 use mc_flash::{Flash, FlashError};
 use mc_walk::Branches;
 
@@ -18,6 +19,9 @@ impl Branches for Twice {
 
     /// The number of a round, and the place of a cut there.
     type Label = (u8, u32);
+
+    /// The start, which knows its images.
+    type Known = Start;
 
     ghost use Rattle.mc_tree.specs.Twice as trees;
     ghost use Rattle.mc_explore.specs.Boots.{boots};
@@ -88,12 +92,18 @@ impl Branches for Twice {
         }
     }
 
-    fn root<F: Flash>(self, flash: &mut F) -> Result<Both, FlashError> {
+    fn root<F: Flash>(self, flash: &mut F, start: &Start) -> Result<Both, FlashError> {
         let boot = self.once.boot(flash);
-        self.tell(flash, boot)
+        self.tell(flash, boot, start)
     }
 
-    fn child<F: Flash>(self, flash: &mut F, at: &OnWay, parent: &Both) -> Result<Both, FlashError> {
+    fn child<F: Flash>(
+        self,
+        flash: &mut F,
+        at: &OnWay,
+        parent: &Both,
+        start: &Start,
+    ) -> Result<Both, FlashError> {
         match at {
             OnWay::First { boot, .. } => match self.once.derive(flash, boot, &parent.first) {
                 Ok(first) => Ok(Both {
@@ -101,10 +111,10 @@ impl Branches for Twice {
                     first,
                     second: parent.second,
                 }),
-                Err(boot) => self.tell(flash, boot),
+                Err(boot) => self.tell(flash, boot, start),
             },
             OnWay::Second(boot) => {
-                let second = self.once.child(flash, boot, &parent.second)?;
+                let second = self.once.child(flash, boot, &parent.second, start)?;
                 Ok(Both {
                     round: Round::Second,
                     first: parent.first,

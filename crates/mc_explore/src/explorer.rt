@@ -106,8 +106,8 @@ impl<'a, F: Flash + Drop> Explorer<'a, F> {
             return Err(ExploreError::CannotOccur);
         }
         let mut walk = load(alloc, start, bound)?;
-        walk.begin()?;
-        if !walk.follow(cuts)? {
+        walk.begin(start)?;
+        if !walk.follow(cuts, start)? {
             return Err(ExploreError::CannotOccur);
         }
         Ok(Explorer {
@@ -166,7 +166,7 @@ impl<'a, F: Flash + Drop> Explorer<'a, F> {
         ensures err { IfErr result (λ e. (e ≡ ExploreError.Memory) ⊎ (e ≡ ExploreError.Failed)) }
     {
         restart_law();
-        let Some(told) = self.tour.visit()? else {
+        let Some(told) = self.tour.visit(self.start)? else {
             return Ok(None);
         };
         let schedule = Schedule::of(self.tour.walk().path().as_slice());

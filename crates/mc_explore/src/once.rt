@@ -2,6 +2,7 @@
 //! leaves that is cut before its operation of that number.
 ghost use Rattle.mc_image.specs.Bytes.{IsBytes};
 
+use crate::start::Start;
 use mc_boot::{Boot, Outcome, outcome_after};
 use mc_flash::{Flash, FlashError, Layout, Slot};
 use mc_trailer::Rules;
@@ -43,12 +44,18 @@ impl Once {
         Boot::cold(flash, self.rules)
     }
 
-    /// Runs the boot at power-on to its end, and tells of the flash where it began.
+    /// Runs the boot at power-on to its end, and tells of the flash where it began. An image that it leaves is hashed where it is
+    /// none that the start is known to hold.
     ///
     /// # Errors
     ///
     /// `Memory` where the flash was refused memory.
-    pub fn run<F: Flash>(&self, flash: &mut F, boot: Boot) -> Result<Told, FlashError>
+    pub fn run<F: Flash>(
+        &self,
+        flash: &mut F,
+        boot: Boot,
+        start: &Start,
+    ) -> Result<Told, FlashError>
         requires begun { IsBegun self.now.rules (F.seen flash.old) boot }
         requires layout { (F.seen flash.old).geometry ≡ self.now.layout }
         requires room { Allows (most_of self.now.rules self.now.layout) (F.seen flash.old) }
@@ -65,12 +72,12 @@ impl Once {
     {
         let mut whole = boot;
         whole.finish(flash)?;
-        let outcome = whole.outcome(flash);
+        let outcome = whole.outcome_among(flash, &start.known());
         Ok(Told { boot, outcome })
     }
 
     // The same, and goes back.
-    fn tell<F: Flash>(&self, flash: &mut F, boot: Boot) -> Result<Told, FlashError>
+    fn tell<F: Flash>(&self, flash: &mut F, boot: Boot, start: &Start) -> Result<Told, FlashError>
         requires begun { IsBegun self.now.rules (F.seen flash.old) boot }
         requires layout { (F.seen flash.old).geometry ≡ self.now.layout }
         requires room { HasRoom (most_of self.now.rules self.now.layout) (F.seen flash.old) }
@@ -82,7 +89,7 @@ impl Once {
         ensures err { IfErr result (λ e. e ≡ FlashError.Memory) }
     {
         let here = flash.mark()?;
-        let told = self.run(flash, boot)?;
+        let told = self.run(flash, boot, start)?;
         flash.back_to(here);
         Ok(told)
     }
@@ -139,6 +146,9 @@ impl Branches for Once {
 
     type Label = u32;
 
+    /// The start, which knows its images.
+    type Known = Start;
+
     ghost kind = { λ s. once s.rules s.layout };
 
     ghost label_of = { λ _ _ number. number };
@@ -159,15 +169,21 @@ impl Branches for Once {
         self.pass(flash, at)
     }
 
-    fn root<F: Flash>(self, flash: &mut F) -> Result<Told, FlashError> {
+    fn root<F: Flash>(self, flash: &mut F, start: &Start) -> Result<Told, FlashError> {
         let boot = self.boot(flash);
-        self.tell(flash, boot)
+        self.tell(flash, boot, start)
     }
 
-    fn child<F: Flash>(self, flash: &mut F, at: &Boot, parent: &Told) -> Result<Told, FlashError> {
+    fn child<F: Flash>(
+        self,
+        flash: &mut F,
+        at: &Boot,
+        parent: &Told,
+        start: &Start,
+    ) -> Result<Told, FlashError> {
         match self.derive(flash, at, parent) {
             Ok(told) => Ok(told),
-            Err(boot) => self.tell(flash, boot),
+            Err(boot) => self.tell(flash, boot, start),
         }
     }
 }

@@ -43,6 +43,7 @@ impl From<FlashError> for ReplayError {
 fn follow<F: Flash>(
     mut walk: Walk<F, Once>,
     cuts: &[u32],
+    start: &Start,
 ) -> Result<(Walk<F, Once>, Told), ReplayError>
     requires loaded { IsLoaded F.counted (begun_of walk) (length cuts.now) walk }
     requires few { length cuts.now ≤ 16 }
@@ -55,8 +56,8 @@ fn follow<F: Flash>(
     ensures refused { let s = begun_of walk in IfErr result
         (Refuses s.rules s.geometry s.content cuts.now) }
 {
-    walk.begin()?;
-    if !walk.follow(cuts)? {
+    walk.begin(start)?;
+    if !walk.follow(cuts, start)? {
         return Err(ReplayError::CannotOccur(walk.path().len()));
     }
     let Some(told) = walk.told() else {
@@ -65,12 +66,16 @@ fn follow<F: Flash>(
     Ok((walk, told))
 }
 
-/// Goes along cuts on a walk from a start: the outcome of the uncut boot after them, and the flash that it leaves.
+/// Goes along cuts on a walk from the flash of a start or of a later round: the outcome of the uncut boot after them, and the flash that it leaves.
 ///
 /// # Errors
 ///
 /// `CannotOccur` with the place of the first cut that is not less than the operations that its boot makes uncut; `Memory`.
-pub fn replay_on<F: Flash>(walk: Walk<F, Once>, cuts: &[u32]) -> Result<(Outcome, F), ReplayError>
+pub fn replay_on<F: Flash>(
+    walk: Walk<F, Once>,
+    cuts: &[u32],
+    start: &Start,
+) -> Result<(Outcome, F), ReplayError>
     requires loaded { IsLoaded F.counted (begun_of walk) (length cuts.now) walk }
     requires few { length cuts.now ≤ 16 }
     ensures replayed { let s = begun_of walk in MatchResult result
@@ -82,7 +87,7 @@ pub fn replay_on<F: Flash>(walk: Walk<F, Once>, cuts: &[u32]) -> Result<(Outcome
     ensures limits { IfOk result
         (λ done. (F.seen done.1).ledger.limits ≡ walk.seen.ledger.limits) }
 {
-    let (there, told) = follow(walk, cuts)?;
+    let (there, told) = follow(walk, cuts, start)?;
     let mut flash = there.into_flash();
     let mut boot = told.boot;
     boot.finish(&mut flash)?;
@@ -115,7 +120,7 @@ pub fn replay<F: Flash>(
     restart_law();
     let cuts = schedule.cuts();
     let walk = load(alloc, start, cuts.len() as u8)?;
-    let done = replay_on(walk, cuts)?;
+    let done = replay_on(walk, cuts, start)?;
     Ok(done)
 }
 
@@ -141,6 +146,6 @@ pub fn flash_at_cut<F: Flash>(
 {
     let cuts = schedule.cuts();
     let walk = load(alloc, start, cuts.len() as u8)?;
-    let (there, _) = follow(walk, cuts)?;
+    let (there, _) = follow(walk, cuts, start)?;
     Ok(there.into_flash())
 }

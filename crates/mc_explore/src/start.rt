@@ -9,10 +9,11 @@ ghost use Rattle.mc_flash.specs.declared.op.Slot.TheVariants.{Primary, Secondary
 ghost use Rattle.mc_boot.specs.Image.{image_size, identity_of};
 ghost use Rattle.mc_boot.specs.Start.{image_bytes};
 ghost use Rattle.mc_explore.specs.Texts.{layout_line};
+ghost use Rattle.mc_explore.specs.Slots.{IsKnown};
 ghost use Rattle.mc_explore.specs.Start.{Starts, Gives, begun, in_order, of_flash, start_digest};
 
 use crate::slots::{Slots, start_slots};
-use mc_boot::{ImageId, Kind};
+use mc_boot::{ImageId, Kind, KnownImage, known_id};
 use mc_flash::{FlashError, Layout, Slot};
 use mc_image::{ImageError, ImageView};
 use mc_trailer::Rules;
@@ -69,6 +70,9 @@ pub struct Start {
     // The layout's text and a line feed, for the digest.
     line: String,
     slots: Slots,
+    // The valid images that the slots begin with, where that is known.
+    in_primary: Option<ImageId>,
+    in_secondary: Option<ImageId>,
     // The named image and the other one.
     named: Option<(ImageId, ImageId)>,
 }
@@ -80,7 +84,7 @@ impl Model for Start {
     ghost use Rattle.std.specs.Prelude.{◌≡◌, ◌++◌, ◌∷◌, [], length, string_bytes};
     ghost use Rattle.mc_flash.specs.Geometry.{IsLayout};
     ghost use Rattle.mc_flash.specs.Content.{IsSized};
-    ghost use Rattle.mc_explore.specs.Slots.{content_of};
+    ghost use Rattle.mc_explore.specs.Slots.{content_of, IsKnown};
     ghost use Rattle.mc_explore.specs.Texts.{layout_line};
 
     ghost Value = { Started };
@@ -93,7 +97,9 @@ impl Model for Start {
     } };
 
     ghost invariant = { λ s. IsLayout s.layout × IsSized s.layout (content_of s.slots)
-        × (string_bytes s.line ≡ layout_line s.layout ++ 10 ∷ []) };
+        × (string_bytes s.line ≡ layout_line s.layout ++ 10 ∷ [])
+        × IsKnown s.slots.primary.items s.in_primary
+        × IsKnown s.slots.secondary.items s.in_secondary };
 }
 
 // The line of a layout, with its line feed.
@@ -160,6 +166,14 @@ impl<'a> ValidImage<'a> {
     }
 }
 
+// The image that the bytes begin with, where that is known.
+fn known_in(bytes: &[u8], id: Option<ImageId>) -> Option<KnownImage<'_>>
+    requires { IsKnown bytes.now id }
+{
+    let id = id?;
+    Some(KnownImage::new(bytes, id))
+}
+
 // The image that a kind of start names, and the other.
 fn named_of(kind: Kind, first: ImageId, second: ImageId) -> (ImageId, ImageId)
     ensures { result ≡ in_order kind first second }
@@ -201,12 +215,21 @@ impl Start {
         if !layout.fits(second.bytes.len() as u64) {
             return Err(StartError::DoesNotFit);
         }
+        let line = layout_line(alloc, layout)?;
+        let slots = start_slots(alloc, layout, kind, first.bytes, second.bytes)?;
+        let (first, second) = (first.id(), second.id());
+        let images = [
+            Some(KnownImage::new(a, first)),
+            Some(KnownImage::new(b, second)),
+        ];
         Ok(Start {
             layout: *layout,
             rules: Rules::PLAIN,
-            line: layout_line(alloc, layout)?,
-            slots: start_slots(alloc, layout, kind, first.bytes, second.bytes)?,
-            named: Some(named_of(kind, first.id(), second.id())),
+            line,
+            in_primary: known_id(&slots.primary, &images),
+            in_secondary: known_id(&slots.secondary, &images),
+            slots,
+            named: Some(named_of(kind, first, second)),
         })
     }
 
@@ -232,6 +255,8 @@ impl Start {
                 primary: low.to_vec(alloc)?,
                 secondary: high.to_vec(alloc)?,
             },
+            in_primary: None,
+            in_secondary: None,
             named: None,
         })
     }
@@ -285,6 +310,14 @@ impl Start {
         ensures { option_map (λ p. (identity_of p.0, identity_of p.1)) result ≡ self.now.named }
     {
         self.named
+    }
+
+    /// The valid images that its slots begin with, where that is known. It takes no memory, and hashes nothing.
+    pub fn known(&self) -> [Option<KnownImage<'_>>; 2] {
+        [
+            known_in(&self.slots.primary, self.in_primary),
+            known_in(&self.slots.secondary, self.in_secondary),
+        ]
     }
 
     /// What tells starts apart in a cursor: the SHA-256 of the layout's line, a line feed, the primary and the secondary. It

@@ -20,6 +20,9 @@ pub trait Branches: Copy {
     /// The name of a child among those of its node.
     type Label: Copy;
 
+    /// What is known before the walk. It spares work, and changes no answer.
+    type Known;
+
     ghost kind: { Self → Kind Node Self.At Self.Told };
 
     ghost label_of: { Self → Node → ℕ → Self.Label };
@@ -51,7 +54,7 @@ pub trait Branches: Copy {
         ensures err { IfErr result (λ e. e ≡ FlashError.Memory) };
 
     /// What is told of the root at which the flash stands.
-    fn root<F: Flash>(self, flash: &mut F) -> Result<Self::Told, FlashError>
+    fn root<F: Flash>(self, flash: &mut F, known: &Self::Known) -> Result<Self::Told, FlashError>
         requires root { IsRoot (kind self) (F.seen flash.old) }
         requires room { HasRoom (kind self).all (F.seen flash.old) }
         ensures tells { IfOk result (TellsRoot (kind self) (F.seen flash.old)) }
@@ -66,6 +69,7 @@ pub trait Branches: Copy {
         flash: &mut F,
         at: &Self::At,
         parent: &Self::Told,
+        known: &Self::Known,
     ) -> Result<Self::Told, FlashError>
         requires child { IsChild (kind self) at.now parent.now (F.seen flash.old) }
         requires room { HasRoom (owed_there (kind self) at.now) (F.seen flash.old) }

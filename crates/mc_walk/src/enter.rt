@@ -17,6 +17,7 @@ pub(crate) fn enter<F: Flash, B: Branches>(
     flash: &mut F,
     frames: &mut Vec<Frame<B::At, B::Told>>,
     frame: Frame<B::At, B::Told>,
+    known: &B::Known,
 ) -> Result<B::Told, FlashError>
     requires comes { Comes (B.kind branches) (start_of (F.seen flash.old)) (F.seen flash.old)
         frames.old.items frame }
@@ -34,5 +35,5 @@ pub(crate) fn enter<F: Flash, B: Branches>(
 {
     flash.mark()?;
     frames.push(frame)?;
-    branches.child(flash, &frame.at, &frame.parent)
+    branches.child(flash, &frame.at, &frame.parent, known)
 }

@@ -85,7 +85,7 @@ impl<F: Flash, B: Branches> Tour<F, B> {
     /// # Errors
     ///
     /// `Memory` where the flash was refused memory; from then on always `Failed`.
-    pub fn visit(&mut self) -> Result<Option<B::Told>, TourError>
+    pub fn visit(&mut self, known: &B::Known) -> Result<Option<B::Told>, TourError>
         ensures visits { IfOk result (λ found. (position : Position (List ℕ))
             → StandsAt (B.kind self.old.walk.branches) self.old position
             → Visits (B.kind self.old.walk.branches) self.old position found self.new) }
@@ -96,13 +96,13 @@ impl<F: Flash, B: Branches> Tour<F, B> {
             Phase::Done => Ok(None),
             Phase::Fresh => {
                 self.phase = Phase::Broken;
-                let told = self.walk.begin()?;
+                let told = self.walk.begin(known)?;
                 self.phase = Phase::Going;
                 Ok(Some(told))
             }
             Phase::Going => {
                 self.phase = Phase::Broken;
-                if !self.walk.advance()? {
+                if !self.walk.advance(known)? {
                     self.phase = Phase::Done;
                     return Ok(None);
                 }

@@ -75,7 +75,7 @@ impl<F: Flash, B: Branches> Walk<F, B> {
     /// # Errors
     ///
     /// `Memory` where the flash was refused memory.
-    pub fn begin(&mut self) -> Result<B::Told, FlashError>
+    pub fn begin(&mut self, known: &B::Known) -> Result<B::Told, FlashError>
         requires { IsFresh (B.kind self.old.branches) self.old }
         ensures begins { IfOk result (λ told. Begins (B.kind self.old.branches) self.old told
             self.new) }
@@ -84,7 +84,7 @@ impl<F: Flash, B: Branches> Walk<F, B> {
         ensures err { IfErr result (λ e. e ≡ FlashError.Memory) }
     {
         self.told = None;
-        let told = self.branches.root(&mut self.flash)?;
+        let told = self.branches.root(&mut self.flash, known)?;
         self.told = Some(told);
         Ok(told)
     }
@@ -140,7 +140,7 @@ impl<F: Flash, B: Branches> Walk<F, B> {
     /// # Errors
     ///
     /// `Memory` where the flash was refused memory; then the walk stands nowhere.
-    pub fn go_down(&mut self, number: u32) -> Result<bool, FlashError>
+    pub fn go_down(&mut self, number: u32, known: &B::Known) -> Result<bool, FlashError>
         requires { self.old.stands ≡ true }
         ensures step { IfOk result (λ went. GoesDown (B.kind self.old.branches) number self.old went
             self.new) }
@@ -164,7 +164,13 @@ impl<F: Flash, B: Branches> Walk<F, B> {
             number,
             parent: told,
         };
-        let told = enter(self.branches, &mut self.flash, &mut self.frames, frame)?;
+        let told = enter(
+            self.branches,
+            &mut self.flash,
+            &mut self.frames,
+            frame,
+            known,
+        )?;
         self.told = Some(told);
         Ok(true)
     }
@@ -175,7 +181,7 @@ impl<F: Flash, B: Branches> Walk<F, B> {
     ///
     /// `Memory` where the flash was refused memory; then the walk stands nowhere.
     #[tactic(auto, using(mc_flash::specs::SpendsFacts::ran_out_later, mc_flash::specs::SpendsFacts::spent_back))]
-    pub fn climb(&mut self) -> Result<bool, FlashError>
+    pub fn climb(&mut self, known: &B::Known) -> Result<bool, FlashError>
         requires { self.old.stands ≡ true }
         ensures step { IfOk result (λ went. Climbs (B.kind self.old.branches) self.old went
             self.new) }
@@ -191,7 +197,13 @@ impl<F: Flash, B: Branches> Walk<F, B> {
         self.flash.back_to(self.frames.len() + 1);
         self.branches.next(&mut self.flash, &mut frame.at)?;
         frame.number += 1;
-        let told = enter(self.branches, &mut self.flash, &mut self.frames, frame)?;
+        let told = enter(
+            self.branches,
+            &mut self.flash,
+            &mut self.frames,
+            frame,
+            known,
+        )?;
         self.told = Some(told);
         Ok(true)
     }
@@ -202,7 +214,7 @@ impl<F: Flash, B: Branches> Walk<F, B> {
     ///
     /// `Memory` where the flash was refused memory; then the walk stands nowhere.
     #[tactic(auto, using(crate::proofs::Along::advanced_down))]
-    pub fn advance(&mut self) -> Result<bool, FlashError>
+    pub fn advance(&mut self, known: &B::Known) -> Result<bool, FlashError>
         requires { self.old.stands ≡ true }
         ensures step { IfOk result (λ went. Advances (B.kind self.old.branches) self.old went
             self.new) }
@@ -212,10 +224,10 @@ impl<F: Flash, B: Branches> Walk<F, B> {
     {
         // A field that is read tells what holds of all of them.
         let _bound = self.bound;
-        if self.go_down(0)? {
+        if self.go_down(0, known)? {
             return Ok(true);
         }
-        let went = self.climb()?;
+        let went = self.climb(known)?;
         Ok(went)
     }
 
@@ -225,7 +237,7 @@ impl<F: Flash, B: Branches> Walk<F, B> {
     ///
     /// `Memory` where the flash was refused memory; then the walk stands nowhere.
     #[tactic(auto, using(crate::proofs::Along::along_more, crate::proofs::Along::along_none, crate::proofs::Along::along_none_spent))]
-    pub fn follow(&mut self, path: &[u32]) -> Result<bool, FlashError>
+    pub fn follow(&mut self, path: &[u32], known: &B::Known) -> Result<bool, FlashError>
         requires { self.old.stands ≡ true }
         ensures step { IfOk result (λ went. Follows (B.kind self.old.branches) path.now self.old
             went self.new) }
@@ -236,7 +248,7 @@ impl<F: Flash, B: Branches> Walk<F, B> {
         // A field that is read tells what holds of all of them.
         let _bound = self.bound;
         for number in path {
-            if !self.go_down(*number)? {
+            if !self.go_down(*number, known)? {
                 return Ok(false);
             }
         }

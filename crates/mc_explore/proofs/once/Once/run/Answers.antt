@@ -8,8 +8,8 @@ returns-clause-told g c =
     let f = g.F.Flash.seen c.args.flash.now in
     let new = g.F.Flash.seen c.finish.new.flash in
     let e = c.in_ok-finish.ensures in
-    told_run r c.args.self.now.layout f c.args.boot c.requires.layout c.requires.begun c.outcome-outcome.result
-    (ends_with f new (progress c.args.boot) (progress c.finish.new.self) c.outcome-outcome.result e.keeps e.come e.end c.outcome-outcome.ensures.end)
+    told_run r c.args.self.now.layout f c.args.boot c.requires.layout c.requires.begun c.outcome_among-outcome.result
+    (ends_with f new (progress c.args.boot) (progress c.finish.new.self) c.outcome_among-outcome.result e.keeps e.come e.end c.outcome_among-outcome.ensures.end)
 
 pub returns-clause-left : goal.returns-clause-left
 returns-clause-left g c =

@@ -1,7 +1,8 @@
-use Rattle.std.proofs.Common.{rules, Some, length, arith, refl, sym, ap, ◌∙◌}
+use Rattle.std.proofs.Common.{rules, ℕ, List, Some, length, arith, refl, sym, ap, subst, ◌∙◌}
 use Rattle.mc_flash.specs.Facts.{fits_inside}
 use Rattle.mc_flash.specs.declared.op.Slot.TheVariants.{Primary, Secondary}
 use Rattle.mc_image.specs.Valid.{Identity, identity}
+use Rattle.mc_explore.specs.Slots.{IsKnown}
 use Rattle.mc_explore.proofs.Images.{names, told_ids}
 use Rattle.mc_explore.proofs.start.Start.from_images.Goals as goal
 
@@ -17,13 +18,13 @@ start_slots-requires-clause-second c =
     let size = length c.in-Ok-read.image.bytes.now in
     (fits_inside c.args.layout.now Primary size c.fits.ensures.valid fits, fits_inside c.args.layout.now Secondary size c.fits.ensures.valid fits)
 
-pub id-requires : goal.id-requires
-id-requires c =
+pub id-first-requires : goal.id-first-requires
+id-first-requires c =
     let inside = fits_inside c.args.layout.now Primary (length c.in-Ok.image.bytes.now) c.fits.ensures.valid (sym (c.if-not-fits.ensures.value)) in
     omega (arith, inside, c.fits.ensures.valid.size, c.in-Ok.ensures.size, c.in-Ok.ensures.len)
 
-pub id-requires-2 : goal.id-requires-2
-id-requires-2 c =
+pub id-second-requires : goal.id-second-requires
+id-second-requires c =
     let inside = fits_inside c.args.layout.now Primary (length c.in-Ok-read.image.bytes.now) c.fits.ensures.valid (sym (c.if-not-fits-2.ensures.value)) in
     omega (arith, inside, c.fits.ensures.valid.size, c.in-Ok-read.ensures.size, c.in-Ok-read.ensures.len)
 
@@ -32,5 +33,14 @@ returns c =
     let first = c.in-Ok.ensures.value in
     let second = c.in-Ok-read.ensures.value in
     let told = names c.args.kind c.args.a.now c.args.b.now (identity c.in-Ok.image.view) (identity c.in-Ok-read.image.view) first.2 second.2 in
-    let ids = told_ids c.args.kind c.named_of.result c.id.result c.id-2.result (identity c.in-Ok.image.view) (identity c.in-Ok-read.image.view) c.named_of.ensures c.id.ensures c.id-2.ensures in
+    let ids = told_ids c.args.kind c.named_of.result c.id-first.result c.id-second.result (identity c.in-Ok.image.view) (identity c.in-Ok-read.image.view) c.named_of.ensures c.id-first.ensures c.id-second.ensures in
     (search rules, refl, refl, search rules, ap (λ (p : Identity × Identity). Some p) ids ∙ told)
+
+pub invariant_of-result : goal.invariant_of-result
+invariant_of-result c = (
+  c.fits.ensures.valid,
+  c.in_ok-slots.ensures.sized,
+  c.in_ok-line.ensures,
+  subst (λ (x : List ℕ). IsKnown x c.known_id.result) c.deref.ensures.value c.known_id.ensures,
+  subst (λ (x : List ℕ). IsKnown x c.known_id-2.result) c.deref-2.ensures.value c.known_id-2.ensures,
+)

@@ -3,7 +3,7 @@ use Rattle.std.specs.Prelude.{Some}
 use Rattle.mc_boot.specs.Boot.{progress}
 use Rattle.mc_boot.specs.Outcome.{Report}
 use Rattle.mc_boot.specs.RunFacts.{come_outcome}
-use Rattle.mc_boot.proofs.boot.Boot.outcome.Goals as goal
+use Rattle.mc_boot.proofs.boot.Boot.outcome_among.Goals as goal
 
 pub returns-clause-end : goal.returns-clause-end
 returns-clause-end g c r s come end =
