@@ -1,5 +1,5 @@
 //! Outcomes as text.
-ghost use Rattle.std.specs.Prelude.{Some, option_map};
+ghost use Rattle.std.specs.Prelude.{◌≡◌, ◌≤◌, length, Some, option_map};
 ghost use Rattle.mc_boot.specs.Image.{identity_of};
 ghost use Rattle.mc_boot.specs.Outcome.{shown};
 ghost use Rattle.mc_boot.specs.Texts.{result_text, identity_text, slot_text, outcome_text};
@@ -8,16 +8,26 @@ use crate::image::ImageId;
 use crate::outcome::{BootResult, Outcome};
 use std::{fmt, str};
 
+impl BootResult {
+    /// Its name in one word.
+    pub fn name(self) -> &'static str
+        ensures text { result.now ≡ result_text self }
+        ensures few { length result.now ≤ 5 }
+    {
+        match self {
+            BootResult::Boot => "boot",
+            BootResult::None => "none",
+            BootResult::Panic => "panic",
+            BootResult::Fault => "fault",
+        }
+    }
+}
+
 impl fmt::Display for BootResult {
     ghost output = { λ result. Some (result_text result) };
 
     fn fmt<W: fmt::Write>(&self, f: &mut fmt::Formatter<W>) -> fmt::Result {
-        match self {
-            BootResult::Boot => f.write_str("boot"),
-            BootResult::None => f.write_str("none"),
-            BootResult::Panic => f.write_str("panic"),
-            BootResult::Fault => f.write_str("fault"),
-        }
+        f.write_str(self.name())
     }
 }
 

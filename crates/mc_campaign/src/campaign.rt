@@ -1,11 +1,10 @@
 //! Campaigns of power cuts.
-ghost use Rattle.std.specs.Prelude.{◌≡◌, ◌⊎◌, ℕ, List, ◌+◌, ◌<◌, ◌≤◌, ◌^◌, [], ◌∷◌, ◌++◌, length, Some, None, Ok, IfOk, IfSome, OnOk, OnErr, MatchResult};
+ghost use Rattle.std.specs.Prelude.{◌≡◌, ◌⊎◌, ℕ, List, ◌+◌, ◌*◌, ◌<◌, ◌≤◌, ◌^◌, [], ◌∷◌, ◌++◌, length, decimal, Some, None, Ok, IfOk, IfSome, OnOk, OnErr, MatchResult};
 ghost use Rattle.mc_campaign.specs.Places.{Places, no_places, pairs_of, placed};
 ghost use Rattle.mc_campaign.specs.Texts.{campaign_text, cut_text, FitsCut, IsAdded, IsCampaign, ReadsCampaign};
 ghost use Rattle.mc_campaign.specs.Rounds.{cuts_text, number_of, places_in};
-ghost use Rattle.std.specs.Fmt.{WritesOnOk};
 
-use mc_explore::{MOST_CUTS, Schedule};
+use mc_explore::{Line, MOST_CUTS, MOST_LINE, Schedule};
 use std::fmt;
 use std::marker::Model;
 use thiserror::Error;
@@ -51,6 +50,17 @@ impl Round {
         match self {
             Round::First => 1,
             Round::Second => 2,
+        }
+    }
+
+    // That number as text.
+    fn digit(self) -> &'static str
+        ensures text { result.now ≡ decimal (number_of self) }
+        ensures length { length result.now ≡ 1 }
+    {
+        match self {
+            Round::First => "1",
+            Round::Second => "2",
         }
     }
 }
@@ -179,32 +189,57 @@ impl Campaign {
     }
 }
 
-// Writes cuts of a round, each behind a comma.
-fn write_cuts<W: fmt::Write>(f: &mut fmt::Formatter<W>, round: Round, places: &[u32]) -> fmt::Result
-    ensures { WritesOnOk W.write_str_gives f.old result (cuts_text (number_of round) places.now)
-        f.new }
+// Adds a cut to a line: its round, a point and its place.
+fn put_cut(line: &mut Line, round: Round, place: u32)
+    requires { length line.old + 12 ≤ MOST_LINE }
+    ensures text { line.new ≡ line.old ++ cut_text (number_of round, place) }
+    ensures length { length line.new ≤ length line.old + 12 }
+{
+    line.put(round.digit());
+    line.put(".");
+    line.put_number(place);
+}
+
+// Adds cuts of a round to a line, each behind a comma.
+fn put_cuts(line: &mut Line, round: Round, places: &[u32])
+    requires { length line.old + 13 * length places.now ≤ MOST_LINE }
+    ensures text { line.new ≡ line.old ++ cuts_text (number_of round) places.now }
+    ensures length { length line.new ≤ length line.old + 13 * length places.now }
 {
     for place in places {
-        write!(f, ",{}.{place}", round.number())?;
+        line.put(",");
+        put_cut(line, round, *place);
     }
-    Ok(())
+}
+
+impl Campaign {
+    /// Adds its text to a line: at most 208 bytes.
+    pub(crate) fn put_into(&self, line: &mut Line)
+        requires { length line.old + 208 ≤ MOST_LINE }
+        ensures text { line.new ≡ line.old ++ campaign_text self.now }
+        ensures length { length line.new ≤ length line.old + 208 }
+    {
+        if let Some((first, rest)) = self.first.cuts().split_first() {
+            put_cut(line, Round::First, *first);
+            put_cuts(line, Round::First, rest);
+            put_cuts(line, Round::Second, self.second.cuts());
+            return;
+        }
+        let Some((first, rest)) = self.second.cuts().split_first() else {
+            line.put("-");
+            return;
+        };
+        put_cut(line, Round::Second, *first);
+        put_cuts(line, Round::Second, rest);
+    }
 }
 
 impl fmt::Display for Campaign {
     ghost output = { λ c. Some (campaign_text c) };
 
     fn fmt<W: fmt::Write>(&self, f: &mut fmt::Formatter<W>) -> fmt::Result {
-        if let Some((first, rest)) = self.first.cuts().split_first() {
-            write!(f, "{}.{first}", Round::First.number())?;
-            write_cuts(f, Round::First, rest)?;
-            write_cuts(f, Round::Second, self.second.cuts())?;
-            return Ok(());
-        }
-        let Some((first, rest)) = self.second.cuts().split_first() else {
-            return f.write_str("-");
-        };
-        write!(f, "{}.{first}", Round::Second.number())?;
-        write_cuts(f, Round::Second, rest)?;
-        Ok(())
+        let mut line = Line::new();
+        self.put_into(&mut line);
+        f.write_str(line.as_str())
     }
 }

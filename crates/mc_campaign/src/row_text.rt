@@ -4,7 +4,7 @@ ghost use Rattle.mc_campaign.specs.RowText.{row_text};
 ghost use Rattle.mc_campaign.specs.State.{told};
 
 use crate::row::CampaignRow;
-use mc_explore::{OutcomeWords, SlotWords};
+use mc_explore::Line;
 use std::fmt;
 
 /// The campaign; the result, the type and how many operations happened, of the boot that ends the first round and of the one that
@@ -14,10 +14,14 @@ impl fmt::Display for CampaignRow {
     ghost output = { λ row. Some (row_text (told row)) };
 
     fn fmt<W: fmt::Write>(&self, f: &mut fmt::Formatter<W>) -> fmt::Result {
-        let campaign = self.campaign;
-        let first = OutcomeWords(self.first);
-        let second = OutcomeWords(self.second);
-        let slots = SlotWords(self.second);
-        write!(f, "{campaign} {first} {second} {slots}")
+        let mut line = Line::new();
+        self.campaign.put_into(&mut line);
+        line.put(" ");
+        line.put_outcome(&self.first);
+        line.put(" ");
+        line.put_outcome(&self.second);
+        line.put(" ");
+        line.put_slots(&self.second);
+        f.write_str(line.as_str())
     }
 }

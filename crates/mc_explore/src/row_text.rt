@@ -1,60 +1,74 @@
 //! Rows as text.
-ghost use Rattle.std.specs.Prelude.{Some, option_map};
+ghost use Rattle.std.specs.Prelude.{◌≡◌, ◌+◌, ◌≤◌, ◌++◌, length, Some, option_map};
 ghost use Rattle.mc_boot.specs.Image.{identity_of};
 ghost use Rattle.mc_boot.specs.Outcome.{shown};
+ghost use Rattle.mc_image.specs.VersionText.{version_line};
 ghost use Rattle.mc_explore.specs.RowText.{slot_text, outcome_text, slots_text, row_text};
 ghost use Rattle.mc_explore.specs.State.{told};
 
+use crate::line::{Line, MOST_LINE};
 use crate::row::Row;
 use mc_boot::{ImageId, Outcome};
+use mc_image::Version;
 use std::fmt;
 
-// What a slot holds, in a word: the version and the size of its valid image.
-#[derive(Clone, Copy)]
-struct SlotWord(Option<ImageId>);
+impl Line {
+    // Adds the four parts of a version.
+    fn put_version(&mut self, version: Version)
+        requires { length self.old + 43 ≤ MOST_LINE }
+        ensures text { self.new ≡ self.old ++ version_line version }
+        ensures length { length self.new ≤ length self.old + 43 }
+    {
+        self.put_number(u32::from(version.major));
+        self.put(".");
+        self.put_number(u32::from(version.minor));
+        self.put(".");
+        self.put_number(u32::from(version.revision));
+        self.put("+");
+        self.put_number(version.build);
+    }
 
-impl fmt::Display for SlotWord {
-    ghost output = { λ word. Some (slot_text (option_map identity_of word.0)) };
-
-    fn fmt<W: fmt::Write>(&self, f: &mut fmt::Formatter<W>) -> fmt::Result {
-        match self.0 {
-            None => f.write_str("none"),
+    // Adds what a slot holds, in a word: the version and the size of its valid image.
+    fn put_slot(&mut self, held: Option<ImageId>)
+        requires { length self.old + 54 ≤ MOST_LINE }
+        ensures text { self.new ≡ self.old ++ slot_text (option_map identity_of held) }
+        ensures length { length self.new ≤ length self.old + 54 }
+    {
+        match held {
+            None => self.put("none"),
             Some(image) => {
-                let version = image.version;
-                let size = image.size;
-                write!(f, "{version}/{size}")
+                self.put_version(image.version);
+                self.put("/");
+                self.put_number(image.size);
             }
         }
     }
-}
 
-/// How a boot ended, in words: the result, the type, and how many operations happened.
-#[derive(Clone, Copy, Debug)]
-pub struct OutcomeWords(pub Outcome);
-
-impl fmt::Display for OutcomeWords {
-    ghost output = { λ words. Some (outcome_text (shown words.0)) };
-
-    fn fmt<W: fmt::Write>(&self, f: &mut fmt::Formatter<W>) -> fmt::Result {
-        let result = self.0.result;
-        let kind = self.0.kind;
-        let ops = self.0.ops;
-        write!(f, "{result} {kind} {ops}")
+    /// Adds how a boot ended, in words: the result, the type, and how many operations happened.
+    pub fn put_outcome(&mut self, outcome: &Outcome)
+        requires { length self.old + 23 ≤ MOST_LINE }
+        ensures text { self.new ≡ self.old ++ outcome_text (shown outcome.now) }
+        ensures length { length self.new ≤ length self.old + 23 }
+    {
+        self.put(outcome.result.name());
+        self.put(" ");
+        self.put(outcome.kind.name());
+        self.put(" ");
+        self.put_number(outcome.ops);
     }
-}
 
-/// What a boot left, in words: what the slots hold (the version and the size of the valid image, or `none`), and the next type.
-#[derive(Clone, Copy, Debug)]
-pub struct SlotWords(pub Outcome);
-
-impl fmt::Display for SlotWords {
-    ghost output = { λ words. Some (slots_text (shown words.0)) };
-
-    fn fmt<W: fmt::Write>(&self, f: &mut fmt::Formatter<W>) -> fmt::Result {
-        let primary = SlotWord(self.0.primary);
-        let secondary = SlotWord(self.0.secondary);
-        let next = self.0.next;
-        write!(f, "{primary} {secondary} {next}")
+    /// Adds what a boot left, in words: what the slots hold (the version and the size of the valid image, or `none`), and
+    /// the next type.
+    pub fn put_slots(&mut self, outcome: &Outcome)
+        requires { length self.old + 116 ≤ MOST_LINE }
+        ensures text { self.new ≡ self.old ++ slots_text (shown outcome.now) }
+        ensures length { length self.new ≤ length self.old + 116 }
+    {
+        self.put_slot(outcome.primary);
+        self.put(" ");
+        self.put_slot(outcome.secondary);
+        self.put(" ");
+        self.put(outcome.next.name());
     }
 }
 
@@ -64,10 +78,12 @@ impl fmt::Display for Row {
     ghost output = { λ row. Some (row_text (told row)) };
 
     fn fmt<W: fmt::Write>(&self, f: &mut fmt::Formatter<W>) -> fmt::Result {
-        let schedule = self.schedule;
-        let outcome = OutcomeWords(self.outcome);
-        write!(f, "{schedule} {outcome}")?;
-        let slots = SlotWords(self.outcome);
-        write!(f, " {slots}")
+        let mut line = Line::new();
+        self.schedule.put_into(&mut line);
+        line.put(" ");
+        line.put_outcome(&self.outcome);
+        line.put(" ");
+        line.put_slots(&self.outcome);
+        f.write_str(line.as_str())
     }
 }

@@ -1,8 +1,9 @@
 //! Schedules of power cuts.
-ghost use Rattle.std.specs.Prelude.{◌≡◌, ◌↔◌, true, ℕ, ◌<◌, ◌≤◌, ◌^◌, ◌++◌, List, [], ◌∷◌, length, decimal, Some, Ok, IfOk, MatchResult, OnOk, OnErr};
+ghost use Rattle.std.specs.Prelude.{◌≡◌, ◌↔◌, true, ℕ, ◌+◌, ◌<◌, ◌≤◌, ◌^◌, ◌++◌, List, [], ◌∷◌, length, decimal, Some, Ok, IfOk, MatchResult, OnOk, OnErr};
 ghost use Rattle.mc_tree.specs.Paths.{Precedes};
 ghost use Rattle.mc_explore.specs.Texts.{schedule_text, FitsCut, IsSchedule, IsAdded, ReadsSchedule};
 
+use crate::line::{Line, MOST_LINE};
 use std::fmt;
 use std::marker::Model;
 use thiserror::Error;
@@ -136,17 +137,31 @@ impl Schedule {
     }
 }
 
+impl Schedule {
+    /// Adds its text to a line: at most 176 bytes.
+    pub(crate) fn put_into(&self, line: &mut Line)
+        requires { length line.old + 176 ≤ MOST_LINE }
+        ensures text { line.new ≡ line.old ++ schedule_text self.now }
+        ensures length { length line.new ≤ length line.old + 176 }
+    {
+        let Some((first, rest)) = self.cuts().split_first() else {
+            line.put("-");
+            return;
+        };
+        line.put_number(*first);
+        for cut in rest {
+            line.put(".");
+            line.put_number(*cut);
+        }
+    }
+}
+
 impl fmt::Display for Schedule {
     ghost output = { λ s. Some (schedule_text s) };
 
     fn fmt<W: fmt::Write>(&self, f: &mut fmt::Formatter<W>) -> fmt::Result {
-        let Some((first, rest)) = self.cuts().split_first() else {
-            return f.write_str("-");
-        };
-        write!(f, "{first}")?;
-        for cut in rest {
-            write!(f, ".{cut}")?;
-        }
-        Ok(())
+        let mut line = Line::new();
+        self.put_into(&mut line);
+        f.write_str(line.as_str())
     }
 }

@@ -1,5 +1,5 @@
 -- A test of all the lanes of a vector, and a test of a list in groups of one length.
-use Rattle.std.proofs.Common.{◌≡◌, ℕ, zero, suc, ◌+◌, ◌*◌, ◌^◌, ◌≤◌, ◌<◌, ◌&&◌, Bool, true, false, cond, eqb}
+use Rattle.std.proofs.Common.{◌≡◌, ℕ, zero, suc, ◌+◌, ◌*◌, ◌/◌, ◌^◌, ◌≤◌, ◌<◌, ◌&&◌, Bool, true, false, cond, eqb}
 use Rattle.std.proofs.Common.{List, [], ◌∷◌, length, map, take, drop, inl, inr, refl, sym, ap, ◌∙◌, arith}
 use Rattle.std.specs.List.{list_all}
 use Rattle.std.specs.Simd.{first_chunks}
@@ -41,7 +41,7 @@ module _ {X : Type 0} (p : X → Bool) where
       ]
 
   -- Each element passes where those of the first groups do, and the rest.
-  pub all_in_groups : (n k : ℕ) (xs : List X)
+  all_in_groups : (n k : ℕ) (xs : List X)
       → (list_all (list_all p) (first_chunks n k xs) && list_all p (drop (k * n) xs)) ≡ list_all p xs
   all_in_groups n zero xs = let none : zero * n ≡ 0 = omega arith in ap (λ j. list_all p (drop j xs)) none
   all_in_groups n (suc k) xs =
@@ -54,3 +54,11 @@ module _ {X : Type 0} (p : X → Bool) where
       ∙ ap (λ b. first && b) (all_in_groups n k (drop n xs))
       ∙ sym (list_all-append p (take n xs) (drop n xs))
       ∙ ap (list_all p) (take-append-drop n xs)
+
+  -- The same of what a cut into groups gives, with the test of each group.
+  pub by_groups : (n : ℕ) (xs rest : List X) (groups : List (List X)) (all : Bool) → groups ≡ first_chunks n (length xs / n) xs
+      → rest ≡ drop (length xs / n * n) xs → all ≡ list_all (list_all p) groups → (all && list_all p rest) ≡ list_all p xs
+  by_groups n xs rest groups all front back each =
+      ap (λ b. b && list_all p rest) (each ∙ ap (list_all (list_all p)) front)
+      ∙ ap (λ r. list_all (list_all p) (first_chunks n (length xs / n) xs) && list_all p r) back
+      ∙ all_in_groups n (length xs / n) xs

@@ -5,4 +5,5 @@ mod Undo
 mod Kept
 mod Popped
 mod Lanes
+mod Words
 mod Copies

@@ -11,6 +11,21 @@ pub fn blank_lanes(group: Simd<u8, 32>) -> bool
     group.simd_eq(u8x32::splat(0xff)).all()
 }
 
+// Whether each of 8 bytes is 0xff, by one comparison of words.
+fn blank_word(word: [u8; 8]) -> bool
+    ensures { result ≡ is_blank word }
+{
+    u64::from_le_bytes(word) == u64::MAX
+}
+
+// Whether every byte is 0xff, 8 bytes at a time.
+fn blank_words(bytes: &[u8]) -> bool
+    ensures { result ≡ is_blank bytes.now }
+{
+    let (words, rest) = bytes.as_chunks::<8>();
+    words.iter().all(|word| blank_word(*word)) && rest.iter().all(|byte| *byte == 0xff)
+}
+
 /// Whether every byte is 0xff, so that any bytes may be written there. It takes no memory.
 pub fn blank(bytes: &[u8]) -> bool
     ensures { result ≡ is_blank bytes.now }
@@ -19,5 +34,5 @@ pub fn blank(bytes: &[u8]) -> bool
     groups
         .iter()
         .all(|group| blank_lanes(Simd::from_array(*group)))
-        && rest.iter().all(|byte| *byte == 0xff)
+        && blank_words(rest)
 }

@@ -1,5 +1,5 @@
 -- How fields, types and profiles are written: this project's own texts.
-use Rattle.std.specs.Prelude.{ℕ, List, ◌++◌, codes}
+use Rattle.std.specs.Prelude.{ℕ, List, codes}
 use Rattle.mc_trailer.specs.declared.trailer.Magic.{Magic}
 use Rattle.mc_trailer.specs.declared.trailer.Magic.TheVariants as magics
 use Rattle.mc_trailer.specs.declared.trailer.Flag.{Flag}

@@ -1,5 +1,5 @@
 //! Fields, types and profiles as text.
-ghost use Rattle.std.specs.Prelude.{◌≡◌, Some, MatchOption};
+ghost use Rattle.std.specs.Prelude.{◌≡◌, ◌≤◌, length, Some, MatchOption};
 ghost use Rattle.mc_trailer.specs.declared.tables.Profile.{Profile};
 ghost use Rattle.mc_trailer.specs.Texts.{magic_text, flag_text, type_text, profile_text};
 
@@ -31,18 +31,28 @@ impl fmt::Display for Flag {
     }
 }
 
+impl SwapType {
+    /// Its name in one word.
+    pub fn name(self) -> &'static str
+        ensures text { result.now ≡ type_text self }
+        ensures few { length result.now ≤ 6 }
+    {
+        match self {
+            SwapType::None => "none",
+            SwapType::Test => "test",
+            SwapType::Perm => "perm",
+            SwapType::Revert => "revert",
+            SwapType::Fail => "fail",
+            SwapType::Panic => "panic",
+        }
+    }
+}
+
 impl fmt::Display for SwapType {
     ghost output = { λ kind. Some (type_text kind) };
 
     fn fmt<W: fmt::Write>(&self, f: &mut fmt::Formatter<W>) -> fmt::Result {
-        match self {
-            SwapType::None => f.write_str("none"),
-            SwapType::Test => f.write_str("test"),
-            SwapType::Perm => f.write_str("perm"),
-            SwapType::Revert => f.write_str("revert"),
-            SwapType::Fail => f.write_str("fail"),
-            SwapType::Panic => f.write_str("panic"),
-        }
+        f.write_str(self.name())
     }
 }
 

@@ -1,0 +1,58 @@
+//! Lines of text that are put together without memory.
+ghost use Rattle.std.specs.Prelude.{◌≡◌, ◌+◌, ◌≤◌, ◌++◌, [], length, decimal};
+
+use arrayvec::ArrayString;
+use std::marker::Model;
+
+/// The most bytes of a line.
+pub const MOST_LINE: usize = 512;
+
+/// A text of at most 512 bytes, which grows at its end. It takes no memory.
+#[derive(Drop)]
+pub struct Line {
+    text: ArrayString<MOST_LINE>,
+}
+
+impl Model for Line {
+    ghost use Rattle.std.specs.Prelude.{List, ℕ};
+
+    ghost Value = { List ℕ };
+
+    ghost view = { λ line. line.text.bytes };
+}
+
+impl Line {
+    /// The empty line.
+    pub fn new() -> Line
+        ensures { result ≡ [] }
+    {
+        Line {
+            text: ArrayString::new(),
+        }
+    }
+
+    /// The text so far.
+    pub fn as_str(&self) -> &str
+        ensures { result.now ≡ self.now }
+    {
+        self.text.as_str()
+    }
+
+    /// Adds a text, for which there is room.
+    pub fn put(&mut self, text: &str)
+        requires { length self.old + length text.now ≤ MOST_LINE }
+        ensures text { self.new ≡ self.old ++ text.now }
+        ensures length { length self.new ≡ length self.old + length text.now }
+    {
+        self.text.push_str(text);
+    }
+
+    /// Adds a number in decimal digits, of which there are at most ten.
+    pub fn put_number(&mut self, number: u32)
+        requires { length self.old + 10 ≤ MOST_LINE }
+        ensures text { self.new ≡ self.old ++ decimal number }
+        ensures length { length self.new ≤ length self.old + 10 }
+    {
+        self.put(itoa::Buffer::new().format(number));
+    }
+}

@@ -1,0 +1,28 @@
+use Rattle.std.proofs.Common.{◌&&◌, eqb, rules, tests, sym, ap, ◌∙◌}
+use Rattle.std.proofs.lemmas.Iterator.{YieldsList-from_slice}
+use Rattle.std.proofs.lemmas.Iterator.Search.{all_from_yields_List}
+use Rattle.mc_flash.specs.Blank.{is_blank}
+use Rattle.mc_flash.proofs.Lanes.{by_groups}
+use Rattle.mc_flash.proofs.erased.blank_words.Goals as goal
+
+pub returns-then-all : goal.returns-then-all
+returns-then-all c =
+    let cut = c.as_chunks.ensures in
+    let (groups, rest) = c.as_chunks.result in
+    let each = all_from_yields_List is_blank _ _ c.all.result c.all.ensures.ran
+    (YieldsList-from_slice groups.now cc) (λ x b q k. search (rules, tests)) in
+    let last = all_from_yields_List (λ b. eqb b 255) _ _ c.all-then-all.result c.all-then-all.ensures.ran
+    (YieldsList-from_slice rest.now cc) (λ x b q k. search (rules, tests)) in
+    last
+    ∙ ap (λ b. b && is_blank rest.now) (sym c.if-all.true)
+    ∙ by_groups (λ b. eqb b 255) 8 c.args.bytes.now rest.now groups.now c.all.result cut.front cut.back each
+
+pub returns-else-all : goal.returns-else-all
+returns-else-all c =
+    let cut = c.as_chunks.ensures in
+    let (groups, rest) = c.as_chunks.result in
+    let each = all_from_yields_List is_blank _ _ c.all.result c.all.ensures.ran
+    (YieldsList-from_slice groups.now cc) (λ x b q k. search (rules, tests)) in
+    c.if-all.false
+    ∙ ap (λ b. b && is_blank rest.now) (sym c.if-all.false)
+    ∙ by_groups (λ b. eqb b 255) 8 c.args.bytes.now rest.now groups.now c.all.result cut.front cut.back each
