@@ -11,6 +11,9 @@ mod Restarts
 mod Preceding
 mod PageRows
 mod PageText
+mod Censuses
+mod Weighing
+mod Tables
 mod Counted
 mod Cursors
 mod Continued

@@ -38,11 +38,11 @@ module _ (r : Rules) (g : Geometry) where
   told_totals (Some report) = report_totals report
 
   -- The totals of the schedule of no cuts from a content, and of all schedules of at most so many cuts.
-  abbrev pub own : Content → Totals
-  own s = told_totals (outcome_of r g s)
+  abbrev pub own_totals : Content → Totals
+  own_totals s = told_totals (outcome_of r g s)
 
   abbrev pub weigh : ℕ → Content → Totals
-  weigh bound s = weight totals (boots r g) own bound s
+  weigh bound s = weight totals (boots r g) own_totals bound s
 
   -- Of all schedules of fewer cuts.
   abbrev pub weigh_fewer : ℕ → Content → Totals
@@ -60,7 +60,7 @@ module _ (r : Rules) (g : Geometry) where
     IsBelow bound u (Apart column) = IsColumn u bound column.items
 
     pub record IsPosition (bound : ℕ) (u : Content) (position : Position) : Type 0 where
-      pub own_is : position.own ≡ cut_off (own u)
+      pub own_is : position.own ≡ cut_off (own_totals u)
       pub below : IsBelow bound u position.below
 
     abbrev pub ArePositions : ℕ → List Position → Type 0

@@ -27,6 +27,7 @@ pub struct Census {
 
 impl Census {
     /// Of no schedules.
+    #[tactic(auto, unfolding(crate::specs::Totals::cut_off, crate::specs::Totals::cut_number))]
     pub(crate) fn new() -> Census
         ensures { result ≡ cut_off no_totals }
     {
@@ -42,27 +43,29 @@ impl Census {
     }
 
     /// Of the schedule of no cuts, which has that outcome.
+    #[tactic(auto, unfolding(crate::specs::Totals::cut_off, crate::specs::Totals::cut_number))]
     pub(crate) fn of(outcome: &Outcome) -> Census
         ensures { result ≡ cut_off (report_totals (shown outcome.now)) }
     {
-        let mut census = Census {
+        let counted = Census {
             schedules: 1,
             most_operations: outcome.ops,
             ..Census::new()
         };
+        let failed = Census {
+            first_not_boot: Some(Schedule::new()),
+            ..counted
+        };
         match outcome.result {
-            BootResult::Boot => census.boot = 1,
-            BootResult::None => census.none = 1,
-            BootResult::Panic => census.panic = 1,
-            BootResult::Fault => census.fault = 1,
+            BootResult::Boot => Census { boot: 1, ..counted },
+            BootResult::None => Census { none: 1, ..failed },
+            BootResult::Panic => Census { panic: 1, ..failed },
+            BootResult::Fault => Census { fault: 1, ..failed },
         }
-        if outcome.result != BootResult::Boot {
-            census.first_not_boot = Some(Schedule::new());
-        }
-        census
     }
 
     /// Of these schedules and of others, which come after them.
+    #[tactic(auto, unfolding(crate::specs::Totals::cut_off, crate::specs::Totals::cut_number))]
     pub(crate) fn both(&self, later: &Census) -> Census
         ensures { (a b : Totals) → self.now ≡ cut_off a → later.now ≡ cut_off b
             → result ≡ cut_off (both a b) }
@@ -82,8 +85,12 @@ impl Census {
     pub(crate) fn behind(&self, cut: u32) -> Census
         ensures { (a : Totals) → self.now ≡ cut_off a → result ≡ cut_off (totals.behind cut a) }
     {
+        let first_not_boot = match &self.first_not_boot {
+            Some(first) => Some(first.behind(cut)),
+            None => None,
+        };
         Census {
-            first_not_boot: self.first_not_boot.map(|first| first.behind(cut)),
+            first_not_boot,
             ..*self
         }
     }
@@ -93,8 +100,12 @@ impl Census {
         ensures { (a : Totals) → self.now ≡ cut_off a
             → result ≡ cut_off (totals.back operations a) }
     {
+        let first_not_boot = match &self.first_not_boot {
+            Some(first) => Some(first.back(operations)),
+            None => None,
+        };
         Census {
-            first_not_boot: self.first_not_boot.map(|first| first.back(operations)),
+            first_not_boot,
             ..*self
         }
     }

@@ -6,7 +6,8 @@ ghost use Rattle.mc_trailer.specs.declared.tables.Rules.{Rules};
 ghost use Rattle.mc_boot.specs.Rejoin.{IsRejoined, place_of};
 ghost use Rattle.mc_boot.specs.Runs.{ops_of};
 ghost use Rattle.mc_tree.specs.Weights.{from, placed_below};
-ghost use Rattle.mc_explore.specs.Table.{AreCutOff, ArePositions, AreSums, IsColumn, IsInside, IsLevel, IsPosition, own, weigh, weigh_fewer};
+ghost use Rattle.mc_explore.specs.Boots.{at_cut};
+ghost use Rattle.mc_explore.specs.Table.{AreCutOff, ArePositions, AreSums, IsColumn, IsInside, IsLevel, IsPosition, own_totals, weigh, weigh_fewer};
 ghost use Rattle.mc_explore.specs.Totals.{Totals, both, cut_off, totals};
 
 use crate::census::Census;
@@ -125,9 +126,8 @@ pub(crate) fn column_of(
     count: u32,
     bound: u32,
 ) -> Result<Vec<Census>, AllocError>
-    requires { bound < 2 ^ 31 }
     ensures { IfOk result (λ column. (r : Rules) (g : Geometry) (s : Content)
-        → own ≡ cut_off (own r g s) → ArePositions r g s bound positions.now
+        → own ≡ cut_off (own_totals r g s) → ArePositions r g s bound positions.now
         → count ≡ length positions.now → count ≡ length (ops_of r g s)
         → IsColumn r g s (bound + 1) column.items) }
 {
