@@ -14,6 +14,7 @@ mod PageText
 mod Censuses
 mod Weighing
 mod Tables
+mod Columns
 mod Counted
 mod Cursors
 mod Continued

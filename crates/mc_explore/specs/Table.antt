@@ -32,11 +32,12 @@ pub record IsInside (x : Rejoin) (n : ℕ) : Type 0 where
   pub late : x.kept + x.erases ≤ n
   pub early : (i : ℕ) → i < x.erases → place_of x i < n
 
-module _ (r : Rules) (g : Geometry) where
-  abbrev pub told_totals : Option Report → Totals
-  told_totals None = no_totals
-  told_totals (Some report) = report_totals report
+-- The totals of what is told of a boot.
+abbrev pub told_totals : Option Report → Totals
+told_totals None = no_totals
+told_totals (Some report) = report_totals report
 
+module _ (r : Rules) (g : Geometry) where
   -- The totals of the schedule of no cuts from a content, and of all schedules of at most so many cuts.
   abbrev pub own_totals : Content → Totals
   own_totals s = told_totals (outcome_of r g s)
