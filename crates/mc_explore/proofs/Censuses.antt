@@ -1,6 +1,6 @@
 -- Totals that are cut off, one after another.
 use Rattle.std.proofs.Common.{◌≡◌, ℕ, zero, suc, List, [], ◌∷◌, take, Option, Some, None, option_map, refl, ap, ◌∙◌}
-use Rattle.mc_explore.specs.Totals.{Totals, cut_number, cut_off, lowered, totals}
+use Rattle.mc_explore.specs.Totals.{Totals, cut_off, lowered, totals}
 use Rattle.mc_explore.specs.declared.census.Census.{Census}
 
 -- The census with another first schedule.

@@ -1,6 +1,5 @@
 -- A boot that is stepped through, with what is told of the flashes on its way.
-use Rattle.std.proofs.Common.{◌≡◌, ℕ, ◌+◌, ◌-◌, ◌*◌, ◌<◌, ◌≤◌, List, [], ◌∷◌, ◌++◌, length, Option, Some, None, inl, inr, refl, sym, ap, subst, ◌∙◌, arith}
-use Rattle.std.specs.List.{slice_get}
+use Rattle.std.proofs.Common.{◌≡◌, ℕ, ◌+◌, ◌-◌, ◌*◌, ◌<◌, ◌≤◌, List, [], ◌∷◌, ◌++◌, length, inl, inr, refl, sym, ap, subst, ◌∙◌, arith}
 use Rattle.std.proofs.lemmas.Bool.{cases_lt}
 use Rattle.std.proofs.lemmas.List.{length-append}
 use Rattle.std.proofs.lemmas.Option.{same_Some, slice_get_within}
@@ -115,6 +114,25 @@ module _ (r : Rules) (g : Geometry) where
       entries = omega (arith, one_more bound (most_of r g).entries, room.allows.entries, u.counts.entries, ap (λ (l : Limits). l.entries) u.limits);
       saved = omega (arith, one_more bound (most_of r g).saved, room.allows.saved, u.counts.saved, ap (λ (l : Limits). l.saved) u.limits);
     }
+
+  -- Room for some boots is room for one, and stays.
+  pub one_room : (f : Seen) (boots : ℕ) → 1 ≤ boots → HasRoomFor r g boots f → HasRoom (most_of r g) f
+  one_room f boots some room =
+      let entries = mul-le-mul_right (most_of r g).entries some in
+      let saved = mul-le-mul_right (most_of r g).saved some in
+      record {
+        allows = record { entries = omega (arith, entries, room.allows.entries); saved = omega (arith, saved, room.allows.saved) };
+        mark = omega (arith, room.marks, some);
+      }
+
+  pub still_room : (old new : Seen) (boots : ℕ) → StaysSo old new → HasRoomFor r g boots old → HasRoomFor r g boots new
+  still_room old new boots x room = record {
+    allows = record {
+      entries = omega (arith, room.allows.entries, ap (λ (n : Counts). n.entries) x.stays.counts, ap (λ (l : Limits). l.entries) x.limits);
+      saved = omega (arith, room.allows.saved, ap (λ (n : Counts). n.saved) x.stays.counts, ap (λ (l : Limits). l.saved) x.limits);
+    };
+    marks = omega (arith, room.marks, ap length x.stays.marks, ap (λ (l : Limits). l.marks) x.limits);
+  }
 
   pub stays_under : (old now new : Seen) (left : Counts) → IsUnder old left now → StaysSo now new → IsUnder old left new
   stays_under old now new left u x = record {

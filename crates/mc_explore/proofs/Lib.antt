@@ -15,6 +15,7 @@ mod Censuses
 mod Weighing
 mod Tables
 mod Columns
+mod Counting
 mod Counted
 mod Cursors
 mod Continued

@@ -1,5 +1,5 @@
 -- Lists of totals that are cut off.
-use Rattle.std.proofs.Common.{◌≡◌, ℕ, zero, suc, ◌+◌, ◌-◌, ◌<◌, ◌≤◌, List, [], ◌∷◌, ◌++◌, length, Option, Some, None, inl, inr, refl, sym, ap, subst, ◌∙◌, arith}
+use Rattle.std.proofs.Common.{◌≡◌, ℕ, zero, suc, ◌+◌, ◌-◌, ◌<◌, List, [], ◌∷◌, ◌++◌, length, Some, inl, inr, refl, sym, ap, ◌∙◌, arith}
 use Rattle.std.specs.List.{slice_get}
 use Rattle.std.proofs.lemmas.Bool.{cases_lt}
 use Rattle.std.proofs.lemmas.List.{length-append}
@@ -11,7 +11,7 @@ use Rattle.mc_flash.specs.Geometry.{Geometry}
 use Rattle.mc_trailer.specs.declared.tables.Rules.{Rules}
 use Rattle.mc_explore.specs.Boots.{at_cut}
 use Rattle.mc_explore.specs.Table.{AreCutOff, AreSums, IsLevel, own_totals, weigh, weigh_fewer}
-use Rattle.mc_explore.specs.Totals.{Totals, both, cut_off, no_totals, totals}
+use Rattle.mc_explore.specs.Totals.{Totals, both, cut_off, totals}
 use Rattle.mc_explore.specs.declared.census.Census.{Census}
 use Rattle.mc_explore.proofs.Weighing.{totals_weigh, weigh_is}
 

@@ -20,8 +20,8 @@ pub mod Page
 pub mod Torn
 pub mod Until
 pub mod Survey
-pub mod Totals
 pub mod Census
+pub mod Totals
 pub mod Table
 pub mod Resume
 pub mod Restarts

@@ -1,9 +1,10 @@
 -- What rows come to: how many there are and how many with each result, the greatest number of operations, and the first one whose
 -- result is not to boot.
-use Rattle.std.specs.Prelude.{ℕ, ◌+◌, ◌-◌, ◌^◌, max, min, Bool, true, false, not, if◌then◌else◌, List, [], ◌∷◌, take, Option, Some, None, option_map}
+use Rattle.std.specs.Prelude.{ℕ, ◌+◌, ◌-◌, max, Bool, true, false, if◌then◌else◌, List, [], ◌∷◌, take, Option, Some, None, option_map}
 use Rattle.std.specs.Option.{option_or}
 use Rattle.mc_boot.specs.Outcome.{Report}
 use Rattle.mc_tree.specs.Weights.{Weighing}
+use Rattle.mc_explore.specs.Census.{cut_number}
 use Rattle.mc_explore.specs.State.{Told}
 use Rattle.mc_explore.specs.Survey.{is_boot, is_none, is_panic, is_fault}
 use Rattle.mc_explore.specs.declared.census.Census.{Census}
@@ -74,10 +75,6 @@ row_totals row = record {
 -- The totals of a row of no cuts.
 abbrev pub report_totals : Report → Totals
 report_totals report = row_totals (record { schedule = []; outcome = report })
-
--- A number, or the greatest 128-bit number where it is greater.
-unfoldable pub cut_number : ℕ → ℕ
-cut_number n = min n (2 ^ 128 - 1)
 
 -- The census of such totals: each count cut off, and a schedule at 16 cuts.
 unfoldable pub cut_off : Totals → Census

@@ -27,7 +27,7 @@ pub struct Census {
 
 impl Census {
     /// Of no schedules.
-    #[tactic(auto, unfolding(crate::specs::Totals::cut_off, crate::specs::Totals::cut_number))]
+    #[tactic(auto, unfolding(crate::specs::Totals::cut_off, crate::specs::Census::cut_number))]
     pub(crate) fn new() -> Census
         ensures { result ≡ cut_off no_totals }
     {
@@ -43,7 +43,7 @@ impl Census {
     }
 
     /// Of the schedule of no cuts, which has that outcome.
-    #[tactic(auto, unfolding(crate::specs::Totals::cut_off, crate::specs::Totals::cut_number))]
+    #[tactic(auto, unfolding(crate::specs::Totals::cut_off, crate::specs::Census::cut_number))]
     pub(crate) fn of(outcome: &Outcome) -> Census
         ensures { result ≡ cut_off (report_totals (shown outcome.now)) }
     {
@@ -65,7 +65,7 @@ impl Census {
     }
 
     /// Of these schedules and of others, which come after them.
-    #[tactic(auto, unfolding(crate::specs::Totals::cut_off, crate::specs::Totals::cut_number))]
+    #[tactic(auto, unfolding(crate::specs::Totals::cut_off, crate::specs::Census::cut_number))]
     pub(crate) fn both(&self, later: &Census) -> Census
         ensures { (a b : Totals) → self.now ≡ cut_off a → later.now ≡ cut_off b
             → result ≡ cut_off (both a b) }

@@ -1,14 +1,9 @@
-use Rattle.std.proofs.Common.{◌≡◌, ℕ, ◌+◌, ◌<◌, List, [], ◌∷◌, ◌++◌, length, sym, ap, subst, ◌∙◌, arith}
+use Rattle.std.proofs.Common.{◌≡◌, ℕ, ◌<◌, List, [], ◌∷◌, ◌++◌, length, sym, ap, subst, ◌∙◌, arith}
 use Rattle.std.proofs.lemmas.List.{length-append}
-use Rattle.mc_boot.specs.Runs.{ops_of}
-use Rattle.mc_flash.specs.Content.{Content}
-use Rattle.mc_flash.specs.Geometry.{Geometry}
-use Rattle.mc_trailer.specs.declared.tables.Rules.{Rules}
 use Rattle.mc_explore.specs.Boots.{at_cut}
-use Rattle.mc_explore.specs.Table.{AreCutOff, ArePositions, AreSums, IsLevel, own_totals, weigh, weigh_fewer}
+use Rattle.mc_explore.specs.Table.{AreCutOff, AreSums, IsLevel, weigh, weigh_fewer}
 use Rattle.mc_explore.specs.Totals.{Totals, cut_off}
 use Rattle.mc_explore.specs.declared.census.Census.{Census}
-use Rattle.mc_explore.specs.declared.table.Position.{Position}
 use Rattle.mc_explore.proofs.Tables.{entry_is, more_cut_off}
 use Rattle.mc_explore.proofs.table.column_of.Goals as goal
 

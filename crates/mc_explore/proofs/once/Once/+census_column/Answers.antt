@@ -1,17 +1,15 @@
-use Rattle.std.proofs.Common.{◌≡◌, ℕ, ◌+◌, ◌-◌, ◌<◌, ◌≤◌, List, [], ◌∷◌, ◌++◌, length, sym, ap, subst, ◌∙◌, refl, arith}
+use Rattle.std.proofs.Common.{◌≡◌, ℕ, ◌<◌, ◌≤◌, List, [], ◌∷◌, ◌++◌, length, sym, ap, subst, ◌∙◌, refl, arith}
 use Rattle.std.proofs.lemmas.List.{length-append}
 use Rattle.mc_boot.specs.Boot.{IsBootOf, progress}
 use Rattle.mc_boot.specs.Bounds.{left_of}
 use Rattle.mc_boot.specs.Runs.{ops_of}
 use Rattle.mc_flash.specs.Content.{Content}
 use Rattle.mc_flash.specs.Geometry.{Geometry}
-use Rattle.mc_flash.specs.Seen.{Seen}
 use Rattle.mc_walk.specs.Kind.{IsAt}
 use Rattle.mc_explore.specs.Boots.{at_cut}
 use Rattle.mc_explore.specs.Once.{IsTold, once}
 use Rattle.mc_explore.specs.Table.{ArePositions, IsBelow, StaysSo, own_totals}
 use Rattle.mc_explore.specs.Totals.{cut_off}
-use Rattle.mc_explore.specs.declared.census.Census.{Census}
 use Rattle.mc_explore.specs.declared.table.Below.{Below}
 use Rattle.mc_explore.specs.declared.table.Position.{Position}
 use Rattle.mc_explore.specs.facts.Telling.{width_is}
@@ -87,13 +85,19 @@ census_column-requires g t c κs within =
     let some : 1 ≤ c.args.bound = omega (arith, c.if-bound-eq0.false) in
     let left = left_of layout (progress c.loop-number.at) in (
       omega (arith, c.decreases, some),
-      (within, (
-        subst (λ (x : Content). IsTold r layout x child) (sym there.content_is) child_told,
-        (there.layout_is, (
-          column_room r layout old after left c.args.bound c.requires.room some (stays_under r layout old before after left under stays),
-          omega (arith, c.requires.few),
-        )),
-      )),
+      (
+        within,
+        (
+          subst (λ (x : Content). IsTold r layout x child) (sym there.content_is) child_told,
+          (
+            there.layout_is,
+            (
+              column_room r layout old after left c.args.bound c.requires.room some (stays_under r layout old before after left under stays),
+              omega (arith, c.requires.few),
+            ),
+          ),
+        ),
+      ),
     )
 
 pub pass-requires : goal.pass-requires

@@ -1,4 +1,4 @@
-use Rattle.std.proofs.Common.{◌≡◌, ℕ, length}
+use Rattle.std.proofs.Common.{◌≡◌, length}
 use Rattle.mc_boot.specs.Boot.{progress}
 use Rattle.mc_boot.specs.Bounds.{left_of}
 use Rattle.mc_walk.specs.Kind.{IsAt}

@@ -1,9 +1,8 @@
-use Rattle.std.proofs.Common.{◌≡◌, ℕ, List, length, sym, ap, subst, ◌∙◌, arith}
+use Rattle.std.proofs.Common.{ℕ, List, length, sym, ap, subst, ◌∙◌, arith}
 use Rattle.mc_boot.specs.Rejoin.{IsRejoined, place_of}
-use Rattle.mc_boot.specs.Runs.{ops_of}
 use Rattle.mc_tree.specs.Weights.{placed_below}
 use Rattle.mc_explore.specs.Boots.{at_cut}
-use Rattle.mc_explore.specs.Table.{AreCutOff, IsBelow, IsColumn, IsInside, own_totals, weigh, weigh_fewer}
+use Rattle.mc_explore.specs.Table.{IsBelow, IsColumn, IsInside, own_totals, weigh, weigh_fewer}
 use Rattle.mc_explore.specs.Totals.{Totals, both, cut_off, totals}
 use Rattle.mc_explore.specs.declared.census.Census.{Census}
 use Rattle.mc_explore.specs.declared.table.Below.{Below}
