@@ -11,6 +11,11 @@ mod Restarts
 mod Preceding
 mod PageRows
 mod PageText
+mod Censuses
+mod Weighing
+mod Tables
+mod Columns
+mod Counting
 mod Counted
 mod Cursors
 mod Continued

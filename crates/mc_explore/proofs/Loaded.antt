@@ -18,6 +18,7 @@ use Rattle.mc_walk.specs.Walks.{IsClear, IsFresh, IsOf, Walked, start_of}
 use Rattle.mc_explore.specs.Once.{once}
 use Rattle.mc_explore.specs.facts.Room.{limits_are}
 use Rattle.mc_explore.specs.Start.{Begun, Started, begun}
+use Rattle.mc_explore.specs.Table.{HasRoomFor}
 use Rattle.mc_explore.specs.View.{IsLoaded, begun_with}
 use Rattle.mc_explore.specs.declared.once.Once.{Once}
 
@@ -57,6 +58,18 @@ module _ (counted : Bool) (g : Geometry) (primary secondary : List ℕ) (f : See
   left_here p new v l come end same =
       ap (λ (x : Geometry). left_by plain x (record { primary = primary; secondary = secondary })) (sym l.geometry_is) ∙ ap (left_by plain f.geometry) (sym l.content_is)
       ∙ come_left plain f.geometry f.content p new.content come end ∙ ap (λ (x : Content). Some x) (sym same)
+
+-- It has room for so many boots, and their marks.
+pub room_for : (counted : Bool) (g : Geometry) (primary secondary : List ℕ) (f : Seen) (r : Rules) (boots : ℕ) → Loads counted g primary secondary r.grain boots f → HasRoomFor r g boots f
+room_for counted g primary secondary f r boots l =
+    let limits = limits_are r.grain g boots f.ledger.limits l.room in
+    record {
+      allows = record {
+        entries = omega (arith, limits.for_entries, ap (λ (x : Ledger). x.counts.entries) l.ledger_is);
+        saved = omega (arith, limits.for_saved, ap (λ (x : Ledger). x.counts.saved) l.ledger_is);
+      };
+      marks = omega (arith, limits.for_marks, ap length l.none);
+    }
 
 -- The start of the same four parts.
 pub same_start : (start : Started) (once : Once) (primary secondary : List ℕ) → once.rules ≡ start.rules → once.layout ≡ start.geometry → primary ≡ start.content.primary

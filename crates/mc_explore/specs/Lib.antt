@@ -20,6 +20,9 @@ pub mod Page
 pub mod Torn
 pub mod Until
 pub mod Survey
+pub mod Census
+pub mod Totals
+pub mod Table
 pub mod Resume
 pub mod Restarts
 pub mod Chain

@@ -1,6 +1,7 @@
 //! The flashes that a swap starts from, the schedules of power cuts on its way, and the explorer of all of them.
 #![tactic(auto)]
 
+mod census;
 mod cursor;
 mod cursor_fields;
 mod cursor_reading;
@@ -21,8 +22,11 @@ mod slots;
 mod source;
 mod start;
 mod surveying;
+mod table;
+mod taking;
 mod torn;
 
+pub use census::Census;
 pub use cursor::{Cursor, CursorError};
 pub use cursor_fields::{RulesField, StartField, next_field};
 pub use error::ExploreError;
@@ -40,4 +44,5 @@ pub use schedule::{MOST_CUTS, Schedule, ScheduleError};
 pub use source::RowSource;
 pub use start::{Start, StartError};
 pub use surveying::{Tally, survey, survey_until};
+pub use taking::take_census;
 pub use torn::last_row;

@@ -1,6 +1,7 @@
 //! Schedules of power cuts.
-ghost use Rattle.std.specs.Prelude.{◌≡◌, ◌↔◌, true, ℕ, ◌+◌, ◌<◌, ◌≤◌, ◌^◌, ◌++◌, List, [], ◌∷◌, length, decimal, Some, Ok, IfOk, MatchResult, OnOk, OnErr};
+ghost use Rattle.std.specs.Prelude.{◌≡◌, ◌↔◌, true, ℕ, ◌+◌, ◌<◌, ◌≤◌, ◌^◌, ◌++◌, List, [], ◌∷◌, length, take, decimal, Some, Ok, IfOk, MatchResult, OnOk, OnErr};
 ghost use Rattle.mc_tree.specs.Paths.{Precedes};
+ghost use Rattle.mc_explore.specs.Totals.{lowered};
 ghost use Rattle.mc_explore.specs.Texts.{schedule_text, FitsCut, IsSchedule, IsAdded, ReadsSchedule};
 
 use crate::line::{Line, MOST_LINE};
@@ -118,6 +119,38 @@ impl Schedule {
         ensures few { length result.now ≤ 16 }
     {
         &self.cuts[..self.len]
+    }
+
+    // The schedule of a first cut and of later ones.
+    fn beginning(first: u32, later: &[u32]) -> Schedule
+        requires { length later.now < 16 }
+        ensures { result ≡ first ∷ later.now }
+    {
+        let mut schedule = Schedule::new();
+        schedule.push(first);
+        for cut in later {
+            schedule.push(*cut);
+        }
+        schedule
+    }
+
+    /// The same schedule after a cut, without its last one where it has 16.
+    pub(crate) fn behind(&self, cut: u32) -> Schedule
+        ensures { result ≡ take 16 (cut ∷ self.now) }
+    {
+        let cuts = self.cuts();
+        let kept = cuts.len().min(MOST_CUTS - 1);
+        Schedule::beginning(cut, &cuts[..kept])
+    }
+
+    /// The same schedule with its first cut so many operations earlier, at 0 at the least.
+    pub(crate) fn back(&self, operations: u32) -> Schedule
+        ensures { result ≡ lowered operations self.now }
+    {
+        match self.cuts().split_first() {
+            Some((first, later)) => { Schedule::beginning(first.saturating_sub(operations), later) }
+            None => *self,
+        }
     }
 
     /// Whether it comes before another in the order of rows: a prefix comes first, else the first cut that differs decides.

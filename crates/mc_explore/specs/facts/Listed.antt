@@ -1,18 +1,18 @@
 -- The rows of schedules are listed as those of a tree.
-use Rattle.std.proofs.Common.{◌≡◌, ℕ, List, Option, Some, option_and_then, refl, ap, ◌∙◌}
+use Rattle.std.proofs.Common.{◌≡◌, ℕ, List, map, Option, Some, option_and_then, refl, ap, ◌∙◌}
 use Rattle.mc_flash.specs.Content.{Content}
 use Rattle.mc_boot.specs.RunFacts.{outcome_defined}
 use Rattle.mc_boot.specs.Outcome.{Report, outcome_of}
 use Rattle.mc_tree.specs.Tree.{landed, Allowed}
 use Rattle.mc_tree.specs.Paths.{Precedes}
 use Rattle.mc_tree.specs.facts.Existence as existence
-use Rattle.mc_tree.specs.facts.Existence.{AreRows}
+use Rattle.mc_tree.specs.facts.Existence.{AreRows, all_from, all_rest}
 use Rattle.mc_tree.specs.facts.Precedence.{paths_in_order}
 use Rattle.mc_explore.specs.Boots.{boots}
 use Rattle.mc_explore.specs.Listing.{IsLawful}
 use Rattle.mc_explore.specs.Rest.{IsRow, IsRest, schedules}
 use Rattle.mc_explore.specs.Start.{Begun}
-use Rattle.mc_explore.specs.State.{State, Told, HasOutcome, outcome_after}
+use Rattle.mc_explore.specs.State.{State, Told, HasOutcome, at_start, outcome_after}
 use Rattle.mc_explore.specs.facts.Occurring.{allowed_after, member_of, path_of}
 
 one_outcome : (a b : List ℕ) (x y : Report) (o : List ℕ → Option Report) → a ≡ b → o a ≡ Some x → o b ≡ Some y → x ≡ y
@@ -32,7 +32,7 @@ module _ (start : Begun) where
       told_is x.schedule y.schedule x.outcome y.outcome e (one_outcome x.schedule y.schedule x.outcome y.outcome (outcome_after start) e p q)
 
   -- The row of a schedule.
-  row_at : List ℕ → Told
+  unfoldable pub row_at : List ℕ → Told
   row_at l = record { schedule = l; outcome = (outcome_defined start.rules start.geometry (landed (boots start.rules start.geometry) start.content l)).0 }
 
   pub lands_told : (l : List ℕ) → Allowed (boots start.rules start.geometry) start.content l
@@ -54,6 +54,11 @@ module _ (start : Begun) where
         let m = path_of start.rules start.geometry start.content bound row.schedule is.listed in
         (row.schedule, m, same_row row (row_at row.schedule) is.outcome (has_outcome row.schedule m.1) refl);
   }
+
+-- The rows from the start, as those of all paths.
+pub all_rows : (start : Begun) (bound : ℕ) → IsRest (at_start start bound) (map (row_at start) (all_from (boots start.rules start.geometry) bound start.content))
+all_rows start bound =
+    all_rest Precedes paths_in_order (λ row. row.schedule) (IsRow start bound) (boots start.rules start.geometry) start.content bound (row_at start) (are_rows start bound)
 
 module _ (state : State) where
   some_rest : (rows : List Told) × IsRest state rows

@@ -131,8 +131,11 @@ module _ {K R : Type 0} (Before : K → K → Type 0) (order : IsOrder Before) (
       pub only : (row : R) → Contains rows row → IsRow row
       pub all : (row : R) → IsRow row → Contains rows row
 
+    from_start : (rows : List R) → AreAll rows → IsRest Before key IsRow AtStart rows
+    from_start rows are = record { ascends = are.ascends; only = λ row i. (are.only row i, tt); all = λ row is past. are.all row is }
+
     past_from : (rows : List R) → AreAll rows → (position : Position K) → (past : List R) × IsRest Before key IsRow position past
-    past_from rows are AtStart = (rows, record { ascends = are.ascends; only = λ row i. (are.only row i, tt); all = λ row is past. are.all row is })
+    past_from rows are AtStart = (rows, from_start rows are)
     past_from rows are (After last) =
         let q = past_of last rows are.ascends in
         (q.0, record { ascends = q.1; only = λ row i. (are.only row (q.2 row i).0, (q.2 row i).1); all = λ row is past. q.3 row (are.all row is) past })
@@ -144,11 +147,19 @@ module _ {K R : Type 0} (Before : K → K → Type 0) (order : IsOrder Before) (
       pub is_row : (l : List ℕ) → IsMember t s bound l → IsRow (row_of l)
       pub only : (row : R) → IsRow row → (l : List ℕ) × IsMember t s bound l × (row ≡ row_of l)
 
-    pub some_rest : {N : Type 0} (t : Tree N) (s : N) (bound : ℕ) (row_of : List ℕ → R) → AreRows t s bound row_of
-        → (position : Position K) → (rows : List R) × IsRest Before key IsRow position rows
-    some_rest t s bound row_of are = past_from (map row_of (all_from t bound s)) (record {
+    are_all : {N : Type 0} (t : Tree N) (s : N) (bound : ℕ) (row_of : List ℕ → R) → AreRows t s bound row_of → AreAll (map row_of (all_from t bound s))
+    are_all t s bound row_of are = record {
       ascends = pairs_mapped row_of Precedes RowsBefore (all_from t bound s) (λ l m i j. are.in_order l m (in_all t bound s l i) (in_all t bound s m j)) (ascends_all t bound s);
       only = λ row i. let q = in_map row_of row (all_from t bound s) i in subst IsRow (sym q.1) (are.is_row q.0 (in_all t bound s q.0 q.2));
       all = λ row is. let q = are.only row is in
           subst (Contains (map row_of (all_from t bound s))) (sym q.2) (map_in row_of q.0 (all_from t bound s) (all_in t bound s q.0 q.1));
-    })
+    }
+
+    -- From the start these are the rows of all paths.
+    pub all_rest : {N : Type 0} (t : Tree N) (s : N) (bound : ℕ) (row_of : List ℕ → R) → AreRows t s bound row_of
+        → IsRest Before key IsRow AtStart (map row_of (all_from t bound s))
+    all_rest t s bound row_of are = from_start (map row_of (all_from t bound s)) (are_all t s bound row_of are)
+
+    pub some_rest : {N : Type 0} (t : Tree N) (s : N) (bound : ℕ) (row_of : List ℕ → R) → AreRows t s bound row_of
+        → (position : Position K) → (rows : List R) × IsRest Before key IsRow position rows
+    some_rest t s bound row_of are = past_from (map row_of (all_from t bound s)) (are_all t s bound row_of are)

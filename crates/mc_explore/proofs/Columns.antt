@@ -1,0 +1,197 @@
+-- A boot that is stepped through, with what is told of the flashes on its way.
+use Rattle.std.proofs.Common.{◌≡◌, ℕ, ◌+◌, ◌-◌, ◌*◌, ◌<◌, ◌≤◌, List, [], ◌∷◌, ◌++◌, length, inl, inr, refl, sym, ap, subst, ◌∙◌, arith}
+use Rattle.std.proofs.lemmas.Bool.{cases_lt}
+use Rattle.std.proofs.lemmas.List.{length-append}
+use Rattle.std.proofs.lemmas.Option.{same_Some, slice_get_within}
+use Rattle.std.proofs.Math.Nat.{mul-le-mul_right}
+use Rattle.mc_boot.specs.After.{IsCut}
+use Rattle.mc_boot.specs.Boot.{begun, progress}
+use Rattle.mc_boot.specs.Bounds.{left_of}
+use Rattle.mc_boot.specs.Outcome.{Report, shown}
+use Rattle.mc_boot.specs.Plan.{plan}
+use Rattle.mc_boot.specs.Rejoin.{IsRejoined}
+use Rattle.mc_boot.specs.Runs.{ops_of}
+use Rattle.mc_boot.specs.declared.rejoining.Rejoin.{Rejoin}
+use Rattle.mc_boot.specs.declared.boot.Boot.{Boot}
+use Rattle.mc_flash.specs.Content.{Content}
+use Rattle.mc_flash.specs.Geometry.{Geometry}
+use Rattle.mc_flash.specs.Ledger.{Counts, Limits}
+use Rattle.mc_flash.specs.Seen.{Keeps, Seen, marked, spot_of, went_back}
+use Rattle.mc_flash.specs.Spends.{Allows, HasRoom, LeaveRoom, Stays, plus}
+use Rattle.mc_flash.specs.SpendsFacts.{keeps_both, keeps_none, spent_back, stays_back}
+use Rattle.mc_trailer.specs.declared.tables.Rules.{Rules}
+use Rattle.mc_walk.specs.Kind.{IsAt}
+use Rattle.mc_explore.specs.Boots.{at_cut}
+use Rattle.mc_explore.specs.Once.{IsTold, most_of, once}
+use Rattle.mc_explore.specs.Table.{ArePositions, HasRoomFor, IsColumn, IsPosition, StaysSo, own_totals, told_totals}
+use Rattle.mc_explore.specs.Totals.{report_totals}
+use Rattle.mc_explore.specs.declared.census.Census.{Census}
+use Rattle.mc_explore.specs.declared.once.Told.{Told}
+use Rattle.mc_explore.specs.declared.table.Position.{Position}
+use Rattle.mc_explore.specs.facts.Occurring.{at_zero}
+use Rattle.mc_explore.specs.facts.Telling.{first_left, first_on}
+use Rattle.mc_explore.proofs.Onwards.{cut_here}
+use Rattle.mc_explore.proofs.Tables.{get_before, get_last}
+
+one_more : (b n : ℕ) → (b + 1) * n ≡ b * n + n
+one_more b n = omega arith
+
+pub stays_none : (a : Seen) → StaysSo a a
+stays_none a = record { stays = record { geometry = refl; content = refl; marks = refl; counts = refl }; limits = refl }
+
+pub kept_from : (old mid end : Seen) → mid ≡ marked old → Keeps (marked old) end → Keeps mid end
+kept_from old mid end m keeps = subst (λ (f : Seen). Keeps f end) (sym m) keeps
+
+pub stays_both : (a b c : Seen) → StaysSo a b → StaysSo b c → StaysSo a c
+stays_both a b c x y = record {
+  stays = record {
+    geometry = y.stays.geometry ∙ x.stays.geometry;
+    content = y.stays.content ∙ x.stays.content;
+    marks = y.stays.marks ∙ x.stays.marks;
+    counts = y.stays.counts ∙ x.stays.counts;
+  };
+  limits = y.limits ∙ x.limits;
+}
+
+-- A flash that was marked and worked on, and is back at that mark.
+pub went_so : (old mid end new : Seen) (place : ℕ) → place ≡ length old.marks → mid ≡ marked old → Keeps mid end → end.ledger.limits ≡ old.ledger.limits → new ≡ went_back place end → StaysSo old new
+went_so old mid end new place at m keeps limits is =
+    let back : new ≡ went_back (length old.marks) end = is ∙ ap (λ n. went_back n end) at in
+    subst (StaysSo old) (sym back) (record { stays = stays_back old mid end m keeps; limits = (spent_back (length old.marks) end).limits ∙ limits })
+
+module _ (r : Rules) (g : Geometry) where
+  pub own_told : (s : Content) (told : Told) → IsTold r g s told → report_totals (shown told.outcome) ≡ own_totals r g s
+  own_told s told t = sym (ap told_totals t.outcome_is)
+
+  pub still_at : (s : Content) (i : ℕ) (b : Boot) (old new : Seen) → IsAt (once r g) s i b old → Stays old new → IsAt (once r g) s i b new
+  still_at s i b old new at stays = record {
+    on_is = at.on_is;
+    content_is = stays.content ∙ at.content_is;
+    layout_is = stays.geometry ∙ at.layout_is;
+  }
+
+  -- On the way of a boot that begins with room for some more.
+  pub record IsUnder (old : Seen) (left : Counts) (now : Seen) : Type 0 where
+    pub keeps : Keeps (marked old) now
+    pub limits : now.ledger.limits ≡ old.ledger.limits
+    pub counts : LeaveRoom now.ledger.counts left (plus old.ledger.counts (most_of r g))
+
+  module _ (old now : Seen) (left : Counts) (bound : ℕ) (room : HasRoomFor r g (bound + 1) old) (some : 1 ≤ bound) (u : IsUnder old left now) where
+    marks_are : length now.marks ≡ length old.marks + 1
+    marks_are = omega (arith, ap length u.keeps.marks, length-append old.marks (spot_of old ∷ []))
+
+    most : Counts
+    most = most_of r g
+
+    pub child_room : HasRoom (plus left (most_of r g)) now
+    child_room =
+        let entries = mul-le-mul_right (most_of r g).entries (two bound some) in
+        let saved = mul-le-mul_right (most_of r g).saved (two bound some) in
+        record {
+          allows = record {
+            entries = omega (arith, entries, room.allows.entries, u.counts.entries, ap (λ (l : Limits). l.entries) u.limits);
+            saved = omega (arith, saved, room.allows.saved, u.counts.saved, ap (λ (l : Limits). l.saved) u.limits);
+          };
+          mark = omega (arith, marks_are, room.marks, some, ap (λ (l : Limits). l.marks) u.limits);
+        }
+      where
+        two : (b : ℕ) → 1 ≤ b → 2 ≤ b + 1
+        two b le = omega (arith, le)
+
+    pub column_room : HasRoomFor r g (bound - 1 + 1) now
+    column_room =
+        let all : bound ≡ bound - 1 + 1 = omega (arith, some) in
+        subst (λ n. HasRoomFor r g n now) all (record {
+          allows = record {
+            entries = omega (arith, one_more bound (most_of r g).entries, room.allows.entries, u.counts.entries, ap (λ (l : Limits). l.entries) u.limits);
+            saved = omega (arith, one_more bound (most_of r g).saved, room.allows.saved, u.counts.saved, ap (λ (l : Limits). l.saved) u.limits);
+          };
+          marks = omega (arith, marks_are, room.marks, ap (λ (l : Limits). l.marks) u.limits);
+        })
+
+    pub pass_room : Allows left now
+    pass_room = record {
+      entries = omega (arith, one_more bound (most_of r g).entries, room.allows.entries, u.counts.entries, ap (λ (l : Limits). l.entries) u.limits);
+      saved = omega (arith, one_more bound (most_of r g).saved, room.allows.saved, u.counts.saved, ap (λ (l : Limits). l.saved) u.limits);
+    }
+
+  -- Room for some boots is room for one, and stays.
+  pub one_room : (f : Seen) (boots : ℕ) → 1 ≤ boots → HasRoomFor r g boots f → HasRoom (most_of r g) f
+  one_room f boots some room =
+      let entries = mul-le-mul_right (most_of r g).entries some in
+      let saved = mul-le-mul_right (most_of r g).saved some in
+      record {
+        allows = record { entries = omega (arith, entries, room.allows.entries); saved = omega (arith, saved, room.allows.saved) };
+        mark = omega (arith, room.marks, some);
+      }
+
+  pub still_room : (old new : Seen) (boots : ℕ) → StaysSo old new → HasRoomFor r g boots old → HasRoomFor r g boots new
+  still_room old new boots x room = record {
+    allows = record {
+      entries = omega (arith, room.allows.entries, ap (λ (n : Counts). n.entries) x.stays.counts, ap (λ (l : Limits). l.entries) x.limits);
+      saved = omega (arith, room.allows.saved, ap (λ (n : Counts). n.saved) x.stays.counts, ap (λ (l : Limits). l.saved) x.limits);
+    };
+    marks = omega (arith, room.marks, ap length x.stays.marks, ap (λ (l : Limits). l.marks) x.limits);
+  }
+
+  pub stays_under : (old now new : Seen) (left : Counts) → IsUnder old left now → StaysSo now new → IsUnder old left new
+  stays_under old now new left u x = record {
+    keeps = record { geometry = x.stays.geometry ∙ u.keeps.geometry; marks = x.stays.marks ∙ u.keeps.marks };
+    limits = x.limits ∙ u.limits;
+    counts = subst (λ (n : Counts). LeaveRoom n left (plus old.ledger.counts (most_of r g))) (sym x.stays.counts) u.counts;
+  }
+
+  -- At the first position, where the flash was just marked.
+  pub first_at : (s : Content) (told : Told) (old mid : Seen) → IsTold r g s told → old.content ≡ s → old.geometry ≡ g → mid ≡ marked old → IsAt (once r g) s 0 told.boot mid
+  first_at s told old mid t content layout m = record {
+    on_is = first_on r g s told t;
+    content_is = ap (λ (f : Seen). f.content) m ∙ content ∙ at_zero r g s;
+    layout_is = ap (λ (f : Seen). f.geometry) m ∙ layout;
+  }
+
+  pub first_under : (s : Content) (told : Told) (old mid : Seen) → IsTold r g s told → mid ≡ marked old → IsUnder old (left_of g (progress told.boot)) mid
+  first_under s told old mid t m = subst (IsUnder old (left_of g (progress told.boot))) (sym m) (record {
+    keeps = keeps_none (marked old);
+    limits = refl;
+    counts = first_left r g s told t old.ledger.counts;
+  })
+
+  -- And at the next.
+  pub passed_under : (old now new : Seen) (left left' : Counts) → IsUnder old left now → Keeps now new → new.ledger.limits ≡ now.ledger.limits
+      → LeaveRoom new.ledger.counts left' (plus now.ledger.counts left) → IsUnder old left' new
+  passed_under old now new left left' u keeps limits counts = record {
+    keeps = keeps_both (marked old) now new u.keeps keeps;
+    limits = limits ∙ u.limits;
+    counts = record { entries = omega (arith, counts.entries, u.counts.entries); saved = omega (arith, counts.saved, u.counts.saved) };
+  }
+
+  -- A child whose boot goes on with that of its parent.
+  pub joined_here : (s : Content) (i : ℕ) (b : Boot) (child parent : Told) (f : Seen) (x : Rejoin) → IsAt (once r g) s i b f → i < length (ops_of r g s) → IsTold r g s parent
+      → IsTold r g (at_cut r g s i) child
+      → ((y : Rules) (v : Content) (whole : Report) → IsCut y f.geometry v f.content b whole → progress child.boot ≡ begun y (plan y f.geometry f.content) → IsRejoined y f.geometry v f.content x)
+      → IsRejoined r g s (at_cut r g s i) x
+  joined_here s i b child parent f x at early told child_told joins =
+      let P : Geometry → Content → Type 0 = λ y u. (whole : Report) → IsCut r y s u b whole → progress child.boot ≡ begun r (plan r y u) → IsRejoined r y s u x in
+      let here : P g f.content = subst (λ y. P y f.content) at.layout_is (joins r s) in
+      subst (P g) at.content_is here (shown parent.outcome) (cut_here r g s i b f parent at early told) child_told.boot_is
+
+  -- A child with a column of its own.
+  pub column_here : (here u : Content) (bound : ℕ) → 1 ≤ bound → (column : List Census) → here ≡ u → IsColumn r g here (bound - 1 + 1) column → IsColumn r g u bound column
+  column_here here u bound some column same is =
+      let all : bound - 1 + 1 ≡ bound = omega (arith, some) in
+      subst (λ n. IsColumn r g u n column) all (subst (λ v. IsColumn r g v (bound - 1 + 1) column) same is)
+
+  -- One position more.
+  module _ (s : Content) (bound : ℕ) where
+    pub no_positions : (ps : List Position) → ps ≡ [] → ArePositions r g s bound ps
+    no_positions ps none c p is = absurd (omega (arith, slice_get_within ps c p is, ap length none))
+
+    pub more_positions : (ps : List Position) (p : Position) (n : ℕ) → ArePositions r g s bound ps → length ps ≡ n → IsPosition r g s bound (at_cut r g s n) p
+        → ArePositions r g s bound (ps ++ p ∷ [])
+    more_positions ps p n are many here c q is = elim (cases_lt c (length ps)) [
+      | inl before ↦ are c q (sym (get_before ps (p ∷ []) c before) ∙ is)
+      | inr le ↦
+          let e : c ≡ length ps = omega (arith, le, slice_get_within (ps ++ p ∷ []) c q is, length-append ps (p ∷ [])) in
+          let same : p ≡ q = same_Some p q (sym (get_last ps p c e) ∙ is) in
+          subst (λ m. IsPosition r g s bound (at_cut r g s m) q) (sym (e ∙ many)) (subst (IsPosition r g s bound (at_cut r g s n)) same here)
+    ]

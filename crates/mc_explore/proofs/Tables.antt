@@ -1,0 +1,78 @@
+-- Lists of totals that are cut off.
+use Rattle.std.proofs.Common.{◌≡◌, ℕ, zero, suc, ◌+◌, ◌-◌, ◌<◌, List, [], ◌∷◌, ◌++◌, length, Some, inl, inr, refl, sym, ap, ◌∙◌, arith}
+use Rattle.std.specs.List.{slice_get}
+use Rattle.std.proofs.lemmas.Bool.{cases_lt}
+use Rattle.std.proofs.lemmas.List.{length-append}
+use Rattle.mc_tree.specs.Weights.{from}
+use Rattle.mc_tree.specs.facts.Weighed.{from_more}
+use Rattle.mc_boot.specs.Runs.{ops_of}
+use Rattle.mc_flash.specs.Content.{Content}
+use Rattle.mc_flash.specs.Geometry.{Geometry}
+use Rattle.mc_trailer.specs.declared.tables.Rules.{Rules}
+use Rattle.mc_explore.specs.Boots.{at_cut}
+use Rattle.mc_explore.specs.Table.{AreCutOff, AreSums, IsLevel, own_totals, weigh, weigh_fewer}
+use Rattle.mc_explore.specs.Totals.{Totals, both, cut_off, totals}
+use Rattle.mc_explore.specs.declared.census.Census.{Census}
+use Rattle.mc_explore.proofs.Weighing.{totals_weigh, weigh_is}
+
+module _ {X : Type 0} where
+  pub get_before : (xs ys : List X) (i : ℕ) → i < length xs → slice_get (xs ++ ys) i ≡ slice_get xs i
+  get_before [] ys i lt = absurd (omega (arith, lt))
+  get_before (x ∷ xs) ys zero lt = refl
+  get_before (x ∷ xs) ys (suc i) lt = get_before xs ys i (omega (arith, lt))
+
+  pub get_last : (xs : List X) (y : X) (i : ℕ) → i ≡ length xs → slice_get (xs ++ y ∷ []) i ≡ Some y
+  get_last [] y zero e = refl
+  get_last [] y (suc i) e = absurd (omega (arith, e))
+  get_last (x ∷ xs) y zero e = absurd (omega (arith, e))
+  get_last (x ∷ xs) y (suc i) e = get_last xs y i (omega (arith, e))
+
+module _ (under : ℕ → Totals) where
+  pub no_cut_off : AreCutOff under []
+  no_cut_off i lt = absurd (omega (arith, lt))
+
+  -- One more.
+  pub more_cut_off : (xs : List Census) (y : Census) → AreCutOff under xs → y ≡ cut_off (under (length xs)) → AreCutOff under (xs ++ y ∷ [])
+  more_cut_off xs y are is i lt = elim (cases_lt i (length xs)) [
+    | inl before ↦ get_before xs (y ∷ []) i before ∙ are i before
+    | inr le ↦
+        let e : i ≡ length xs = omega (arith, le, lt, length-append xs (y ∷ [])) in
+        get_last xs y i e ∙ ap (λ (c : Census). Some c) is ∙ ap (λ n. Some (cut_off (under n))) (sym e)
+  ]
+
+  -- The sums of one more of the last ones.
+  pub more_sums : (n later number : ℕ) → number + 1 + later ≡ n → both (totals.behind number (under number)) (from totals under later (n - later)) ≡ from totals under (later + 1) (n - (later + 1))
+  more_sums n later number e =
+      let one : later + 1 ≡ suc later = omega arith in
+      let first : n - (later + 1) ≡ number = omega (arith, e) in
+      let second : n - later ≡ number + 1 = omega (arith, e) in
+      ap (λ i. both (totals.behind number (under number)) (from totals under later i)) second
+      ∙ ap (λ i. from totals under (suc later) i) (sym first)
+      ∙ ap (λ k. from totals under k (n - (later + 1))) (sym one)
+
+  -- And of one more of the first ones.
+  pub more_first : (n : ℕ) → both (from totals under n 0) (totals.behind n (under n)) ≡ from totals under (n + 1) 0
+  more_first n =
+      let at : 0 + n ≡ n = omega arith in
+      let one : n + 1 ≡ suc n = omega arith in
+      sym (ap (λ k. from totals under k 0) one ∙ from_more totals totals_weigh under n 0 ∙ ap (λ i. both (from totals under n 0) (totals.behind i (under i))) at)
+
+-- All schedules of at most d cuts, by the positions of the boot, of which there are n.
+pub one_weighed : (r : Rules) (g : Geometry) (s : Content) (d n : ℕ) → n ≡ length (ops_of r g s)
+    → both (own_totals r g s) (from totals (λ c. weigh_fewer r g d (at_cut r g s c)) n (n - n)) ≡ weigh r g d s
+one_weighed r g s d n e =
+    let under : ℕ → Totals = λ c. weigh_fewer r g d (at_cut r g s c) in
+    let at : n - n ≡ 0 = omega arith in
+    ap (λ i. both (own_totals r g s) (from totals under n i)) at ∙ ap (λ k. both (own_totals r g s) (from totals under k 0)) e ∙ sym (weigh_is r g d s)
+
+-- The census of a content for one bound more, by the sums of all positions for that bound.
+pub entry_is : (r : Rules) (g : Geometry) (s : Content) (own sum one : Census) (d count : ℕ) (level sums : List Census)
+    → ((under : ℕ → Totals) → AreCutOff under level → count ≡ length level → AreSums under count sums)
+    → ((under : ℕ → Totals) → AreCutOff under sums → count < length sums → sum ≡ cut_off (under count))
+    → ((a b : Totals) → own ≡ cut_off a → sum ≡ cut_off b → one ≡ cut_off (both a b))
+    → own ≡ cut_off (own_totals r g s) → count ≡ length (ops_of r g s) → IsLevel r g s d level → one ≡ cut_off (weigh r g d s)
+entry_is r g s own sum one d count level sums summed last together own_is all is_level =
+    let under : ℕ → Totals = λ c. weigh_fewer r g d (at_cut r g s c) in
+    let are = summed under is_level.1 (all ∙ sym is_level.0) in
+    let sum_is = last (λ k. from totals under k (count - k)) are.1 (omega (arith, are.0)) in
+    together (own_totals r g s) (from totals under count (count - count)) own_is sum_is ∙ ap cut_off (one_weighed r g s d count all)

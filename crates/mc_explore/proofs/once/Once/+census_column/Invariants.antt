@@ -1,0 +1,24 @@
+use Rattle.std.proofs.Common.{◌≡◌, length}
+use Rattle.mc_boot.specs.Boot.{progress}
+use Rattle.mc_boot.specs.Bounds.{left_of}
+use Rattle.mc_walk.specs.Kind.{IsAt}
+use Rattle.mc_explore.specs.Once.{once}
+use Rattle.mc_explore.specs.Table.{ArePositions}
+use Rattle.mc_explore.proofs.Columns.{IsUnder}
+use Rattle.mc_explore.proofs.once.Once.+census_column.Given as goal
+
+abbrev pub decreases-census_column : goal.decreases-census_column
+decreases-census_column g l = l.bound
+
+abbrev pub invariant-loop-number : goal.invariant-loop-number
+invariant-loop-number g l =
+    let r = l.self.rules in
+    let layout = l.self.layout in
+    let old = g.F.Flash.seen l.fn.flash in
+    let now = g.F.Flash.seen l.flash in
+    record {
+      here : IsAt (once r layout) old.content l._number l.at now;
+      under : IsUnder r layout old (left_of layout (progress l.at)) now;
+      many : length l.positions.items ≡ l._number;
+      positions : ArePositions r layout old.content l.bound l.positions.items;
+    }

@@ -1,0 +1,23 @@
+use Rattle.std.proofs.Common.{◌≡◌, length}
+use Rattle.mc_boot.specs.Runs.{ops_of}
+use Rattle.mc_flash.specs.Content.{Content}
+use Rattle.mc_flash.specs.Geometry.{Geometry}
+use Rattle.mc_trailer.specs.declared.tables.Rules.{Rules}
+use Rattle.mc_explore.specs.Table.{AreCutOff, ArePositions, IsLevel, own_totals, weigh}
+use Rattle.mc_explore.specs.Totals.{cut_off, no_totals}
+use Rattle.mc_explore.proofs.table.column_of.Given as goal
+
+abbrev pub invariant-loop-position : goal.invariant-loop-position
+invariant-loop-position l = record {
+  many : length l.level.items ≡ l._position;
+  none : AreCutOff (λ c. no_totals) l.level.items;
+}
+
+abbrev pub invariant-loop-fewer : goal.invariant-loop-fewer
+invariant-loop-fewer l = record {
+  many : length l.column.items ≡ l.fewer;
+  column : (r : Rules) (g : Geometry) (s : Content) → l.own ≡ cut_off (own_totals r g s) → ArePositions r g s l.bound l.positions
+      → l.count ≡ length l.positions → l.count ≡ length (ops_of r g s) → AreCutOff (λ d. weigh r g d s) l.column.items;
+  level : (r : Rules) (g : Geometry) (s : Content) → l.own ≡ cut_off (own_totals r g s) → ArePositions r g s l.bound l.positions
+      → l.count ≡ length l.positions → l.count ≡ length (ops_of r g s) → IsLevel r g s l.fewer l.level.items;
+}

@@ -1,0 +1,34 @@
+use Rattle.std.proofs.Common.{◌≡◌, ℕ, suc, ◌+◌, List, [], ◌∷◌, ◌++◌, length, refl, sym, ap, subst, ◌∙◌, arith}
+use Rattle.std.proofs.lemmas.List.{length-append}
+use Rattle.std.proofs.lemmas.Option.{slice_get_read}
+use Rattle.mc_explore.specs.Boots.{at_cut}
+use Rattle.mc_explore.specs.Table.{AreCutOff, weigh, weigh_fewer}
+use Rattle.mc_explore.specs.Totals.{Totals, cut_off}
+use Rattle.mc_explore.specs.declared.census.Census.{Census}
+use Rattle.mc_explore.proofs.Tables.{more_cut_off}
+use Rattle.mc_explore.proofs.table.next_level.Goals as goal
+
+pub loop-position-preserved : goal.loop-position-preserved
+loop-position-preserved c =
+    let i = c.loop-position.invariant in
+    let index : ℕ = c.loop-position.position-index in
+    let old : List Census = c.loop-position.next.items in
+    let one : Census = c.census.result in
+    let pushed : c.push.new.self.items ≡ old ++ one ∷ [] = c.in_ok-push.ensures.items in
+    let item = slice_get_read c.args.positions.now (length c.args.positions.now) index c.position-item.result refl (omega (arith, c.loop-position-test.true)) c.position-item.is in
+    record {
+      many = omega (arith, ap length pushed, length-append old (one ∷ []), i.many);
+      cut_off = λ r g s most positions all level sums lt.
+          let at : ℕ → Totals = λ k. weigh r g c.args.bound (at_cut r g s k) in
+          let here = c.census.ensures r g s (at_cut r g s index) most (positions index c.position-item.result item) level sums lt in
+          subst (AreCutOff at) (sym pushed) (more_cut_off at old one (i.cut_off r g s most positions all level sums lt) (here ∙ ap (λ k. cut_off (at k)) (sym i.many)));
+    }
+
+pub returns : goal.returns
+returns c = λ r g s most positions all level sums lt.
+    let i = c.loop-position.invariant in
+    let next : List Census = c.loop-position.next.items in
+    let one : suc c.args.bound ≡ c.args.bound + 1 = omega arith in (
+      omega (arith, i.many, all, c.loop-position-test.false, c.loop-position.auto.position-index-end),
+      subst (λ d. AreCutOff (λ k. weigh_fewer r g d (at_cut r g s k)) next) one (i.cut_off r g s most positions all level sums lt),
+    )

@@ -1,0 +1,31 @@
+use Rattle.std.proofs.Common.{◌≡◌, ℕ, ◌+◌, ◌-◌, ◌∷◌, ◌++◌, [], length, List, sym, ap, subst, ◌∙◌, arith}
+use Rattle.std.proofs.lemmas.List.{length-append}
+use Rattle.mc_tree.specs.Weights.{from}
+use Rattle.mc_explore.specs.Table.{AreCutOff}
+use Rattle.mc_explore.specs.Totals.{Totals, cut_off, totals}
+use Rattle.mc_explore.specs.declared.census.Census.{Census}
+use Rattle.mc_explore.proofs.Tables.{more_cut_off, more_sums}
+use Rattle.mc_explore.proofs.table.sums.Goals as goal
+
+pub loop-later-preserved : goal.loop-later-preserved
+loop-later-preserved c =
+    let i = c.loop-later.invariant in
+    let later : ℕ = c.loop-later.later in
+    let n : ℕ = c.args.count in
+    let number : ℕ = n - 1 - later in
+    let old : List Census = c.loop-later.sums.items in
+    let one : Census = c.both-sum.result in
+    let pushed : c.push-in-loop-later.new.self.items ≡ old ++ one ∷ [] = c.in_ok-push-2.ensures.items in
+    let sum_is : (under : ℕ → Totals) → AreCutOff under c.args.level.now → n ≡ length c.args.level.now → one ≡ cut_off (from totals under (later + 1) (n - (later + 1))) = λ under are all.
+    let there = c.census_at.ensures under are (omega (arith, c.loop-later-test.true, all)) in
+    let behind = c.behind.ensures (under number) there in
+    let all_one : number + 1 + later ≡ n = omega (arith, c.loop-later-test.true) in
+    c.both-sum.ensures (totals.behind number (under number)) (from totals under later (n - later)) behind (i.sum under are all) ∙ ap cut_off (more_sums under n later number all_one) in
+    record {
+      many = omega (arith, ap length pushed, length-append old (one ∷ []), i.many);
+      sum = sum_is;
+      sums = λ under are all.
+          let at : ℕ → Totals = λ k. from totals under k (n - k) in
+          let last : one ≡ cut_off (at (length old)) = sum_is under are all ∙ ap (λ k. cut_off (at k)) (sym i.many) in
+          subst (AreCutOff at) (sym pushed) (more_cut_off at old one (i.sums under are all) last);
+    }

@@ -1,0 +1,147 @@
+//! The censuses of the flashes on the way of one boot, for one bound after another.
+ghost use Rattle.std.specs.Prelude.{◌≡◌, ℕ, ◌+◌, ◌<◌, ◌≤◌, ◌^◌, length, IfOk};
+ghost use Rattle.mc_flash.specs.Content.{Content};
+ghost use Rattle.mc_flash.specs.Geometry.{Geometry};
+ghost use Rattle.mc_trailer.specs.declared.tables.Rules.{Rules};
+ghost use Rattle.mc_boot.specs.Rejoin.{IsRejoined, place_of};
+ghost use Rattle.mc_boot.specs.Runs.{ops_of};
+ghost use Rattle.mc_tree.specs.Weights.{from, placed_below};
+ghost use Rattle.mc_explore.specs.Boots.{at_cut};
+ghost use Rattle.mc_explore.specs.Table.{AreCutOff, ArePositions, AreSums, IsColumn, IsInside, IsLevel, IsPosition, own_totals, weigh, weigh_fewer};
+ghost use Rattle.mc_explore.specs.Totals.{Totals, both, cut_off, totals};
+
+use crate::census::Census;
+use mc_boot::Rejoin;
+use std::alloc::{AllocError, Global};
+
+/// The schedules from a flash on the way of a boot.
+#[derive(Drop)]
+pub(crate) enum Below {
+    /// Its boot goes on with that one.
+    Joined(Rejoin),
+    /// Their censuses by themselves, for each bound.
+    Apart(Vec<Census>),
+}
+
+/// A flash on the way of a boot: the census of its schedule of no cuts, and its further schedules.
+#[derive(Drop)]
+pub(crate) struct Position {
+    pub own: Census,
+    pub below: Below,
+}
+
+/// The census at a place of a list.
+pub(crate) fn census_at(list: &[Census], place: usize) -> Census
+    ensures { (under : ℕ → Totals) → AreCutOff under list.now → place < length list.now
+        → result ≡ cut_off (under place) }
+{
+    list.get(place).copied().unwrap_or(Census::new())
+}
+
+/// The sums of the last censuses of so many, each behind its number: of none, of one, and so on to all of them.
+fn sums(alloc: Global, level: &[Census], count: u32) -> Result<Vec<Census>, AllocError>
+    ensures { IfOk result (λ sums. (under : ℕ → Totals) → AreCutOff under level.now
+        → count ≡ length level.now → AreSums under count sums.items) }
+{
+    let mut sum = Census::new();
+    let mut sums = Vec::new(alloc);
+    sums.push(sum)?;
+    for later in 0..count {
+        let number = count - 1 - later;
+        sum = census_at(level, number as usize).behind(number).both(&sum);
+        sums.push(sum)?;
+    }
+    Ok(sums)
+}
+
+/// Of the children that a boot has before it goes on with another, by the censuses of that one's children.
+fn early(rejoin: &Rejoin, level: &[Census]) -> Census
+    ensures { (under : ℕ → Totals) → AreCutOff under level.now
+        → IsInside rejoin.now (length level.now) → result ≡ cut_off
+        (from totals (λ i. under (place_of rejoin.now i)) rejoin.now.erases 0) }
+{
+    let mut sum = Census::new();
+    for number in 0..rejoin.erases() {
+        let place = rejoin.place(number) as usize;
+        sum = sum.both(&census_at(level, place).behind(number));
+    }
+    sum
+}
+
+/// Of the children of a boot that goes on with another, by the censuses of that one's children and the sums of these.
+fn rejoined(rejoin: &Rejoin, level: &[Census], sums: &[Census]) -> Census
+    ensures { (under : ℕ → Totals) → AreCutOff under level.now
+        → AreSums under (length level.now) sums.now
+        → IsInside rejoin.now (length level.now) → result ≡ cut_off
+        (placed_below totals under (length level.now) rejoin.now.kept rejoin.now.erases
+        (place_of rejoin.now)) }
+{
+    let from = (rejoin.kept() + rejoin.erases()) as usize;
+    let later = census_at(sums, level.len().saturating_sub(from));
+    early(rejoin, level).both(&later.back(rejoin.kept()))
+}
+
+impl Position {
+    /// Of the schedules of at most so many cuts from there, by the censuses of all positions for fewer cuts, and the sums of these.
+    fn census(&self, level: &[Census], sums: &[Census], bound: u32) -> Census
+        ensures { (r : Rules) (g : Geometry) (s u : Content) (most : ℕ)
+            → IsPosition r g s most u self.now → IsLevel r g s bound level.now
+            → AreSums (λ c. weigh_fewer r g bound (at_cut r g s c)) (length level.now) sums.now
+            → bound < most → result ≡ cut_off (weigh r g bound u) }
+    {
+        match &self.below {
+            Below::Joined(rejoin) => self.own.both(&rejoined(rejoin, level, sums)),
+            Below::Apart(column) => census_at(column, bound as usize),
+        }
+    }
+}
+
+/// The censuses of all positions for that bound, by those for fewer cuts.
+fn next_level(
+    alloc: Global,
+    positions: &[Position],
+    level: &[Census],
+    sums: &[Census],
+    bound: u32,
+) -> Result<Vec<Census>, AllocError>
+    ensures { IfOk result (λ next. (r : Rules) (g : Geometry) (s : Content) (most : ℕ)
+        → ArePositions r g s most positions.now → length positions.now ≡ length (ops_of r g s)
+        → IsLevel r g s bound level.now
+        → AreSums (λ c. weigh_fewer r g bound (at_cut r g s c)) (length level.now) sums.now
+        → bound < most → IsLevel r g s (bound + 1) next.items) }
+{
+    let mut next = Vec::new(alloc);
+    for position in positions {
+        next.push(position.census(level, sums, bound))?;
+    }
+    Ok(next)
+}
+
+/// The censuses of a flash for each bound up to that one, by its own and those of the positions of its boot, of which there are
+/// so many.
+pub(crate) fn column_of(
+    alloc: Global,
+    own: Census,
+    positions: &[Position],
+    count: u32,
+    bound: u32,
+) -> Result<Vec<Census>, AllocError>
+    ensures { IfOk result (λ column. (r : Rules) (g : Geometry) (s : Content)
+        → own ≡ cut_off (own_totals r g s) → ArePositions r g s bound positions.now
+        → count ≡ length positions.now → count ≡ length (ops_of r g s)
+        → IsColumn r g s (bound + 1) column.items) }
+{
+    let mut column = Vec::new(alloc);
+    let mut level = Vec::new(alloc);
+    for _position in 0..count {
+        level.push(Census::new())?;
+    }
+    for fewer in 0..bound {
+        let sums = sums(alloc, &level, count)?;
+        column.push(own.both(&census_at(&sums, count as usize)))?;
+        level = next_level(alloc, positions, &level, &sums, fewer)?;
+    }
+    let sums = sums(alloc, &level, count)?;
+    column.push(own.both(&census_at(&sums, count as usize)))?;
+    Ok(column)
+}

@@ -1,0 +1,91 @@
+//! Takes the census of a start: level by level, without going through the schedules.
+ghost use Rattle.std.specs.Prelude.{◌≡◌, ◌+◌, ◌≤◌, IfOk, IfErr, OnOk};
+ghost use Rattle.mc_explore.specs.Census.{IsCensus};
+ghost use Rattle.mc_explore.specs.Start.{begun};
+
+use crate::Start;
+use crate::census::Census;
+use crate::error::ExploreError;
+use crate::once::{Once, Told};
+use crate::table::{Below, Position, census_at, column_of};
+use mc_boot::Rejoin;
+use mc_flash::{Flash, FlashError};
+use mc_walk::Branches;
+use std::alloc::Global;
+
+impl Once {
+    ghost use Rattle.mc_explore.specs.Once.{IsTold};
+    ghost use Rattle.mc_explore.specs.Table.{HasRoomFor, IsColumn, StaysSo};
+
+    // The censuses of a flash, of which that is told, for each bound up to that one. The flash stays. A boot that goes on with
+    // the one that was cut is told by the censuses of that one's positions; only another goes on by itself.
+    fn census_column<F: Flash>(
+        &self,
+        alloc: Global,
+        flash: &mut F,
+        told: &Told,
+        bound: u32,
+        start: &Start,
+    ) -> Result<Vec<Census>, FlashError>
+        requires told { IsTold self.now.rules self.now.layout (F.seen flash.old).content told.now }
+        requires layout { (F.seen flash.old).geometry ≡ self.now.layout }
+        requires room { HasRoomFor self.now.rules self.now.layout (bound + 1) (F.seen flash.old) }
+        requires few { bound ≤ 16 }
+        ensures column { IfOk result (λ column. IsColumn self.now.rules self.now.layout
+            (F.seen flash.old).content (bound + 1) column.items) }
+        ensures stays { OnOk result (StaysSo (F.seen flash.old) (F.seen flash.new)) }
+        ensures err { IfErr result (λ e. e ≡ FlashError.Memory) }
+    {
+        let own = Census::of(&told.outcome);
+        if bound == 0 {
+            return Ok(vec![in alloc; own]?);
+        }
+        let mut positions = Vec::new(alloc);
+        let here = flash.mark()?;
+        let mut at = told.boot;
+        for _number in 0..told.outcome.ops {
+            let child = self.child(flash, &at, told, start)?;
+            let below = match Rejoin::find(flash, &at, &child.boot) {
+                Some(rejoin) => Below::Joined(rejoin),
+                None => {
+                    let column = self.census_column(alloc, flash, &child, bound - 1, start)?;
+                    Below::Apart(column)
+                }
+            };
+            positions.push(Position {
+                own: Census::of(&child.outcome),
+                below,
+            })?;
+            self.pass(flash, &mut at)?;
+        }
+        flash.back_to(here);
+        Ok(column_of(alloc, own, &positions, told.outcome.ops, bound)?)
+    }
+}
+
+/// What all schedules of at most so many cuts that can occur come to, without going through them. It loads a flash for one boot
+/// more than there are cuts.
+///
+/// # Errors
+///
+/// `Memory` where an allocation failed.
+pub fn take_census<F: Flash>(
+    alloc: Global,
+    start: &Start,
+    bound: u32,
+) -> Result<Census, ExploreError>
+    requires { bound ≤ 16 }
+    ensures census { IfOk result (IsCensus (begun start.now) bound) }
+    ensures err { IfErr result (λ e. e ≡ ExploreError.Memory) }
+{
+    let once = Once {
+        rules: start.rules(),
+        layout: *start.layout(),
+    };
+    let (primary, secondary) = (start.primary(), start.secondary());
+    let grain = once.rules.grain;
+    let mut flash = F::load(alloc, &once.layout, grain, primary, secondary, bound + 1)?;
+    let told = once.root(&mut flash, start)?;
+    let column = once.census_column(alloc, &mut flash, &told, bound, start)?;
+    Ok(census_at(&column, bound as usize))
+}
