@@ -47,10 +47,7 @@ impl Once {
             let child = self.child(flash, &at, told, start)?;
             let below = match Rejoin::find(flash, &at, &child.boot) {
                 Some(rejoin) => Below::Joined(rejoin),
-                None => {
-                    let column = self.census_column(alloc, flash, &child, bound - 1, start)?;
-                    Below::Apart(column)
-                }
+                None => Below::Apart(self.census_column(alloc, flash, &child, bound - 1, start)?),
             };
             positions.push(Position {
                 own: Census::of(&child.outcome),
