@@ -20,7 +20,7 @@ use Rattle.mc_flash.specs.Seen.{Keeps, Seen, marked, spot_of, went_back}
 use Rattle.mc_flash.specs.Spends.{Allows, HasRoom, LeaveRoom, Stays, plus}
 use Rattle.mc_flash.specs.SpendsFacts.{keeps_both, keeps_none, spent_back, stays_back}
 use Rattle.mc_trailer.specs.declared.tables.Rules.{Rules}
-use Rattle.mc_walk.specs.Kind.{IsAt}
+use Rattle.mc_walk.specs.Kind.{IsAt, TellsChild}
 use Rattle.mc_explore.specs.Boots.{at_cut}
 use Rattle.mc_explore.specs.Once.{IsTold, most_of, once}
 use Rattle.mc_explore.specs.Table.{ArePositions, HasRoomFor, IsColumn, IsPosition, StaysSo, own_totals, told_totals}
@@ -29,7 +29,7 @@ use Rattle.mc_explore.specs.declared.census.Census.{Census}
 use Rattle.mc_explore.specs.declared.once.Told.{Told}
 use Rattle.mc_explore.specs.declared.table.Position.{Position}
 use Rattle.mc_explore.specs.facts.Occurring.{at_zero}
-use Rattle.mc_explore.specs.facts.Telling.{first_left, first_on}
+use Rattle.mc_explore.specs.facts.Telling.{first_left, first_on, width_is}
 use Rattle.mc_explore.proofs.Onwards.{cut_here}
 use Rattle.mc_explore.proofs.Tables.{get_before, get_last}
 
@@ -41,17 +41,6 @@ stays_none a = record { stays = record { geometry = refl; content = refl; marks 
 
 pub kept_from : (old mid end : Seen) → mid ≡ marked old → Keeps (marked old) end → Keeps mid end
 kept_from old mid end m keeps = subst (λ (f : Seen). Keeps f end) (sym m) keeps
-
-pub stays_both : (a b c : Seen) → StaysSo a b → StaysSo b c → StaysSo a c
-stays_both a b c x y = record {
-  stays = record {
-    geometry = y.stays.geometry ∙ x.stays.geometry;
-    content = y.stays.content ∙ x.stays.content;
-    marks = y.stays.marks ∙ x.stays.marks;
-    counts = y.stays.counts ∙ x.stays.counts;
-  };
-  limits = y.limits ∙ x.limits;
-}
 
 -- A flash that was marked and worked on, and is back at that mark.
 pub went_so : (old mid end new : Seen) (place : ℕ) → place ≡ length old.marks → mid ≡ marked old → Keeps mid end → end.ledger.limits ≡ old.ledger.limits → new ≡ went_back place end → StaysSo old new
@@ -139,6 +128,28 @@ module _ (r : Rules) (g : Geometry) where
     keeps = record { geometry = x.stays.geometry ∙ u.keeps.geometry; marks = x.stays.marks ∙ u.keeps.marks };
     limits = x.limits ∙ u.limits;
     counts = subst (λ (n : Counts). LeaveRoom n left (plus old.ledger.counts (most_of r g))) (sym x.stays.counts) u.counts;
+  }
+
+  -- The flash stands at a position that occurs, of which that is told.
+  pub record Reached (s : Content) (n : ℕ) (b : Boot) (old now : Seen) (child : Told) : Type 0 where
+    pub early : n < length (ops_of r g s)
+    pub here : IsAt (once r g) s n b now
+    pub told : IsTold r g (at_cut r g s n) child
+    pub under : IsUnder old (left_of g (progress b)) now
+
+  pub reached : (s : Content) (n : ℕ) (b : Boot) (old now new : Seen) (parent child : Told) → IsTold r g s parent → n < parent.outcome.ops → IsAt (once r g) s n b now
+      → IsUnder old (left_of g (progress b)) now → TellsChild (once r g) b parent now child → StaysSo now new → Reached s n b old new child
+  reached s n b old now new parent child told lt at under tells x =
+      let early : n < length (ops_of r g s) = omega (arith, lt, width_is r g parent s told) in
+      record { early = early; here = still_at s n b now new at x.stays; told = tells s n at early told; under = stays_under old now new (left_of g (progress b)) under x }
+
+  -- And where it stays so.
+  pub reached_still : (s : Content) (n : ℕ) (b : Boot) (old now new : Seen) (child : Told) → Reached s n b old now child → StaysSo now new → Reached s n b old new child
+  reached_still s n b old now new child x stays = record {
+    early = x.early;
+    here = still_at s n b now new x.here stays.stays;
+    told = x.told;
+    under = stays_under old now new (left_of g (progress b)) x.under stays;
   }
 
   -- At the first position, where the flash was just marked.

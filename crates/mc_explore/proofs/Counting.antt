@@ -1,5 +1,5 @@
 -- What the one list of rows comes to is what the tree of boots does.
-use Rattle.std.proofs.Common.{◌≡◌, ℕ, zero, suc, ◌+◌, ◌≤◌, max, Bool, true, false, not, cond, if◌then◌else◌, List, [], ◌∷◌, length, map, take, Option, Some, None, option_map, refl, sym, ap, ◌∙◌, arith}
+use Rattle.std.proofs.Common.{◌≡◌, ℕ, zero, suc, ◌+◌, ◌≤◌, max, Bool, true, false, not, if◌then◌else◌, List, [], ◌∷◌, length, map, take, Option, Some, None, option_map, refl, sym, ap, ◌∙◌, arith}
 use Rattle.std.specs.Prelude.{Contains}
 use Rattle.std.specs.List.{find, fold}
 use Rattle.std.proofs.lemmas.List.Recursion.{is_count_by}
@@ -29,7 +29,7 @@ use Rattle.mc_explore.proofs.Weighing.{totals_weigh}
 abbrev sum_of : List Told → Totals
 sum_of = total totals row_totals
 
-count_more : (b : Bool) (n : ℕ) → count_if b + n ≡ cond b (1 + n) n
+count_more : (b : Bool) (n : ℕ) → count_if b + n ≡ (if b then 1 + n else n)
 count_more true n = refl
 count_more false n = omega arith
 
@@ -67,7 +67,7 @@ take_few zero (x ∷ xs) few = absurd (omega (arith, few))
 take_few (suc n) (x ∷ xs) few = ap (λ (l : List ℕ). x ∷ l) (take_few n xs (omega (arith, few)))
 
 first_more : (b : Bool) (row : Told) (o : Option (List ℕ)) (found : Option Told) → length row.schedule ≤ 16 → option_map (take 16) o ≡ option_map (λ row. row.schedule) found
-    → option_map (take 16) (option_or (if b then None else Some row.schedule) o) ≡ option_map (λ row. row.schedule) (cond (not b) (Some row) found)
+    → option_map (take 16) (option_or (if b then None else Some row.schedule) o) ≡ option_map (λ row. row.schedule) (if not b then Some row else found)
 first_more true row o found few is = is
 first_more false row o found few is = ap (λ (l : List ℕ). Some l) (take_few 16 row.schedule few)
 
