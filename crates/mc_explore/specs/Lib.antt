@@ -21,6 +21,7 @@ pub mod Torn
 pub mod Until
 pub mod Survey
 pub mod Census
+pub mod CensusText
 pub mod Totals
 pub mod Table
 pub mod Resume

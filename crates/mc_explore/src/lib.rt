@@ -2,6 +2,7 @@
 #![tactic(auto)]
 
 mod census;
+mod census_text;
 mod cursor;
 mod cursor_fields;
 mod cursor_reading;
