@@ -1,5 +1,6 @@
 //! The commands, each with its files.
 pub mod campaign;
+pub mod census;
 pub mod create;
 pub mod dumpinfo;
 pub mod explain;

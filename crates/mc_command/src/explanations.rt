@@ -347,7 +347,7 @@ static EXPLANATIONS: [Explanation; 48] = [
         number: 74,
         name: "NotAllBoot",
         status: Some(1),
-        when: "With --all-boot: after a schedule of the survey the last boot ends otherwise than in a boot.",
+        when: "With --all-boot: after a schedule that was counted the last boot ends otherwise than in a boot.",
         remedy: "Look for its row with explore.",
     },
     Explanation {

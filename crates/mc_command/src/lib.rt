@@ -85,6 +85,7 @@ fn run_command<F: Files, R: Read, O: Write>(
         Some(("explore", arguments)) => commands::explore::run(files, alloc, arguments, out),
         Some(("campaign", arguments)) => commands::campaign::run(files, alloc, arguments, out),
         Some(("survey", arguments)) => commands::explore::survey(files, alloc, arguments, out),
+        Some(("census", arguments)) => commands::census::run(files, alloc, arguments, out),
         _ => Err(Refusal::Argument),
     }
 }

@@ -198,6 +198,18 @@ pub struct ExploreOptions {
     pub limit: u32,
 }
 
+/// The most cuts of a schedule.
+///
+/// # Errors
+///
+/// `Argument` where they are missing, or out of their range.
+pub fn census_options(arguments: &ArgMatches<'_>) -> Result<u8, Refusal>
+    ensures told { IfOk result (TellsNumber (found_of arguments.now) NumberOption.Cuts) }
+    ensures range { IfOk result (λ cuts. cuts ≤ 16) }
+{
+    Ok(NumberOption::Cuts.read_required(arguments)? as u8)
+}
+
 /// The most cuts and the most rows.
 ///
 /// # Errors
@@ -209,7 +221,7 @@ pub fn explore_options(arguments: &ArgMatches<'_>) -> Result<ExploreOptions, Ref
     ensures range { IfOk result (λ o. (o.cuts ≤ 16) × (1 ≤ o.limit)) }
 {
     Ok(ExploreOptions {
-        cuts: NumberOption::Cuts.read_required(arguments)? as u8,
+        cuts: census_options(arguments)?,
         limit: NumberOption::Limit.read_required(arguments)?,
     })
 }

@@ -62,7 +62,7 @@ pub enum Refusal {
     /// `--after` and `--cursor` are both given.
     #[error("E73 CursorOptions")]
     CursorOptions,
-    /// A row of the survey does not end in a boot.
+    /// A schedule that was counted does not end in a boot.
     #[error("E74 NotAllBoot")]
     NotAllBoot,
     /// The file that is to be written is one that is read.

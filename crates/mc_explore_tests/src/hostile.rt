@@ -10,7 +10,7 @@ use std::test::Fail;
 
 /// A line has the bytes of the worked flash that are not 0xff, by their places, beside the primary's magic and a swap-size of 80;
 /// the grain, the profile and the most cuts; how many lines the page has, and the SHA-256 of its text.
-static PAGES: &str = "\
+pub static PAGES: &str = "\
 984=02 call 1 0 2 ba9b78a7f0eeca7850929afce484c299275c2a77061d5b571cf22c272e568903
 984=02 call 1 1 16 5c6efe2210dbc6b3425669b0df2c9d5b9f906b18224adc740c84b571ac6fb209
 984=02 call 1 2 143 a98b227ffc74fffdb4a1cc9d97c9f8606d665c4d2167253c38663066c6b6bce5

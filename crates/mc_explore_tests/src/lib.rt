@@ -11,6 +11,8 @@ mod campaign_texts;
 #[cfg(test)]
 mod campaigns;
 #[cfg(test)]
+mod censuses;
+#[cfg(test)]
 mod common;
 #[cfg(test)]
 mod cursors;

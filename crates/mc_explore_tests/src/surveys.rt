@@ -10,7 +10,7 @@ use std::alloc::Global;
 use std::test::Fail;
 
 /// The kind that a word names.
-fn kind_of(word: &str) -> Kind {
+pub fn kind_of(word: &str) -> Kind {
     match word {
         "test" => Kind::Test,
         "perm" => Kind::Perm,

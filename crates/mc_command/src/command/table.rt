@@ -27,6 +27,7 @@ pub enum Group {
     Sectors,
     Exploration,
     Survey,
+    Census,
     Campaign,
     Refusal,
 }
@@ -45,6 +46,7 @@ impl Group {
             Group::Trace => Some("Trace"),
             Group::Sectors => Some("Sectors"),
             Group::Exploration | Group::Survey | Group::Campaign => Some("Exploration"),
+            Group::Census => Some("Census"),
         }
     }
 
@@ -63,6 +65,7 @@ impl Group {
             Group::Trace | Group::Sectors => &SCHEDULE_IF_ANY,
             Group::Exploration => &EXPLORATION,
             Group::Survey => &SURVEY,
+            Group::Census => &CENSUS,
             Group::Campaign => &CAMPAIGN,
             Group::Refusal => &REFUSAL,
         }
@@ -345,15 +348,18 @@ const CURSOR: Word = Word {
     ..FLAG
 };
 
+/// The most cuts.
+const CUTS: Word = Word {
+    name: "cuts",
+    takes: Takes::Value("K"),
+    required: true,
+    help: "Most power cuts in a schedule, 0 to 16",
+    ..FLAG
+};
+
 /// What tells an exploration of schedules: the most cuts, a page, and which of the rows.
 static EXPLORATION: [Word; 5] = [
-    Word {
-        name: "cuts",
-        takes: Takes::Value("K"),
-        required: true,
-        help: "Most power cuts in a schedule, 0 to 16",
-        ..FLAG
-    },
+    CUTS,
     LIMIT,
     CURSOR,
     Word {
@@ -374,6 +380,16 @@ static SURVEY: [Word; 1] = [Word {
     help: "Refuse, after the counts, where a row's result is not boot",
     ..FLAG
 }];
+
+/// What tells a census.
+static CENSUS: [Word; 2] = [
+    CUTS,
+    Word {
+        name: "all-boot",
+        help: "Refuse, after the counts, where a schedule's result is not boot",
+        ..FLAG
+    },
+];
 
 /// What tells an exploration of campaigns.
 static CAMPAIGN: [Word; 4] = [
@@ -448,6 +464,12 @@ How many rows? --cuts 1 has OPS+1; --cuts 2 has 1 more than the sum of OPS over 
 const AFTER_SURVEY: &str = "\
 Seven lines: how many rows the page of explore would have, how many of them with each RESULT (boot,
 none, panic, fault), the most operations of a last boot, and next CURSOR or end, as the page.";
+
+const AFTER_CENSUS: &str = "\
+Seven lines: how many schedules of at most K power cuts can occur, how many of them have each RESULT
+(boot, none, panic, fault), the most operations of a last boot, and the first schedule whose result is
+not boot, or none. They are not listed, so that K of 16 takes no longer than a second.
+A number of 2^128 - 1 or more is printed as >=340282366920938463463374607431768211455.";
 
 const AFTER_CAMPAIGN: &str = "\
 A row is: CAMPAIGN RESULT TYPE OPS RESULT TYPE OPS PRIMARY SECONDARY NEXT
@@ -564,6 +586,14 @@ static COMMANDS: [Subcommand; 13] = [
             Group::Exploration,
             Group::Survey,
         ],
+    },
+    Subcommand {
+        name: "census",
+        aliases: &[],
+        about: "Count all schedules of at most K power cuts by their results, without listing them",
+        usage: Some("mcsim census <LAYOUT> <SOURCE> --cuts <K> [OPTIONS]"),
+        after_help: Some(AFTER_CENSUS),
+        groups: &[Group::Layout, Group::Source, Group::Rules, Group::Census],
     },
     Subcommand {
         name: "campaign",

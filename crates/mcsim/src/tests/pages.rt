@@ -1,4 +1,4 @@
-//! `explore` and `survey`: whole pages, by their digests as a model that shares no code with this repository computed them.
+//! `explore`, `survey` and `census`: whole pages, by their digests as a model that shares no code with this repository computed them.
 use super::support::{filled, in_full, plays, told};
 use sha2::{Digest, Sha256};
 use std::alloc::Global;
@@ -245,4 +245,25 @@ rows 127; boot 0; none 0; panic 0; fault 127; most-ops 13; end; ! mcsim: E74 Not
 #[test]
 fn surveys_images_and_flashes(rt: HostRuntime) -> Result<(), Fail> {
     plays(&rt, rt.alloc(), SURVEYS)
+}
+
+/// Censuses of images and of that flash.
+static CENSUSES: &str = "\
+$ census WORKED --kind test IMAGES --cuts 2 --all-boot
+schedules 222; boot 222; none 0; panic 0; fault 0; most-ops 18; first-not-boot none
+$ census WORKED --kind revert IMAGES --cuts 2
+schedules 343; boot 343; none 0; panic 0; fault 0; most-ops 23; first-not-boot none
+$ census WORKED --kind none IMAGES --cuts 16
+schedules 1; boot 1; none 0; panic 0; fault 0; most-ops 0; first-not-boot none
+$ census WORKED --kind test IMAGES --cuts 17
+! mcsim: --cuts takes a number from 0 to 16; exit 2
+$ census WORKED --flash in --cuts 2 < BEGUN,976=50000000,984=02,993=00
+schedules 127; boot 0; none 0; panic 0; fault 127; most-ops 13; first-not-boot -
+$ census WORKED --flash in --cuts 2 --all-boot < BEGUN,976=50000000,984=02,993=00
+schedules 127; boot 0; none 0; panic 0; fault 127; most-ops 13; first-not-boot -; ! mcsim: E74 NotAllBoot; exit 1
+";
+
+#[test]
+fn censuses_of_images_and_flashes(rt: HostRuntime) -> Result<(), Fail> {
+    plays(&rt, rt.alloc(), CENSUSES)
 }

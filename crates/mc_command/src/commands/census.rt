@@ -1,0 +1,38 @@
+//! `census`: what all schedules of power cuts come to, without listing them.
+use crate::options::{census_options, flash_options};
+use crate::refusal::Refusal;
+use crate::source::read_start;
+use clap::ArgMatches;
+use mc_explore::take_census;
+use mc_flash::JournalFlash;
+use std::alloc::Global;
+use std::io::Write;
+use std::rt::Files;
+
+/// Prints how many schedules of at most so many cuts can occur, how many of them with each result, the largest number of operations
+/// of a last boot, and the first schedule that does not end in a boot. The words are checked before a file is touched.
+///
+/// # Errors
+///
+/// `Source`, `Layout` and the numbers of the words; what `read_start` refuses; `Explore` where memory failed; `Write` where the
+/// output cannot be written. With `--all-boot` also `NotAllBoot` where a schedule does not end in a boot; the output is written
+/// then.
+pub fn run<F: Files, O: Write>(
+    files: &F,
+    alloc: Global,
+    arguments: &ArgMatches<'_>,
+    out: &mut O,
+) -> Result<(), Refusal> {
+    let options = match flash_options(arguments) {
+        Ok(options) => options,
+        Err(refusal) => return Err(refusal),
+    };
+    let cuts = census_options(arguments)?;
+    let start = read_start(files, alloc, &options)?;
+    let census = take_census::<JournalFlash>(alloc, &start, u32::from(cuts))?;
+    write!(out, "{census}").map_err(|_| Refusal::Write)?;
+    if arguments.get_flag("all-boot") && census.first_not_boot.is_some() {
+        return Err(Refusal::NotAllBoot);
+    }
+    Ok(())
+}
