@@ -28,9 +28,6 @@ module _ {X : Type 0} where
   get_last (x ∷ xs) y (suc i) e = get_last xs y i (omega (arith, e))
 
 module _ (under : ℕ → Totals) where
-  pub no_cut_off : AreCutOff under []
-  no_cut_off i lt = absurd (omega (arith, lt))
-
   -- One more.
   pub more_cut_off : (xs : List Census) (y : Census) → AreCutOff under xs → y ≡ cut_off (under (length xs)) → AreCutOff under (xs ++ y ∷ [])
   more_cut_off xs y are is i lt = elim (cases_lt i (length xs)) [

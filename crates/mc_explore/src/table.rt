@@ -30,7 +30,7 @@ pub(crate) struct Position {
     pub below: Below,
 }
 
-/// The census at a place of a list.
+/// The census at a place of a list, and that of no schedules past its end.
 pub(crate) fn census_at(list: &[Census], place: usize) -> Census
     ensures { (under : ℕ → Totals) → AreCutOff under list.now → place < length list.now
         → result ≡ cut_off (under place) }
@@ -38,7 +38,7 @@ pub(crate) fn census_at(list: &[Census], place: usize) -> Census
     list.get(place).copied().unwrap_or(Census::new())
 }
 
-/// The sums of the last censuses of so many, each behind its number: of none, of one, and so on to all of them.
+/// The sums of the last of so many censuses, each after its number as a first cut: of none, of one, and so on to all of them.
 fn sums(alloc: Global, level: &[Census], count: u32) -> Result<Vec<Census>, AllocError>
     ensures { IfOk result (λ sums. (under : ℕ → Totals) → AreCutOff under level.now
         → count ≡ length level.now → AreSums under count sums.items) }
@@ -54,7 +54,7 @@ fn sums(alloc: Global, level: &[Census], count: u32) -> Result<Vec<Census>, Allo
     Ok(sums)
 }
 
-/// Of the children that a boot has before it goes on with another, by the censuses of that one's children.
+/// The census of the children that a boot has before it goes on with another one, by the censuses of that one's children.
 fn early(rejoin: &Rejoin, level: &[Census]) -> Census
     ensures { (under : ℕ → Totals) → AreCutOff under level.now
         → IsInside rejoin.now (length level.now) → result ≡ cut_off
@@ -68,7 +68,7 @@ fn early(rejoin: &Rejoin, level: &[Census]) -> Census
     sum
 }
 
-/// Of the children of a boot that goes on with another, by the censuses of that one's children and the sums of these.
+/// The census of all children of a boot that goes on with another one, by the censuses of that one's children and their sums.
 fn rejoined(rejoin: &Rejoin, level: &[Census], sums: &[Census]) -> Census
     ensures { (under : ℕ → Totals) → AreCutOff under level.now
         → AreSums under (length level.now) sums.now
@@ -82,7 +82,7 @@ fn rejoined(rejoin: &Rejoin, level: &[Census], sums: &[Census]) -> Census
 }
 
 impl Position {
-    /// Of the schedules of at most so many cuts from there, by the censuses of all positions for fewer cuts, and the sums of these.
+    /// The census of the schedules of at most so many cuts from there, by those of all positions for fewer cuts and their sums.
     fn census(&self, level: &[Census], sums: &[Census], bound: u32) -> Census
         ensures { (r : Rules) (g : Geometry) (s u : Content) (most : ℕ)
             → IsPosition r g s most u self.now → IsLevel r g s bound level.now
@@ -96,7 +96,7 @@ impl Position {
     }
 }
 
-/// The censuses of all positions for that bound, by those for fewer cuts.
+/// The censuses of all positions for at most so many cuts, by those for fewer cuts and their sums.
 fn next_level(
     alloc: Global,
     positions: &[Position],
@@ -117,8 +117,8 @@ fn next_level(
     Ok(next)
 }
 
-/// The censuses of a flash for each bound up to that one, by its own and those of the positions of its boot, of which there are
-/// so many.
+/// The censuses of a flash for each bound up to that one, by that of its schedule of no cuts and by the positions of its boot,
+/// of which there are so many.
 pub(crate) fn column_of(
     alloc: Global,
     own: Census,

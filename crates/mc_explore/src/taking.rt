@@ -17,8 +17,8 @@ impl Once {
     ghost use Rattle.mc_explore.specs.Once.{IsTold};
     ghost use Rattle.mc_explore.specs.Table.{HasRoomFor, IsColumn, StaysSo};
 
-    // The censuses of a flash, of which that is told, for each bound up to that one. The flash stays. A boot that goes on with
-    // the one that was cut is told by the censuses of that one's positions; only another goes on by itself.
+    // The censuses of a flash, of which that is told, for each bound up to that one. The flash stays. Of a boot that goes on with
+    // the one that was cut the positions of that one are enough; only another one is stepped through by itself.
     fn census_column<F: Flash>(
         &self,
         alloc: Global,
@@ -60,8 +60,9 @@ impl Once {
     }
 }
 
-/// What all schedules of at most so many cuts that can occur come to, without going through them. It loads a flash for one boot
-/// more than there are cuts.
+/// What all schedules of at most so many cuts that can occur come to, without going through them: its time grows with the
+/// operations of a boot and with the bound, not with the schedules. It loads a flash for one boot more than there are cuts, and
+/// keeps a table of the flashes on the way of each boot that does not go on with the one that was cut.
 ///
 /// # Errors
 ///
