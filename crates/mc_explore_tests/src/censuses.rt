@@ -3,8 +3,8 @@ ghost use Rattle.std.specs.Prelude.{◌≤◌};
 
 use crate::common::{rules_of, swap};
 use crate::hostile::{PAGES, flash_of};
-use crate::surveys::kind_of;
-use mc_explore::{Census, Explorer, Kind, Schedule, Start, survey, take_census};
+use crate::surveys::{kind_of, tally_of};
+use mc_explore::{Census, Kind, Schedule, Start, take_census};
 use mc_fixtures::worked;
 use mc_flash::{Flash, JournalFlash, SnapFlash};
 use std::alloc::Global;
@@ -24,16 +24,11 @@ fn census_of<F: Flash>(alloc: Global, start: &Start, bound: u32) -> Result<Strin
     lines_of(alloc, &census)
 }
 
-/// The lines but the last, by the tally of the rows that an explorer gives.
-fn tally_of(alloc: Global, start: &Start, bound: u32) -> Result<String, Fail>
-    requires { bound ≤ 16 }
-{
-    let mut explorer = Explorer::<JournalFlash>::start(alloc, start, bound as u8)?;
-    let tally = survey(&mut explorer, 10000)?;
-    let (rows, boot, none) = (tally.rows, tally.boot, tally.none);
-    let (panic, fault, most) = (tally.panic, tally.fault, tally.most_ops);
-    let first = format!(in alloc; "schedules {rows},boot {boot},none {none},")?;
-    Ok(format!(in alloc; "{first}panic {panic},fault {fault},most-ops {most},")?)
+/// Whether a census tells what a tally of all rows does.
+fn tells_as(census: &str, tally: &str) -> Option<bool> {
+    let counts = census.strip_prefix("schedules ")?;
+    let rows = tally.strip_prefix("rows ")?.strip_suffix("end,")?;
+    Some(counts.starts_with(rows))
 }
 
 /// A line has the kind of the start, the grain, the profile, the most cuts, and how the lines of the census begin.
@@ -79,8 +74,8 @@ fn schedules_of_hostile_flashes_are_counted(rt: HostRuntime) -> Result<(), Fail>
         let start = start.with_rules(rules_of(grain, profile));
         let bound = cuts.parse::<u32>()?.min(16);
         let told = census_of::<JournalFlash>(alloc, &start, bound)?;
-        let want = tally_of(alloc, &start, bound)?;
-        assert!(rt; told.as_str().starts_with(want.as_str()), "{row}");
+        let tally = tally_of(alloc, &start, bound as u8, 10000)?;
+        assert_eq!(rt; tells_as(told.as_str(), tally.as_str()), Some(true), "{row}");
         let rows = lines.parse::<u32>()?.saturating_sub(1);
         let want = format!(in alloc; "schedules {rows},")?;
         assert!(rt; told.as_str().starts_with(want.as_str()), "{row}");

@@ -33,7 +33,7 @@ fn lines_of<F: Flash + Drop>(
 }
 
 /// The same from a start.
-fn tally_of(alloc: Global, start: &Start, bound: u8, limit: u32) -> Result<String, Fail>
+pub fn tally_of(alloc: Global, start: &Start, bound: u8, limit: u32) -> Result<String, Fail>
     requires few { bound ≤ 16 }
     requires some { 1 ≤ limit }
 {

@@ -485,7 +485,7 @@ pub fn commands() -> &'static [Subcommand] {
     &COMMANDS
 }
 
-static COMMANDS: [Subcommand; 13] = [
+static COMMANDS: [Subcommand; 14] = [
     Subcommand {
         name: "create",
         aliases: &["sign"],
