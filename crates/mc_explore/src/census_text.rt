@@ -50,7 +50,10 @@ impl fmt::Display for Census {
         let panic = Count(self.panic);
         let fault = Count(self.fault);
         let most_operations = self.most_operations;
-        write!(f, "panic {panic}\nfault {fault}\nmost-ops {most_operations}\n")?;
+        write!(
+            f,
+            "panic {panic}\nfault {fault}\nmost-ops {most_operations}\n"
+        )?;
         let first = First(self.first_not_boot);
         write!(f, "first-not-boot {first}\n")
     }

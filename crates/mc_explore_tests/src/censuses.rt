@@ -75,7 +75,11 @@ fn schedules_of_hostile_flashes_are_counted(rt: HostRuntime) -> Result<(), Fail>
         let bound = cuts.parse::<u32>()?.min(16);
         let told = census_of::<JournalFlash>(alloc, &start, bound)?;
         let tally = tally_of(alloc, &start, bound as u8, 10000)?;
-        assert_eq!(rt; tells_as(told.as_str(), tally.as_str()), Some(true), "{row}");
+        assert_eq!(rt;
+            tells_as(told.as_str(), tally.as_str()),
+            Some(true),
+            "{row}"
+        );
         let rows = lines.parse::<u32>()?.saturating_sub(1);
         let want = format!(in alloc; "schedules {rows},")?;
         assert!(rt; told.as_str().starts_with(want.as_str()), "{row}");
