@@ -7,7 +7,8 @@ use Rattle.mc_boot.proofs.outcome.Outcome.read.Goals as goal
 pub begin-requires : goal.begin-requires
 begin-requires g c =
     images_read (g.F.Flash.seen c.args.flash.now).content c.slot_bytes.result.now c.slot_bytes-2.result.now c.slot_bytes.ensures.value c.slot_bytes-2.ensures.value
-    c.read_among-primary.result.size c.read_among-secondary.result c.new-images.result c.read_among-primary.ensures.size c.read_among-secondary.ensures.size c.read_among-secondary.ensures.id c.new-images.ensures.valid
+    c.read_among-primary.result.size c.read_among-secondary.result c.new-images.result c.read_among-primary.ensures.size c.read_among-secondary.ensures.size
+    c.read_among-secondary.ensures.id c.new-images.ensures.valid
     c.new-images.ensures.size
 
 pub returns : goal.returns

@@ -33,7 +33,8 @@ returns c =
     let first = c.in-Ok.ensures.value in
     let second = c.in-Ok-read.ensures.value in
     let told = names c.args.kind c.args.a.now c.args.b.now (identity c.in-Ok.image.view) (identity c.in-Ok-read.image.view) first.2 second.2 in
-    let ids = told_ids c.args.kind c.named_of.result c.id-first.result c.id-second.result (identity c.in-Ok.image.view) (identity c.in-Ok-read.image.view) c.named_of.ensures c.id-first.ensures c.id-second.ensures in
+    let ids = told_ids c.args.kind c.named_of.result c.id-first.result c.id-second.result (identity c.in-Ok.image.view) (identity c.in-Ok-read.image.view)
+    c.named_of.ensures c.id-first.ensures c.id-second.ensures in
     (search rules, refl, refl, search rules, ap (λ (p : Identity × Identity). Some p) ids ∙ told)
 
 pub invariant_of-result : goal.invariant_of-result
