@@ -1,7 +1,7 @@
 //! What the tests of command lines share: files in memory, and sessions over them.
 use super::faulty::FaultyFiles;
 use mc_command::run;
-use mc_fixtures::{FIRST_TOLD, GOOD_LINE, SECOND_TOLD, named};
+use mc_fixtures::{FIRST_TOLD, Fault, GOOD_LINE, SECOND_TOLD, named};
 use std::alloc::{AllocError, Global};
 use std::cell::RefCell;
 use std::io::Read;
