@@ -21,7 +21,7 @@ use crate::loading::{ask, load};
 use crate::rounds::Twice;
 use crate::row::CampaignRow;
 use mc_boot::restart_law;
-use mc_explore::{ExploreError, RowSource, Start, write_line};
+use mc_explore::{ExploreError, Line, RowSource, Start, write_line, write_text};
 use mc_flash::Flash;
 use mc_walk::{Tour, Walk};
 use std::alloc::Global;
@@ -246,7 +246,10 @@ impl<'a, F: Flash + Drop> RowSource for CampaignExplorer<'a, F> {
     }
 
     fn write_row<W: Write>(&self, row: CampaignRow, writer: &mut W) -> Result<(), ExploreError> {
-        write_line(writer, row)
+        let mut line = Line::new();
+        row.put_into(&mut line);
+        line.put("\n");
+        write_text(writer, line.as_str().as_bytes())
     }
 
     fn write_next<W: Write>(&self, writer: &mut W) -> Result<(), ExploreError> {

@@ -1,10 +1,10 @@
 //! Rows of campaigns as text.
-ghost use Rattle.std.specs.Prelude.{Some};
+ghost use Rattle.std.specs.Prelude.{◌≡◌, ◌<◌, [], length, Some};
 ghost use Rattle.mc_campaign.specs.RowText.{row_text};
 ghost use Rattle.mc_campaign.specs.State.{told};
 
 use crate::row::CampaignRow;
-use mc_explore::Line;
+use mc_explore::{Line, MOST_LINE};
 use std::fmt;
 
 /// The campaign; the result, the type and how many operations happened, of the boot that ends the first round and of the one that
@@ -15,13 +15,24 @@ impl fmt::Display for CampaignRow {
 
     fn fmt<W: fmt::Write>(&self, f: &mut fmt::Formatter<W>) -> fmt::Result {
         let mut line = Line::new();
-        self.campaign.put_into(&mut line);
+        self.put_into(&mut line);
+        f.write_str(line.as_str())
+    }
+}
+
+impl CampaignRow {
+    // Puts its text into an empty line, where there is room for it and more.
+    pub(crate) fn put_into(&self, line: &mut Line)
+        requires { line.old ≡ [] }
+        ensures text { line.new ≡ row_text (told self.now) }
+        ensures length { length line.new < MOST_LINE }
+    {
+        self.campaign.put_into(line);
         line.put(" ");
         line.put_outcome(&self.first);
         line.put(" ");
         line.put_outcome(&self.second);
         line.put(" ");
         line.put_slots(&self.second);
-        f.write_str(line.as_str())
     }
 }

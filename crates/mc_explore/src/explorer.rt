@@ -12,9 +12,10 @@ ghost use Rattle.mc_tree.specs.Paths.{After};
 
 use crate::cursor::Cursor;
 use crate::error::ExploreError;
+use crate::line::Line;
 use crate::loading::{ask, load};
 use crate::once::Once;
-use crate::output::write_line;
+use crate::output::{write_line, write_text};
 use crate::row::Row;
 use crate::source::RowSource;
 use crate::{Schedule, Start};
@@ -254,7 +255,10 @@ impl<'a, F: Flash + Drop> RowSource for Explorer<'a, F> {
     }
 
     fn write_row<W: Write>(&self, row: Row, writer: &mut W) -> Result<(), ExploreError> {
-        write_line(writer, row)
+        let mut line = Line::new();
+        row.put_into(&mut line);
+        line.put("\n");
+        write_text(writer, line.as_str().as_bytes())
     }
 
     fn write_next<W: Write>(&self, writer: &mut W) -> Result<(), ExploreError> {

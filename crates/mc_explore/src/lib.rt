@@ -37,7 +37,7 @@ pub use line::{Line, MOST_LINE};
 pub use loading::load_for;
 pub use mc_boot::Kind;
 pub use once::{Once, Told};
-pub use output::write_line;
+pub use output::{write_line, write_text};
 pub use pages::{write_page, write_page_until, write_rows};
 pub use replaying::{ReplayError, flash_at_cut, replay, replay_on};
 pub use row::Row;

@@ -23,6 +23,7 @@ impl Model for Line {
 
 impl Line {
     /// The empty line.
+    #[inline]
     pub fn new() -> Line
         ensures { result ≡ [] }
     {
@@ -32,6 +33,7 @@ impl Line {
     }
 
     /// The text so far.
+    #[inline]
     pub fn as_str(&self) -> &str
         ensures { result.now ≡ self.now }
     {
@@ -39,6 +41,7 @@ impl Line {
     }
 
     /// Adds a text, for which there is room.
+    #[inline]
     pub fn put(&mut self, text: &str)
         requires { length self.old + length text.now ≤ MOST_LINE }
         ensures text { self.new ≡ self.old ++ text.now }
@@ -48,6 +51,7 @@ impl Line {
     }
 
     /// Adds a number in decimal digits, of which there are at most ten.
+    #[inline]
     pub fn put_number(&mut self, number: u32)
         requires { length self.old + 10 ≤ MOST_LINE }
         ensures text { self.new ≡ self.old ++ decimal number }

@@ -96,6 +96,7 @@ impl Once {
 
     /// What is told of a child on its way, where it follows from what was told of its parent: then the uncut boots of both
     /// leave the same flash. Elsewhere the boot at power-on from the child.
+    #[inline]
     pub fn derive<F: Flash>(&self, flash: &F, at: &Boot, parent: &Told) -> Result<Told, Boot>
         requires { IsChild (once self.now.rules self.now.layout) at.now parent.now
             (F.seen flash.now) }
@@ -174,6 +175,7 @@ impl Branches for Once {
         self.tell(flash, boot, start)
     }
 
+    #[inline]
     fn child<F: Flash>(
         self,
         flash: &mut F,

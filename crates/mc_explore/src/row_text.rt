@@ -1,5 +1,5 @@
 //! Rows as text.
-ghost use Rattle.std.specs.Prelude.{◌≡◌, ◌+◌, ◌≤◌, ◌++◌, length, Some, option_map};
+ghost use Rattle.std.specs.Prelude.{◌≡◌, ◌+◌, ◌<◌, ◌≤◌, ◌++◌, [], length, Some, option_map};
 ghost use Rattle.mc_boot.specs.Image.{identity_of};
 ghost use Rattle.mc_boot.specs.Outcome.{shown};
 ghost use Rattle.mc_image.specs.VersionText.{version_line};
@@ -79,11 +79,22 @@ impl fmt::Display for Row {
 
     fn fmt<W: fmt::Write>(&self, f: &mut fmt::Formatter<W>) -> fmt::Result {
         let mut line = Line::new();
-        self.schedule.put_into(&mut line);
+        self.put_into(&mut line);
+        f.write_str(line.as_str())
+    }
+}
+
+impl Row {
+    // Puts its text into an empty line, where there is room for it and more.
+    pub(crate) fn put_into(&self, line: &mut Line)
+        requires { line.old ≡ [] }
+        ensures text { line.new ≡ row_text (told self.now) }
+        ensures length { length line.new < MOST_LINE }
+    {
+        self.schedule.put_into(line);
         line.put(" ");
         line.put_outcome(&self.outcome);
         line.put(" ");
         line.put_slots(&self.outcome);
-        f.write_str(line.as_str())
     }
 }

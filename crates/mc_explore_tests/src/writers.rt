@@ -1,14 +1,13 @@
 //! Pages over writers that take one byte a call, and fail at each call in turn.
-ghost use Rattle.std.specs.Prelude.{◌≡◌, ◌≤◌, IfOk};
+ghost use Rattle.std.specs.Prelude.{◌≤◌};
 
 use crate::common::swap;
 use crate::tearing::PAGE;
 use mc_campaign::{CampaignExplorer, write_campaign_page};
 use mc_explore::{ExploreError, Explorer, Kind, Start, write_page};
+use mc_fixtures::{FAULTS, FailingWriter, Failure, Fault};
 use mc_flash::SnapFlash;
 use std::alloc::Global;
-use std::io;
-use std::io::Write;
 use std::process::Abort;
 use std::test::Fail;
 
@@ -18,57 +17,6 @@ pub fn ended(told: Result<(), ExploreError>) -> Result<Result<(), ExploreError>,
         told?;
     }
     Ok(told)
-}
-
-/// What a call does that fails.
-#[derive(Clone, Copy, Debug)]
-enum Fault {
-    /// It returns an error.
-    Error,
-    /// It returns the error of a call that was interrupted.
-    Interruption,
-    /// It takes no bytes.
-    NoBytes,
-}
-
-impl Fault {
-    fn answer(self) -> io::Result<usize>
-        ensures { IfOk result (λ n. n ≡ 0) }
-    {
-        match self {
-            Fault::Error => Err(io::Error::from(io::ErrorKind::Other)),
-            Fault::Interruption => Err(io::Error::from(io::ErrorKind::Interrupted)),
-            Fault::NoBytes => Ok(0),
-        }
-    }
-}
-
-/// Takes so many bytes, one a call. The next call fails, and each later one if the fault lasts.
-#[derive(Drop)]
-struct Narrow {
-    room: usize,
-    taken: Vec<u8>,
-    fault: Fault,
-    lasts: bool,
-}
-
-impl Write for Narrow {
-    fn write(&mut self, bytes: &[u8]) -> io::Result<usize> {
-        let Some(left) = self.room.checked_sub(1) else {
-            if !self.lasts {
-                self.room = usize::MAX;
-            }
-            return self.fault.answer();
-        };
-        self.room = left;
-        let count = bytes.len().min(1);
-        self.taken.extend_from_slice(&bytes[..count])?;
-        Ok(count)
-    }
-
-    fn flush(&mut self) -> io::Result<()> {
-        Ok(())
-    }
 }
 
 /// What was told of a page, of another page where that failed, and then of the next row: their errors.
@@ -91,7 +39,7 @@ trait Paged {
         start: &Start,
         bound: u8,
         limit: u32,
-        narrow: &mut Narrow,
+        writer: &mut FailingWriter,
     ) -> Result<Errors, Fail>
         requires bound { bound ≤ 16 }
         requires limit { 1 ≤ limit };
@@ -106,13 +54,13 @@ impl Paged for Schedules {
         start: &Start,
         bound: u8,
         limit: u32,
-        narrow: &mut Narrow,
+        writer: &mut FailingWriter,
     ) -> Result<Errors, Fail> {
         let mut explorer = Explorer::<SnapFlash>::start(alloc, start, bound)?;
-        let Err(first) = ended(write_page(&mut explorer, limit, narrow))? else {
+        let Err(first) = ended(write_page(&mut explorer, limit, writer))? else {
             return Ok([None; 3]);
         };
-        let again = write_page(&mut explorer, limit, narrow).err();
+        let again = write_page(&mut explorer, limit, writer).err();
         Ok([Some(first), again, explorer.next_row().err()])
     }
 }
@@ -126,13 +74,13 @@ impl Paged for Campaigns {
         start: &Start,
         bound: u8,
         limit: u32,
-        narrow: &mut Narrow,
+        writer: &mut FailingWriter,
     ) -> Result<Errors, Fail> {
         let mut explorer = CampaignExplorer::<SnapFlash>::start(alloc, start, bound, false)?;
-        let Err(first) = ended(write_campaign_page(&mut explorer, limit, narrow))? else {
+        let Err(first) = ended(write_campaign_page(&mut explorer, limit, writer))? else {
             return Ok([None; 3]);
         };
-        let again = write_campaign_page(&mut explorer, limit, narrow).err();
+        let again = write_campaign_page(&mut explorer, limit, writer).err();
         Ok([Some(first), again, explorer.next_row().err()])
     }
 }
@@ -148,15 +96,22 @@ fn page_of(alloc: Global, rows: usize, last: &[u8]) -> Result<Vec<u8>, Fail> {
     Ok(page)
 }
 
-/// How a write fails, and whether each later one does.
-static FAULTS: [(Fault, bool); 6] = [
-    (Fault::Error, true),
-    (Fault::Error, false),
-    (Fault::Interruption, true),
-    (Fault::Interruption, false),
-    (Fault::NoBytes, true),
-    (Fault::NoBytes, false),
-];
+/// A writer that fails after so many bytes, each of which was a call.
+fn writer_after(
+    alloc: Global,
+    calls: usize,
+    fault: Fault,
+    lasts: bool,
+) -> Result<FailingWriter, Fail> {
+    Ok(FailingWriter {
+        taken: Vec::with_capacity(alloc, 1024)?,
+        failure: Failure {
+            calls,
+            fault,
+            lasts,
+        },
+    })
+}
 
 /// Writes a page over a writer that fails at each call in turn, and over one that never does: where it fails a prefix of the page
 /// is out, and nothing comes after it.
@@ -173,26 +128,16 @@ fn meets_failing_writes<P: Paged>(
     let start = swap(alloc, Kind::Test)?;
     for room in 0..page.len() {
         for (fault, lasts) in FAULTS {
-            let mut narrow = Narrow {
-                room,
-                taken: Vec::with_capacity(alloc, 1024)?,
-                fault,
-                lasts,
-            };
-            let told = P::errors(alloc, &start, bound, limit, &mut narrow)?;
+            let mut writer = writer_after(alloc, room, fault, lasts)?;
+            let told = P::errors(alloc, &start, bound, limit, &mut writer)?;
             assert_eq!(rt; told, STOPPED);
-            assert_eq!(rt; narrow.taken.as_slice(), &page[..room]);
+            assert_eq!(rt; writer.taken.as_slice(), &page[..room]);
         }
     }
-    let mut narrow = Narrow {
-        room: usize::MAX,
-        taken: Vec::with_capacity(alloc, 1024)?,
-        fault: Fault::Error,
-        lasts: true,
-    };
-    let told = P::errors(alloc, &start, bound, limit, &mut narrow)?;
+    let mut writer = writer_after(alloc, usize::MAX, Fault::Error, true)?;
+    let told = P::errors(alloc, &start, bound, limit, &mut writer)?;
     assert_eq!(rt; told, [None; 3]);
-    assert_eq!(rt; narrow.taken.as_slice(), page);
+    assert_eq!(rt; writer.taken.as_slice(), page);
     Ok(())
 }
 
@@ -226,17 +171,12 @@ fn a_failed_write_ends_an_exploration_of_campaigns(rt: HostRuntime) -> Result<()
 
 #[test]
 fn a_page_of_all_rows_is_cut_off(rt: HostRuntime) -> Result<(), Fail> {
-    let mut narrow = Narrow {
-        room: 100,
-        taken: Vec::with_capacity(rt.alloc(), 1024)?,
-        fault: Fault::Error,
-        lasts: true,
-    };
+    let mut writer = writer_after(rt.alloc(), 100, Fault::Error, true)?;
     let start = swap(rt.alloc(), Kind::Test)?;
-    let told = Schedules::errors(rt.alloc(), &start, 1, 19, &mut narrow)?;
+    let told = Schedules::errors(rt.alloc(), &start, 1, 19, &mut writer)?;
     assert_eq!(rt; told, STOPPED);
     assert_eq!(rt;
-        narrow.taken.as_slice(),
+        writer.taken.as_slice(),
         PAGE.get(..100).unwrap_or_default()
     );
     Ok(())

@@ -5,6 +5,10 @@
 ghost use Rattle.std.specs.Prelude.{◌≡◌, IfOk};
 ghost use Rattle.mc_flash.specs.Worked.{worked};
 
+mod failing;
+
+pub use failing::{FAULTS, FailingReader, FailingWriter, Failure, Fault};
+
 use mc_flash::{Layout, LayoutError};
 use mc_image::{ImageError, ImageParts, Version, write_image};
 use std::alloc::Global;

@@ -12,6 +12,7 @@ use crate::frame::Frame;
 use mc_flash::{Flash, FlashError};
 
 /// Marks the flash at a child and puts its frame on the others, and tells of it.
+#[inline]
 pub(crate) fn enter<F: Flash, B: Branches>(
     branches: B,
     flash: &mut F,

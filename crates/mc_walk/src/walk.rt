@@ -140,6 +140,7 @@ impl<F: Flash, B: Branches> Walk<F, B> {
     /// # Errors
     ///
     /// `Memory` where the flash was refused memory; then the walk stands nowhere.
+    #[inline]
     pub fn go_down(&mut self, number: u32, known: &B::Known) -> Result<bool, FlashError>
         requires { self.old.stands ≡ true }
         ensures step { IfOk result (λ went. GoesDown (B.kind self.old.branches) number self.old went
@@ -181,6 +182,7 @@ impl<F: Flash, B: Branches> Walk<F, B> {
     ///
     /// `Memory` where the flash was refused memory; then the walk stands nowhere.
     #[tactic(auto, using(mc_flash::specs::SpendsFacts::ran_out_later, mc_flash::specs::SpendsFacts::spent_back))]
+    #[inline]
     pub fn climb(&mut self, known: &B::Known) -> Result<bool, FlashError>
         requires { self.old.stands ≡ true }
         ensures step { IfOk result (λ went. Climbs (B.kind self.old.branches) self.old went

@@ -468,7 +468,8 @@ none, panic, fault), the most operations of a last boot, and next CURSOR or end,
 const AFTER_CENSUS: &str = "\
 Seven lines: how many schedules of at most K power cuts can occur, how many of them have each RESULT
 (boot, none, panic, fault), the most operations of a last boot, and the first schedule whose result is
-not boot, or none. They are not listed, so that K of 16 takes no longer than a second.
+not boot, or none. They are not listed, so that even K of 16 takes less than a second on most layouts;
+with the grain unit and large images it may take half a minute and 300 MB.
 A number of 2^128 - 1 or more is printed as >=340282366920938463463374607431768211455.";
 
 const AFTER_CAMPAIGN: &str = "\

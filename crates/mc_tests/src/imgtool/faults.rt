@@ -1,103 +1,12 @@
 //! The engines over readers and writers that move one byte a call, and fail at each call in turn.
-ghost use Rattle.std.specs.Prelude.{◌≡◌, IfOk};
-
 use super::{ended, options};
-use mc_fixtures::{COUNTED_IMAGE, GOOD_LINE, PAYLOAD, PLAIN_IMAGE, REPORT};
+use mc_fixtures::{
+    COUNTED_IMAGE, FAULTS, FailingReader, FailingWriter, Failure, Fault, GOOD_LINE, PAYLOAD, PLAIN_IMAGE, REPORT,
+};
 use mc_imgtool::{ToolError, create, dumpinfo, verify};
 use std::alloc::Global;
-use std::io;
 use std::io::{Read, Write};
 use std::test::Fail;
-
-/// What a call does that fails.
-#[derive(Clone, Copy, Debug)]
-enum Fault {
-    /// It returns an error.
-    Error,
-    /// It returns the error of a call that was interrupted.
-    Interruption,
-    /// It moves no bytes.
-    NoBytes,
-}
-
-impl Fault {
-    fn answer(self) -> io::Result<usize>
-        ensures { IfOk result (λ n. n ≡ 0) }
-    {
-        match self {
-            Fault::Error => Err(io::Error::from(io::ErrorKind::Other)),
-            Fault::Interruption => Err(io::Error::from(io::ErrorKind::Interrupted)),
-            Fault::NoBytes => Ok(0),
-        }
-    }
-}
-
-/// Which call fails, and how.
-#[derive(Clone, Copy, Debug)]
-struct Failure {
-    /// How many calls come before it.
-    calls: usize,
-    fault: Fault,
-    /// Whether each later call fails as well. Otherwise they go on with the right bytes.
-    lasts: bool,
-}
-
-impl Failure {
-    /// Counts a call, and returns whether it fails.
-    fn comes(&mut self) -> bool {
-        match self.calls.checked_sub(1) {
-            Some(left) => {
-                self.calls = left;
-                false
-            }
-            None => {
-                if !self.lasts {
-                    self.calls = usize::MAX;
-                }
-                true
-            }
-        }
-    }
-}
-
-/// A reader that fails.
-#[derive(Drop)]
-struct FaultyReader<'a> {
-    left: &'a [u8],
-    failure: Failure,
-}
-
-impl Read for FaultyReader<'_> {
-    fn read(&mut self, buffer: &mut [u8]) -> io::Result<usize> {
-        if self.failure.comes() {
-            return self.failure.fault.answer();
-        }
-        let room = buffer.len().min(1);
-        self.left.read(&mut buffer[..room])
-    }
-}
-
-/// A writer that fails.
-#[derive(Drop)]
-struct FaultyWriter {
-    taken: Vec<u8>,
-    failure: Failure,
-}
-
-impl Write for FaultyWriter {
-    fn write(&mut self, buffer: &[u8]) -> io::Result<usize> {
-        if self.failure.comes() {
-            return self.failure.fault.answer();
-        }
-        let room = buffer.len().min(1);
-        self.taken.extend_from_slice(&buffer[..room])?;
-        Ok(room)
-    }
-
-    fn flush(&mut self) -> io::Result<()> {
-        Ok(())
-    }
-}
 
 #[derive(Clone, Copy, Debug)]
 enum Engine {
@@ -142,7 +51,7 @@ impl Engine {
 
 /// Whether an engine over a reader that fails so ends with that, and writes nothing.
 fn ends_at_a_read(alloc: Global, engine: Engine, failure: Failure) -> Result<bool, Fail> {
-    let mut reader = FaultyReader {
+    let mut reader = FailingReader {
         left: engine.input(),
         failure,
     };
@@ -174,12 +83,7 @@ fn read_that_is_missed(
 #[test]
 fn a_failed_read_writes_nothing(rt: HostRuntime) -> Result<(), Fail> {
     for engine in ENGINES {
-        for (fault, lasts) in [
-            (Fault::Error, true),
-            (Fault::Error, false),
-            (Fault::Interruption, true),
-            (Fault::Interruption, false),
-        ] {
+        for (fault, lasts) in FAULTS.into_iter().take(4) {
             let missed = read_that_is_missed(rt.alloc(), engine, fault, lasts)?;
             assert_eq!(rt; missed, None, "{engine:?} {fault:?} {lasts}");
         }
@@ -191,14 +95,14 @@ fn a_failed_read_writes_nothing(rt: HostRuntime) -> Result<(), Fail> {
 /// the beginning of its text.
 fn ends_at_a_write(alloc: Global, engine: Engine, failure: Failure) -> Result<bool, Fail> {
     let text = engine.text();
-    let mut reader = FaultyReader {
+    let mut reader = FailingReader {
         left: engine.input(),
         failure: Failure {
             calls: usize::MAX,
             ..failure
         },
     };
-    let mut writer = FaultyWriter {
+    let mut writer = FailingWriter {
         taken: Vec::with_capacity(alloc, text.len())?,
         failure,
     };
@@ -234,14 +138,7 @@ fn write_that_is_missed(
 #[test]
 fn a_failed_write_leaves_a_prefix(rt: HostRuntime) -> Result<(), Fail> {
     for engine in ENGINES {
-        for (fault, lasts) in [
-            (Fault::Error, true),
-            (Fault::Error, false),
-            (Fault::Interruption, true),
-            (Fault::Interruption, false),
-            (Fault::NoBytes, true),
-            (Fault::NoBytes, false),
-        ] {
+        for (fault, lasts) in FAULTS {
             let missed = write_that_is_missed(rt.alloc(), engine, fault, lasts)?;
             assert_eq!(rt; missed, None, "{engine:?} {fault:?} {lasts}");
         }

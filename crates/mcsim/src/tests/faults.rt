@@ -1,8 +1,8 @@
 //! Command lines whose reads and writes fail, each at each call.
-use super::faulty::{Fault, FaultyFile};
+use super::faulty::FaultyFile;
 use super::support::{ran_over, words_of};
 use mc_command::run;
-use mc_fixtures::{PAYLOAD, PLAIN_IMAGE};
+use mc_fixtures::{Failure, Fault, PAYLOAD, PLAIN_IMAGE};
 use std::alloc::Global;
 use std::cell::RefCell;
 use std::process::Abort;
@@ -17,7 +17,7 @@ static CREATE: &str = "create --version 1.2.3+4 --header-size 32 --pad-header in
 fn ends(
     rt: &impl Abort,
     alloc: Global,
-    calls: (u32, u32, Fault),
+    calls: (usize, usize, Fault),
     text: &str,
     written: &[u8],
 ) -> Result<(), Fail> {
@@ -53,7 +53,7 @@ fn create_meets_failing_writes(rt: HostRuntime) -> Result<(), Fail> {
     let text = "! mcsim: E25 Write\nexit 3\n";
     for place in 0..80 {
         for fault in FAULTS {
-            let prefix = &PLAIN_IMAGE[..place as usize];
+            let prefix = &PLAIN_IMAGE[..place];
             ends(&rt, rt.alloc(), (1000, place, fault), text, prefix)?;
         }
     }
@@ -74,8 +74,11 @@ fn status_of(rt: &HostRuntime, line: &str) -> Result<u8, Fail> {
     let failing = || FaultyFile {
         rest: &[],
         written: &unused,
-        calls: 0,
-        fault: Fault::Error,
+        failure: Failure {
+            calls: 0,
+            fault: Fault::Error,
+            lasts: true,
+        },
     };
     Ok(run(
         rt,

@@ -1,36 +1,11 @@
 //! Files and streams that fail once.
-ghost use Rattle.std.specs.Prelude.{◌≡◌, IfOk};
-
-use mc_fixtures::named;
+use mc_fixtures::{Failure, Fault, named};
 use std::alloc::Allocator;
 use std::cell::RefCell;
 use std::fs::{Metadata, OpenFile, OpenOptions};
 use std::io;
 use std::io::{Read, Seek, SeekFrom, Write};
 use std::rt::Files;
-
-/// What a call does that fails.
-#[derive(Clone, Copy, Debug)]
-pub enum Fault {
-    /// It returns an error.
-    Error,
-    /// It returns the error of a call that was interrupted.
-    Interruption,
-    /// It moves no bytes.
-    NoBytes,
-}
-
-impl Fault {
-    fn answer(self) -> io::Result<usize>
-        ensures { IfOk result (λ n. n ≡ 0) }
-    {
-        match self {
-            Fault::Error => Err(io::Error::from(io::ErrorKind::Other)),
-            Fault::Interruption => Err(io::Error::from(io::ErrorKind::Interrupted)),
-            Fault::NoBytes => Ok(0),
-        }
-    }
-}
 
 /// A file, or a stream, that moves one byte a call, and fails once.
 #[derive(Drop)]
@@ -39,31 +14,13 @@ pub struct FaultyFile<'a> {
     pub rest: &'a [u8],
     /// What was written.
     pub written: &'a RefCell<Vec<u8>>,
-    /// How many calls come before the one that fails.
-    pub calls: u32,
-    pub fault: Fault,
-}
-
-impl FaultyFile<'_> {
-    /// Counts a call, and returns whether it is the one that fails.
-    fn fails(&mut self) -> bool {
-        match self.calls.checked_sub(1) {
-            Some(left) => {
-                self.calls = left;
-                false
-            }
-            None => {
-                self.calls = u32::MAX;
-                true
-            }
-        }
-    }
+    pub failure: Failure,
 }
 
 impl Read for FaultyFile<'_> {
     fn read(&mut self, buf: &mut [u8]) -> io::Result<usize> {
-        if self.fails() {
-            return self.fault.answer();
+        if self.failure.comes() {
+            return self.failure.fault.answer();
         }
         let room = buf.len().min(1);
         self.rest.read(&mut buf[..room])
@@ -72,8 +29,8 @@ impl Read for FaultyFile<'_> {
 
 impl Write for FaultyFile<'_> {
     fn write(&mut self, buf: &[u8]) -> io::Result<usize> {
-        if self.fails() {
-            return self.fault.answer();
+        if self.failure.comes() {
+            return self.failure.fault.answer();
         }
         let room = buf.len().min(1);
         match self.written.try_borrow_mut() {
@@ -125,9 +82,9 @@ pub struct FaultyFiles<'a> {
     /// What was written to `out`.
     pub written: &'a RefCell<Vec<u8>>,
     /// How many calls of `in` come before the one that fails.
-    pub reads: u32,
+    pub reads: usize,
     /// How many calls of `out` come before the one that fails.
-    pub writes: u32,
+    pub writes: usize,
     pub fault: Fault,
 }
 
@@ -141,15 +98,18 @@ impl<'a> Files for FaultyFiles<'a> {
             "in" => (self.input, self.reads),
             "out" => (&[] as &[u8], self.writes),
             _ => match named(path) {
-                Some(bytes) => (bytes, u32::MAX),
+                Some(bytes) => (bytes, usize::MAX),
                 None => return Err(io::Error::from(io::ErrorKind::NotFound)),
             },
         };
         Ok(FaultyFile {
             rest,
             written: self.written,
-            calls,
-            fault: self.fault,
+            failure: Failure {
+                calls,
+                fault: self.fault,
+                lasts: false,
+            },
         })
     }
 

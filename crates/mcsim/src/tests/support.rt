@@ -1,7 +1,7 @@
 //! What the tests of command lines share: files in memory, and sessions over them.
-use super::faulty::{Fault, FaultyFiles};
+use super::faulty::FaultyFiles;
 use mc_command::run;
-use mc_fixtures::{FIRST_TOLD, GOOD_LINE, SECOND_TOLD, named};
+use mc_fixtures::{FIRST_TOLD, Fault, GOOD_LINE, SECOND_TOLD, named};
 use std::alloc::{AllocError, Global};
 use std::cell::RefCell;
 use std::io::Read;
@@ -78,7 +78,7 @@ pub fn ran_over(
     alloc: Global,
     line: &str,
     mut input: &[u8],
-    calls: (u32, u32, Fault),
+    calls: (usize, usize, Fault),
 ) -> Result<Outcome, Fail> {
     let written = RefCell::new(Vec::new(alloc));
     let (reads, writes, fault) = calls;
@@ -97,7 +97,7 @@ pub fn ran_over(
 
 /// The same where no call fails.
 pub fn ran(alloc: Global, line: &str, input: &[u8]) -> Result<Outcome, Fail> {
-    ran_over(alloc, line, input, (u32::MAX, u32::MAX, Fault::Error))
+    ran_over(alloc, line, input, (usize::MAX, usize::MAX, Fault::Error))
 }
 
 /// What a command line tells over files in memory, with no bytes on standard input.
