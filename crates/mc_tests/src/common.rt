@@ -6,13 +6,12 @@ use std::fmt::Display;
 use std::test::Fail;
 
 /// What stands for what in the tests' texts: the two images with the swap for a test asked for; the primary's trailer of a swap
-/// of 80 bytes that was begun; a secondary of zeros; the magic of a trailer; the line for the plain image; and the report of the
+/// of 80 bytes that was begun; the magic of a trailer; the line for the plain image; and the report of the
 /// counted one, up to what comes behind it.
-fn words() -> [(&'static str, &'static str); 6] {
+fn words() -> [(&'static str, &'static str); 5] {
     [
         ("IMAGES", "0=first,1024=second,1776=MAGIC"),
         ("BEGUN", "976=50000000,1008=MAGIC"),
-        ("FULL", "1024=zeros,1465=zeros"),
         ("MAGIC", "77c295f360d2ef7f3552500f2cb67980"),
         ("LINE", GOOD_LINE),
         (
