@@ -2,113 +2,23 @@
 ghost use Rattle.std.specs.Prelude.{◌≡◌};
 ghost use Rattle.mc_boot.specs.Boot.{IsBootOf};
 
-mod confirms;
 mod cuts;
-mod places;
+mod joins;
 
-use mc_boot::{Boot, BootResult, ImageId, Outcome, confirm, outcome_after};
-use mc_fixtures::{FIRST_IMAGE, SECOND_IMAGE, worked};
-use mc_flash::{Bytes16, Flash, FlashError, Grain, Layout, Op, Slot, SnapFlash};
-use mc_image::Version;
-use mc_trailer::{MAGIC, Rules, SwapType};
-use std::alloc::Global;
+use crate::common::flash_of;
+use mc_boot::{Boot, BootResult, Outcome, Rejoin, confirm};
+use mc_fixtures::{FIRST_TOLD, SECOND_TOLD};
+use mc_flash::{Flash, FlashError, Op, Slot, SnapFlash};
+use mc_trailer::Rules;
+use std::alloc::{AllocError, Global};
 use std::test::Fail;
-
-/// The swap-size of an image of 80 bytes.
-const SIZE: [u8; 4] = [80, 0, 0, 0];
 
 /// A flag or a status entry of one unit.
 const ONE: [u8; 8] = [1, 0xff, 0xff, 0xff, 0xff, 0xff, 0xff, 0xff];
 
-fn flash_of(alloc: Global, primary: &[u8; 1024], secondary: &[u8; 768]) -> Result<SnapFlash, Fail> {
-    let layout = worked()?;
-    Ok(SnapFlash::load(alloc, &layout, Grain::Call, primary, secondary, 1)?)
-}
-
-/// The first image in the primary and nothing else.
-fn image_alone() -> [u8; 1024] {
-    let mut primary = [0xff; 1024];
-    primary[..80].copy_from_slice(&FIRST_IMAGE);
-    primary
-}
-
-/// The second image in the secondary, its magic and this image-ok: a swap is asked for.
-fn asking(image_ok: u8) -> [u8; 768] {
-    let mut secondary = [0xff; 768];
-    secondary[..80].copy_from_slice(&SECOND_IMAGE);
-    secondary[744] = image_ok;
-    secondary[752..].copy_from_slice(&MAGIC);
-    secondary
-}
-
-/// The two images, and the swap for good is asked for.
-fn perm_flash(alloc: Global) -> Result<SnapFlash, Fail> {
-    flash_of(alloc, &image_alone(), &asking(1))
-}
-
 /// The two images, and the swap for a test is asked for.
 fn test_flash(alloc: Global) -> Result<SnapFlash, Fail> {
-    flash_of(alloc, &image_alone(), &asking(0xff))
-}
-
-/// 0xff but for the primary's magic, this swap-size, and single bytes of the primary by their places.
-fn begun_flash(alloc: Global, size: [u8; 4], bytes: &[(usize, u8)]) -> Result<SnapFlash, Fail> {
-    let mut primary = [0xff; 1024];
-    primary[1008..].copy_from_slice(&MAGIC);
-    primary[976..980].copy_from_slice(&size);
-    for (place, byte) in bytes {
-        if *place < 1024 {
-            primary[*place] = *byte;
-        }
-    }
-    flash_of(alloc, &primary, &[0xff; 768])
-}
-
-fn id_of(image: &[u8; 80], major: u8) -> ImageId {
-    let mut digest = [0; 32];
-    digest.copy_from_slice(&image[48..]);
-    ImageId {
-        version: Version {
-            major,
-            minor: 0,
-            revision: 0,
-            build: 0,
-        },
-        size: 80,
-        digest,
-    }
-}
-
-/// What a boot without an image in either slot tells.
-fn bare(ends: BootResult, kind: SwapType, next: SwapType) -> Outcome {
-    Outcome {
-        result: ends,
-        kind,
-        ops: 0,
-        primary: None,
-        secondary: None,
-        next,
-    }
-}
-
-fn is_program(op: Op, slot: Slot, at: u32, bytes: &[u8]) -> bool {
-    match op {
-        Op::Program(other, place, new) => other == slot && place == at && new.bytes() == bytes,
-        _ => false,
-    }
-}
-
-fn are_same(a: Op, b: Op) -> bool {
-    match a {
-        Op::Erase(slot, sector) => {
-            matches!(b, Op::Erase(other, number) if other == slot && number == sector)
-        }
-        Op::Program(slot, at, bytes) => is_program(b, slot, at, bytes.bytes()),
-        Op::Copy(from, at, to, offset, len) => {
-            matches!(b, Op::Copy(source, start, target, place, count)
-                if source == from && start == at && target == to && place == offset && count == len)
-        }
-    }
+    flash_of(alloc, "IMAGES")
 }
 
 /// Makes so many steps, or all that there are.
@@ -132,95 +42,138 @@ fn told<F: Flash>(flash: &mut F, rules: Rules) -> Outcome
     boot.outcome(flash)
 }
 
-/// Whether these are the operations of the boot, one after the other.
-fn makes<F: Flash>(flash: &mut F, boot: &mut Boot, ops: &[Op]) -> bool
-    requires { IsBootOf (F.seen flash.old).geometry boot.old }
-    ensures { IsBootOf (F.seen flash.new).geometry boot.new }
-{
-    for op in ops {
-        let Some(next) = boot.peek() else {
-            return false;
+/// An outcome with the images' names in the place of what is told of them.
+fn text_of(alloc: Global, outcome: &Outcome) -> Result<String, AllocError> {
+    let text = format!(in alloc; "{outcome}")?;
+    let text = text.as_str().replace(alloc, FIRST_TOLD, "FIRST")?;
+    text.as_str().replace(alloc, SECOND_TOLD, "SECOND")
+}
+
+/// A slot in one letter.
+fn letter(slot: Slot) -> &'static str {
+    match slot {
+        Slot::Primary => "p",
+        Slot::Secondary => "s",
+    }
+}
+
+/// An operation with its bytes in digits.
+fn line_of(alloc: Global, op: Op) -> Result<String, AllocError> {
+    let (name, slot, at, rest) = match op {
+        Op::Erase(slot, sector) => ("erase", slot, sector, String::new(alloc)),
+        Op::Program(slot, at, bytes) => {
+            let digits = hex::encode(alloc, bytes.bytes())?;
+            ("program", slot, at, format!(in alloc; " {digits}")?)
+        }
+        Op::Copy(from, at, to, offset, len) => {
+            let to = letter(to);
+            ("copy", from, at, format!(in alloc; " {to}{offset} {len}")?)
+        }
+    };
+    let slot = letter(slot);
+    format!(in alloc; "{name} {slot}{at}{rest}\n")
+}
+
+/// The operations of a boot, a line for one that is refused, and the outcome. A step behind the last operation is none.
+fn course_of<F: Flash>(alloc: Global, flash: &mut F) -> Result<String, Fail> {
+    let mut boot = Boot::cold(flash, Rules::PLAIN);
+    let mut course = String::new(alloc);
+    for _ in 0..200u32 {
+        let Some(op) = boot.peek() else {
+            break;
         };
-        if !are_same(next, *op) {
-            return false;
-        }
-        if boot.step(flash).is_err() {
-            return false;
+        let line = line_of(alloc, op)?;
+        course.push_str(line.as_str())?;
+        if let Err(error) = boot.step(flash) {
+            let line = format!(in alloc; "{error}\n")?;
+            course.push_str(line.as_str())?;
         }
     }
-    boot.peek().is_none()
-}
-
-/// What a boot tells that ends with these images in the slots.
-fn booted(
-    kind: SwapType,
-    ops: u32,
-    primary: ImageId,
-    secondary: ImageId,
-    next: SwapType,
-) -> Outcome {
-    Outcome {
-        result: BootResult::Boot,
-        kind,
-        ops,
-        primary: Some(primary),
-        secondary: Some(secondary),
-        next,
-    }
-}
-
-fn first_image() -> ImageId {
-    id_of(&FIRST_IMAGE, 1)
-}
-
-fn second_image() -> ImageId {
-    id_of(&SECOND_IMAGE, 2)
+    boot.step(flash)?;
+    let outcome = text_of(alloc, &boot.outcome(flash))?;
+    course.push_str(outcome.as_str())?;
+    Ok(course)
 }
 
 /// What the swap for a test tells.
-fn tested() -> Outcome {
-    booted(
-        SwapType::Test,
-        18,
-        second_image(),
-        first_image(),
-        SwapType::Revert,
-    )
-}
+static TESTED: &str = "\
+result boot
+type test
+ops 18
+primary SECOND
+secondary FIRST
+next revert
+";
 
-/// Whether the operations of a boot are those of the swap for a test, and its outcome then.
-fn test_made(flash: &mut SnapFlash) -> (bool, Outcome) {
-    let mut boot = Boot::cold(flash, Rules::PLAIN);
-    let info = Bytes16::new(&[2, 0xff, 0xff, 0xff, 0xff, 0xff, 0xff, 0xff]);
-    let size = Bytes16::new(&[80, 0, 0, 0, 0xff, 0xff, 0xff, 0xff]);
-    let ops = [
-        Op::Erase(Slot::Primary, 3),
-        Op::Program(Slot::Primary, 984, info),
-        Op::Program(Slot::Primary, 976, size),
-        Op::Program(Slot::Primary, 1008, Bytes16::new(&MAGIC)),
-        Op::Erase(Slot::Secondary, 2),
-        Op::Erase(Slot::Primary, 1),
-        Op::Copy(Slot::Primary, 0, Slot::Primary, 256, 128),
-        Op::Copy(Slot::Primary, 128, Slot::Primary, 384, 128),
-        Op::Program(Slot::Primary, 880, Bytes16::new(&ONE)),
-        Op::Erase(Slot::Primary, 0),
-        Op::Copy(Slot::Secondary, 0, Slot::Primary, 0, 128),
-        Op::Copy(Slot::Secondary, 128, Slot::Primary, 128, 128),
-        Op::Program(Slot::Primary, 912, Bytes16::new(&ONE)),
-        Op::Erase(Slot::Secondary, 0),
-        Op::Copy(Slot::Primary, 256, Slot::Secondary, 0, 128),
-        Op::Copy(Slot::Primary, 384, Slot::Secondary, 128, 128),
-        Op::Program(Slot::Primary, 920, Bytes16::new(&ONE)),
-        Op::Program(Slot::Primary, 992, Bytes16::new(&ONE)),
-    ];
-    let are_made = makes(flash, &mut boot, &ops);
-    (are_made, boot.outcome(flash))
-}
+/// The courses of boots: of the swap for a test; of a flash with no images, and where a swap is asked for all the same; of
+/// trailers that contradict themselves, by no size and by an entry of no transfer; and of one whose last operation is refused.
+static COURSES: [(&str, &str); 6] = [
+    (
+        "IMAGES",
+        "\
+erase p3
+program p984 02ffffffffffffff
+program p976 50000000ffffffff
+program p1008 77c295f360d2ef7f3552500f2cb67980
+erase s2
+erase p1
+copy p0 p256 128
+copy p128 p384 128
+program p880 01ffffffffffffff
+erase p0
+copy s0 p0 128
+copy s128 p128 128
+program p912 01ffffffffffffff
+erase s0
+copy p256 s0 128
+copy p384 s128 128
+program p920 01ffffffffffffff
+program p992 01ffffffffffffff
+result boot
+type test
+ops 18
+primary SECOND
+secondary FIRST
+next revert
+",
+    ),
+    (
+        "0=ff",
+        "result none\ntype none\nops 0\nprimary none\nsecondary none\nnext none\n",
+    ),
+    (
+        "1776=MAGIC",
+        "result none\ntype fail\nops 0\nprimary none\nsecondary none\nnext fail\n",
+    ),
+    (
+        "1008=MAGIC,984=02",
+        "result panic\ntype panic\nops 0\nprimary none\nsecondary none\nnext panic\n",
+    ),
+    (
+        "BEGUN,984=02,888=01,993=00",
+        "result panic\ntype panic\nops 0\nprimary none\nsecondary none\nnext panic\n",
+    ),
+    (
+        "BEGUN,984=02,920=01,993=00",
+        "\
+program p992 01ffffffffffffff
+E40 NotErased
+result fault
+type test
+ops 0
+primary none
+secondary none
+next test
+",
+    ),
+];
 
 #[test]
-fn a_swap_for_a_test(rt: HostRuntime) -> Result<(), Fail> {
-    let mut flash = test_flash(rt.alloc())?;
-    assert_eq!(rt; test_made(&mut flash), (true, tested()));
+fn boots_make_their_operations(rt: HostRuntime) -> Result<(), Fail> {
+    for (start, wanted) in COURSES {
+        let course = course_of(rt.alloc(), &mut flash_of(rt.alloc(), start)?)?;
+        assert_eq!(rt; course.as_str(), wanted);
+    }
     Ok(())
 }
 
@@ -237,26 +190,11 @@ fn finished(mut flash: SnapFlash) -> Result<(bool, BootResult, u32), FlashError>
 fn a_boot_to_its_end(rt: HostRuntime) -> Result<(), Fail> {
     let test = finished(test_flash(rt.alloc())?)?;
     // Copy-done reads as unset and can't be written.
-    let begun = finished(begun_flash(rt.alloc(), SIZE, &[(984, 2), (993, 0)])?)?;
+    let begun = flash_of(rt.alloc(), "BEGUN,984=02,993=00")?;
     assert_eq!(rt;
-        [test, begun],
+        [test, finished(begun)?],
         [(true, BootResult::Boot, 18), (true, BootResult::Fault, 13)]
     );
-    Ok(())
-}
-
-#[test]
-fn a_revert(rt: HostRuntime) -> Result<(), Fail> {
-    let mut flash = test_flash(rt.alloc())?;
-    let _ = told(&mut flash, Rules::PLAIN);
-    let wanted = booted(
-        SwapType::Revert,
-        23,
-        first_image(),
-        second_image(),
-        SwapType::None,
-    );
-    assert_eq!(rt; told(&mut flash, Rules::PLAIN), wanted);
     Ok(())
 }
 
@@ -278,54 +216,100 @@ fn told_again(flash: &mut SnapFlash) -> Result<[Outcome; 2], FlashError> {
 #[test]
 fn a_kept_boot_serves_again(rt: HostRuntime) -> Result<(), Fail> {
     let mut flash = test_flash(rt.alloc())?;
-    assert_eq!(rt; told_again(&mut flash)?, [tested(); 2]);
+    for outcome in told_again(&mut flash)? {
+        assert_eq!(rt; text_of(rt.alloc(), &outcome)?.as_str(), TESTED);
+    }
     Ok(())
 }
 
-/// The outcome of a boot of a flash.
-fn told_of(mut flash: SnapFlash) -> Outcome {
-    told(&mut flash, Rules::PLAIN)
+/// What the boot after the swap for a test tells, where the new image is confirmed before or not.
+fn told_after_a_test(alloc: Global, confirms: bool) -> Result<String, Fail> {
+    let mut flash = test_flash(alloc)?;
+    let _ = told(&mut flash, Rules::PLAIN);
+    if confirms {
+        confirm(&mut flash)?;
+    }
+    Ok(text_of(alloc, &told(&mut flash, Rules::PLAIN))?)
 }
 
 #[test]
-fn no_images(rt: HostRuntime) -> Result<(), Fail> {
-    let erased = told_of(flash_of(rt.alloc(), &[0xff; 1024], &[0xff; 768])?);
-    let mut secondary = [0xff; 768];
-    secondary[752..].copy_from_slice(&MAGIC);
-    let asking = told_of(flash_of(rt.alloc(), &[0xff; 1024], &secondary)?);
-    let none = bare(BootResult::None, SwapType::None, SwapType::None);
-    let fail = bare(BootResult::None, SwapType::Fail, SwapType::Fail);
-    assert_eq!(rt; [erased, asking], [none, fail]);
-    Ok(())
-}
-
-#[test]
-fn trailers_that_contradict_themselves(rt: HostRuntime) -> Result<(), Fail> {
-    let sizeless = told_of(begun_flash(rt.alloc(), [0xff; 4], &[(984, 2)])?);
-    let bytes = [(984, 2), (888, 1), (993, 0)];
-    let entry = told_of(begun_flash(rt.alloc(), SIZE, &bytes)?);
-    let panic = bare(BootResult::Panic, SwapType::Panic, SwapType::Panic);
-    assert_eq!(rt; [sizeless, entry], [panic; 2]);
-    Ok(())
-}
-
-/// What the first two steps of a boot return, whether there was an operation before and behind the first, and the outcome.
-fn steps_of(flash: &mut SnapFlash) -> ([Result<(), FlashError>; 2], [bool; 2], Outcome) {
-    let mut boot = Boot::cold(flash, Rules::PLAIN);
-    let before = boot.peek().is_some();
-    let first = boot.step(flash);
-    let behind = boot.peek().is_some();
-    let second = boot.step(flash);
-    ([first, second], [before, behind], boot.outcome(flash))
-}
-
-#[test]
-fn a_refused_operation(rt: HostRuntime) -> Result<(), Fail> {
-    let mut flash = begun_flash(rt.alloc(), SIZE, &[(984, 2), (920, 1), (993, 0)])?;
-    let fault = bare(BootResult::Fault, SwapType::Test, SwapType::Test);
+fn a_test_is_reverted_unless_it_is_confirmed(rt: HostRuntime) -> Result<(), Fail> {
+    let reverted = told_after_a_test(rt.alloc(), false)?;
+    let kept = told_after_a_test(rt.alloc(), true)?;
     assert_eq!(rt;
-        steps_of(&mut flash),
-        ([Err(FlashError::NotErased), Ok(())], [true, false], fault)
+        [reverted.as_str(), kept.as_str()],
+        [
+            "result boot\ntype revert\nops 23\nprimary FIRST\nsecondary SECOND\nnext none\n",
+            "result boot\ntype none\nops 0\nprimary SECOND\nsecondary FIRST\nnext none\n",
+        ]
     );
+    Ok(())
+}
+
+/// Whether the image of a flash confirms itself, and whether its image-ok holds these bytes then.
+fn confirmed(flash: &mut SnapFlash, wanted: &[u8]) -> Result<(bool, bool), FlashError> {
+    let confirms = confirm(flash)?;
+    let image_ok = flash.read(Slot::Primary).get(1000..1008);
+    Ok((confirms, image_ok == Some(wanted)))
+}
+
+/// Once after a test, and not where a swap is not finished.
+#[test]
+fn an_image_confirms_itself(rt: HostRuntime) -> Result<(), Fail> {
+    let mut flash = test_flash(rt.alloc())?;
+    let _ = told(&mut flash, Rules::PLAIN);
+    let first = confirmed(&mut flash, &ONE)?;
+    let again = confirmed(&mut flash, &ONE)?;
+    let mut begun = flash_of(rt.alloc(), "BEGUN,984=02")?;
+    let unfinished = confirmed(&mut begun, &[0xff; 8])?;
+    assert_eq!(rt;
+        [first, again, unfinished],
+        [(true, true), (false, true), (false, true)]
+    );
+    Ok(())
+}
+
+/// The places of the first four operations of the boot after a cut, among those of the boot that was cut.
+fn places(flash: &mut SnapFlash, cut: u32) -> Option<[u32; 4]> {
+    let mut boot = Boot::cold(flash, Rules::PLAIN);
+    run(flash, &mut boot, cut);
+    let next = Boot::cold(flash, Rules::PLAIN);
+    let rejoin = Rejoin::find(flash, &boot, &next)?;
+    Some([
+        rejoin.place(0),
+        rejoin.place(1),
+        rejoin.place(2),
+        rejoin.place(3),
+    ])
+}
+
+/// A row has a cut of a test, and the places then. The boot makes 18 operations: the erase of the primary's trailer and three
+/// writes there, the erase of the secondary's trailer, three transfers of four operations, and the finish.
+static PLACES: [(u32, [u32; 4]); 8] = [
+    (1, [1, 1, 2, 3]),
+    // The erase of the trailer takes away what was written there.
+    (2, [2, 1, 2, 3]),
+    (4, [4, 1, 2, 3]),
+    (5, [5, 5, 6, 7]),
+    // The secondary's trailer is erased already, and the sector that was copied to is not.
+    (8, [8, 8, 6, 7]),
+    (9, [9, 10, 11, 12]),
+    (11, [11, 10, 11, 12]),
+    (17, [17, 18, 19, 20]),
+];
+
+/// The first cut of a test whose places are not as its row says.
+fn first_misplaced(alloc: Global) -> Result<Option<u32>, Fail> {
+    for (cut, wanted) in PLACES {
+        if places(&mut test_flash(alloc)?, cut) != Some(wanted) {
+            return Ok(Some(cut));
+        }
+    }
+    Ok(None)
+}
+
+#[test]
+fn places_after_cuts(rt: HostRuntime) -> Result<(), Fail> {
+    assert_eq!(rt; first_misplaced(rt.alloc())?, None);
     Ok(())
 }

@@ -18,77 +18,78 @@ fn refusal(numbers: [u32; 6]) -> Option<LayoutError> {
     Layout::new(sector, unit, max_sectors, chunk, primary, secondary).err()
 }
 
+/// The numbers of a layout: those that it is made of, and then those that come of them.
+fn numbers_of(layout: &Layout) -> [u32; 13] {
+    [
+        layout.sector(),
+        layout.unit(),
+        layout.max_sectors(),
+        layout.chunk(),
+        layout.primary(),
+        layout.secondary(),
+        layout.sectors(Slot::Primary),
+        layout.sectors(Slot::Secondary),
+        layout.size(Slot::Primary),
+        layout.size(Slot::Secondary),
+        layout.trailer_sectors(),
+        layout.greatest_sectors(),
+        layout.in_pieces(Grain::Unit).chunk(),
+    ]
+}
+
 #[test]
 fn the_worked_layout_is_read(rt: HostRuntime) -> Result<(), Fail> {
     let layout = worked()?;
-    let told = [
-        [layout.sector(), layout.unit(), layout.max_sectors()],
-        [layout.chunk(), layout.primary(), layout.secondary()],
-        [
-            layout.sectors(Slot::Primary),
-            layout.size(Slot::Primary),
-            layout.trailer_sectors(),
-        ],
-        [
-            layout.sectors(Slot::Secondary),
-            layout.size(Slot::Secondary),
-            layout.greatest_sectors(),
-        ],
-    ];
-    let wanted = [[256, 8, 4], [128, 4, 3], [4, 1024, 1], [3, 768, 2]];
-    assert_eq!(rt; told, wanted);
+    assert_eq!(rt;
+        numbers_of(&layout),
+        [256, 8, 4, 128, 4, 3, 4, 3, 1024, 768, 1, 2, 8]
+    );
     assert_eq!(rt; [layout.fits(512), layout.fits(513)], [true, false]);
-    assert_eq!(rt; layout.in_pieces(Grain::Unit).chunk(), 8);
     Ok(())
 }
 
-#[test]
-fn numbers_that_are_no_layout_are_refused(rt: HostRuntime) {
-    for (numbers, wanted) in [
-        ([256, 3, 4, 128, 4, 3], LayoutError::Unit),
-        ([100, 8, 4, 128, 4, 3], LayoutError::Sector),
-        ([256, 8, 4, 96, 4, 3], LayoutError::Chunk),
-        ([256, 8, 4, 128, 5, 3], LayoutError::Counts),
-        ([256, 8, 4, 128, 2, 2], LayoutError::NoRoom),
-        // The first of several reasons is reported.
-        ([100, 3, 0, 0, 9, 0], LayoutError::Unit),
-        ([100, 8, 0, 0, 9, 0], LayoutError::Sector),
-        ([256, 8, 0, 0, 9, 0], LayoutError::Chunk),
-        ([256, 8, 0, 128, 9, 0], LayoutError::Counts),
-    ] {
-        assert_eq!(rt; refusal(numbers), Some(wanted));
-    }
-}
+/// Numbers, and what is refused of them.
+static NUMBERS: [([u32; 6], Option<LayoutError>); 26] = [
+    ([256, 3, 4, 128, 4, 3], Some(LayoutError::Unit)),
+    ([100, 8, 4, 128, 4, 3], Some(LayoutError::Sector)),
+    ([256, 8, 4, 96, 4, 3], Some(LayoutError::Chunk)),
+    ([256, 8, 4, 128, 5, 3], Some(LayoutError::Counts)),
+    ([256, 8, 4, 128, 2, 2], Some(LayoutError::NoRoom)),
+    // The first of several reasons is reported.
+    ([100, 3, 0, 0, 9, 0], Some(LayoutError::Unit)),
+    ([100, 8, 0, 0, 9, 0], Some(LayoutError::Sector)),
+    ([256, 8, 0, 0, 9, 0], Some(LayoutError::Chunk)),
+    ([256, 8, 0, 128, 9, 0], Some(LayoutError::Counts)),
+    // The least and the largest sector and unit.
+    ([64, 1, 4, 32, 4, 3], None),
+    ([32, 1, 4, 32, 4, 3], Some(LayoutError::Sector)),
+    ([65536, 8, 1024, 65536, 3, 3], None),
+    ([131072, 8, 1024, 65536, 3, 3], Some(LayoutError::Sector)),
+    // A slot of 2^24 bytes, and one sector more.
+    ([65536, 8, 4, 128, 256, 255], None),
+    ([65536, 8, 4, 128, 257, 256], Some(LayoutError::Counts)),
+    ([65536, 8, 4, 128, 257, 257], Some(LayoutError::Counts)),
+    // The most sectors of an image.
+    ([256, 8, 0, 128, 4, 3], Some(LayoutError::Counts)),
+    ([4096, 8, 1024, 128, 9, 8], None),
+    ([4096, 8, 1025, 128, 9, 8], Some(LayoutError::Counts)),
+    // Room for one sector, for none, and less than none.
+    ([256, 8, 4, 128, 3, 2], None),
+    ([256, 8, 4, 128, 2, 1], Some(LayoutError::NoRoom)),
+    ([64, 8, 1024, 64, 4, 3], Some(LayoutError::NoRoom)),
+    ([64, 8, 1024, 64, 1, 1], Some(LayoutError::NoRoom)),
+    // A primary of fewer sectors than the secondary; no sectors at all.
+    ([256, 8, 4, 128, 3, 4], Some(LayoutError::Counts)),
+    ([256, 8, 4, 128, 0, 0], Some(LayoutError::Counts)),
+    (
+        [256, 8, 4, 128, u32::MAX, u32::MAX],
+        Some(LayoutError::Counts),
+    ),
+];
 
 #[test]
-fn limits_of_a_layout(rt: HostRuntime) {
-    for (numbers, wanted) in [
-        // The least and the largest sector and unit.
-        ([64, 1, 4, 32, 4, 3], None),
-        ([32, 1, 4, 32, 4, 3], Some(LayoutError::Sector)),
-        ([65536, 8, 1024, 65536, 3, 3], None),
-        ([131072, 8, 1024, 65536, 3, 3], Some(LayoutError::Sector)),
-        // A slot of 2^24 bytes, and one sector more.
-        ([65536, 8, 4, 128, 256, 255], None),
-        ([65536, 8, 4, 128, 257, 256], Some(LayoutError::Counts)),
-        ([65536, 8, 4, 128, 257, 257], Some(LayoutError::Counts)),
-        // The most sectors of an image.
-        ([256, 8, 0, 128, 4, 3], Some(LayoutError::Counts)),
-        ([4096, 8, 1024, 128, 9, 8], None),
-        ([4096, 8, 1025, 128, 9, 8], Some(LayoutError::Counts)),
-        // Room for one sector, for none, and less than none.
-        ([256, 8, 4, 128, 3, 2], None),
-        ([256, 8, 4, 128, 2, 1], Some(LayoutError::NoRoom)),
-        ([64, 8, 1024, 64, 4, 3], Some(LayoutError::NoRoom)),
-        ([64, 8, 1024, 64, 1, 1], Some(LayoutError::NoRoom)),
-        // A primary of fewer sectors than the secondary; no sectors at all.
-        ([256, 8, 4, 128, 3, 4], Some(LayoutError::Counts)),
-        ([256, 8, 4, 128, 0, 0], Some(LayoutError::Counts)),
-        (
-            [256, 8, 4, 128, u32::MAX, u32::MAX],
-            Some(LayoutError::Counts),
-        ),
-    ] {
+fn numbers_are_a_layout_or_are_refused(rt: HostRuntime) {
+    for (numbers, wanted) in NUMBERS {
         assert_eq!(rt; refusal(numbers), wanted);
     }
 }
@@ -127,22 +128,25 @@ fn first_overlooked(len: usize) -> Option<usize>
     None
 }
 
-/// Lengths on both sides of one and two whole groups of 32 bytes, and a whole sector.
+/// The first of these lengths at which bytes are not seen to be blank, or are where they are not.
+fn first_unseen() -> Option<usize> {
+    for len in 0..=65usize {
+        if !blank(&[0xff; 65][..len]) || first_overlooked(len).is_some() {
+            return Some(len);
+        }
+    }
+    None
+}
+
+/// Lengths on both sides of one and two whole groups of 32 bytes, a whole sector, and one group by itself.
 #[test]
 fn bytes_are_blank(rt: HostRuntime) -> Result<(), Fail> {
     let sector = vec![in rt.alloc(); 0xff; 65_536]?;
     assert!(rt; blank(&sector));
-    for len in 0..=65usize {
-        assert!(rt; blank(&[0xff; 65][..len]), "{len}");
-        assert_eq!(rt; first_overlooked(len), None, "{len}");
-    }
-    Ok(())
-}
-
-#[test]
-fn lanes_are_blank(rt: HostRuntime) {
+    assert_eq!(rt; first_unseen(), None);
     assert!(rt; blank_lanes(u8x32::splat(0xff)));
     assert!(rt; !blank_lanes(u8x32::splat(0xfe)));
+    Ok(())
 }
 
 /// Whether bytes are kept as they are.
@@ -230,20 +234,10 @@ fn plays<F: Flash>(alloc: Global) -> Result<(u32, bool, bool, (bool, [usize; 3])
 }
 
 #[test]
-fn copies_are_programmed_and_given_back(rt: HostRuntime) -> Result<(), Fail> {
-    assert_eq!(rt;
-        plays::<SnapFlash>(rt.alloc())?,
-        (256, true, true, (true, [0, 1, 0]))
-    );
-    Ok(())
-}
-
-#[test]
-fn a_journal_is_programmed_and_given_back(rt: HostRuntime) -> Result<(), Fail> {
-    assert_eq!(rt;
-        plays::<JournalFlash>(rt.alloc())?,
-        (256, true, true, (true, [0, 1, 0]))
-    );
+fn flashes_are_programmed_and_given_back(rt: HostRuntime) -> Result<(), Fail> {
+    let wanted = (256, true, true, (true, [0, 1, 0]));
+    assert_eq!(rt; plays::<SnapFlash>(rt.alloc())?, wanted);
+    assert_eq!(rt; plays::<JournalFlash>(rt.alloc())?, wanted);
     Ok(())
 }
 

@@ -1,147 +1,98 @@
 //! The engines over readers and writers that move one byte a call, and fail at each call in turn.
-use super::{ended, options};
+use super::{Engine, WORKED};
 use mc_fixtures::{
-    COUNTED_IMAGE, FAULTS, FailingReader, FailingWriter, Failure, Fault, GOOD_LINE, PAYLOAD, PLAIN_IMAGE, REPORT,
+    COUNTED_IMAGE, FAULTS, FailingReader, FailingWriter, Failure, Fault, GOOD_LINE, PAYLOAD,
+    PLAIN_IMAGE, REPORT,
 };
-use mc_imgtool::{ToolError, create, dumpinfo, verify};
+use mc_imgtool::ToolError;
 use std::alloc::Global;
-use std::io::{Read, Write};
+use std::process::Abort;
 use std::test::Fail;
 
-#[derive(Clone, Copy, Debug)]
-enum Engine {
-    Create,
-    Verify,
-    Dumpinfo,
-}
+static ENGINES: [Engine; 3] = [Engine::Create(WORKED), Engine::Verify, Engine::Dumpinfo];
 
-static ENGINES: [Engine; 3] = [Engine::Create, Engine::Verify, Engine::Dumpinfo];
-
-impl Engine {
-    fn run<R: Read, W: Write>(
-        self,
-        alloc: Global,
-        input: &mut R,
-        output: &mut W,
-    ) -> Result<Result<(), ToolError>, Fail> {
-        ended(match self {
-            Engine::Create => create(alloc, &options(true, None, None), input, output),
-            Engine::Verify => verify(input, output),
-            Engine::Dumpinfo => dumpinfo(alloc, input, output),
-        })
-    }
-
-    fn input(self) -> &'static [u8] {
-        match self {
-            Engine::Create => &PAYLOAD,
-            Engine::Verify => &PLAIN_IMAGE,
-            Engine::Dumpinfo => &COUNTED_IMAGE,
-        }
-    }
-
-    /// What is written for that input.
-    fn text(self) -> &'static [u8] {
-        match self {
-            Engine::Create => &PLAIN_IMAGE,
-            Engine::Verify => GOOD_LINE.as_bytes(),
-            Engine::Dumpinfo => REPORT.as_bytes(),
-        }
+/// An input of an engine, and what is written for it.
+fn texts_of(engine: Engine) -> (&'static [u8], &'static [u8]) {
+    match engine {
+        Engine::Create(_) => (&PAYLOAD, &PLAIN_IMAGE),
+        Engine::Verify => (&PLAIN_IMAGE, GOOD_LINE.as_bytes()),
+        Engine::Dumpinfo => (&COUNTED_IMAGE, REPORT.as_bytes()),
     }
 }
 
-/// Whether an engine over a reader that fails so ends with that, and writes nothing.
-fn ends_at_a_read(alloc: Global, engine: Engine, failure: Failure) -> Result<bool, Fail> {
+/// Whether an engine ends as it is to where its reader fails so, or else its writer, and has written the beginning of its text.
+/// The last call of a reader finds the end.
+fn ends_well(alloc: Global, engine: Engine, reads: Failure, writes: Failure) -> Result<bool, Fail> {
+    let (input, text) = texts_of(engine);
     let mut reader = FailingReader {
-        left: engine.input(),
-        failure,
+        left: input,
+        failure: reads,
     };
-    let mut out = Vec::new(alloc);
-    let told = engine.run(alloc, &mut reader, &mut out)?;
-    Ok(told == Err(ToolError::Read) && out.is_empty())
+    let mut writer = FailingWriter {
+        taken: Vec::with_capacity(alloc, text.len())?,
+        failure: writes,
+    };
+    let told = engine.run(alloc, &mut reader, &mut writer)?;
+    let (wanted, count) = if reads.calls <= input.len() {
+        (Err(ToolError::Read), 0)
+    } else if writes.calls < text.len() {
+        (Err(ToolError::Write), writes.calls)
+    } else {
+        (Ok(()), text.len())
+    };
+    Ok(told == wanted && Some(writer.taken.as_slice()) == text.get(..count))
 }
 
-/// The first call of a reader at which an engine ends otherwise where that call fails. The last one would find the end.
-fn read_that_is_missed(
+/// The first call at which an engine ends otherwise where that call of its reader, or of its writer, fails.
+fn first_missed(
     alloc: Global,
     engine: Engine,
-    fault: Fault,
-    lasts: bool,
+    (fault, lasts): (Fault, bool),
+    of_reader: bool,
 ) -> Result<Option<usize>, Fail> {
-    for calls in 0..=engine.input().len() {
-        let failure = Failure {
-            calls,
-            fault,
-            lasts,
+    let never = Failure {
+        calls: usize::MAX,
+        fault,
+        lasts,
+    };
+    let (input, text) = texts_of(engine);
+    let last = if of_reader { input.len() } else { text.len() };
+    for calls in 0..=last {
+        let failure = Failure { calls, ..never };
+        let (reads, writes) = if of_reader {
+            (failure, never)
+        } else {
+            (never, failure)
         };
-        if !ends_at_a_read(alloc, engine, failure)? {
+        if !ends_well(alloc, engine, reads, writes)? {
             return Ok(Some(calls));
         }
     }
     Ok(None)
+}
+
+/// Each engine ends as it is to where a call of its reader, or of its writer, fails in one of these ways.
+fn all_end_well(
+    rt: &impl Abort,
+    alloc: Global,
+    faults: &[(Fault, bool)],
+    of_reader: bool,
+) -> Result<(), Fail> {
+    for engine in ENGINES {
+        for fault in faults {
+            let missed = first_missed(alloc, engine, *fault, of_reader)?;
+            assert_eq!(rt; missed, None, "{engine:?} {fault:?}");
+        }
+    }
+    Ok(())
 }
 
 #[test]
 fn a_failed_read_writes_nothing(rt: HostRuntime) -> Result<(), Fail> {
-    for engine in ENGINES {
-        for (fault, lasts) in FAULTS.into_iter().take(4) {
-            let missed = read_that_is_missed(rt.alloc(), engine, fault, lasts)?;
-            assert_eq!(rt; missed, None, "{engine:?} {fault:?} {lasts}");
-        }
-    }
-    Ok(())
-}
-
-/// Whether an engine over a writer that fails so, and a reader that gives one byte a call, ends as it is to, and has written
-/// the beginning of its text.
-fn ends_at_a_write(alloc: Global, engine: Engine, failure: Failure) -> Result<bool, Fail> {
-    let text = engine.text();
-    let mut reader = FailingReader {
-        left: engine.input(),
-        failure: Failure {
-            calls: usize::MAX,
-            ..failure
-        },
-    };
-    let mut writer = FailingWriter {
-        taken: Vec::with_capacity(alloc, text.len())?,
-        failure,
-    };
-    let told = engine.run(alloc, &mut reader, &mut writer)?;
-    let wanted = if failure.calls < text.len() {
-        Err(ToolError::Write)
-    } else {
-        Ok(())
-    };
-    Ok(told == wanted && Some(writer.taken.as_slice()) == text.get(..failure.calls))
-}
-
-/// The first call of a writer at which an engine ends otherwise where that call fails. The last one does not come.
-fn write_that_is_missed(
-    alloc: Global,
-    engine: Engine,
-    fault: Fault,
-    lasts: bool,
-) -> Result<Option<usize>, Fail> {
-    for calls in 0..=engine.text().len() {
-        let failure = Failure {
-            calls,
-            fault,
-            lasts,
-        };
-        if !ends_at_a_write(alloc, engine, failure)? {
-            return Ok(Some(calls));
-        }
-    }
-    Ok(None)
+    all_end_well(&rt, rt.alloc(), &FAULTS[..4], true)
 }
 
 #[test]
 fn a_failed_write_leaves_a_prefix(rt: HostRuntime) -> Result<(), Fail> {
-    for engine in ENGINES {
-        for (fault, lasts) in FAULTS {
-            let missed = write_that_is_missed(rt.alloc(), engine, fault, lasts)?;
-            assert_eq!(rt; missed, None, "{engine:?} {fault:?} {lasts}");
-        }
-    }
-    Ok(())
+    all_end_well(&rt, rt.alloc(), &FAULTS, false)
 }

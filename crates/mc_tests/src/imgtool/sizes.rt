@@ -1,13 +1,18 @@
 //! The engines on the largest inputs. The digests are those of an independent program.
 ghost use Rattle.std.specs.Prelude.{◌≡◌, true};
 
-use super::{MAGIC, Zeros, dump, ended, line_of, options, report, verification};
-use mc_imgtool::{CreateOptions, ToolError, create, read_bounded};
+use super::{Engine, WORKED};
+use mc_imgtool::{CreateOptions, create, read_bounded};
 use std::alloc::Global;
+use std::io;
+use std::io::Read;
 use std::test::Fail;
 
 /// The most bytes of an input.
 const MOST: usize = 1 << 24;
+
+/// The magic of a trailer.
+const MAGIC: &str = "77c295f360d2ef7f3552500f2cb67980";
 
 /// The digest of the image of 2^24 zero bytes.
 const LARGEST_PAYLOAD: &str = "1d5bee2d33ee417fd3769e2aceaa15f768ea28cc312b39afc3f49fb98b2d8b45";
@@ -32,14 +37,30 @@ rest 0
 digest good
 ";
 
+/// A reader that makes so many zero bytes.
+#[derive(Drop)]
+struct Zeros {
+    left: usize,
+}
+
+impl Read for Zeros {
+    fn read(&mut self, buffer: &mut [u8]) -> io::Result<usize> {
+        let count = self.left.min(buffer.len());
+        buffer[..count].fill(0);
+        self.left -= count;
+        Ok(count)
+    }
+}
+
 /// The image of so many zero bytes, with the length that its slot is filled up to.
-fn created(alloc: Global, left: usize, slot: Option<u32>) -> Result<Vec<u8>, Fail> {
-    let told = CreateOptions {
-        pad: slot.is_some(),
-        ..options(true, None, slot)
+fn created(alloc: Global, left: usize, slot_size: Option<u32>) -> Result<Vec<u8>, Fail> {
+    let options = CreateOptions {
+        pad: slot_size.is_some(),
+        slot_size,
+        ..WORKED
     };
     let mut out = Vec::with_capacity(alloc, 2 * MOST)?;
-    create(alloc, &told, &mut Zeros { left }, &mut out)?;
+    create(alloc, &options, &mut Zeros { left }, &mut out)?;
     Ok(out)
 }
 
@@ -50,74 +71,57 @@ fn ends_with(alloc: Global, bytes: &[u8], length: usize, digits: &str) -> Result
 }
 
 #[test]
-fn the_largest_payload_is_taken(rt: HostRuntime) -> Result<(), Fail> {
+fn the_largest_payload_is_taken_and_the_largest_slot_filled(rt: HostRuntime) -> Result<(), Fail> {
     let image = created(rt.alloc(), MOST, None)?;
+    let slot = created(rt.alloc(), MOST, Some(1 << 25))?;
     let is_image = ends_with(rt.alloc(), image.as_slice(), MOST + 72, LARGEST_PAYLOAD)?;
-    assert!(rt; is_image);
+    let is_marked = ends_with(rt.alloc(), slot.as_slice(), 2 * MOST, MAGIC)?;
+    let is_filled = slot.as_slice().starts_with(image.as_slice());
+    assert_eq!(rt; [is_image, is_marked, is_filled], [true; 3]);
     Ok(())
 }
 
-/// Whether the largest slot is filled up behind an image.
-fn is_filled(alloc: Global, image: &[u8]) -> Result<bool, Fail> {
-    let slot = created(alloc, MOST, Some(1 << 25))?;
-    let is_marked = ends_with(alloc, slot.as_slice(), 2 * MOST, MAGIC)?;
-    Ok(is_marked && slot.as_slice().starts_with(image))
-}
+/// Inputs of zeros, and why they are refused.
+static ZEROS: [(Engine, usize, &str); 3] = [
+    (Engine::Create(WORKED), MOST + 1, "E23 InputTooLong\n"),
+    (Engine::Verify, MOST, "E2 BadMagic\n"),
+    (Engine::Verify, MOST + 1, "E23 InputTooLong\n"),
+];
 
-#[test]
-fn the_largest_slot_is_filled(rt: HostRuntime) -> Result<(), Fail> {
-    let image = created(rt.alloc(), MOST, None)?;
-    let is_filled = is_filled(rt.alloc(), image.as_slice())?;
-    assert!(rt; is_filled);
-    Ok(())
-}
-
-/// What `create` says of so many zero bytes, and how many it writes.
-fn creation_of_zeros(alloc: Global, left: usize) -> Result<(Result<(), ToolError>, usize), Fail> {
+/// What an engine tells of so many zeros, and how many it leaves.
+fn told_of_zeros(alloc: Global, engine: Engine, left: usize) -> Result<(Vec<u8>, usize), Fail> {
     let mut input = Zeros { left };
-    let mut out = Vec::new(alloc);
-    let told = options(true, None, None);
-    let ended = ended(create(alloc, &told, &mut input, &mut out))?;
-    Ok((ended, out.len()))
+    let told = engine.told(alloc, &mut input)?;
+    Ok((told, input.left))
 }
 
+/// Zeros are read to the end or the limit.
 #[test]
-fn a_larger_payload_is_refused(rt: HostRuntime) -> Result<(), Fail> {
-    let told = creation_of_zeros(rt.alloc(), MOST + 1)?;
-    assert_eq!(rt; told, (Err(ToolError::InputTooLong), 0));
+fn zeros_are_refused(rt: HostRuntime) -> Result<(), Fail> {
+    for (engine, left, wanted) in ZEROS {
+        let (told, rest) = told_of_zeros(rt.alloc(), engine, left)?;
+        assert_eq!(rt; told.as_slice(), wanted.as_bytes(), "{left}");
+        assert_eq!(rt; rest, 0, "{left}");
+    }
     Ok(())
 }
 
-#[test]
-fn the_largest_image_is_judged(rt: HostRuntime) -> Result<(), Fail> {
-    let image = created(rt.alloc(), MOST - 72, None)?;
-    let line = line_of(rt.alloc(), image.as_slice())?;
-    assert_eq!(rt; line.as_str(), LARGEST_LINE);
-    Ok(())
-}
+/// What is told of the largest image, and of so many bytes behind it.
+static LARGEST: [(Engine, usize, &str); 4] = [
+    (Engine::Verify, 0, LARGEST_LINE),
+    (Engine::Dumpinfo, 0, LARGEST_REPORT),
+    (Engine::Verify, 1, "E23 InputTooLong\n"),
+    (Engine::Dumpinfo, 1, "E23 InputTooLong\n"),
+];
 
 #[test]
-fn the_largest_image_is_reported(rt: HostRuntime) -> Result<(), Fail> {
-    let image = created(rt.alloc(), MOST - 72, None)?;
-    let text = report(rt.alloc(), image.as_slice())?;
-    assert_eq!(rt; text.as_str(), LARGEST_REPORT);
-    Ok(())
-}
-
-/// The largest image and a byte behind it.
-fn larger(alloc: Global) -> Result<Vec<u8>, Fail> {
-    let mut image = created(alloc, MOST - 72, None)?;
-    image.push(0)?;
-    Ok(image)
-}
-
-#[test]
-fn a_larger_image_is_refused(rt: HostRuntime) -> Result<(), Fail> {
-    let image = larger(rt.alloc())?;
-    let verified = verification(rt.alloc(), image.as_slice());
-    let dumped = dump(rt.alloc(), image.as_slice())?;
-    let refused = (Err(ToolError::InputTooLong), 0);
-    assert_eq!(rt; [verified, dumped], [refused, refused]);
+fn the_largest_image_is_judged_and_a_larger_one_refused(rt: HostRuntime) -> Result<(), Fail> {
+    let mut image = created(rt.alloc(), MOST - 72, None)?;
+    for (engine, behind, wanted) in LARGEST {
+        image.resize(MOST + behind, 0)?;
+        let told = engine.told(rt.alloc(), &mut image.as_slice())?;
+        assert_eq!(rt; told.as_slice(), wanted.as_bytes(), "{engine:?}");
+    }
     Ok(())
 }
 
