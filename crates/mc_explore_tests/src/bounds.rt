@@ -1,50 +1,68 @@
 //! What explorations take of a flash with a journal.
 use crate::common::swap;
+use mc_campaign::CampaignExplorer;
 use mc_explore::{Cursor, Explorer, Kind, Schedule};
 use mc_flash::JournalFlash;
 use std::process::Abort;
 use std::test::Fail;
 
-/// The journal has no more than three boots of 36 operations and 2304 saved bytes leave there, and four marks.
-fn assert_bounds(rt: &impl Abort, flash: &JournalFlash) {
-    assert!(rt; flash.entries() <= 108);
-    assert!(rt; flash.saved_bytes() <= 6912);
-    assert!(rt; flash.marks() <= 4);
+/// Looks whether a journal has at most so many operations, saved bytes and marks, and so many operations were applied.
+fn assert_bounds(rt: &impl Abort, flash: &JournalFlash, most: [u64; 4]) {
+    let [entries, saved_bytes, marks, applied] = most;
+    let is_short = flash.entries() <= entries && flash.saved_bytes() <= saved_bytes;
+    assert!(rt; is_short && flash.marks() <= marks && flash.applied() <= applied);
 }
 
-/// Goes on to the next row, if there is one.
-fn goes_on(rt: &impl Abort, explorer: &mut Explorer<'_, JournalFlash>) -> Result<bool, Fail> {
-    let goes_on = explorer.next_row()?.is_some();
-    assert_bounds(rt, explorer.flash());
-    Ok(goes_on)
-}
-
+/// Three boots of 36 operations and 2304 saved bytes leave no more in a journal; and four marks, and 38 operations a row.
 #[test]
-fn a_walk_keeps_its_bounds(rt: HostRuntime) -> Result<(), Fail> {
+fn an_exploration_keeps_its_bounds(rt: HostRuntime) -> Result<(), Fail> {
     let start = swap(rt.alloc(), Kind::Test)?;
     let mut explorer = Explorer::<JournalFlash>::start(rt.alloc(), &start, 2)?;
-    assert_eq!(rt; explorer.flash().applied(), 0);
+    assert_bounds(&rt, explorer.flash(), [108, 6912, 4, 0]);
     let mut rows = 1000;
     for place in 0u32..1000 {
-        if !goes_on(&rt, &mut explorer)? {
+        let is_last = explorer.next_row()?.is_none();
+        assert_bounds(&rt, explorer.flash(), [108, 6912, 4, 8436]);
+        if is_last {
             rows = place;
             break;
         }
     }
-    // 38 operations a row.
-    let applied = explorer.flash().applied();
-    assert!(rt; rows == 222 && applied <= 8436, "{rows} {applied}");
+    assert_eq!(rt; rows, 222);
     Ok(())
 }
 
+/// The way to the last schedule takes two boots a cut, and two.
 #[test]
 fn a_resume_goes_straight_down(rt: HostRuntime) -> Result<(), Fail> {
     let start = swap(rt.alloc(), Kind::Test)?;
     let cursor = Cursor::of(&start, 2, &Schedule::read("17.0")?);
     let mut explorer = Explorer::<JournalFlash>::resume(rt.alloc(), &start, 2, &cursor)?;
-    assert_bounds(&rt, explorer.flash());
+    assert_bounds(&rt, explorer.flash(), [108, 6912, 4, 216]);
     assert!(rt; explorer.next_row()?.is_none());
-    // Two boots a cut, and two.
-    assert!(rt; explorer.flash().applied() <= 216);
+    assert_bounds(&rt, explorer.flash(), [108, 6912, 4, 216]);
+    Ok(())
+}
+
+/// Four boots leave no more in a journal, and five marks. A row takes 112 operations.
+#[test]
+fn an_exploration_of_campaigns_keeps_its_bounds(rt: HostRuntime) -> Result<(), Fail> {
+    let start = swap(rt.alloc(), Kind::Test)?;
+    let mut explorer = CampaignExplorer::<JournalFlash>::start(rt.alloc(), &start, 1, false)?;
+    assert_bounds(&rt, explorer.flash(), [144, 9216, 5, 0]);
+    let mut rows = 1000;
+    for place in 0u32..1000 {
+        if explorer.next_row()?.is_none() {
+            rows = place;
+            break;
+        }
+        assert_bounds(
+            &rt,
+            explorer.flash(),
+            [144, 9216, 5, 112 * (u64::from(place) + 1)],
+        );
+    }
+    assert_bounds(&rt, explorer.flash(), [144, 9216, 5, 4704]);
+    assert_eq!(rt; rows, 42);
     Ok(())
 }

@@ -1,136 +1,115 @@
-//! Texts of campaigns, and campaigns of a test swap that are replayed.
-use crate::common::swap;
-use mc_boot::{BootResult, Outcome};
-use mc_campaign::{Campaign, CampaignError, Round, replay_campaign};
-use mc_explore::{Kind, ReplayError};
-use mc_flash::SnapFlash;
-use mc_trailer::SwapType;
+//! Campaigns of the worked swaps, explored and replayed.
+use crate::common::{start_of, swap};
+use crate::sessions::{plays, refused};
+use mc_campaign::{Campaign, CampaignCursor, CampaignExplorer, CampaignRow, replay_campaign};
+use mc_explore::Kind;
+use mc_flash::{Flash, JournalFlash, SnapFlash};
 use std::alloc::Global;
 use std::test::Fail;
 
-/// Whether a text is read, and printed as it was.
-fn stands(alloc: Global, text: &str) -> Result<bool, Fail> {
-    match Campaign::read(text) {
-        Ok(campaign) => {
-            let printed = format!(in alloc; "{campaign}")?;
-            Ok(printed.as_str() == text)
+/// The row at a place, counted from 0, or how many rows there are.
+pub fn campaign_row<F: Flash + Drop>(
+    alloc: Global,
+    start: &str,
+    confirms: &str,
+    bound: &str,
+    place: &str,
+) -> Result<String, Fail> {
+    let start = start_of(alloc, start)?;
+    let bound = bound.parse::<u8>()?.min(16);
+    let mut explorer = CampaignExplorer::<F>::start(alloc, &start, bound, confirms == "confirm")?;
+    for rows in 0..place.parse::<u32>()? {
+        if explorer.next_row()?.is_none() {
+            return Ok(format!(in alloc; "{rows} rows")?);
         }
-        Err(CampaignError) => Ok(false),
+    }
+    let row = explorer.next_row()?.ok_or("a row")?;
+    Ok(format!(in alloc; "{row}")?)
+}
+
+/// The row behind a campaign of at most one cut, which the new image does not confirm, or why there is none.
+pub fn campaign_behind(
+    alloc: Global,
+    bound: &str,
+    confirms: &str,
+    text: &str,
+) -> Result<String, Fail> {
+    let start = swap(alloc, Kind::Test)?;
+    let cursor = CampaignCursor::of(&start, 1, false, &Campaign::read(text)?);
+    let bound = bound.parse::<u8>()?.min(16);
+    let confirms = confirms == "confirm";
+    let mut explorer: CampaignExplorer<'_, JournalFlash> = match CampaignExplorer::resume(
+        alloc, &start, bound, confirms, &cursor,
+    ) {
+        Ok(explorer) => explorer,
+        Err(error) => return refused(alloc, error),
+    };
+    match explorer.next_row()? {
+        Some(row) => Ok(format!(in alloc; "{row}")?),
+        None => Ok(String::from_str(alloc, "end")?),
     }
 }
 
-#[test]
-fn campaigns_are_read(rt: HostRuntime) -> Result<(), Fail> {
-    for text in [
-        "-",
-        "1.0",
-        "2.0",
-        "1.0,2.5",
-        "1.0,1.17,2.22,2.0",
-        "2.4294967295",
-    ] {
-        assert!(rt; stands(rt.alloc(), text)?);
+/// The row of a campaign that is replayed, or why it is not.
+pub fn campaign_replayed(alloc: Global, confirms: &str, text: &str) -> Result<String, Fail> {
+    let start = swap(alloc, Kind::Test)?;
+    let campaign = Campaign::read(text)?;
+    match replay_campaign::<SnapFlash>(alloc, &start, &campaign, confirms == "confirm") {
+        Ok((first, second, _)) => {
+            let row = CampaignRow {
+                campaign,
+                first,
+                second,
+            };
+            Ok(format!(in alloc; "{row}")?)
+        }
+        Err(error) => refused(alloc, error),
     }
-    let campaign = Campaign::read("1.3,2.0,2.17")?;
-    assert_eq!(rt; campaign.cuts(Round::First), [3].as_slice());
-    assert_eq!(rt; campaign.cuts(Round::Second), [0, 17].as_slice());
-    Ok(())
 }
 
-/// Texts that are no campaigns, the first of them empty.
-static REFUSED: &str = "\
-
-2.0,1.0
-3.0
-0.0
-1
-1.0,
-,1.0
-1.0.0
-01.0
-1.00
-1.+0
-1.4294967296
-1.0, 2.0
--,1.0
+/// Rows at their places, how many there are, rows behind others, and campaigns that are replayed.
+static SESSION: &str = "\
+journal-campaign-row test leave 0 99 => 1 rows
+journal-campaign-row test leave 2 999 => 978 rows
+journal-campaign-row test confirm 0 99 => 1 rows
+journal-campaign-row test confirm 1 99 => 19 rows
+journal-campaign-row test confirm 2 999 => 222 rows
+journal-campaign-row perm leave 1 99 => 20 rows
+journal-campaign-row perm confirm 1 99 => 20 rows
+journal-campaign-row revert leave 1 99 => 24 rows
+journal-campaign-row revert confirm 1 99 => 24 rows
+journal-campaign-row test leave 1 18 => 1.17 boot test 1 boot revert 23 KEPT
+journal-campaign-row test leave 1 19 => 2.0 boot test 18 boot revert 23 KEPT
+journal-campaign-row test leave 1 23 => 2.4 boot test 18 boot perm 19 KEPT
+journal-campaign-row test leave 1 41 => 2.22 boot test 18 boot revert 1 KEPT
+journal-campaign-row test leave 1 99 => 42 rows
+journal-campaign-row test leave 2 19 => 1.0,1.17 boot test 1 boot revert 23 KEPT
+journal-campaign-row test leave 2 20 => 1.0,2.0 boot test 18 boot revert 23 KEPT
+journal-campaign-row test leave 2 42 => 1.0,2.22 boot test 18 boot revert 1 KEPT
+journal-campaign-row test leave 2 43 => 1.1 boot test 18 boot revert 23 KEPT
+journal-campaign-row test leave 2 977 => 2.22,2.0 boot test 18 boot revert 1 KEPT
+campaign-row test leave 0 0 => - boot test 18 boot revert 23 KEPT
+campaign-row test leave 1 23 => 2.4 boot test 18 boot perm 19 KEPT
+campaign-row test confirm 0 0 => - boot test 18 boot none 0 CONFIRMED
+campaign-row test/unit/1 leave 1 114 => 2.4 boot test 109 boot none 0 CONFIRMED
+campaign-behind 1 leave - => 1.0 boot test 18 boot revert 23 KEPT
+campaign-behind 1 leave 1.16 => 1.17 boot test 1 boot revert 23 KEPT
+campaign-behind 1 leave 1.17 => 2.0 boot test 18 boot revert 23 KEPT
+campaign-behind 1 leave 2.21 => 2.22 boot test 18 boot revert 1 KEPT
+campaign-behind 1 leave 2.22 => end
+campaign-behind 1 confirm - => E61 OtherRules
+campaign-behind 2 leave - => E57 OtherBound
+campaign-behind 1 leave 1.18 => E58 CannotOccur
+campaign-behind 1 leave 2.23 => E58 CannotOccur
+campaign-behind 1 leave 1.0,2.0 => E58 CannotOccur
+campaign-replay leave - => - boot test 18 boot revert 23 KEPT
+campaign-replay confirm - => - boot test 18 boot none 0 CONFIRMED
+campaign-replay leave 2.4 => 2.4 boot test 18 boot perm 19 KEPT
+campaign-replay leave 1.0,2.23 => E53 CannotOccur at 1
+campaign-replay leave 1.18,2.0 => E53 CannotOccur at 0
 ";
 
 #[test]
-fn other_texts_are_refused(rt: HostRuntime) -> Result<(), Fail> {
-    for text in REFUSED.lines() {
-        assert!(rt; Campaign::read(text).is_err(), "{text}");
-    }
-    let text = format!(in rt.alloc(); "{CampaignError}")?;
-    assert_eq!(rt; text.as_str(), "E62 CampaignSyntax");
-    Ok(())
-}
-
-#[test]
-fn sixteen_cuts_are_the_most(rt: HostRuntime) -> Result<(), Fail> {
-    let sixteen = "1.0,1.0,1.0,1.0,1.0,1.0,1.0,1.0,2.0,2.0,2.0,2.0,2.0,2.0,2.0,2.0";
-    assert!(rt; stands(rt.alloc(), sixteen)?);
-    let more = format!(in rt.alloc(); "{sixteen},2.0")?;
-    assert_eq!(rt; Campaign::read(more.as_str()).err(), Some(CampaignError));
-    Ok(())
-}
-
-/// The outcomes of both rounds of the campaign of a text.
-fn rounds(
-    alloc: Global,
-    text: &str,
-    confirms: bool,
-) -> Result<Result<(Outcome, Outcome), ReplayError>, Fail> {
-    let start = swap(alloc, Kind::Test)?;
-    let campaign = Campaign::read(text)?;
-    match replay_campaign::<SnapFlash>(alloc, &start, &campaign, confirms) {
-        Ok((one, two, _)) => Ok(Ok((one, two))),
-        Err(ReplayError::Memory) => Err(ReplayError::Memory.into()),
-        Err(error) => Ok(Err(error)),
-    }
-}
-
-/// The result, the type and the number of operations of each round, and the type that is next.
-fn told(
-    alloc: Global,
-    text: &str,
-    confirms: bool,
-) -> Result<
-    (
-        (BootResult, SwapType, u32),
-        (BootResult, SwapType, u32),
-        SwapType,
-    ),
-    Fail,
-> {
-    let (one, two) = rounds(alloc, text, confirms)??;
-    Ok((
-        (one.result, one.kind, one.ops),
-        (two.result, two.kind, two.ops),
-        two.next,
-    ))
-}
-
-#[test]
-fn both_rounds_are_told(rt: HostRuntime) -> Result<(), Fail> {
-    let first = (BootResult::Boot, SwapType::Test, 18);
-    for (text, confirms, kind, ops) in [
-        ("-", false, SwapType::Revert, 23),
-        ("-", true, SwapType::None, 0),
-        ("2.4", false, SwapType::Perm, 19),
-    ] {
-        let second = (BootResult::Boot, kind, ops);
-        let told = told(rt.alloc(), text, confirms)?;
-        assert_eq!(rt; told, (first, second, SwapType::None), "{text}");
-    }
-    Ok(())
-}
-
-#[test]
-fn a_cut_of_the_second_round_cannot_occur(rt: HostRuntime) -> Result<(), Fail> {
-    let alloc = rt.alloc();
-    for (text, place) in [("1.0,2.23", 1), ("1.18,2.0", 0)] {
-        let refused = rounds(alloc, text, false)?.err();
-        assert_eq!(rt; refused, Some(ReplayError::CannotOccur(place)), "{text}");
-    }
-    Ok(())
+fn campaigns_stand_in_their_order_and_are_replayed(rt: HostRuntime) -> Result<(), Fail> {
+    plays(&rt, rt.alloc(), SESSION)
 }

@@ -1,10 +1,8 @@
-//! What the tests share: the starts of two small images, and explorers of them.
-ghost use Rattle.std.specs.Prelude.{◌≤◌};
-
-use mc_explore::{Explorer, Kind, Start, write_page};
+//! The starts that the tests share.
+use mc_explore::{Kind, Start};
 use mc_fixtures::{FIRST_IMAGE, SECOND_IMAGE, worked};
-use mc_flash::{Grain, SnapFlash};
-use mc_trailer::{Profile, Rules};
+use mc_flash::Grain;
+use mc_trailer::{MAGIC, Profile, Rules};
 use std::alloc::Global;
 use std::test::Fail;
 
@@ -14,33 +12,53 @@ pub fn swap(alloc: Global, kind: Kind) -> Result<Start, Fail> {
     Ok(Start::from_images(alloc, &layout, kind, &FIRST_IMAGE, &SECOND_IMAGE)?)
 }
 
-/// The page of at most so many rows.
-pub fn page(
-    alloc: Global,
-    explorer: &mut Explorer<'_, SnapFlash>,
-    limit: u32,
-) -> Result<String, Fail>
-    requires { 1 ≤ limit }
-{
-    let mut page = Vec::with_capacity(alloc, 2048)?;
-    write_page(explorer, limit, &mut page)?;
-    Ok(String::from_utf8(page)?)
+/// The kind that a word names.
+fn kind_of(word: &str) -> Kind {
+    match word {
+        "test" => Kind::Test,
+        "perm" => Kind::Perm,
+        "revert" => Kind::Revert,
+        _ => Kind::None,
+    }
 }
 
 /// The rules of two words.
-pub fn rules_of(grain: &str, profile: &str) -> Rules {
-    let is_unit = grain == "unit";
-    let is_second = profile == "2";
-    let grain = if is_unit { Grain::Unit } else { Grain::Call };
-    let profile = if is_second {
-        Profile::Two
-    } else {
-        Profile::One
+fn rules_of(grain: &str, profile: &str) -> Rules {
+    let grain = match grain {
+        "unit" => Grain::Unit,
+        _ => Grain::Call,
+    };
+    let profile = match profile {
+        "2" => Profile::Two,
+        _ => Profile::One,
     };
     Rules { grain, profile }
 }
 
-/// Whether a text begins and ends so.
-pub fn is_between(text: &str, begins: &str, ends: &str) -> bool {
-    text.starts_with(begins) && text.ends_with(ends)
+/// The bytes of both slots: 0xff but for the primary's magic, a swap-size of 80, and the bytes at these places.
+fn flash_of(changes: &str) -> Result<[u8; 1792], Fail> {
+    let mut flash = [0xff; 1792];
+    flash[976..980].copy_from_slice(&[80, 0, 0, 0]);
+    flash[1008..1024].copy_from_slice(&MAGIC);
+    for change in changes.split(',') {
+        let (place, byte) = change.split_once('=').ok_or("a place and a byte")?;
+        let byte = u8::from_str_radix(byte, 16)?;
+        if let Some(cell) = flash.get_mut(place.parse::<usize>()?) {
+            *cell = byte;
+        }
+    }
+    Ok(flash)
+}
+
+/// The start of a swap, as `test`, or of a flash that no swap left, as `984=02,993=00`; where other rules than the plain ones
+/// hold, they stand behind it, as in `test/unit/2`.
+pub fn start_of(alloc: Global, told: &str) -> Result<Start, Fail> {
+    let (flash, rules) = told.split_once('/').unwrap_or((told, "call/1"));
+    let (grain, profile) = rules.split_once('/').ok_or("a grain and a profile")?;
+    let start = if flash.contains('=') {
+        Start::from_flash(alloc, &worked()?, &flash_of(flash)?)?
+    } else {
+        swap(alloc, kind_of(flash))?
+    };
+    Ok(start.with_rules(rules_of(grain, profile)))
 }

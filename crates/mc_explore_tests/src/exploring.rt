@@ -1,69 +1,134 @@
-//! The rows of a test swap of two small images.
-ghost use Rattle.std.specs.Prelude.{◌≤◌};
-
-use crate::common::swap;
-use mc_explore::{Explorer, Kind, Row};
+//! The rows of explorations of two small images.
+use crate::common::{start_of, swap};
+use crate::sessions::{plays, refused};
+use mc_explore::{Cursor, Explorer, Kind, replay};
 use mc_flash::SnapFlash;
 use std::alloc::Global;
 use std::test::Fail;
 
-/// The rows of at most so many cuts.
-fn rows(alloc: Global, bound: u8) -> Result<Vec<Row>, Fail>
-    requires { bound ≤ 16 }
-{
-    let start = swap(alloc, Kind::Test)?;
+/// The row at a place, counted from 0, or how many rows there are.
+pub fn row(alloc: Global, start: &str, bound: &str, place: &str) -> Result<String, Fail> {
+    let start = start_of(alloc, start)?;
+    let bound = bound.parse::<u8>()?.min(16);
     let mut explorer = Explorer::<SnapFlash>::start(alloc, &start, bound)?;
-    let mut rows = Vec::new(alloc);
-    for _ in 0..1000 {
-        match explorer.next_row()? {
-            Some(row) => rows.push(row)?,
-            None => return Ok(rows),
+    for rows in 0..place.parse::<u32>()? {
+        if explorer.next_row()?.is_none() {
+            return Ok(format!(in alloc; "{rows} rows")?);
         }
     }
-    Ok(rows)
+    let row = explorer.next_row()?.ok_or("a row")?;
+    Ok(format!(in alloc; "{row}")?)
 }
 
-/// How many operations the boot after these cuts makes.
-fn ops_after(rows: &[Row], cuts: &[u32]) -> Option<u32> {
-    let row = rows.iter().find(|row| row.schedule.cuts() == cuts)?;
-    Some(row.outcome.ops)
-}
-
-#[test]
-fn no_cut_gives_one_row(rt: HostRuntime) -> Result<(), Fail> {
-    let rows = rows(rt.alloc(), 0)?;
-    assert_eq!(rt; rows.len(), 1);
-    for row in &rows {
-        let text = format!(in rt.alloc(); "{row}")?;
-        assert_eq!(rt;
-            text.as_str(),
-            "- boot test 18 2.0.0+0/80 1.0.0+0/80 revert"
-        );
-    }
-    Ok(())
-}
-
-#[test]
-fn a_cut_gives_a_row_for_each_operation(rt: HostRuntime) -> Result<(), Fail> {
-    let rows = rows(rt.alloc(), 1)?;
-    assert_eq!(rt; rows.len(), 19);
-    for (cut, ops) in [(4, 18), (5, 14), (9, 9), (17, 1)] {
-        assert_eq!(rt; ops_after(&rows, &[cut]), Some(ops), "{cut}");
-    }
-    Ok(())
-}
-
-#[test]
-fn two_cuts_come_in_order(rt: HostRuntime) -> Result<(), Fail> {
-    let rows = rows(rt.alloc(), 2)?;
-    assert_eq!(rt; rows.len(), 222);
-    let mut before = [].as_slice();
-    for row in &rows {
-        if row.schedule.cuts() == [1].as_slice() {
-            assert_eq!(rt; before, [0, 17].as_slice());
+/// How many of the rows of a start, with at most two cuts, are replayed with their outcomes.
+pub fn rows_replayed(alloc: Global, start: &str) -> Result<String, Fail> {
+    let start = start_of(alloc, start)?;
+    let mut explorer = Explorer::<SnapFlash>::start(alloc, &start, 2)?;
+    for rows in 0..1000 {
+        let Some(row) = explorer.next_row()? else {
+            return Ok(format!(in alloc; "{rows}")?);
+        };
+        let (outcome, _) = replay::<SnapFlash>(alloc, &start, &row.schedule)?;
+        if outcome != row.outcome {
+            break;
         }
-        before = row.schedule.cuts();
     }
-    assert_eq!(rt; before, [17, 0].as_slice());
-    Ok(())
+    Err(Fail::from("the outcome of a row"))
+}
+
+/// The row behind the text of a cursor of a test swap, or why there is none.
+pub fn behind(alloc: Global, bound: &str, cursor: &str) -> Result<String, Fail> {
+    let start = swap(alloc, Kind::Test)?;
+    let bound = bound.parse::<u8>()?.min(16);
+    let cursor = match Cursor::read(cursor) {
+        Ok(cursor) => cursor,
+        Err(error) => return refused(alloc, error),
+    };
+    let mut explorer = match Explorer::<SnapFlash>::resume(alloc, &start, bound, &cursor) {
+        Ok(explorer) => explorer,
+        Err(error) => return refused(alloc, error),
+    };
+    match explorer.next_row()? {
+        Some(row) => Ok(format!(in alloc; "{row}")?),
+        None => Ok(String::from_str(alloc, "end")?),
+    }
+}
+
+/// Rows at their places, and how many there are.
+static ROWS: &str = "\
+row test 0 0 => - boot test 18 SWAPPED
+row test 0 9 => 1 rows
+row test 1 5 => 4 boot test 18 SWAPPED
+row test 1 6 => 5 boot test 14 SWAPPED
+row test 1 10 => 9 boot test 9 SWAPPED
+row test 1 18 => 17 boot test 1 SWAPPED
+row test 1 99 => 19 rows
+row test 2 19 => 0.17 boot test 1 SWAPPED
+row test 2 20 => 1 boot test 18 SWAPPED
+row test 2 221 => 17.0 boot test 1 SWAPPED
+row test 2 999 => 222 rows
+replayed-rows none => 1
+replayed-rows test => 222
+replayed-rows perm => 247
+replayed-rows revert => 343
+";
+
+#[test]
+fn rows_stand_in_their_order_and_are_replayed(rt: HostRuntime) -> Result<(), Fail> {
+    plays(&rt, rt.alloc(), ROWS)
+}
+
+/// Cursors that are refused, and the rows behind others.
+static CURSORS: &str = "\
+behind 2 - => E55 Syntax
+behind 2 mc1 => E55 Syntax
+behind 2 mc1: => E55 Syntax
+behind 2 mc1:START => E55 Syntax
+behind 2 mc1:START: => E55 Syntax
+behind 2 mc1:START:1 => E55 Syntax
+behind 2 mc1:START:1: => E55 Syntax
+behind 2 mc1:START:02:- => E55 Syntax
+behind 2 mc1:START:17:- => E55 Syntax
+behind 2 mc1:START:+1:- => E55 Syntax
+behind 2 mc1:START:-1:- => E55 Syntax
+behind 2 mc1:START:1:01 => E55 Syntax
+behind 2 mc1:START:1:1. => E55 Syntax
+behind 2 mc1:START:1:.1 => E55 Syntax
+behind 2 mc1:START:1:0..1 => E55 Syntax
+behind 2 mc1:START:1:4294967296 => E55 Syntax
+behind 2 mc1:START:1:0.0.0.0.0.0.0.0.0.0.0.0.0.0.0.0.0 => E55 Syntax
+behind 2 mc1:START:1:-: => E55 Syntax
+behind 2 MC1:START:1:- => E55 Syntax
+behind 2 mc0:START:1:- => E55 Syntax
+behind 2 mc1:START0:1:- => E55 Syntax
+behind 2 mc1::START:1:- => E55 Syntax
+behind 2 mc2:START:1:- => E55 Syntax
+behind 2 mc2:call:1:START:1:- => E55 Syntax
+behind 2 mc2:unit:3:START:1:- => E55 Syntax
+behind 2 mc2:unit:01:START:1:- => E55 Syntax
+behind 2 mc2:word:1:START:1:- => E55 Syntax
+behind 2 mc2:Unit:2:START:1:- => E55 Syntax
+behind 2 mc2:unit:2:START:1 => E55 Syntax
+behind 2 mc3:unit:2:leave:START:1:- => E55 Syntax
+behind 2 mc3:unit:2:START:1:- => E55 Syntax
+behind 1 mc1:START:1:18 => E58 CannotOccur
+behind 1 mc1:START:1:0.0 => E58 CannotOccur
+behind 2 mc1:START:2:17.1 => E58 CannotOccur
+behind 2 mc1:START:2:9.9 => E58 CannotOccur
+behind 16 mc1:START:16:4294967295 => E58 CannotOccur
+behind 2 mc1:START:1:0 => E57 OtherBound
+behind 2 mc1:START:1:18 => E57 OtherBound
+behind 2 mc1:OTHER:1:18 => E56 OtherStart
+behind 2 mc2:unit:1:OTHER:1:18 => E56 OtherStart
+behind 2 mc2:unit:1:START:1:18 => E61 OtherRules
+behind 2 mc2:call:2:START:2:- => E61 OtherRules
+behind 1 mc1:START:1:17 => end
+behind 1 mc1:START:1:- => 0 boot test 18 SWAPPED
+behind 2 mc1:START:2:17.0 => end
+behind 16 mc1:START:16:0.0.0.0.0.0.0.0.0.0.0.0.0.0.0.0 => 0.0.0.0.0.0.0.0.0.0.0.0.0.0.0.1 boot test 18 SWAPPED
+";
+
+#[test]
+fn cursors_serve_or_are_refused(rt: HostRuntime) -> Result<(), Fail> {
+    plays(&rt, rt.alloc(), CURSORS)
 }

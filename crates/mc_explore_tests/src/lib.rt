@@ -5,40 +5,32 @@
 #[cfg(test)]
 mod bounds;
 #[cfg(test)]
-mod campaign_rows;
-#[cfg(test)]
-mod campaign_texts;
-#[cfg(test)]
 mod campaigns;
-#[cfg(test)]
-mod censuses;
 #[cfg(test)]
 mod common;
 #[cfg(test)]
-mod cursors;
+mod counts;
 #[cfg(test)]
 mod exploring;
 #[cfg(test)]
 mod hostile;
 #[cfg(test)]
-mod layouts;
+mod images;
 #[cfg(test)]
-mod paging;
+mod pages;
 #[cfg(test)]
 mod pictures;
 #[cfg(test)]
 mod replays;
 #[cfg(test)]
-mod resuming;
+mod sessions;
 #[cfg(test)]
 mod sizes;
 #[cfg(test)]
 mod starts;
 #[cfg(test)]
-mod surveys;
-#[cfg(test)]
 mod tearing;
 #[cfg(test)]
-mod vectors;
+mod texts;
 #[cfg(test)]
 mod writers;

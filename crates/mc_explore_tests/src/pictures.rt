@@ -1,43 +1,39 @@
-//! Pictures and traces of the worked start.
-use crate::common::swap;
+//! Pictures and traces of the worked start, and the numbers that follow from its layout.
+use crate::common::{start_of, swap};
+use crate::sessions::{plays, refused};
 use mc_explore::{Kind, Schedule};
-use mc_flash::{Grain, SnapFlash};
-use mc_trace::{TraceError, write_sectors, write_trace};
-use mc_trailer::{Profile, Rules};
+use mc_fixtures::worked;
+use mc_flash::SnapFlash;
+use mc_trace::{write_layout, write_sectors, write_trace};
 use std::alloc::Global;
 use std::test::Fail;
 
-/// What is written of the sectors at the last cut of a schedule of a test swap.
-fn picture(alloc: Global, schedule: &str) -> Result<Vec<u8>, Fail> {
+/// The sectors at the last cut of a schedule of a test swap, or how many bytes are out and why there are no more.
+pub fn sectors(alloc: Global, schedule: &str) -> Result<String, Fail> {
     let start = swap(alloc, Kind::Test)?;
     let schedule = Schedule::read(schedule)?;
     let mut out = Vec::new(alloc);
-    write_sectors::<SnapFlash, Vec<u8>>(alloc, &start, &schedule, &mut out)?;
-    Ok(out)
-}
-
-#[test]
-fn sectors_at_the_last_cut(rt: HostRuntime) -> Result<(), Fail> {
-    for (schedule, text) in [
-        ("-", "primary a0 - - -\nsecondary b0 - b2\n"),
-        ("9", "primary a0 a0 - *\nsecondary b0 - -\n"),
-        ("10", "primary - a0 - *\nsecondary b0 - -\n"),
-        ("9.4", "primary b0 a0 - *\nsecondary b0 - -\n"),
-    ] {
-        let out = picture(rt.alloc(), schedule)?;
-        assert_eq!(rt; out.as_slice(), text.as_bytes(), "{schedule}");
+    match write_sectors::<SnapFlash, Vec<u8>>(alloc, &start, &schedule, &mut out) {
+        Ok(()) => Ok(String::from_utf8(out)?),
+        Err(error) => {
+            let error = refused(alloc, error)?;
+            Ok(format!(in alloc; "{} {error}", out.len())?)
+        }
     }
-    Ok(())
 }
 
+/// Pictures, and one of a cut that cannot occur.
+static PICTURES: &str = "\
+sectors - => primary a0 - - -;secondary b0 - b2;
+sectors 9 => primary a0 a0 - *;secondary b0 - -;
+sectors 10 => primary - a0 - *;secondary b0 - -;
+sectors 9.4 => primary b0 a0 - *;secondary b0 - -;
+sectors 18 => 0 E53 CannotOccur at 0
+";
+
 #[test]
-fn no_sectors_at_a_cut_that_cannot_occur(rt: HostRuntime) -> Result<(), Fail> {
-    let start = swap(rt.alloc(), Kind::Test)?;
-    let schedule = Schedule::read("18")?;
-    let mut out = Vec::new(rt.alloc());
-    let refused = write_sectors::<SnapFlash, Vec<u8>>(rt.alloc(), &start, &schedule, &mut out);
-    assert_eq!(rt; (refused, out.len()), (Err(TraceError::CannotOccur(0)), 0));
-    Ok(())
+fn sectors_are_told_at_the_last_cut(rt: HostRuntime) -> Result<(), Fail> {
+    plays(&rt, rt.alloc(), PICTURES)
 }
 
 /// How the boot of a test swap begins where each unit is written by itself.
@@ -51,15 +47,37 @@ boot 0 test
 5 erase secondary 2
 ";
 
+/// The numbers of the worked layout, worked out by hand.
+const WORKED: &str = "\
+trailer-bytes 144
+trailer-sectors 1
+image-sectors 2
+image-bytes 512
+primary 880 entry 0
+primary 968 entry 11
+primary 976 swap-size
+primary 984 swap-info
+primary 992 copy-done
+primary 1000 image-ok
+primary 1008 magic
+secondary 720 swap-size
+secondary 728 swap-info
+secondary 736 copy-done
+secondary 744 image-ok
+secondary 752 magic
+call swap-ops 30
+call most-ops 36
+unit swap-ops 211
+unit most-ops 218
+";
+
 #[test]
-fn units_by_themselves(rt: HostRuntime) -> Result<(), Fail> {
-    let start = swap(rt.alloc(), Kind::Test)?;
-    let start = start.with_rules(Rules {
-        grain: Grain::Unit,
-        profile: Profile::One,
-    });
+fn a_layout_and_the_units_of_a_boot_are_written(rt: HostRuntime) -> Result<(), Fail> {
     let mut out = Vec::new(rt.alloc());
+    write_layout(&worked()?, &mut out)?;
+    let start = start_of(rt.alloc(), "test/unit/1")?;
     write_trace::<SnapFlash, Vec<u8>>(rt.alloc(), &start, &Schedule::new(), &mut out)?;
-    assert!(rt; out.as_slice().starts_with(UNITS.as_bytes()));
+    let want = format!(in rt.alloc(); "{WORKED}{UNITS}")?;
+    assert!(rt; out.as_slice().starts_with(want.as_bytes()));
     Ok(())
 }

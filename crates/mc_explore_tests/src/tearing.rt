@@ -1,5 +1,5 @@
 //! Pages that are cut off.
-use mc_explore::{Schedule, last_row};
+use mc_explore::last_row;
 use std::alloc::Global;
 use std::test::Fail;
 
@@ -19,24 +19,13 @@ fn last_of(alloc: Global, torn: &[u8]) -> Result<String, Fail> {
 
 #[test]
 fn a_torn_page_ends_with_its_last_whole_row(rt: HostRuntime) -> Result<(), Fail> {
-    for (len, want) in [
-        (0, ""),
-        (43, ""),
-        (44, "-"),
-        (100, "0"),
-        (131, "0"),
-        (132, "1"),
-    ] {
-        let torn = PAGE.get(..len).unwrap_or_default();
-        let last = last_of(rt.alloc(), torn)?;
-        assert_eq!(rt; last.as_str(), want, "{len}");
-    }
-    Ok(())
-}
-
-#[test]
-fn other_lines_are_no_rows(rt: HostRuntime) -> Result<(), Fail> {
-    let cases: [(&[u8], &str); 7] = [
+    let cases: [(&[u8], &str); 13] = [
+        (b"", ""),
+        (&PAGE[..43], ""),
+        (&PAGE[..44], "-"),
+        (&PAGE[..100], "0"),
+        (&PAGE[..131], "0"),
+        (&PAGE[..132], "1"),
         (b"0.17 boot\nend\n", "0.17"),
         (b"0 boot\nnext mc1:2:17\n", "0"),
         (b"0 \xff\xfe\n\n", "0"),
@@ -47,7 +36,7 @@ fn other_lines_are_no_rows(rt: HostRuntime) -> Result<(), Fail> {
     ];
     for (torn, want) in cases {
         let last = last_of(rt.alloc(), torn)?;
-        assert_eq!(rt; last.as_str(), want);
+        assert_eq!(rt; last.as_str(), want, "{torn:?}");
     }
     Ok(())
 }

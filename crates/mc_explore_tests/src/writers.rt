@@ -12,7 +12,7 @@ use std::process::Abort;
 use std::test::Fail;
 
 /// What a call returned. The test ends where an allocation failed (`scripts/refuse-tests`).
-pub fn ended(told: Result<(), ExploreError>) -> Result<Result<(), ExploreError>, Fail> {
+fn ended(told: Result<(), ExploreError>) -> Result<Result<(), ExploreError>, Fail> {
     if told == Err(ExploreError::Memory) {
         told?;
     }
@@ -85,17 +85,6 @@ impl Paged for Campaigns {
     }
 }
 
-/// The last line of the page of three rows.
-static NEXT: &[u8] =
-    b"next mc1:9b07a99687c30f1c748c995c0d4df48a8af881b571e209fd613b03ba09e2b5b7:1:1\n";
-
-/// The page of a test swap with at most so many cuts: rows that take so many bytes, and a last line.
-fn page_of(alloc: Global, rows: usize, last: &[u8]) -> Result<Vec<u8>, Fail> {
-    let mut page = PAGE.get(..rows).unwrap_or_default().to_vec(alloc)?;
-    page.extend_from_slice(last)?;
-    Ok(page)
-}
-
 /// A writer that fails after so many bytes, each of which was a call.
 fn writer_after(
     alloc: Global,
@@ -130,23 +119,34 @@ fn meets_failing_writes<P: Paged>(
         for (fault, lasts) in FAULTS {
             let mut writer = writer_after(alloc, room, fault, lasts)?;
             let told = P::errors(alloc, &start, bound, limit, &mut writer)?;
-            assert_eq!(rt; told, STOPPED);
-            assert_eq!(rt; writer.taken.as_slice(), &page[..room]);
+            assert_eq!(rt; (told, writer.taken.as_slice()), (STOPPED, &page[..room]));
         }
     }
     let mut writer = writer_after(alloc, usize::MAX, Fault::Error, true)?;
     let told = P::errors(alloc, &start, bound, limit, &mut writer)?;
-    assert_eq!(rt; told, [None; 3]);
-    assert_eq!(rt; writer.taken.as_slice(), page);
+    assert_eq!(rt; (told, writer.taken.as_slice()), ([None; 3], page));
     Ok(())
 }
 
+/// A page of three rows, and one of the only row without a cut.
+static SCHEDULES: [&str; 2] = [
+    "\
+- boot test 18 2.0.0+0/80 1.0.0+0/80 revert
+0 boot test 18 2.0.0+0/80 1.0.0+0/80 revert
+1 boot test 18 2.0.0+0/80 1.0.0+0/80 revert
+next mc1:9b07a99687c30f1c748c995c0d4df48a8af881b571e209fd613b03ba09e2b5b7:1:1
+",
+    "\
+- boot test 18 2.0.0+0/80 1.0.0+0/80 revert
+end
+",
+];
+
 #[test]
 fn a_failed_write_ends_the_exploration(rt: HostRuntime) -> Result<(), Fail> {
-    let full = page_of(rt.alloc(), 132, NEXT)?;
-    meets_failing_writes::<Schedules>(&rt, rt.alloc(), 1, 3, full.as_slice())?;
-    let last = page_of(rt.alloc(), 44, b"end\n")?;
-    meets_failing_writes::<Schedules>(&rt, rt.alloc(), 0, 2, last.as_slice())
+    let [full, last] = SCHEDULES;
+    meets_failing_writes::<Schedules>(&rt, rt.alloc(), 1, 3, full.as_bytes())?;
+    meets_failing_writes::<Schedules>(&rt, rt.alloc(), 0, 2, last.as_bytes())
 }
 
 /// A page of two campaigns, and one of all that there are without a cut.
@@ -174,10 +174,6 @@ fn a_page_of_all_rows_is_cut_off(rt: HostRuntime) -> Result<(), Fail> {
     let mut writer = writer_after(rt.alloc(), 100, Fault::Error, true)?;
     let start = swap(rt.alloc(), Kind::Test)?;
     let told = Schedules::errors(rt.alloc(), &start, 1, 19, &mut writer)?;
-    assert_eq!(rt; told, STOPPED);
-    assert_eq!(rt;
-        writer.taken.as_slice(),
-        PAGE.get(..100).unwrap_or_default()
-    );
+    assert_eq!(rt; (told, writer.taken.as_slice()), (STOPPED, &PAGE[..100]));
     Ok(())
 }
