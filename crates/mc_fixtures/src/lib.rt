@@ -8,7 +8,6 @@ ghost use Rattle.mc_flash.specs.Worked.{worked};
 mod failing;
 
 pub use failing::{FAULTS, FailingReader, FailingWriter, Failure, Fault};
-
 use mc_flash::{Layout, LayoutError};
 use mc_image::{ImageError, ImageParts, Version, write_image};
 use std::alloc::Global;
