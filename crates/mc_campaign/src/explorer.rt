@@ -21,7 +21,7 @@ use crate::loading::{ask, load};
 use crate::rounds::Twice;
 use crate::row::CampaignRow;
 use mc_boot::restart_law;
-use mc_explore::{ExploreError, Line, RowSource, Start, write_line, write_text};
+use mc_explore::{ExploreError, Labels, Line, RowSource, Start, write_line, write_text};
 use mc_flash::Flash;
 use mc_walk::{Tour, Walk};
 use std::alloc::Global;
@@ -40,6 +40,7 @@ pub struct CampaignExplorer<'a, F: Flash> {
     tour: Tour<F, Twice>,
     // The campaign of the last row.
     last: Campaign,
+    labels: Labels,
 }
 
 impl<'a, F: Flash> Model for CampaignExplorer<'a, F> {
@@ -103,6 +104,7 @@ impl<'a, F: Flash + Drop> CampaignExplorer<'a, F> {
             bound,
             tour: Tour::fresh(walk),
             last: Campaign::new(),
+            labels: Labels::of(start),
         })
     }
 
@@ -138,6 +140,7 @@ impl<'a, F: Flash + Drop> CampaignExplorer<'a, F> {
             bound,
             tour: Tour::behind(walk),
             last: cursor.campaign,
+            labels: Labels::of(start),
         })
     }
 
@@ -247,7 +250,7 @@ impl<'a, F: Flash + Drop> RowSource for CampaignExplorer<'a, F> {
 
     fn write_row<W: Write>(&self, row: CampaignRow, writer: &mut W) -> Result<(), ExploreError> {
         let mut line = Line::new();
-        row.put_into(&mut line);
+        row.put_into(&mut line, &self.labels);
         line.put("\n");
         write_text(writer, line.as_str().as_bytes())
     }

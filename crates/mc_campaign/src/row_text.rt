@@ -4,7 +4,7 @@ ghost use Rattle.mc_campaign.specs.RowText.{row_text};
 ghost use Rattle.mc_campaign.specs.State.{told};
 
 use crate::row::CampaignRow;
-use mc_explore::{Line, MOST_LINE};
+use mc_explore::{Labels, Line, MOST_LINE};
 use std::fmt;
 
 /// The campaign; the result, the type and how many operations happened, of the boot that ends the first round and of the one that
@@ -15,14 +15,14 @@ impl fmt::Display for CampaignRow {
 
     fn fmt<W: fmt::Write>(&self, f: &mut fmt::Formatter<W>) -> fmt::Result {
         let mut line = Line::new();
-        self.put_into(&mut line);
+        self.put_into(&mut line, &Labels::none());
         f.write_str(line.as_str())
     }
 }
 
 impl CampaignRow {
     // Puts its text into an empty line, where there is room for it and more.
-    pub(crate) fn put_into(&self, line: &mut Line)
+    pub(crate) fn put_into(&self, line: &mut Line, labels: &Labels)
         requires { line.old ≡ [] }
         ensures text { line.new ≡ row_text (told self.now) }
         ensures length { length line.new < MOST_LINE }
@@ -33,6 +33,6 @@ impl CampaignRow {
         line.put(" ");
         line.put_outcome(&self.second);
         line.put(" ");
-        line.put_slots(&self.second);
+        line.put_slots(&self.second, labels);
     }
 }

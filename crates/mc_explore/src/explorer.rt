@@ -12,6 +12,7 @@ ghost use Rattle.mc_tree.specs.Paths.{After};
 
 use crate::cursor::Cursor;
 use crate::error::ExploreError;
+use crate::labels::Labels;
 use crate::line::Line;
 use crate::loading::{ask, load};
 use crate::once::Once;
@@ -37,6 +38,7 @@ pub struct Explorer<'a, F: Flash> {
     tour: Tour<F, Once>,
     // The schedule of the last row.
     last: Schedule,
+    labels: Labels,
 }
 
 impl<'a, F: Flash> Model for Explorer<'a, F> {
@@ -79,6 +81,7 @@ impl<'a, F: Flash + Drop> Explorer<'a, F> {
             bound,
             tour: Tour::fresh(walk),
             last: Schedule::new(),
+            labels: Labels::of(start),
         })
     }
 
@@ -117,6 +120,7 @@ impl<'a, F: Flash + Drop> Explorer<'a, F> {
             bound,
             tour: Tour::behind(walk),
             last: *last,
+            labels: Labels::of(start),
         })
     }
 
@@ -256,7 +260,7 @@ impl<'a, F: Flash + Drop> RowSource for Explorer<'a, F> {
 
     fn write_row<W: Write>(&self, row: Row, writer: &mut W) -> Result<(), ExploreError> {
         let mut line = Line::new();
-        row.put_into(&mut line);
+        row.put_into(&mut line, &self.labels);
         line.put("\n");
         write_text(writer, line.as_str().as_bytes())
     }

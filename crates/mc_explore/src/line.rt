@@ -51,12 +51,17 @@ impl Line {
     }
 
     /// Adds a number in decimal digits, of which there are at most ten.
+    #[tactic(auto, using(std::proofs::lemmas::Fmt::decimal_digit))]
     #[inline]
     pub fn put_number(&mut self, number: u32)
         requires { length self.old + 10 ≤ MOST_LINE }
         ensures text { self.new ≡ self.old ++ decimal number }
         ensures length { length self.new ≤ length self.old + 10 }
     {
+        if number < 10 {
+            self.text.push(char::from(b'0' + number as u8));
+            return;
+        }
         self.put(itoa::Buffer::new().format(number));
     }
 }

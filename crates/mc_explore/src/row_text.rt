@@ -6,6 +6,7 @@ ghost use Rattle.mc_image.specs.VersionText.{version_line};
 ghost use Rattle.mc_explore.specs.RowText.{slot_text, outcome_text, slots_text, row_text};
 ghost use Rattle.mc_explore.specs.State.{told};
 
+use crate::labels::Labels;
 use crate::line::{Line, MOST_LINE};
 use crate::row::Row;
 use mc_boot::{ImageId, Outcome};
@@ -28,19 +29,29 @@ impl Line {
         self.put_number(version.build);
     }
 
+    /// Adds the version and the size of an image.
+    pub(crate) fn put_image(&mut self, image: ImageId)
+        requires { length self.old + 54 ≤ MOST_LINE }
+        ensures text { self.new ≡ self.old ++ slot_text (Some (identity_of image)) }
+        ensures length { length self.new ≤ length self.old + 54 }
+    {
+        self.put_version(image.version);
+        self.put("/");
+        self.put_number(image.size);
+    }
+
     // Adds what a slot holds, in a word: the version and the size of its valid image.
-    fn put_slot(&mut self, held: Option<ImageId>)
+    fn put_slot(&mut self, held: Option<ImageId>, labels: &Labels)
         requires { length self.old + 54 ≤ MOST_LINE }
         ensures text { self.new ≡ self.old ++ slot_text (option_map identity_of held) }
         ensures length { length self.new ≤ length self.old + 54 }
     {
         match held {
             None => self.put("none"),
-            Some(image) => {
-                self.put_version(image.version);
-                self.put("/");
-                self.put_number(image.size);
-            }
+            Some(image) => match labels.find(&image) {
+                Some(label) => self.put(label),
+                None => self.put_image(image),
+            },
         }
     }
 
@@ -58,15 +69,15 @@ impl Line {
     }
 
     /// Adds what a boot left, in words: what the slots hold (the version and the size of the valid image, or `none`), and
-    /// the next type.
-    pub fn put_slots(&mut self, outcome: &Outcome)
+    /// the next type. Images with a label are told by that.
+    pub fn put_slots(&mut self, outcome: &Outcome, labels: &Labels)
         requires { length self.old + 116 ≤ MOST_LINE }
         ensures text { self.new ≡ self.old ++ slots_text (shown outcome.now) }
         ensures length { length self.new ≤ length self.old + 116 }
     {
-        self.put_slot(outcome.primary);
+        self.put_slot(outcome.primary, labels);
         self.put(" ");
-        self.put_slot(outcome.secondary);
+        self.put_slot(outcome.secondary, labels);
         self.put(" ");
         self.put(outcome.next.name());
     }
@@ -79,14 +90,14 @@ impl fmt::Display for Row {
 
     fn fmt<W: fmt::Write>(&self, f: &mut fmt::Formatter<W>) -> fmt::Result {
         let mut line = Line::new();
-        self.put_into(&mut line);
+        self.put_into(&mut line, &Labels::none());
         f.write_str(line.as_str())
     }
 }
 
 impl Row {
     // Puts its text into an empty line, where there is room for it and more.
-    pub(crate) fn put_into(&self, line: &mut Line)
+    pub(crate) fn put_into(&self, line: &mut Line, labels: &Labels)
         requires { line.old ≡ [] }
         ensures text { line.new ≡ row_text (told self.now) }
         ensures length { length line.new < MOST_LINE }
@@ -95,6 +106,6 @@ impl Row {
         line.put(" ");
         line.put_outcome(&self.outcome);
         line.put(" ");
-        line.put_slots(&self.outcome);
+        line.put_slots(&self.outcome, labels);
     }
 }
