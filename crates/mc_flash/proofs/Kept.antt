@@ -7,7 +7,7 @@ use Rattle.std.proofs.lemmas.List.Edits.{length-between}
 use Rattle.std.proofs.lemmas.Option.{slice_get-map, slice_get-get_or}
 use Rattle.mc_flash.specs.Blank.{is_blank}
 use Rattle.mc_flash.specs.Geometry.{Geometry}
-use Rattle.mc_flash.specs.Content.{Content, bytes_of, with_bytes, put, size_of}
+use Rattle.mc_flash.specs.Content.{Content, IsSized, bytes_of, with_bytes, put, size_of}
 use Rattle.mc_flash.specs.Apply.{apply, in_slot, erased}
 use Rattle.mc_flash.specs.Ledger.{Ledger, Limits, Spot, IsFull, noted, saves}
 use Rattle.mc_flash.specs.Seen.{Seen, Does, no_spot, went_back}
@@ -43,6 +43,7 @@ pub sound_write : (g : Geometry) (limits : Limits) (er sr mr er' : ℕ) (es es' 
 sound_write g limits er sr mr er' es es' saved marks slot at len s more below room fits =
     let n : length es' ≡ length es + 1 = ap length more ∙ length-append es (Written slot at len ∷ []) in
     record {
+      layout = s.layout;
       room_entries = omega (arith, s.room_entries, room);
       room_saved = s.room_saved;
       room_marks = s.room_marks;
@@ -63,6 +64,7 @@ sound_erase g limits er sr mr er' sr' es es' saved saved' old marks slot at len 
     let n : length es' ≡ length es + 1 = ap length more ∙ length-append es (Erased slot at len ∷ []) in
     let m : length saved' ≡ length saved + length old = ap length kept ∙ length-append saved old in
     record {
+      layout = s.layout;
       room_entries = omega (arith, s.room_entries, room);
       room_saved = omega (arith, s.room_saved, place);
       room_marks = s.room_marks;
@@ -109,6 +111,7 @@ pub sound_mark : (g : Geometry) (limits : Limits) (er sr mr mr' : ℕ) (es : Lis
 sound_mark g limits er sr mr mr' es saved marks marks' s more below room =
     let n : length marks' ≡ length marks + 1 = ap length more ∙ length-append marks (length es ∷ []) in
     record {
+      layout = s.layout;
       room_entries = s.room_entries;
       room_saved = s.room_saved;
       room_marks = omega (arith, s.room_marks, room);
@@ -141,6 +144,7 @@ sound_back g limits er sr mr er' sr' mr' place count es es' saved saved' marks m
     let n : length es' ≡ count = ap length left ∙ length-take-le count es early in
     let m : length marks' ≡ place = ap length front ∙ length-take-le place marks (omega (arith, below)) in
     record {
+      layout = s.layout;
       room_entries = omega (arith, s.room_entries, p);
       room_saved = omega (arith, s.room_saved, q);
       room_marks = omega (arith, s.room_marks, r);
@@ -268,6 +272,6 @@ pub erase_done : (g : Geometry) (s t : Content) (slot : Slot) (sector : ℕ) →
 unfolding apply
 erase_done g s t slot sector is = ap (λ (z : Content). Some z) (sym is)
 
-pub length_of : (g : Geometry) (s : Content) (slot : Slot) → length s.primary ≡ size_of g Primary → length s.secondary ≡ size_of g Secondary → length (bytes_of s slot) ≡ size_of g slot
-length_of g s Primary p q = p
-length_of g s Secondary p q = q
+pub length_of : (g : Geometry) (s : Content) (slot : Slot) → IsSized g s → length (bytes_of s slot) ≡ size_of g slot
+length_of g s Primary sized = sized.primary
+length_of g s Secondary sized = sized.secondary

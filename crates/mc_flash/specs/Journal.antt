@@ -1,7 +1,7 @@
 -- A journal of operations, and what taking them back gives.
 use Rattle.std.specs.Prelude.{◌≡◌, ℕ, ◌+◌, ◌≤◌, false, List, [], ◌∷◌, length, take, drop, map, replicate}
 use Rattle.std.specs.List.{AllByRecursion}
-use Rattle.mc_flash.specs.Geometry.{Geometry}
+use Rattle.mc_flash.specs.Geometry.{Geometry, IsLayout}
 use Rattle.mc_flash.specs.Content.{Content, bytes_of, with_bytes, put, size_of}
 use Rattle.mc_flash.specs.Ledger.{Limits, Spot}
 use Rattle.mc_flash.specs.Seen.{Seen}
@@ -73,8 +73,10 @@ abbrev pub Ascend : ℕ → List ℕ → ℕ → Type 0
 Ascend low [] top = low ≤ top
 Ascend low (n ∷ rest) top = (low ≤ n) × Ascend n rest top
 
--- A journal in room for the limits and at most that full, whose entries and saved bytes go together, with marks in order.
+-- A journal of a layout in room for the limits and at most that full, whose entries and saved bytes go together, with marks
+-- in order.
 pub record IsSound (g : Geometry) (limits : Limits) (entries_room saved_room marks_room : ℕ) (entries : List Entry) (saved marks : List ℕ) : Type 0 where
+  pub layout : IsLayout g
   pub room_entries : limits.entries ≤ entries_room
   pub room_saved : limits.saved ≤ saved_room
   pub room_marks : limits.marks ≤ marks_room

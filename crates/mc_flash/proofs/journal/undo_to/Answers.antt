@@ -2,7 +2,6 @@ use Rattle.std.proofs.Common.{◌≡◌, ◌+◌, ◌-◌, ◌≤◌, [], ◌∷
 use Rattle.std.proofs.lemmas.List.{length-take-le}
 use Rattle.std.specs.List.{AllByRecursion}
 use Rattle.mc_flash.specs.Geometry.{Geometry}
-use Rattle.mc_flash.specs.Slots.{held}
 use Rattle.mc_flash.specs.Journal.{IsInside}
 use Rattle.mc_flash.specs.declared.entry.Entry.{Entry}
 use Rattle.mc_flash.specs.declared.entry.Entry.TheVariants.{Written, Erased}
@@ -26,8 +25,8 @@ undo-preserved-in-Written c =
       fewer = i.fewer;
       room_entries = c.pop.ensures.capacity ∙ i.room_entries;
       room_saved = i.room_saved;
-      same = λ n h. write_undone n c.undo.entries.items c.pop.new.self.items c.undo.saved.items (held c.undo.slots) (held c.fill.new.self) c.in-Written.slot c.in-Written.at c.in-Written.len all
-          c.fill.ensures.held (omega (arith, h, early)) ∙ i.same n h;
+      same = λ n h. write_undone n c.undo.entries.items c.pop.new.self.items c.undo.saved.items c.undo.slots.content c.fill.new.self.content c.in-Written.slot c.in-Written.at c.in-Written.len all
+          c.fill.ensures.content (omega (arith, h, early)) ∙ i.same n h;
     }
 
 pub overflow_sub-from : goal.overflow_sub-from
@@ -69,6 +68,6 @@ undo-preserved-in-Erased c =
       room_entries = c.pop.ensures.capacity ∙ i.room_entries;
       room_saved = c.truncate.ensures.capacity ∙ i.room_saved;
       same = λ n h. erase_undone n (c.len-in-Erased.result - c.in-Erased.len) c.undo.entries.items c.pop.new.self.items c.undo.saved.items c.truncate.new.self.items c.deref.result.now
-          (held c.undo.slots) (held c.put.new.self) c.in-Erased.slot c.in-Erased.at c.in-Erased.len all i.saved_for whole c.deref.ensures.value c.truncate.ensures.items c.put.ensures.held
+          c.undo.slots.content c.put.new.self.content c.in-Erased.slot c.in-Erased.at c.in-Erased.len all i.saved_for whole c.deref.ensures.value c.truncate.ensures.items c.put.ensures.content
           (omega (arith, h, early)) ∙ i.same n h;
     }

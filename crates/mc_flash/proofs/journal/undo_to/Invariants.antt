@@ -1,7 +1,6 @@
 use Rattle.std.proofs.Common.{◌≡◌, ℕ, ◌≤◌, length, take}
 use Rattle.std.specs.Vec.{vec_capacity}
 use Rattle.std.specs.List.{AllByRecursion}
-use Rattle.mc_flash.specs.Slots.{held}
 use Rattle.mc_flash.specs.Journal.{IsInside, all_saved, spot_after}
 use Rattle.mc_flash.proofs.journal.undo_to.Given as goal
 
@@ -16,7 +15,7 @@ invariant-undo l =
       fewer : length l.saved.items ≤ length l.fn.saved.items;
       room_entries : vec_capacity l.entries ≡ vec_capacity l.fn.entries;
       room_saved : vec_capacity l.saved ≡ vec_capacity l.fn.saved;
-      same : (n : ℕ) → n ≤ l.count → spot_after l.entries.items l.saved.items (held l.slots) n ≡ spot_after l.fn.entries.items l.fn.saved.items (held l.fn.slots) n;
+      same : (n : ℕ) → n ≤ l.count → spot_after l.entries.items l.saved.items l.slots.content n ≡ spot_after l.fn.entries.items l.fn.saved.items l.fn.slots.content n;
     }
 
 abbrev pub decreases-undo : goal.decreases-undo
