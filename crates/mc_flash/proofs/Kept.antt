@@ -50,8 +50,10 @@ sound_write g limits er sr mr er' es es' saved marks slot at len s more below ro
       few_entries = omega (arith, n, below);
       few_saved = s.few_saved;
       few_marks = s.few_marks;
-      saved_for = omega (arith, s.saved_for, ap all_saved more, saves_push es (Written slot at len));
-      inside = subst (AllByRecursion (IsInside g)) (sym more) (inside_push g es (Written slot at len) s.inside fits);
+      journal = record {
+        saved_for = omega (arith, s.journal.saved_for, ap all_saved more, saves_push es (Written slot at len));
+        inside = subst (AllByRecursion (IsInside g)) (sym more) (inside_push g es (Written slot at len) s.journal.inside fits);
+      };
       ascend = ascend_grow 0 marks (length es) (length es') s.ascend (omega (arith, n));
     }
 
@@ -71,8 +73,10 @@ sound_erase g limits er sr mr er' sr' es es' saved saved' old marks slot at len 
       few_entries = omega (arith, n, below);
       few_saved = omega (arith, m, long, little);
       few_marks = s.few_marks;
-      saved_for = omega (arith, m, long, s.saved_for, ap all_saved more, saves_push es (Erased slot at len));
-      inside = subst (AllByRecursion (IsInside g)) (sym more) (inside_push g es (Erased slot at len) s.inside fits);
+      journal = record {
+        saved_for = omega (arith, m, long, s.journal.saved_for, ap all_saved more, saves_push es (Erased slot at len));
+        inside = subst (AllByRecursion (IsInside g)) (sym more) (inside_push g es (Erased slot at len) s.journal.inside fits);
+      };
       ascend = ascend_grow 0 marks (length es) (length es') s.ascend (omega (arith, n));
     }
 
@@ -118,8 +122,7 @@ sound_mark g limits er sr mr mr' es saved marks marks' s more below room =
       few_entries = s.few_entries;
       few_saved = s.few_saved;
       few_marks = omega (arith, n, below);
-      saved_for = s.saved_for;
-      inside = s.inside;
+      journal = s.journal;
       ascend = subst (λ z. Ascend 0 z (length es)) (sym more) (ascend_push 0 marks (length es) s.ascend);
     }
 
@@ -134,11 +137,16 @@ mark_more es saved marks marks' s whole more =
 pub mark_below : (es : List Entry) (marks : List ℕ) (place count : ℕ) → Ascend 0 marks (length es) → count ≡ get_or marks place count → place < length marks → count ≤ length es
 mark_below es marks place count order is below = omega (arith, (ascend_take 0 marks (length es) place count order below).1, is)
 
+fewer_saved : (n : ℕ) (es : List Entry) → all_saved (take n es) ≤ all_saved es
+fewer_saved zero es = omega arith
+fewer_saved (suc n) [] = omega arith
+fewer_saved (suc n) (e ∷ es) = omega (arith, fewer_saved n es)
+
 pub sound_back : (g : Geometry) (limits : Limits) (er sr mr er' sr' mr' place count : ℕ) (es es' : List Entry) (saved saved' marks marks' : List ℕ)
     → IsSound g limits er sr mr es saved marks → count ≡ get_or marks place count → place < length marks → marks' ≡ take place marks → es' ≡ take count es
-    → length saved' ≡ all_saved es' → length saved' ≤ length saved → er ≤ er' → sr ≤ sr' → mr ≤ mr'
+    → length saved' ≡ all_saved es' → er ≤ er' → sr ≤ sr' → mr ≤ mr'
     → IsSound g limits er' sr' mr' es' saved' marks'
-sound_back g limits er sr mr er' sr' mr' place count es es' saved saved' marks marks' s is below front left whole fewer p q r =
+sound_back g limits er sr mr er' sr' mr' place count es es' saved saved' marks marks' s is below front left whole p q r =
     let t = ascend_take 0 marks (length es) place count s.ascend below in
     let early = mark_below es marks place count s.ascend is below in
     let n : length es' ≡ count = ap length left ∙ length-take-le count es early in
@@ -149,10 +157,9 @@ sound_back g limits er sr mr er' sr' mr' place count es es' saved saved' marks m
       room_saved = omega (arith, s.room_saved, q);
       room_marks = omega (arith, s.room_marks, r);
       few_entries = omega (arith, n, early, s.few_entries);
-      few_saved = omega (arith, s.few_saved, fewer);
+      few_saved = omega (arith, s.few_saved, s.journal.saved_for, whole, ap all_saved left, fewer_saved count es);
       few_marks = omega (arith, m, below, s.few_marks);
-      saved_for = whole;
-      inside = subst (AllByRecursion (IsInside g)) (sym left) (inside_front g es count s.inside);
+      journal = record { saved_for = whole; inside = subst (AllByRecursion (IsInside g)) (sym left) (inside_front g es count s.journal.inside) };
       ascend = subst (λ z. Ascend 0 z (length es')) (sym front) (subst (Ascend 0 (take place marks)) (sym (n ∙ is)) t.0);
     }
 

@@ -33,7 +33,7 @@ invariant_of-self c =
     c.undo_to.new.saved.items c.truncate.new.self.items) (sym u.layout)
     (sound_back f.slots.layout (limits_of f.reserve) (vec_capacity f.entries) (vec_capacity f.saved) (vec_capacity f.marks) _ _ (vec_capacity c.truncate.new.self) c.args.place c.index-count.result.now
     f.entries.items c.undo_to.new.entries.items f.saved.items c.undo_to.new.saved.items f.marks.items c.truncate.new.self.items
-    c.self.invariant c.index-count.ensures below c.truncate.ensures.items u.left u.saved_for u.fewer (omega (arith, u.room_entries)) (omega (arith, u.room_saved))
+    c.self.invariant c.index-count.ensures below c.truncate.ensures.items u.undone.left u.undone.saved_for (omega (arith, u.room_entries)) (omega (arith, u.room_saved))
     (omega (arith, c.truncate.ensures.capacity)))
 
 pub returns : goal.returns
@@ -47,11 +47,11 @@ returns c =
       length-map f.marks.items (spot_after f.entries.items f.saved.items f.slots.content),
     ) in
     let early = mark_below f.entries.items f.marks.items c.args.place c.index-count.result.now c.self.invariant.ascend c.index-count.ensures below in
-    let n = ap length u.left ∙ length-take-le c.index-count.result.now f.entries.items early in
+    let n = ap length u.undone.left ∙ length-take-le c.index-count.result.now f.entries.items early in
     let there = restored f.entries.items c.undo_to.new.entries.items f.saved.items c.undo_to.new.saved.items f.marks.items f.slots.content c.undo_to.new.slots.content c.args.place
-    c.index-count.result.now c.index-count.ensures below n u.saved_for u.same in
+    c.index-count.result.now c.index-count.ensures below n u.undone.saved_for u.undone.same in
     let left = earlier f.entries.items c.undo_to.new.entries.items f.saved.items c.undo_to.new.saved.items f.marks.items c.truncate.new.self.items f.slots.content c.undo_to.new.slots.content
-    c.args.place c.index-count.result.now c.self.invariant.ascend c.index-count.ensures below c.truncate.ensures.items u.same in
+    c.args.place c.index-count.result.now c.self.invariant.ascend c.index-count.ensures below c.truncate.ensures.items u.undone.same in
     let after : Geometry → Seen = λ g. journal_of g c.undo_to.new.slots.content (limits_of f.reserve) c.undo_to.new.entries.items c.undo_to.new.saved.items c.truncate.new.self.items f.applied in
     subst (λ (g : Geometry). after g ≡ went_back c.args.place c.args.self.now) (sym u.layout)
     (journal_back f.slots.layout (limits_of f.reserve) f.slots.content c.undo_to.new.slots.content f.entries.items c.undo_to.new.entries.items f.saved.items c.undo_to.new.saved.items f.marks.items

@@ -63,7 +63,7 @@ returns c =
     let entry = c.in_ok-push.ensures.items ∙ ap (λ k. f.entries.items ++ Erased c.args.slot (c.args.sector * k) k ∷ []) size in
     let kept = marks_erase f.entries.items c.push.new.self.items f.saved.items c.extend_from_slice.new.self.items f.marks.items f.slots.content c.erase.new.self.content c.args.slot
     (c.args.sector * f.slots.layout.sector) f.slots.layout.sector (replicate f.slots.layout.sector 255)
-    c.self.invariant.ascend c.self.invariant.saved_for entry (c.in_ok-extend_from_slice.ensures.items ∙ ap (λ z. f.saved.items ++ z) c.sector.ensures.value) c.erase.ensures.content
+    c.self.invariant.ascend c.self.invariant.journal.saved_for entry (c.in_ok-extend_from_slice.ensures.items ∙ ap (λ z. f.saved.items ++ z) c.sector.ensures.value) c.erase.ensures.content
     (length-replicate f.slots.layout.sector 255) (omega (arith, fits, long)) in
     let more : length c.push.new.self.items ≡ length f.entries.items + 1 = ap length c.in_ok-push.ensures.items ∙ length-append f.entries.items
     (Erased c.args.slot (c.args.sector * c.sector-size.result) c.sector-size.result ∷ []) in

@@ -1,4 +1,4 @@
-use Rattle.std.proofs.Common.{◌≡◌, List, ◌++◌, [], ◌∷◌, length, map, subst, ap, ◌∙◌, arith}
+use Rattle.std.proofs.Common.{List, ◌++◌, [], ◌∷◌, subst, ap, ◌∙◌, arith}
 use Rattle.std.specs.Prelude.{Ok}
 use Rattle.std.proofs.lemmas.List.{length-map}
 use Rattle.std.specs.Vec.{vec_capacity}
@@ -20,7 +20,7 @@ pub returns : goal.returns
 returns c =
     let f = c.self.inside in
     let spots = spot_after f.entries.items f.saved.items f.slots.content in
-    let kept = mark_more f.entries.items f.saved.items f.marks.items c.push.new.self.items f.slots.content c.self.invariant.saved_for
+    let kept = mark_more f.entries.items f.saved.items f.marks.items c.push.new.self.items f.slots.content c.self.invariant.journal.saved_for
     (c.in_ok-push.ensures.items ∙ ap (λ z. f.marks.items ++ z ∷ []) (omega (arith, f.entries.ok.0))) in
     let after : Seen = journal_of f.slots.layout f.slots.content (limits_of f.reserve) f.entries.items f.saved.items c.push.new.self.items f.applied in
     let long = length-map f.marks.items (spot_after f.entries.items f.saved.items f.slots.content) in
