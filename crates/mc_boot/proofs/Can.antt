@@ -1,57 +1,16 @@
--- Each operation of a boot is one that may be tried.
-use Rattle.std.specs.Prelude.{◌≡◌, ◌⊎◌, ℕ, zero, suc, ◌^◌, ◌+◌, ◌*◌, ◌/◌, ◌%◌, ◌<◌, ◌≤◌, length, refl}
-use Rattle.std.proofs.Common.{arith, sym, ap, subst, inl, inr}
-use Rattle.std.proofs.Math.Nat.{mul-le-mul_right, mod_self, zero-mul}
-use Rattle.mc_trailer.specs.Fields.{one_unit}
+-- The copies of a transfer are operations that may be tried.
+use Rattle.std.specs.Prelude.{◌≡◌, ◌⊎◌, ℕ, zero, suc, ◌^◌, ◌+◌, ◌*◌, ◌/◌, ◌<◌, ◌≤◌}
+use Rattle.std.proofs.Common.{arith, sym, ap, inl, inr}
+use Rattle.std.proofs.Math.Nat.{mul-le-mul_right, zero-mul}
 use Rattle.mc_flash.specs.Geometry.{Geometry, IsLayout}
 use Rattle.mc_flash.specs.Content.{sectors_of, size_of}
 use Rattle.mc_flash.specs.Apply.{IsRange, CanTry}
-use Rattle.mc_flash.specs.Facts.{small_unit, whole_add, whole_times, whole_sector, chunks_cover}
+use Rattle.mc_flash.specs.Facts.{whole_add, whole_times, whole_sector, chunks_cover}
 use Rattle.mc_flash.specs.declared.op.Slot.{Slot}
 use Rattle.mc_flash.specs.declared.op.Slot.TheVariants.{Primary, Secondary}
-use Rattle.mc_trailer.specs.Places.{place, entry_place, before_end}
-use Rattle.mc_trailer.specs.PlaceFacts.{place_inside, place_aligned, entry_ends, entry_aligned}
-use Rattle.mc_trailer.specs.declared.places.Field.{Field}
-use Rattle.mc_trailer.specs.declared.places.Field.TheVariants as field
 use Rattle.mc_boot.specs.declared.transfer.Transfer.{Transfer}
 use Rattle.mc_boot.specs.Inside.{IsInside}
-use Rattle.mc_boot.specs.WriteFacts.{length-one_unit}
 use Rattle.mc_boot.specs.Transfers.{copy_of}
-
-pub can_field : (g : Geometry) (slot : Slot) (f : Field) (n : ℕ) → IsLayout g → n ≤ before_end f → n % g.unit ≡ 0 → 0 < n → IsRange g slot (place g slot f) n
-can_field g slot f n ok short whole some = record {
-  inside = let inside = place_inside g slot f ok in omega arith;
-  start = place_aligned g slot f ok;
-  units = whole;
-  some = some;
-}
-
--- a flag: one unit, in a field of at least 8 bytes
-pub can_flag : (g : Geometry) (slot : Slot) (f : Field) (v : ℕ) → 8 ≤ before_end f → IsLayout g → IsRange g slot (place g slot f) (length (one_unit g v))
-can_flag g slot f v wide ok =
-    let small = small_unit g ok in
-    let P : ℕ → Type 0 = λ n. IsRange g slot (place g slot f) n in
-    subst P (sym (length-one_unit g v ok)) (can_field g slot f g.unit ok (omega arith) (mod_self g.unit) (omega arith))
-
-pub can_magic : (g : Geometry) (slot : Slot) → IsLayout g → IsRange g slot (place g slot field.Magic) 16
-can_magic g slot ok = can_field g slot field.Magic 16 ok (omega arith) (sixteen ok.unit) (omega arith)
-  where
-    sixteen : (g.unit ≡ 1) ⊎ (g.unit ≡ 2) ⊎ (g.unit ≡ 4) ⊎ (g.unit ≡ 8) → 16 % g.unit ≡ 0
-    sixteen (inl one) = rw one refl
-    sixteen (inr (inl two)) = rw two refl
-    sixteen (inr (inr (inl four))) = rw four refl
-    sixteen (inr (inr (inr eight))) = rw eight refl
-
-pub can_entry : (g : Geometry) (e v : ℕ) → IsLayout g → e < 3 * g.max_sectors → IsRange g Primary (entry_place g e) (length (one_unit g v))
-can_entry g e v ok below =
-    let small = small_unit g ok in
-    let P : ℕ → Type 0 = λ n. IsRange g Primary (entry_place g e) n in
-    subst P (sym (length-one_unit g v ok)) (record {
-      inside = let ends = entry_ends g e ok below in omega arith;
-      start = entry_aligned g e ok;
-      units = mod_self g.unit;
-      some = omega arith;
-    })
 
 -- the c-th chunk of a sector
 pub can_chunk : (g : Geometry) (slot : Slot) (sector c : ℕ) → IsLayout g → sector < sectors_of g slot → c < g.sector / g.chunk → IsRange g slot (sector * g.sector + c * g.chunk) g.chunk

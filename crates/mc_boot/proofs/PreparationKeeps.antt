@@ -2,7 +2,6 @@
 use Rattle.std.specs.Prelude.{◌≡◌, ◌≢◌, ℕ, ◌+◌, ◌-◌, ◌%◌, ◌<◌, ◌≤◌, false, List, [], ◌∷◌, ◌++◌, length, take, replicate, refl}
 use Rattle.std.proofs.Common.{arith, sym, subst, ◌∙◌}
 use Rattle.std.proofs.lemmas.List.{length-take-le}
-use Rattle.mc_boot.proofs.Can.{can_magic}
 use Rattle.mc_boot.proofs.ErasesKeep.{Erased, erased_still, erases_keep}
 use Rattle.mc_boot.proofs.FieldWrites.{field_write_keeps, place_behind_data}
 use Rattle.mc_boot.proofs.Keeps.{Keeps, keeps_append, keeps_then}
@@ -19,7 +18,7 @@ use Rattle.mc_flash.specs.Geometry.{Geometry, trailer_sectors}
 use Rattle.mc_flash.specs.declared.flash.Grain.{Grain}
 use Rattle.mc_trailer.specs.FieldFacts.{FieldIs, FieldsAre, blank_byte, blank_field, blank_fields, field_as, field_kept_beside, fields_front, fields_same, same_field_is, set_field, write_field}
 use Rattle.mc_trailer.specs.Fields.{one_unit, size_bytes}
-use Rattle.mc_trailer.specs.PlaceFacts.{field_ends, one_unit_fits, one_unit_whole, room, size_bytes_fit, size_bytes_whole}
+use Rattle.mc_trailer.specs.PlaceFacts.{field_ends, magic_range, one_unit_fits, one_unit_whole, room, size_bytes_fit, size_bytes_whole}
 use Rattle.mc_trailer.specs.Places.{magic_bytes, place}
 use Rattle.mc_trailer.specs.declared.places.Field.{Field}
 use Rattle.mc_trailer.specs.declared.places.Field.TheVariants as field
@@ -104,7 +103,7 @@ magic_keeps c g start size n v s w is free =
     (write c g Secondary field.Magic magic_bytes) s
     (λ t ch. preparing_after g start size n v field.Magic magic_bytes s t w is (omega arith) ch)
     (field_write_keeps g (Phase (Waiting c g start n) g start size n false) s c Secondary field.Magic magic_bytes w.ok is.data_.sized (magic_blank g start n v s free is) (omega arith)
-    (can_magic g Secondary w.ok).units
+    (magic_range g Secondary w.ok).units
     (waits (Waiting c g start n) g start size n false s (waiting_of c g start n v s free is))
     (λ k t fine h part. waits (Waiting c g start n) g start size n false t (record {
       primary = primary_after g start size n field.Magic (take k magic_bytes) s t w is.primary part;

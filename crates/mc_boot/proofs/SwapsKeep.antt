@@ -3,7 +3,6 @@ use Rattle.std.specs.Prelude.{◌≡◌, ◌⊎◌, ℕ, zero, suc, ◌+◌, ◌
 use Rattle.std.proofs.Common.{arith, sym, ap, subst, ◌∙◌, inl, inr}
 use Rattle.std.proofs.Math.Nat.{zero-mul}
 use Rattle.std.proofs.lemmas.List.{get_or-replicate, length-replicate}
-use Rattle.mc_boot.proofs.Can.{can_magic}
 use Rattle.mc_boot.proofs.EntryNumbers.{Entries, entries_kept, entries_none}
 use Rattle.mc_boot.proofs.ErasesKeep.{Erased, erase_behind_data, erased_here, erased_still, erases_keep}
 use Rattle.mc_boot.proofs.FieldWrites.{field_write_keeps, place_behind_data}
@@ -21,7 +20,7 @@ use Rattle.mc_flash.specs.declared.flash.Grain.{Grain}
 use Rattle.mc_flash.specs.declared.op.Slot.{Slot}
 use Rattle.mc_trailer.specs.FieldFacts.{FieldIs, FieldsAre, blank_fields, field_as, fields_as, fields_same, set_field, write_field}
 use Rattle.mc_trailer.specs.Fields.{one_unit, size_bytes}
-use Rattle.mc_trailer.specs.PlaceFacts.{entry_ends, entry_inside, field_ends, most_before_end, one_unit_fits, one_unit_whole, place_inside, room, size_bytes_fit, size_bytes_whole}
+use Rattle.mc_trailer.specs.PlaceFacts.{entry_ends, entry_inside, field_ends, magic_range, most_before_end, one_unit_fits, one_unit_whole, place_inside, room, size_bytes_fit, size_bytes_whole}
 use Rattle.mc_trailer.specs.Places.{entry_place, magic_bytes, place}
 use Rattle.mc_trailer.specs.declared.places.Field.{Field}
 use Rattle.mc_trailer.specs.declared.tables.SwapType.{SwapType}
@@ -154,7 +153,7 @@ marking_keeps R c g start size n b v s w is free_size free_magic =
     (opening_field_keeps R g start size n b c v field.SwapSize (size_bytes g size) s w is (field_as g s Primary field.SwapSize (v field.SwapSize) (replicate 8 255) free_size
     (is.primary field.SwapSize)) (size_bytes_fit g size w.ok) (size_bytes_whole g size w.ok))
     (λ t k. opening_field_keeps R g start size n b c (set_field v field.SwapSize (size_bytes g size)) field.Magic magic_bytes t w k
-    (field_as g t Primary field.Magic (v field.Magic) (replicate 16 255) free_magic (k.primary field.Magic)) (omega arith) (can_magic g Primary w.ok).units)
+    (field_as g t Primary field.Magic (v field.Magic) (replicate 16 255) free_magic (k.primary field.Magic)) (omega arith) (magic_range g Primary w.ok).units)
 
 -- a field of one unit, before other operations
 first_keeps : (R : Content → Type 0) (g : Geometry) (start : Content) (size n : ℕ) (b : Bool) (v : Field → List ℕ) (f : Field) (m : ℕ) (s : Content) → Swap g start size n → Opening g start n b v s

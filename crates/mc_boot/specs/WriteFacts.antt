@@ -3,7 +3,7 @@ use Rattle.std.specs.Prelude.{◌≡◌, ℕ, ◌+◌, ◌-◌, ◌*◌, ◌/◌
 use Rattle.std.specs.List.{range_with_len}
 use Rattle.std.proofs.Common.{arith, ap, ◌∙◌}
 use Rattle.std.proofs.Math.Nat.{div_self}
-use Rattle.std.proofs.lemmas.List.{length-replicate, take_all}
+use Rattle.std.proofs.lemmas.List.{take_all}
 use Rattle.mc_trailer.specs.Fields.{one_unit}
 use Rattle.mc_flash.specs.Geometry.{Geometry, IsLayout}
 use Rattle.mc_flash.specs.Facts.{small_unit}
@@ -13,11 +13,9 @@ use Rattle.mc_flash.specs.declared.op.Slot.{Slot}
 use Rattle.mc_flash.specs.declared.op.Op.{Op}
 use Rattle.mc_flash.specs.declared.op.Op.TheVariants.{Program}
 use Rattle.mc_trailer.specs.Places.{place}
+use Rattle.mc_trailer.specs.PlaceFacts.{one_unit_len}
 use Rattle.mc_trailer.specs.declared.places.Field.{Field}
 use Rattle.mc_boot.specs.Writes.{piece, write}
-
-pub length-one_unit : (g : Geometry) (value : ℕ) → IsLayout g → length (one_unit g value) ≡ g.unit
-length-one_unit g value ok = let small = small_unit g ok in omega (arith, length-replicate {A = ℕ} (g.unit - 1) 255)
 
 one_piece : (u n : ℕ) → 0 < u → n ≡ u → n / u ≡ 1
 one_piece u n some is = ap (λ m. m / u) is ∙ div_self some
@@ -35,5 +33,5 @@ whole_piece g slot at new is =
 pub flag_write : (c : Grain) (g : Geometry) (slot : Slot) (f : Field) (value : ℕ) → IsLayout g → write c g slot f (one_unit g value) ≡ Program slot (place g slot f) (one_unit g value) ∷ []
 flag_write grains.Call g slot f value ok = refl
 flag_write grains.Unit g slot f value ok =
-    ap (λ n. map (piece g slot (place g slot f) (one_unit g value)) (range_with_len 0 n)) (one_piece g.unit (length (one_unit g value)) (small_unit g ok).0 (length-one_unit g value ok))
-    ∙ ap (λ (op : Op). op ∷ []) (whole_piece g slot (place g slot f) (one_unit g value) (length-one_unit g value ok))
+    ap (λ n. map (piece g slot (place g slot f) (one_unit g value)) (range_with_len 0 n)) (one_piece g.unit (length (one_unit g value)) (small_unit g ok).0 (one_unit_len g value ok))
+    ∙ ap (λ (op : Op). op ∷ []) (whole_piece g slot (place g slot f) (one_unit g value) (one_unit_len g value ok))

@@ -5,7 +5,7 @@ use Rattle.mc_flash.specs.Content.{Content, IsSized}
 use Rattle.mc_flash.specs.Geometry.{Geometry}
 use Rattle.mc_flash.specs.Ledger.{Counts, most_operations, most_saved}
 use Rattle.mc_flash.specs.Seen.{Seen}
-use Rattle.mc_flash.specs.Spends.{Allows, LeaveRoom, plus}
+use Rattle.mc_flash.specs.Spends.{Allows, HasRoom, LeaveRoom, plus}
 use Rattle.mc_image.specs.Bytes.{IsBytes}
 use Rattle.mc_trailer.specs.declared.tables.Rules.{Rules}
 use Rattle.mc_boot.specs.Boot.{IsBootOf, all_of, begun, progress}
@@ -50,6 +50,12 @@ pub record IsBegun (r : Rules) (f : Seen) (b : Boot) : Type 0 where
   pub saves : all_saves f.geometry (progress b).to_come ≤ most_saved f.geometry
   pub sized : IsSized f.geometry f.content
   pub bytes : IsBytes f.content.secondary
+
+-- Such a boot, of a flash of that layout, with room to run it and to go back.
+pub record CanTell (r : Rules) (g : Geometry) (f : Seen) (b : Boot) : Type 0 where
+  pub begun : IsBegun r f b
+  pub layout_is : f.geometry ≡ g
+  pub room : HasRoom (most_of r g) f
 
 -- A node is a content. One goes from a child to the next by one operation, and one boot tells of a node.
 abbrev pub once : Rules → Geometry → Kind Content Boot Told

@@ -12,9 +12,10 @@ use Rattle.mc_flash.specs.Spends.{Allows, Stays, times}
 use Rattle.mc_trailer.specs.declared.tables.Rules.{Rules}
 use Rattle.mc_tree.specs.Weights.{from, weight}
 use Rattle.mc_explore.specs.Boots.{at_cut, boots}
-use Rattle.mc_explore.specs.Once.{most_of}
+use Rattle.mc_explore.specs.Once.{IsTold, most_of}
 use Rattle.mc_explore.specs.Totals.{Totals, cut_off, no_totals, report_totals, totals}
 use Rattle.mc_explore.specs.declared.census.Census.{Census}
+use Rattle.mc_explore.specs.declared.once.Told.{Told}
 use Rattle.mc_explore.specs.declared.table.Below.{Below}
 use Rattle.mc_explore.specs.declared.table.Below.TheVariants.{Joined, Apart}
 use Rattle.mc_explore.specs.declared.table.Position.{Position}
@@ -71,6 +72,11 @@ module _ (r : Rules) (g : Geometry) where
     -- The totals of each position for fewer cuts.
     abbrev pub IsLevel : ℕ → List Census → Type 0
     IsLevel bound level = (length level ≡ length (ops_of r g s)) × AreCutOff (λ c. weigh_fewer bound (at_cut r g s c)) level
+
+-- That is told of where a flash of that layout stands.
+pub record IsToldHere (r : Rules) (g : Geometry) (seen : Seen) (told : Told) : Type 0 where
+  pub layout_is : seen.geometry ≡ g
+  pub told_is : IsTold r g seen.content told
 
 -- Room for so many boots on one another, and their marks.
 pub record HasRoomFor (r : Rules) (g : Geometry) (boots : ℕ) (seen : Seen) : Type 0 where

@@ -31,10 +31,10 @@ impl Once {
     ghost use Rattle.std.specs.Prelude.{◌≡◌, Some, IfOk, IfErr, OnOk};
     ghost use Rattle.mc_flash.specs.Ledger.{most_operations, no_counts};
     ghost use Rattle.mc_flash.specs.Seen.{Keeps};
-    ghost use Rattle.mc_flash.specs.Spends.{Allows, HasRoom, LeaveRoom, Spends, Stays, plus};
+    ghost use Rattle.mc_flash.specs.Spends.{Allows, LeaveRoom, Spends, Stays, plus};
     ghost use Rattle.mc_boot.specs.Runs.{left_by};
     ghost use Rattle.mc_walk.specs.Kind.{IsChild, TellsChild};
-    ghost use Rattle.mc_explore.specs.Once.{once, most_of, CanPass, IsBegun, IsTold, LeavesAlike, Passes};
+    ghost use Rattle.mc_explore.specs.Once.{once, most_of, CanPass, CanTell, IsBegun, IsTold, LeavesAlike, Passes};
 
     /// The boot at power-on from a flash.
     pub fn boot<F: Flash>(&self, flash: &F) -> Boot
@@ -78,9 +78,7 @@ impl Once {
 
     // The same, and goes back.
     fn tell<F: Flash>(&self, flash: &mut F, boot: Boot, start: &Start) -> Result<Told, FlashError>
-        requires begun { IsBegun self.now.rules (F.seen flash.old) boot }
-        requires layout { (F.seen flash.old).geometry ≡ self.now.layout }
-        requires room { HasRoom (most_of self.now.rules self.now.layout) (F.seen flash.old) }
+        requires { CanTell self.now.rules self.now.layout (F.seen flash.old) boot }
         ensures told { IfOk result (IsTold self.now.rules self.now.layout
             (F.seen flash.old).content) }
         ensures stays { OnOk result (Stays (F.seen flash.old) (F.seen flash.new)) }

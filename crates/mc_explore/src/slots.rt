@@ -6,19 +6,11 @@ ghost use Rattle.mc_trailer.specs.Places.{place, magic_bytes};
 ghost use Rattle.mc_boot.specs.Plan.{plain};
 ghost use Rattle.mc_boot.specs.Runs.{left_by};
 ghost use Rattle.mc_boot.specs.Start.{image_bytes, filled, placed, test_flash, perm_flash, start_flash};
-ghost use Rattle.mc_explore.specs.Slots.{content_of};
 
 use mc_boot::{Boot, Kind};
-use mc_flash::{Flash, FlashError, Layout, Slot, SnapFlash};
+use mc_flash::{Content, Flash, FlashError, Layout, Slot, SnapFlash};
 use mc_trailer::{Field, MAGIC, Rules, place};
 use std::alloc::{AllocError, Global};
-
-/// The bytes of both slots.
-#[derive(Drop)]
-pub(crate) struct Slots {
-    pub(crate) primary: Vec<u8>,
-    pub(crate) secondary: Vec<u8>,
-}
 
 // A slot that begins with these bytes, all else 0xff.
 fn filled(alloc: Global, layout: &Layout, slot: Slot, image: &[u8]) -> Result<Vec<u8>, AllocError>
@@ -34,13 +26,18 @@ fn filled(alloc: Global, layout: &Layout, slot: Slot, image: &[u8]) -> Result<Ve
 }
 
 // The first image in the primary and the second in the secondary.
-fn placed(alloc: Global, layout: &Layout, first: &[u8], second: &[u8]) -> Result<Slots, AllocError>
+fn placed(
+    alloc: Global,
+    layout: &Layout,
+    first: &[u8],
+    second: &[u8],
+) -> Result<Content, AllocError>
     requires first { length first.now ≤ size_of layout.now Primary }
     requires second { length second.now ≤ size_of layout.now Secondary }
-    ensures content { IfOk result (λ s. content_of s ≡ placed layout.now first.now second.now) }
-    ensures sized { IfOk result (λ s. IsSized layout.now (content_of s)) }
+    ensures content { IfOk result (λ s. s ≡ placed layout.now first.now second.now) }
+    ensures sized { IfOk result (λ s. IsSized layout.now s) }
 {
-    Ok(Slots {
+    Ok(Content {
         primary: filled(alloc, layout, Slot::Primary, first)?,
         secondary: filled(alloc, layout, Slot::Secondary, second)?,
     })
@@ -74,11 +71,11 @@ fn test_slots(
     layout: &Layout,
     first: &[u8],
     second: &[u8],
-) -> Result<Slots, AllocError>
+) -> Result<Content, AllocError>
     requires first { length first.now ≤ size_of layout.now Primary }
     requires second { length second.now ≤ size_of layout.now Secondary }
-    ensures content { IfOk result (λ s. content_of s ≡ test_flash layout.now first.now second.now) }
-    ensures sized { IfOk result (λ s. IsSized layout.now (content_of s)) }
+    ensures content { IfOk result (λ s. s ≡ test_flash layout.now first.now second.now) }
+    ensures sized { IfOk result (λ s. IsSized layout.now s) }
 {
     let mut slots = placed(alloc, layout, first, second)?;
     write_magic(layout, &mut slots.secondary);
@@ -91,26 +88,15 @@ fn perm_slots(
     layout: &Layout,
     first: &[u8],
     second: &[u8],
-) -> Result<Slots, AllocError>
+) -> Result<Content, AllocError>
     requires first { length first.now ≤ size_of layout.now Primary }
     requires second { length second.now ≤ size_of layout.now Secondary }
-    ensures content { IfOk result (λ s. content_of s ≡ perm_flash layout.now first.now second.now) }
-    ensures sized { IfOk result (λ s. IsSized layout.now (content_of s)) }
+    ensures content { IfOk result (λ s. s ≡ perm_flash layout.now first.now second.now) }
+    ensures sized { IfOk result (λ s. IsSized layout.now s) }
 {
     let mut slots = test_slots(alloc, layout, first, second)?;
     write_image_ok(layout, &mut slots.secondary);
     Ok(slots)
-}
-
-// What a flash holds.
-fn slots_of<F: Flash>(alloc: Global, flash: &F) -> Result<Slots, AllocError>
-    ensures content { IfOk result (λ s. content_of s ≡ (F.seen flash.now).content) }
-    ensures sized { IfOk result (λ s. IsSized (F.seen flash.now).geometry (content_of s)) }
-{
-    Ok(Slots {
-        primary: flash.read(Slot::Primary).to_vec(alloc)?,
-        secondary: flash.read(Slot::Secondary).to_vec(alloc)?,
-    })
 }
 
 // The slots that the uncut boot leaves.
@@ -119,18 +105,18 @@ fn booted<F: Flash>(
     layout: &Layout,
     primary: &[u8],
     secondary: &[u8],
-) -> Result<Slots, FlashError>
+) -> Result<Content, FlashError>
     requires primary { length primary.now ≡ size_of layout.now Primary }
     requires secondary { length secondary.now ≡ size_of layout.now Secondary }
     ensures content { IfOk result (λ s. left_by plain layout.now
-        (record { primary = primary.now; secondary = secondary.now }) ≡ Some (content_of s)) }
-    ensures sized { IfOk result (λ s. IsSized layout.now (content_of s)) }
+        (record { primary = primary.now; secondary = secondary.now }) ≡ Some s) }
+    ensures sized { IfOk result (λ s. IsSized layout.now s) }
     ensures err { IfErr result (λ e. e ≡ FlashError.Memory) }
 {
     let mut flash = F::load(alloc, layout, Rules::PLAIN.grain, primary, secondary, 1)?;
     let mut boot = Boot::cold(&flash, Rules::PLAIN);
     boot.finish(&mut flash)?;
-    Ok(slots_of(alloc, &flash)?)
+    Ok(Content::read(alloc, &flash)?)
 }
 
 // The slots after the whole swap of the exchanged images for a test.
@@ -139,12 +125,12 @@ fn revert_slots(
     layout: &Layout,
     first: &[u8],
     second: &[u8],
-) -> Result<Slots, FlashError>
+) -> Result<Content, FlashError>
     requires first { length first.now ≤ size_of layout.now Secondary }
     requires second { length second.now ≤ size_of layout.now Primary }
     ensures content { IfOk result (λ s. left_by plain layout.now
-        (test_flash layout.now second.now first.now) ≡ Some (content_of s)) }
-    ensures sized { IfOk result (λ s. IsSized layout.now (content_of s)) }
+        (test_flash layout.now second.now first.now) ≡ Some s) }
+    ensures sized { IfOk result (λ s. IsSized layout.now s) }
     ensures err { IfErr result (λ e. e ≡ FlashError.Memory) }
 {
     let asked = test_slots(alloc, layout, second, first)?;
@@ -163,14 +149,14 @@ pub(crate) fn start_slots(
     kind: Kind,
     first: &[u8],
     second: &[u8],
-) -> Result<Slots, FlashError>
+) -> Result<Content, FlashError>
     requires first { (length first.now ≤ size_of layout.now Primary)
         × (length first.now ≤ size_of layout.now Secondary) }
     requires second { (length second.now ≤ size_of layout.now Primary)
         × (length second.now ≤ size_of layout.now Secondary) }
     ensures content { (a b : List ℕ) → first.now ≡ image_bytes a → second.now ≡ image_bytes b
-        → IfOk result (λ s. start_flash layout.now kind a b ≡ Some (content_of s)) }
-    ensures sized { IfOk result (λ s. IsSized layout.now (content_of s)) }
+        → IfOk result (λ s. start_flash layout.now kind a b ≡ Some s) }
+    ensures sized { IfOk result (λ s. IsSized layout.now s) }
     ensures err { IfErr result (λ e. e ≡ FlashError.Memory) }
 {
     match kind {

@@ -12,9 +12,9 @@ ghost use Rattle.mc_explore.specs.Texts.{layout_line};
 ghost use Rattle.mc_explore.specs.Slots.{IsKnown};
 ghost use Rattle.mc_explore.specs.Start.{Starts, Gives, begun, in_order, of_flash, start_digest};
 
-use crate::slots::{Slots, start_slots};
+use crate::slots::start_slots;
 use mc_boot::{ImageId, Kind, KnownImage, known_id};
-use mc_flash::{FlashError, Layout, Slot};
+use mc_flash::{Content, FlashError, Layout, Slot};
 use mc_image::{ImageError, ImageView};
 use mc_trailer::Rules;
 use sha2::{Digest, Sha256};
@@ -69,7 +69,7 @@ pub struct Start {
     rules: Rules,
     // The layout's text and a line feed, for the digest.
     line: String,
-    slots: Slots,
+    content: Content,
     // The valid images that the slots begin with, where that is known.
     in_primary: Option<ImageId>,
     in_secondary: Option<ImageId>,
@@ -84,7 +84,7 @@ impl Model for Start {
     ghost use Rattle.std.specs.Prelude.{◌≡◌, ◌++◌, ◌∷◌, [], length, string_bytes};
     ghost use Rattle.mc_flash.specs.Geometry.{IsLayout};
     ghost use Rattle.mc_flash.specs.Content.{IsSized};
-    ghost use Rattle.mc_explore.specs.Slots.{content_of, IsKnown};
+    ghost use Rattle.mc_explore.specs.Slots.{IsKnown};
     ghost use Rattle.mc_explore.specs.Texts.{layout_line};
 
     ghost Value = { Started };
@@ -92,14 +92,14 @@ impl Model for Start {
     ghost view = { λ s. record {
       geometry = s.layout;
       rules = s.rules;
-      content = content_of s.slots;
+      content = s.content;
       named = option_map (λ p. (identity_of p.0, identity_of p.1)) s.named;
     } };
 
-    ghost invariant = { λ s. IsLayout s.layout × IsSized s.layout (content_of s.slots)
+    ghost invariant = { λ s. IsLayout s.layout × IsSized s.layout s.content
         × (string_bytes s.line ≡ layout_line s.layout ++ 10 ∷ [])
-        × IsKnown s.slots.primary.items s.in_primary
-        × IsKnown s.slots.secondary.items s.in_secondary };
+        × IsKnown s.content.primary s.in_primary
+        × IsKnown s.content.secondary s.in_secondary };
 }
 
 // The line of a layout, with its line feed.
@@ -216,7 +216,7 @@ impl Start {
             return Err(StartError::DoesNotFit);
         }
         let line = layout_line(alloc, layout)?;
-        let slots = start_slots(alloc, layout, kind, first.bytes, second.bytes)?;
+        let content = start_slots(alloc, layout, kind, first.bytes, second.bytes)?;
         let (first, second) = (first.id(), second.id());
         let images = [
             Some(KnownImage::new(a, first)),
@@ -226,9 +226,9 @@ impl Start {
             layout: *layout,
             rules: Rules::PLAIN,
             line,
-            in_primary: known_id(&slots.primary, &images),
-            in_secondary: known_id(&slots.secondary, &images),
-            slots,
+            in_primary: known_id(content.bytes(Slot::Primary), &images),
+            in_secondary: known_id(content.bytes(Slot::Secondary), &images),
+            content,
             named: Some(named_of(kind, first, second)),
         })
     }
@@ -251,10 +251,7 @@ impl Start {
             layout: *layout,
             rules: Rules::PLAIN,
             line: layout_line(alloc, layout)?,
-            slots: Slots {
-                primary: low.to_vec(alloc)?,
-                secondary: high.to_vec(alloc)?,
-            },
+            content: Content::of(alloc, low, high)?,
             in_primary: None,
             in_secondary: None,
             named: None,
@@ -293,7 +290,7 @@ impl Start {
         ensures value { result.now ≡ self.now.content.primary }
         ensures len { length result.now ≡ size_of self.now.geometry Primary }
     {
-        &self.slots.primary
+        self.content.bytes(Slot::Primary)
     }
 
     /// The bytes of the secondary. It takes no memory.
@@ -301,7 +298,7 @@ impl Start {
         ensures value { result.now ≡ self.now.content.secondary }
         ensures len { length result.now ≡ size_of self.now.geometry Secondary }
     {
-        &self.slots.secondary
+        self.content.bytes(Slot::Secondary)
     }
 
     /// The image that is to be in the primary at the end, and the other one, of a start of two images; none for one of bytes. It
@@ -315,8 +312,8 @@ impl Start {
     /// The valid images that its slots begin with, where that is known. It takes no memory, and hashes nothing.
     pub fn known(&self) -> [Option<KnownImage<'_>>; 2] {
         [
-            known_in(&self.slots.primary, self.in_primary),
-            known_in(&self.slots.secondary, self.in_secondary),
+            known_in(self.content.bytes(Slot::Primary), self.in_primary),
+            known_in(self.content.bytes(Slot::Secondary), self.in_secondary),
         ]
     }
 
@@ -327,8 +324,8 @@ impl Start {
     {
         digest_of(
             self.line.as_bytes(),
-            self.slots.primary.as_slice(),
-            self.slots.secondary.as_slice(),
+            self.content.bytes(Slot::Primary),
+            self.content.bytes(Slot::Secondary),
         )
     }
 }

@@ -14,8 +14,7 @@ use mc_walk::Branches;
 use std::alloc::Global;
 
 impl Once {
-    ghost use Rattle.mc_explore.specs.Once.{IsTold};
-    ghost use Rattle.mc_explore.specs.Table.{HasRoomFor, IsColumn, StaysSo};
+    ghost use Rattle.mc_explore.specs.Table.{HasRoomFor, IsColumn, IsToldHere, StaysSo};
 
     // The censuses of a flash, of which that is told, for each bound up to that one. The flash stays. Of a boot that goes on with
     // the one that was cut the positions of that one are enough; only another one is stepped through by itself.
@@ -27,8 +26,7 @@ impl Once {
         bound: u32,
         start: &Start,
     ) -> Result<Vec<Census>, FlashError>
-        requires told { IsTold self.now.rules self.now.layout (F.seen flash.old).content told.now }
-        requires layout { (F.seen flash.old).geometry ≡ self.now.layout }
+        requires told { IsToldHere self.now.rules self.now.layout (F.seen flash.old) told.now }
         requires room { HasRoomFor self.now.rules self.now.layout (bound + 1) (F.seen flash.old) }
         requires few { bound ≤ 16 }
         ensures column { IfOk result (λ column. IsColumn self.now.rules self.now.layout

@@ -1,19 +1,18 @@
 -- What calls of a flash of copies do.
-use Rattle.std.proofs.Common.{◌≡◌, ℕ, ◌+◌, ◌≤◌, Bool, true, false, List, [], ◌∷◌, ◌++◌, length, map, take, get_or, refl, sym, ap, subst, ◌∙◌, inr, arith}
+use Rattle.std.proofs.Common.{◌≡◌, ℕ, ◌≤◌, Bool, true, false, List, [], ◌∷◌, ◌++◌, length, map, take, get_or, refl, sym, ap, ◌∙◌, inr, arith}
 use Rattle.std.specs.Prelude.{Option, Some, None, Result, Ok, Err, zero, suc, ◌<◌}
 use Rattle.std.proofs.lemmas.List.{map-append, length-map, take-map}
 use Rattle.mc_flash.specs.Apply.{Becomes, apply}
 use Rattle.mc_flash.specs.Content.{Content}
 use Rattle.mc_flash.specs.Geometry.{Geometry}
-use Rattle.mc_flash.specs.Ledger.{Counts, Spot, no_counts}
-use Rattle.mc_flash.specs.Seen.{Seen, Does, GivesUp, Loads, Marks, done, no_spot, went_back}
+use Rattle.mc_flash.specs.Ledger.{Counts, Spot}
+use Rattle.mc_flash.specs.Seen.{Seen, Does, GivesUp, Loads, Marks, no_spot, went_back}
 use Rattle.mc_flash.specs.Snap.{ample, copies_seen, copy_seen}
 use Rattle.mc_flash.specs.DoneFacts.{done_as, done_not}
 use Rattle.mc_flash.specs.declared.flash.FlashError.{FlashError}
 use Rattle.mc_flash.specs.declared.flash.FlashError.TheVariants as errors
 use Rattle.mc_flash.specs.declared.flash.Grain.{Grain}
 use Rattle.mc_flash.specs.declared.op.Op.{Op}
-use Rattle.mc_flash.specs.declared.snap.Snapshot.{Snapshot}
 use Rattle.mc_flash.proofs.Limits.{ample_allows}
 
 counts_nothing : (g : Geometry) → (ample g).counted ≡ true → ⊥
@@ -46,7 +45,7 @@ pub copies_fail : (full : Type 0) (g : Geometry) (s : Content) (marks more : Lis
 unfolding ample
 copies_fail full g s marks more failed same = inr (refl, ap (λ (ms : List Spot). copies_seen g s ms true) same)
 
-pub copies_load : (g h : Geometry) (p q : List ℕ) (s : Content) (marks : List Snapshot) (grain : Grain) (boots : ℕ) → h ≡ g → s ≡ record { primary = p; secondary = q } → marks ≡ [] → boots ≤ 32
+pub copies_load : (g h : Geometry) (p q : List ℕ) (s : Content) (marks : List Content) (grain : Grain) (boots : ℕ) → h ≡ g → s ≡ record { primary = p; secondary = q } → marks ≡ [] → boots ≤ 32
     → Loads false g p q grain boots (copies_seen h s (map copy_seen marks) false)
 unfolding ample
 copies_load g h p q s marks grain boots is content none few = record {
@@ -59,23 +58,15 @@ copies_load g h p q s marks grain boots is content none few = record {
   exact = λ e. let no : false ≡ true = e in absurd cc;
 }
 
-abbrev spot_with : List ℕ → List ℕ → Spot
-spot_with a b = record { content = record { primary = a; secondary = b }; counts = no_counts }
-
-same_spot : (a b c d : List ℕ) → c ≡ a → d ≡ b → spot_with c d ≡ spot_with a b
-same_spot a b c d p q = cc
-
-pub copies_mark : (g : Geometry) (s : Content) (items more : List Snapshot) (copy : Snapshot) (failed : Bool) (place : ℕ) → more ≡ items ++ copy ∷ [] → copy.primary.items ≡ s.primary
-    → copy.secondary.items ≡ s.secondary → place ≡ length items
+pub copies_mark : (g : Geometry) (s : Content) (items more : List Content) (copy : Content) (failed : Bool) (place : ℕ) → more ≡ items ++ copy ∷ [] → copy ≡ s → place ≡ length items
     → Marks (copies_seen g s (map copy_seen items) failed) (Ok place) (copies_seen g s (map copy_seen more) failed)
-copies_mark g s items more copy failed place is first second at = (
+copies_mark g s items more copy failed place is same at = (
   at ∙ sym (length-map items copy_seen),
-  ap (λ (ms : List Spot). copies_seen g s ms failed) (ap (map copy_seen) is ∙ map-append copy_seen items (copy ∷ []) ∙ ap (λ (x : Spot). map copy_seen items ++ x ∷ [])
-      (same_spot s.primary s.secondary copy.primary.items copy.secondary.items first second)),
+  ap (λ (ms : List Spot). copies_seen g s ms failed) (ap (map copy_seen) is ∙ map-append copy_seen items (copy ∷ []) ∙ ap (λ (x : Content). map copy_seen items ++ copy_seen x ∷ []) same),
   λ counted full. counts_nothing g counted,
 )
 
-at_place : (items : List Snapshot) (place : ℕ) (copy : Snapshot) → place < length items → copy ≡ get_or items place copy → get_or (map copy_seen items) place no_spot ≡ copy_seen copy
+at_place : (items : List Content) (place : ℕ) (copy : Content) → place < length items → copy ≡ get_or items place copy → get_or (map copy_seen items) place no_spot ≡ copy_seen copy
 at_place [] place copy below is = absurd (omega (arith, below))
 at_place (m ∷ ms) zero copy below is = ap copy_seen (sym is)
 at_place (m ∷ ms) (suc place) copy below is = at_place ms place copy (omega (arith, below)) is
@@ -83,9 +74,8 @@ at_place (m ∷ ms) (suc place) copy below is = at_place ms place copy (omega (a
 back_parts : (g h : Geometry) (s t : Content) (ms ns : List Spot) (b : Bool) → h ≡ g → s ≡ t → ms ≡ ns → copies_seen h s ms b ≡ copies_seen g t ns b
 back_parts g h s t ms ns b p q r = cc
 
-pub copies_back : (g h : Geometry) (s t : Content) (items left : List Snapshot) (copy : Snapshot) (failed : Bool) (place : ℕ) → h ≡ g → place < length items → copy ≡ get_or items place copy
-    → left ≡ take place items
-    → t ≡ record { primary = copy.primary.items; secondary = copy.secondary.items }
+pub copies_back : (g h : Geometry) (s t : Content) (items left : List Content) (copy : Content) (failed : Bool) (place : ℕ) → h ≡ g → place < length items → copy ≡ get_or items place copy
+    → left ≡ take place items → t ≡ copy
     → copies_seen h t (map copy_seen left) failed ≡ went_back place (copies_seen g s (map copy_seen items) failed)
 unfolding went_back
 copies_back g h s t items left copy failed place same below is rest bytes =

@@ -7,7 +7,7 @@ use Rattle.std.proofs.lemmas.List.Edits.{length-between}
 use Rattle.std.proofs.lemmas.Option.{slice_get-map, slice_get-get_or}
 use Rattle.mc_flash.specs.Blank.{is_blank}
 use Rattle.mc_flash.specs.Geometry.{Geometry}
-use Rattle.mc_flash.specs.Content.{Content, bytes_of, with_bytes, put, size_of}
+use Rattle.mc_flash.specs.Content.{Content, IsSized, bytes_of, with_bytes, put, size_of}
 use Rattle.mc_flash.specs.Apply.{apply, in_slot, erased}
 use Rattle.mc_flash.specs.Ledger.{Ledger, Limits, Spot, IsFull, noted, saves}
 use Rattle.mc_flash.specs.Seen.{Seen, Does, no_spot, went_back}
@@ -43,14 +43,17 @@ pub sound_write : (g : Geometry) (limits : Limits) (er sr mr er' : ℕ) (es es' 
 sound_write g limits er sr mr er' es es' saved marks slot at len s more below room fits =
     let n : length es' ≡ length es + 1 = ap length more ∙ length-append es (Written slot at len ∷ []) in
     record {
+      layout = s.layout;
       room_entries = omega (arith, s.room_entries, room);
       room_saved = s.room_saved;
       room_marks = s.room_marks;
       few_entries = omega (arith, n, below);
       few_saved = s.few_saved;
       few_marks = s.few_marks;
-      saved_for = omega (arith, s.saved_for, ap all_saved more, saves_push es (Written slot at len));
-      inside = subst (AllByRecursion (IsInside g)) (sym more) (inside_push g es (Written slot at len) s.inside fits);
+      journal = record {
+        saved_for = omega (arith, s.journal.saved_for, ap all_saved more, saves_push es (Written slot at len));
+        inside = subst (AllByRecursion (IsInside g)) (sym more) (inside_push g es (Written slot at len) s.journal.inside fits);
+      };
       ascend = ascend_grow 0 marks (length es) (length es') s.ascend (omega (arith, n));
     }
 
@@ -63,14 +66,17 @@ sound_erase g limits er sr mr er' sr' es es' saved saved' old marks slot at len 
     let n : length es' ≡ length es + 1 = ap length more ∙ length-append es (Erased slot at len ∷ []) in
     let m : length saved' ≡ length saved + length old = ap length kept ∙ length-append saved old in
     record {
+      layout = s.layout;
       room_entries = omega (arith, s.room_entries, room);
       room_saved = omega (arith, s.room_saved, place);
       room_marks = s.room_marks;
       few_entries = omega (arith, n, below);
       few_saved = omega (arith, m, long, little);
       few_marks = s.few_marks;
-      saved_for = omega (arith, m, long, s.saved_for, ap all_saved more, saves_push es (Erased slot at len));
-      inside = subst (AllByRecursion (IsInside g)) (sym more) (inside_push g es (Erased slot at len) s.inside fits);
+      journal = record {
+        saved_for = omega (arith, m, long, s.journal.saved_for, ap all_saved more, saves_push es (Erased slot at len));
+        inside = subst (AllByRecursion (IsInside g)) (sym more) (inside_push g es (Erased slot at len) s.journal.inside fits);
+      };
       ascend = ascend_grow 0 marks (length es) (length es') s.ascend (omega (arith, n));
     }
 
@@ -109,14 +115,14 @@ pub sound_mark : (g : Geometry) (limits : Limits) (er sr mr mr' : ℕ) (es : Lis
 sound_mark g limits er sr mr mr' es saved marks marks' s more below room =
     let n : length marks' ≡ length marks + 1 = ap length more ∙ length-append marks (length es ∷ []) in
     record {
+      layout = s.layout;
       room_entries = s.room_entries;
       room_saved = s.room_saved;
       room_marks = omega (arith, s.room_marks, room);
       few_entries = s.few_entries;
       few_saved = s.few_saved;
       few_marks = omega (arith, n, below);
-      saved_for = s.saved_for;
-      inside = s.inside;
+      journal = s.journal;
       ascend = subst (λ z. Ascend 0 z (length es)) (sym more) (ascend_push 0 marks (length es) s.ascend);
     }
 
@@ -131,24 +137,29 @@ mark_more es saved marks marks' s whole more =
 pub mark_below : (es : List Entry) (marks : List ℕ) (place count : ℕ) → Ascend 0 marks (length es) → count ≡ get_or marks place count → place < length marks → count ≤ length es
 mark_below es marks place count order is below = omega (arith, (ascend_take 0 marks (length es) place count order below).1, is)
 
+fewer_saved : (n : ℕ) (es : List Entry) → all_saved (take n es) ≤ all_saved es
+fewer_saved zero es = omega arith
+fewer_saved (suc n) [] = omega arith
+fewer_saved (suc n) (e ∷ es) = omega (arith, fewer_saved n es)
+
 pub sound_back : (g : Geometry) (limits : Limits) (er sr mr er' sr' mr' place count : ℕ) (es es' : List Entry) (saved saved' marks marks' : List ℕ)
     → IsSound g limits er sr mr es saved marks → count ≡ get_or marks place count → place < length marks → marks' ≡ take place marks → es' ≡ take count es
-    → length saved' ≡ all_saved es' → length saved' ≤ length saved → er ≤ er' → sr ≤ sr' → mr ≤ mr'
+    → length saved' ≡ all_saved es' → er ≤ er' → sr ≤ sr' → mr ≤ mr'
     → IsSound g limits er' sr' mr' es' saved' marks'
-sound_back g limits er sr mr er' sr' mr' place count es es' saved saved' marks marks' s is below front left whole fewer p q r =
+sound_back g limits er sr mr er' sr' mr' place count es es' saved saved' marks marks' s is below front left whole p q r =
     let t = ascend_take 0 marks (length es) place count s.ascend below in
     let early = mark_below es marks place count s.ascend is below in
     let n : length es' ≡ count = ap length left ∙ length-take-le count es early in
     let m : length marks' ≡ place = ap length front ∙ length-take-le place marks (omega (arith, below)) in
     record {
+      layout = s.layout;
       room_entries = omega (arith, s.room_entries, p);
       room_saved = omega (arith, s.room_saved, q);
       room_marks = omega (arith, s.room_marks, r);
       few_entries = omega (arith, n, early, s.few_entries);
-      few_saved = omega (arith, s.few_saved, fewer);
+      few_saved = omega (arith, s.few_saved, s.journal.saved_for, whole, ap all_saved left, fewer_saved count es);
       few_marks = omega (arith, m, below, s.few_marks);
-      saved_for = whole;
-      inside = subst (AllByRecursion (IsInside g)) (sym left) (inside_front g es count s.inside);
+      journal = record { saved_for = whole; inside = subst (AllByRecursion (IsInside g)) (sym left) (inside_front g es count s.journal.inside) };
       ascend = subst (λ z. Ascend 0 z (length es')) (sym front) (subst (Ascend 0 (take place marks)) (sym (n ∙ is)) t.0);
     }
 
@@ -268,6 +279,6 @@ pub erase_done : (g : Geometry) (s t : Content) (slot : Slot) (sector : ℕ) →
 unfolding apply
 erase_done g s t slot sector is = ap (λ (z : Content). Some z) (sym is)
 
-pub length_of : (g : Geometry) (s : Content) (slot : Slot) → length s.primary ≡ size_of g Primary → length s.secondary ≡ size_of g Secondary → length (bytes_of s slot) ≡ size_of g slot
-length_of g s Primary p q = p
-length_of g s Secondary p q = q
+pub length_of : (g : Geometry) (s : Content) (slot : Slot) → IsSized g s → length (bytes_of s slot) ≡ size_of g slot
+length_of g s Primary sized = sized.primary
+length_of g s Secondary sized = sized.secondary

@@ -1,7 +1,7 @@
 -- A journal of operations, and what taking them back gives.
 use Rattle.std.specs.Prelude.{◌≡◌, ℕ, ◌+◌, ◌≤◌, false, List, [], ◌∷◌, length, take, drop, map, replicate}
 use Rattle.std.specs.List.{AllByRecursion}
-use Rattle.mc_flash.specs.Geometry.{Geometry}
+use Rattle.mc_flash.specs.Geometry.{Geometry, IsLayout}
 use Rattle.mc_flash.specs.Content.{Content, bytes_of, with_bytes, put, size_of}
 use Rattle.mc_flash.specs.Ledger.{Limits, Spot}
 use Rattle.mc_flash.specs.Seen.{Seen}
@@ -68,19 +68,31 @@ abbrev pub IsInside : Geometry → Entry → Type 0
 IsInside g (Written slot at len) = at + len ≤ size_of g slot
 IsInside g (Erased slot at len) = at + len ≤ size_of g slot
 
+-- Entries whose bytes lie in their slots, with as many saved bytes as they saved.
+pub record IsJournal (g : Geometry) (entries : List Entry) (saved : List ℕ) : Type 0 where
+  pub saved_for : length saved ≡ all_saved entries
+  pub inside : AllByRecursion (IsInside g) entries
+
+-- Of a journal the first entries are left, so many of them, with as many saved bytes as they saved: what the flash held after
+-- each of them is the same by what is left as by all.
+pub record IsUndoneTo (count : ℕ) (entries : List Entry) (saved : List ℕ) (s : Content) (entries' : List Entry) (saved' : List ℕ) (s' : Content) : Type 0 where
+  pub left : entries' ≡ take count entries
+  pub saved_for : length saved' ≡ all_saved entries'
+  pub same : (n : ℕ) → n ≤ count → spot_after entries' saved' s' n ≡ spot_after entries saved s n
+
 -- Each number is at most the next, and all are between the two.
 abbrev pub Ascend : ℕ → List ℕ → ℕ → Type 0
 Ascend low [] top = low ≤ top
 Ascend low (n ∷ rest) top = (low ≤ n) × Ascend n rest top
 
--- A journal in room for the limits and at most that full, whose entries and saved bytes go together, with marks in order.
+-- A journal of a layout in room for the limits and at most that full, with marks in order.
 pub record IsSound (g : Geometry) (limits : Limits) (entries_room saved_room marks_room : ℕ) (entries : List Entry) (saved marks : List ℕ) : Type 0 where
+  pub layout : IsLayout g
   pub room_entries : limits.entries ≤ entries_room
   pub room_saved : limits.saved ≤ saved_room
   pub room_marks : limits.marks ≤ marks_room
   pub few_entries : length entries ≤ limits.entries
   pub few_saved : length saved ≤ limits.saved
   pub few_marks : length marks ≤ limits.marks
-  pub saved_for : length saved ≡ all_saved entries
-  pub inside : AllByRecursion (IsInside g) entries
+  pub journal : IsJournal g entries saved
   pub ascend : Ascend 0 marks (length entries)

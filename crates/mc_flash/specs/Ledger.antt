@@ -1,6 +1,6 @@
 -- What a flash counts that works in room which it took when it was loaded, and how far it may count. Of another flash,
 -- which takes memory as it goes, the counts stand still and the limits are never met.
-use Rattle.std.specs.Prelude.{◌≡◌, ℕ, ◌+◌, ◌-◌, ◌*◌, ◌/◌, ◌^◌, ◌<◌, ◌≤◌, min, Bool, true, false, List, [], ◌∷◌, ◌++◌, length, Result, Ok, Err, ◌⊎◌}
+use Rattle.std.specs.Prelude.{ℕ, ◌+◌, ◌-◌, ◌*◌, ◌/◌, ◌^◌, ◌<◌, ◌≤◌, min, Bool, true, false, ◌⊎◌}
 use Rattle.std.specs.Int.{div_ceil}
 use Rattle.mc_flash.specs.Content.{Content}
 use Rattle.mc_flash.specs.Geometry.{Geometry, trailer_sectors, greatest_sectors}
@@ -8,8 +8,6 @@ use Rattle.mc_flash.specs.declared.op.Op.{Op}
 use Rattle.mc_flash.specs.declared.op.Op.TheVariants as ops
 use Rattle.mc_flash.specs.declared.flash.Grain.{Grain}
 use Rattle.mc_flash.specs.declared.flash.Grain.TheVariants as grains
-use Rattle.mc_flash.specs.declared.flash.FlashError.{FlashError}
-use Rattle.mc_flash.specs.declared.flash.FlashError.TheVariants as errors
 
 -- The operations that can be taken back, and the bytes that are saved for it.
 pub record Counts : Type 0 where

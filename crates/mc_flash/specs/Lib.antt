@@ -5,7 +5,6 @@ pub mod Content
 pub mod Apply
 pub mod Ledger
 pub mod Seen
-pub mod Slots
 pub mod Reserve
 pub mod Journal
 pub mod Snap

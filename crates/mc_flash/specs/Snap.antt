@@ -3,15 +3,13 @@ use Rattle.std.specs.Prelude.{◌+◌, ◌*◌, Bool, false, List, map}
 use Rattle.mc_flash.specs.Content.{Content}
 use Rattle.mc_flash.specs.Geometry.{Geometry}
 use Rattle.mc_flash.specs.Seen.{Seen}
-use Rattle.mc_flash.specs.Slots.{held}
 use Rattle.mc_flash.specs.Ledger.{Limits, Spot, no_counts, most_operations, most_saved}
 use Rattle.mc_flash.specs.declared.flash.Grain.TheVariants as grains
 use Rattle.mc_flash.specs.declared.snap.SnapFlash.{SnapFlash}
-use Rattle.mc_flash.specs.declared.snap.Snapshot.{Snapshot}
 
 -- a copy, as a marked content
-abbrev pub copy_seen : Snapshot → Spot
-copy_seen m = record { content = record { primary = m.primary.items; secondary = m.secondary.items }; counts = no_counts }
+abbrev pub copy_seen : Content → Spot
+copy_seen content = record { content = content; counts = no_counts }
 
 -- limits that no number of boots meets, for a flash that does not count
 unfoldable pub ample : Geometry → Limits
@@ -31,4 +29,4 @@ copies_seen g content marks failed = record {
 }
 
 abbrev pub snap_seen : SnapFlash → Seen
-snap_seen f = copies_seen f.slots.layout (held f.slots) (map copy_seen f.marks.items) f.failed
+snap_seen f = copies_seen f.slots.layout f.slots.content (map copy_seen f.marks.items) f.failed

@@ -1,11 +1,10 @@
 -- What follows for what calls spend. Proved here, so that the crates above can cite it.
-use Rattle.std.specs.Prelude.{◌≡◌, ℕ, ◌+◌, ◌-◌, ◌^◌, ◌<◌, ◌≤◌, min, Bool, true, false, List, [], ◌∷◌, ◌++◌, length, take, slice_index_or, Some, Result, Ok, Err, refl}
+use Rattle.std.specs.Prelude.{◌≡◌, ℕ, ◌+◌, ◌<◌, ◌≤◌, Bool, true, false, [], ◌∷◌, ◌++◌, length, take, slice_index_or, Some, Result, Ok, Err, refl}
 use Rattle.std.proofs.Common.{arith, inl, inr, sym, ap, subst, ◌∙◌, length-append}
 use Rattle.std.proofs.lemmas.List.{get_or_at, take_at}
-use Rattle.mc_flash.specs.Content.{Content}
 use Rattle.mc_flash.specs.DoneFacts.{did}
 use Rattle.mc_flash.specs.Geometry.{Geometry}
-use Rattle.mc_flash.specs.Ledger.{Ledger, Limits, IsFull, Spot, noted, noted_by, saves}
+use Rattle.mc_flash.specs.Ledger.{Ledger, Limits, Spot, noted_by, saves}
 use Rattle.mc_flash.specs.Seen.{Seen, GivesUp, HasNoPlace, Keeps, Marks, done, marked, no_spot, spot_at, spot_of, went_back}
 use Rattle.mc_flash.specs.Spends.{Spent, RanOut, Spends, Stays}
 use Rattle.mc_flash.specs.declared.flash.FlashError.{FlashError}

@@ -2,8 +2,7 @@
 ghost use Rattle.std.specs.Prelude.{◌≡◌, ℕ, ◌≤◌, ◌+◌, [], length, true, take};
 ghost use Rattle.std.specs.Vec.{vec_capacity};
 ghost use Rattle.std.specs.List.{AllByRecursion};
-ghost use Rattle.mc_flash.specs.Slots.{held};
-ghost use Rattle.mc_flash.specs.Journal.{IsInside, all_saved, spot_after};
+ghost use Rattle.mc_flash.specs.Journal.{IsJournal, IsUndoneTo};
 
 use crate::entry::Entry;
 use crate::flash::{Flash, FlashError, Grain};
@@ -30,14 +29,13 @@ pub struct JournalFlash {
 
 impl Model for JournalFlash {
     ghost use Rattle.std.specs.Vec.{vec_capacity};
-    ghost use Rattle.mc_flash.specs.Slots.{held};
     ghost use Rattle.mc_flash.specs.Reserve.{limits_of};
     ghost use Rattle.mc_flash.specs.Journal.{journal_of, IsSound};
     ghost use Rattle.mc_flash.specs.Seen.{Seen};
 
     ghost Value = { Seen };
 
-    ghost view = { λ f. journal_of f.slots.layout (held f.slots) (limits_of f.reserve)
+    ghost view = { λ f. journal_of f.slots.layout f.slots.content (limits_of f.reserve)
         f.entries.items f.saved.items f.marks.items f.applied };
 
     ghost invariant = { λ f. IsSound f.slots.layout (limits_of f.reserve) (vec_capacity f.entries)
@@ -47,15 +45,10 @@ impl Model for JournalFlash {
 // Takes the newest entries back, until so many are left.
 fn undo_to(slots: &mut Slots, entries: &mut Vec<Entry>, saved: &mut Vec<u8>, count: usize)
     requires above { count ≤ length entries.old.items }
-    requires saved_for { length saved.old.items ≡ all_saved entries.old.items }
-    requires inside { AllByRecursion (IsInside slots.old.layout) entries.old.items }
-    ensures same { (n : ℕ) → n ≤ count
-        → spot_after entries.new.items saved.new.items (held slots.new) n
-        ≡ spot_after entries.old.items saved.old.items (held slots.old) n }
+    requires journal { IsJournal slots.old.layout entries.old.items saved.old.items }
+    ensures undone { IsUndoneTo count entries.old.items saved.old.items slots.old.content
+        entries.new.items saved.new.items slots.new.content }
     ensures layout { slots.new.layout ≡ slots.old.layout }
-    ensures left { entries.new.items ≡ take count entries.old.items }
-    ensures saved_for { length saved.new.items ≡ all_saved entries.new.items }
-    ensures fewer { length saved.new.items ≤ length saved.old.items }
     ensures room_entries { vec_capacity entries.new ≡ vec_capacity entries.old }
     ensures room_saved { vec_capacity saved.new ≡ vec_capacity saved.old }
 {

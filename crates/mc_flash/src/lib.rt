@@ -2,6 +2,7 @@
 //! a journal.
 #![tactic(auto)]
 
+mod content;
 mod entry;
 mod erased;
 mod flash;
@@ -13,6 +14,7 @@ mod slots;
 mod snap;
 mod text;
 
+pub use content::Content;
 pub use erased::{blank, blank_lanes};
 pub use flash::{Flash, FlashError, Grain};
 pub use journal::JournalFlash;

@@ -1,26 +1,25 @@
-//! The bytes of both slots, and what the operations do to them.
+//! The bytes of both slots of a layout, and what the operations do to them.
 ghost use Rattle.std.specs.Prelude.{◌≡◌, ℕ, ◌+◌, ◌*◌, ◌<◌, ◌≤◌, length, replicate, ◌⊎◌, IfOk, IfErr};
 ghost use Rattle.std.specs.List.{between};
-ghost use Rattle.mc_flash.specs.Content.{Content, bytes_of, with_bytes, put, sectors_of, size_of};
+ghost use Rattle.mc_flash.specs.Content.{IsSized, bytes_of, with_bytes, put, sectors_of, size_of};
 ghost use Rattle.mc_flash.specs.Apply.{AreApart, CanTry, Becomes, apply, erased};
 ghost use Rattle.mc_flash.specs.Blank.{is_blank};
 ghost use Rattle.mc_flash.specs.declared.op.Op.TheVariants.{Program, Copy};
 ghost use Rattle.mc_flash.specs.declared.op.Slot.TheVariants.{Primary, Secondary};
 
+use crate::content::Content;
 use crate::erased::blank;
 use crate::flash::FlashError;
 use crate::layout::Layout;
 use crate::op::Slot;
-use std::alloc::Global;
+use std::alloc::{AllocError, Global};
 
-/// The bytes of both slots.
+/// The bytes of both slots of a layout.
 #[derive(Drop)]
 pub struct Slots {
     layout: Layout,
-    primary: Vec<u8>,
-    secondary: Vec<u8>,
-    ghost primary_sized: { length primary.items ≡ size_of layout Primary },
-    ghost secondary_sized: { length secondary.items ≡ size_of layout Secondary },
+    content: Content,
+    ghost sized: { IsSized layout content },
 }
 
 // Makes a part 0xff.
@@ -56,8 +55,6 @@ fn copy_part(bytes: &mut [u8], at: usize, offset: usize, len: usize)
 }
 
 impl Slots {
-    ghost use Rattle.mc_flash.specs.Slots.{held};
-
     /// Copies of these bytes.
     pub fn new(
         alloc: Global,
@@ -68,14 +65,13 @@ impl Slots {
         requires primary { length primary.now ≡ size_of layout Primary }
         requires secondary { length secondary.now ≡ size_of layout Secondary }
         ensures layout { IfOk result (λ slots. slots.layout ≡ layout) }
-        ensures held { IfOk result (λ slots. held slots
+        ensures content { IfOk result (λ slots. slots.content
             ≡ record { primary = primary.now; secondary = secondary.now }) }
         ensures err { IfErr result (λ e. e ≡ FlashError.Memory) }
     {
         Ok(Slots {
             layout,
-            primary: primary.to_vec(alloc)?,
-            secondary: secondary.to_vec(alloc)?,
+            content: Content::of(alloc, primary, secondary)?,
         })
     }
 
@@ -86,27 +82,28 @@ impl Slots {
         &self.layout
     }
 
+    /// A copy of the bytes of both slots.
+    pub fn copied(&self, alloc: Global) -> Result<Content, AllocError>
+        ensures { IfOk result (λ content. content ≡ self.now.content) }
+    {
+        Content::of(alloc, &self.content.primary, &self.content.secondary)
+    }
+
     /// The bytes of a slot.
     pub fn read(&self, slot: Slot) -> &[u8]
-        ensures value { result.now ≡ bytes_of (held self.now) slot }
+        ensures value { result.now ≡ bytes_of self.now.content slot }
         ensures len { length result.now ≡ size_of self.now.layout slot }
     {
-        match slot {
-            Slot::Primary => &self.primary,
-            Slot::Secondary => &self.secondary,
-        }
+        self.content.bytes(slot)
     }
 
     /// Takes other bytes in place of all that it holds.
-    pub fn replace(&mut self, primary: Vec<u8>, secondary: Vec<u8>)
-        requires primary { length primary.items ≡ size_of self.old.layout Primary }
-        requires secondary { length secondary.items ≡ size_of self.old.layout Secondary }
-        ensures held { held self.new ≡ record
-            { primary = primary.items; secondary = secondary.items } }
+    pub fn replace(&mut self, content: Content)
+        requires { IsSized self.old.layout content }
+        ensures content { self.new.content ≡ content }
         ensures layout { self.new.layout ≡ self.old.layout }
     {
-        self.primary = primary;
-        self.secondary = secondary;
+        self.content = content;
     }
 
     /// The bytes of a sector.
@@ -114,7 +111,7 @@ impl Slots {
     pub fn sector(&self, slot: Slot, sector: u32) -> &[u8]
         requires { sector < sectors_of self.now.layout slot }
         ensures value { let at = sector * self.now.layout.sector in result.now
-            ≡ between at (at + self.now.layout.sector) (bytes_of (held self.now) slot) }
+            ≡ between at (at + self.now.layout.sector) (bytes_of self.now.content slot) }
         ensures len { length result.now ≡ self.now.layout.sector }
     {
         let size = self.layout.sector() as usize;
@@ -125,7 +122,7 @@ impl Slots {
     /// Whether each byte of a part is 0xff.
     pub fn is_blank(&self, slot: Slot, at: usize, len: usize) -> bool
         requires { at + len ≤ size_of self.now.layout slot }
-        ensures { result ≡ is_blank (between at (at + len) (bytes_of (held self.now) slot)) }
+        ensures { result ≡ is_blank (between at (at + len) (bytes_of self.now.content slot)) }
     {
         blank(&self.read(slot)[at..at + len])
     }
@@ -133,26 +130,26 @@ impl Slots {
     /// Makes a part of a slot 0xff.
     pub fn fill(&mut self, slot: Slot, at: usize, len: usize)
         requires { at + len ≤ size_of self.old.layout slot }
-        ensures held { held self.new ≡ with_bytes (held self.old) slot
-            (put (bytes_of (held self.old) slot) at (replicate len 255)) }
+        ensures content { self.new.content ≡ with_bytes self.old.content slot
+            (put (bytes_of self.old.content slot) at (replicate len 255)) }
         ensures layout { self.new.layout ≡ self.old.layout }
     {
         match slot {
-            Slot::Primary => erase_part(&mut self.primary, at, len),
-            Slot::Secondary => erase_part(&mut self.secondary, at, len),
+            Slot::Primary => erase_part(&mut self.content.primary, at, len),
+            Slot::Secondary => erase_part(&mut self.content.secondary, at, len),
         }
     }
 
     /// Puts bytes into a slot, whatever was there.
     pub fn put(&mut self, slot: Slot, at: usize, bytes: &[u8])
         requires { at + length bytes.now ≤ size_of self.old.layout slot }
-        ensures held { held self.new ≡ with_bytes (held self.old) slot
-            (put (bytes_of (held self.old) slot) at bytes.now) }
+        ensures content { self.new.content ≡ with_bytes self.old.content slot
+            (put (bytes_of self.old.content slot) at bytes.now) }
         ensures layout { self.new.layout ≡ self.old.layout }
     {
         match slot {
-            Slot::Primary => put_part(&mut self.primary, at, bytes),
-            Slot::Secondary => put_part(&mut self.secondary, at, bytes),
+            Slot::Primary => put_part(&mut self.content.primary, at, bytes),
+            Slot::Secondary => put_part(&mut self.content.secondary, at, bytes),
         }
     }
 
@@ -161,28 +158,25 @@ impl Slots {
         requires source { at + len ≤ size_of self.old.layout from }
         requires target { offset + len ≤ size_of self.old.layout to }
         requires apart { AreApart from at to offset len }
-        ensures held { held self.new ≡ with_bytes (held self.old) to
-            (put (bytes_of (held self.old) to) offset
-            (between at (at + len) (bytes_of (held self.old) from))) }
+        ensures content { self.new.content ≡ with_bytes self.old.content to
+            (put (bytes_of self.old.content to) offset
+            (between at (at + len) (bytes_of self.old.content from))) }
         ensures layout { self.new.layout ≡ self.old.layout }
     {
+        let Content { primary, secondary } = &mut self.content;
         match (from, to) {
-            (Slot::Primary, Slot::Primary) => copy_part(&mut self.primary, at, offset, len),
-            (Slot::Secondary, Slot::Secondary) => copy_part(&mut self.secondary, at, offset, len),
-            (Slot::Primary, Slot::Secondary) => {
-                put_part(&mut self.secondary, offset, &self.primary[at..at + len]);
-            }
-            (Slot::Secondary, Slot::Primary) => {
-                put_part(&mut self.primary, offset, &self.secondary[at..at + len]);
-            }
+            (Slot::Primary, Slot::Primary) => copy_part(primary, at, offset, len),
+            (Slot::Secondary, Slot::Secondary) => copy_part(secondary, at, offset, len),
+            (Slot::Primary, Slot::Secondary) => put_part(secondary, offset, &primary[at..at + len]),
+            (Slot::Secondary, Slot::Primary) => put_part(primary, offset, &secondary[at..at + len]),
         }
     }
 
     /// Makes a sector 0xff.
     pub fn erase(&mut self, slot: Slot, sector: u32)
         requires { sector < sectors_of self.old.layout slot }
-        ensures held { held self.new ≡ with_bytes (held self.old) slot
-            (erased self.old.layout.sector sector (bytes_of (held self.old) slot)) }
+        ensures content { self.new.content ≡ with_bytes self.old.content slot
+            (erased self.old.layout.sector sector (bytes_of self.old.content slot)) }
         ensures layout { self.new.layout ≡ self.old.layout }
     {
         let size = self.layout.sector() as usize;
@@ -194,7 +188,7 @@ impl Slots {
     pub fn program(&mut self, slot: Slot, offset: u32, bytes: &[u8]) -> Result<(), FlashError>
         requires { CanTry self.old.layout (Program slot offset bytes.now) }
         ensures does { Becomes (apply self.old.layout (Program slot offset bytes.now)
-            (held self.old)) result (held self.old) (held self.new) }
+            self.old.content) result self.old.content self.new.content }
         ensures err { IfErr result (λ e. e ≡ FlashError.NotErased) }
         ensures layout { self.new.layout ≡ self.old.layout }
     {
@@ -216,8 +210,8 @@ impl Slots {
         len: u32,
     ) -> Result<(), FlashError>
         requires { CanTry self.old.layout (Copy from at to offset len) }
-        ensures does { Becomes (apply self.old.layout (Copy from at to offset len) (held self.old))
-            result (held self.old) (held self.new) }
+        ensures does { Becomes (apply self.old.layout (Copy from at to offset len) self.old.content)
+            result self.old.content self.new.content }
         ensures err { IfErr result (λ e. e ≡ FlashError.NotErased) }
         ensures layout { self.new.layout ≡ self.old.layout }
     {

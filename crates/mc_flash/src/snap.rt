@@ -1,44 +1,23 @@
 //! A flash in memory that keeps a copy of its content for each mark.
 ghost use Rattle.std.specs.Prelude.{◌≡◌, ℕ, ◌+◌, ◌<◌, ◌≤◌, List, [], ◌∷◌, ◌++◌, length, true, false, All, IfOk, IfErr, map};
-ghost use Rattle.mc_flash.specs.Content.{Content, bytes_of, size_of};
-ghost use Rattle.mc_flash.specs.Slots.{held};
-ghost use Rattle.mc_flash.specs.declared.op.Slot.TheVariants.{Primary, Secondary};
+ghost use Rattle.mc_flash.specs.Content.{bytes_of, size_of, IsSized};
 
+use crate::content::Content;
 use crate::flash::{Flash, FlashError, Grain};
 use crate::layout::Layout;
 use crate::op::Slot;
 use crate::slots::Slots;
 use std::alloc::Global;
 
-// A copy of the bytes of both slots.
-#[derive(Drop)]
-struct Snapshot {
-    primary: Vec<u8>,
-    secondary: Vec<u8>,
-}
-
 /// A flash in memory that keeps a copy of its content for each mark. It takes memory as it goes, and counts nothing.
 #[derive(Drop)]
 pub struct SnapFlash {
     alloc: Global,
     slots: Slots,
-    marks: Vec<Snapshot>,
+    marks: Vec<Content>,
     // Whether an allocation failed at some time.
     failed: bool,
-    ghost marks_primary_sized: { All (λ m. length m.primary.items ≡ size_of slots.layout Primary) marks.items },
-    ghost marks_secondary_sized: { All (λ m. length m.secondary.items ≡ size_of slots.layout Secondary) marks.items },
-}
-
-// A copy of both slots.
-fn copy_of(alloc: Global, slots: &Slots) -> Result<Snapshot, FlashError>
-    ensures primary { IfOk result (λ copy. copy.primary.items ≡ slots.now.primary.items) }
-    ensures secondary { IfOk result (λ copy. copy.secondary.items ≡ slots.now.secondary.items) }
-    ensures err { IfErr result (λ e. e ≡ FlashError.Memory) }
-{
-    Ok(Snapshot {
-        primary: slots.read(Slot::Primary).to_vec(alloc)?,
-        secondary: slots.read(Slot::Secondary).to_vec(alloc)?,
-    })
+    ghost marks_sized: { All (IsSized slots.layout) marks.items },
 }
 
 impl Flash for SnapFlash {
@@ -95,11 +74,11 @@ impl Flash for SnapFlash {
 
     fn mark(&mut self) -> Result<usize, FlashError> {
         let place = self.marks.len();
-        let Ok(snapshot) = copy_of(self.alloc, &self.slots) else {
+        let Ok(content) = self.slots.copied(self.alloc) else {
             self.failed = true;
             return Err(FlashError::Memory);
         };
-        if self.marks.push(snapshot).is_err() {
+        if self.marks.push(content).is_err() {
             self.failed = true;
             return Err(FlashError::Memory);
         }
@@ -108,8 +87,8 @@ impl Flash for SnapFlash {
 
     fn back_to(&mut self, place: usize) {
         self.marks.truncate(place + 1);
-        if let Some(snapshot) = self.marks.pop() {
-            self.slots.replace(snapshot.primary, snapshot.secondary);
+        if let Some(content) = self.marks.pop() {
+            self.slots.replace(content);
         }
     }
 }

@@ -3,9 +3,9 @@ use Rattle.std.specs.Prelude.{◌≡◌, ℕ, ◌+◌, ◌<◌, ◌≤◌, List,
 use Rattle.mc_tree.specs.Tree.{landed}
 use Rattle.mc_flash.specs.Content.{Content}
 use Rattle.mc_flash.specs.Ledger.{Counts, Spot}
-use Rattle.mc_flash.specs.Seen.{Seen, spot_of}
-use Rattle.mc_flash.specs.Spends.{LeaveRoom, plus, times}
-use Rattle.mc_walk.specs.Kind.{Kind}
+use Rattle.mc_flash.specs.Seen.{Seen, marked, spot_of}
+use Rattle.mc_flash.specs.Spends.{HasRoom, LeaveRoom, plus, times}
+use Rattle.mc_walk.specs.Kind.{Kind, owed_there}
 use Rattle.mc_walk.specs.declared.frame.Frame.{Frame}
 
 -- The path that the frames stand for.
@@ -84,6 +84,13 @@ module _ {N A T : Type 0} (k : Kind N A T) where
     pub stacked : Stacked start seen.marks fs
     pub layout_is : seen.geometry ≡ k.geometry
     pub frame : IsFrame (node_of start fs) (length fs) (spot_of seen) f
+
+  -- So it is, and the flash can be marked there, the frame be put on, and the child be told.
+  pub record Enters (start : Content) (seen : Seen) (fs : List (Frame A T)) (capacity : ℕ) (f : Frame A T) : Type 0 where
+    pub comes : Comes start seen fs f
+    pub room : HasRoom (owed_there k f.at) (marked seen)
+    pub mark : length seen.marks < seen.ledger.limits.marks
+    pub few : length fs < capacity
 
   -- There is room for what is counted and owed after so many steps; and for their marks, that of the root, and one more.
   pub record IsRoomy (bound : ℕ) (seen : Seen) : Type 0 where

@@ -1,10 +1,9 @@
 //! One level down.
-ghost use Rattle.std.specs.Prelude.{◌≡◌, ◌<◌, ◌≤◌, ◌++◌, [], ◌∷◌, IfOk, IfErr, OnOk, length, vec_len};
+ghost use Rattle.std.specs.Prelude.{◌≡◌, ◌≤◌, ◌++◌, [], ◌∷◌, IfOk, IfErr, OnOk};
 ghost use Rattle.std.specs.Vec.{vec_capacity};
-ghost use Rattle.mc_flash.specs.Seen.{marked};
-ghost use Rattle.mc_flash.specs.Spends.{HasRoom, Spends};
-ghost use Rattle.mc_walk.specs.Kind.{owed_there, telling};
-ghost use Rattle.mc_walk.specs.Stack.{Comes, Stands};
+ghost use Rattle.mc_flash.specs.Spends.{Spends};
+ghost use Rattle.mc_walk.specs.Kind.{telling};
+ghost use Rattle.mc_walk.specs.Stack.{Enters, Stands};
 ghost use Rattle.mc_walk.specs.Walks.{start_of};
 
 use crate::Branches;
@@ -20,12 +19,8 @@ pub(crate) fn enter<F: Flash, B: Branches>(
     frame: Frame<B::At, B::Told>,
     known: &B::Known,
 ) -> Result<B::Told, FlashError>
-    requires comes { Comes (B.kind branches) (start_of (F.seen flash.old)) (F.seen flash.old)
-        frames.old.items frame }
-    requires room { HasRoom (owed_there (B.kind branches) frame.at)
-        (marked (F.seen flash.old)) }
-    requires mark { length (F.seen flash.old).marks < (F.seen flash.old).ledger.limits.marks }
-    requires capacity { vec_len frames.old < vec_capacity frames.old }
+    requires { Enters (B.kind branches) (start_of (F.seen flash.old)) (F.seen flash.old)
+        frames.old.items (vec_capacity frames.old) frame }
     ensures stands { IfOk result (Stands (B.kind branches) (start_of (F.seen flash.old))
         (F.seen flash.new) frames.new.items) }
     ensures frames { OnOk result (frames.new.items ≡ frames.old.items ++ frame ∷ []) }

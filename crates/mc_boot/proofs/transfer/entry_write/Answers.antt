@@ -1,6 +1,6 @@
-use Rattle.mc_boot.proofs.Can.{can_entry}
+use Rattle.mc_trailer.specs.PlaceFacts.{entry_range}
 use Rattle.mc_boot.proofs.transfer.entry_write.Goals as goal
 
 pub returns-clause-inside : goal.returns-clause-inside
 returns-clause-inside c =
-    rw (c.entry_place.ensures.place, c.one_unit.ensures) (can_entry c.args.layout.now c.args.transfer.entry 1 c.entry_place.ensures.valid c.requires.entry)
+    rw (c.entry_place.ensures.place, c.one_unit.ensures) (entry_range c.args.layout.now c.args.transfer.entry 1 c.entry_place.ensures.valid c.requires.entry)

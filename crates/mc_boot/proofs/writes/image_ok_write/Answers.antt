@@ -1,8 +1,7 @@
-use Rattle.std.proofs.Common.{arith}
+use Rattle.mc_trailer.specs.PlaceFacts.{flag_range}
 use Rattle.mc_trailer.specs.declared.places.Field.TheVariants as field
-use Rattle.mc_boot.proofs.Can.{can_flag}
 use Rattle.mc_boot.proofs.writes.image_ok_write.Goals as goal
 
 pub returns-clause-inside : goal.returns-clause-inside
 returns-clause-inside c =
-    rw (c.place.ensures.place, c.one_unit.ensures) (can_flag c.args.layout.now c.args.slot field.ImageOk 1 (omega arith) c.place.ensures.valid)
+    rw (c.place.ensures.place, c.one_unit.ensures) (flag_range c.args.layout.now c.args.slot field.ImageOk 1 c.place.ensures.valid)

@@ -16,4 +16,4 @@ returns-clause-content g c =
     let e = c.in_ok-finish.ensures in
     let f = g.F.Flash.seen c.in_ok-flash.flash in
     left_here g.F.Flash.counted c.args.layout.now c.args.primary.now c.args.secondary.now f (progress c.finish.new.self) (g.F.Flash.seen c.finish.new.flash) _ c.in_ok-flash.ensures.loads
-    (e.come plain f.content c.cold-boot.ensures.come) e.end c.in_ok-slots_of.ensures.content
+    (e.come plain f.content c.cold-boot.ensures.come) e.end c.in_ok-read.ensures.content

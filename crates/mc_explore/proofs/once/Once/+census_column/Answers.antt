@@ -26,8 +26,8 @@ loop-number-init g t c =
     let told = c.args.told.now in
     let none = c.new-positions.ensures.items in
     record {
-      here = columns.first_at r layout old.content told old mid c.requires.told refl c.requires.layout c.in_ok-here.ensures.1;
-      under = columns.first_under r layout old.content told old mid c.requires.told c.in_ok-here.ensures.1;
+      here = columns.first_at r layout old.content told old mid c.requires.told.told_is refl c.requires.told.layout_is c.in_ok-here.ensures.1;
+      under = columns.first_under r layout old.content told old mid c.requires.told.told_is c.in_ok-here.ensures.1;
       many = ap length none;
       positions = columns.no_positions r layout old.content c.args.bound c.new-positions.result.items none;
     }
@@ -37,8 +37,8 @@ child-requires-clause-child g t c =
     let s : Content = (g.F.Flash.seen c.args.flash.now).content in
     let r = c.args.self.now.rules in
     let layout = c.args.self.now.layout in
-    let early : c.loop-number._number < length (ops_of r layout s) = omega (arith, c.loop-number-test.true, width_is r layout c.args.told.now s c.requires.told) in
-    (s, c.loop-number._number, c.loop-number.invariant.here, early, c.requires.told)
+    let early : c.loop-number._number < length (ops_of r layout s) = omega (arith, c.loop-number-test.true, width_is r layout c.args.told.now s c.requires.told.told_is) in
+    (s, c.loop-number._number, c.loop-number.invariant.here, early, c.requires.told.told_is)
 
 pub child-requires-clause-room : goal.child-requires-clause-room
 child-requires-clause-room g t c =
@@ -60,7 +60,7 @@ find-requires g t c =
     let after = g.F.Flash.seen c.child.new.flash in
     let child = c.in_ok-child.child in
     let e = c.in_ok-child.ensures in
-    let x = reached r layout old.content n c.loop-number.at old before after c.args.told.now child c.requires.told c.loop-number-test.true i.here i.under e.tells
+    let x = reached r layout old.content n c.loop-number.at old before after c.args.told.now child c.requires.told.told_is c.loop-number-test.true i.here i.under e.tells
     (record { stays = e.stays; limits = e.spends.limits }) in
     subst (λ (x : Geometry). IsBootOf x child.boot) (sym x.here.layout_is) x.told.layout_is
 
@@ -75,12 +75,12 @@ census_column-requires g t c κs within =
     let after = g.F.Flash.seen c.child.new.flash in
     let child = c.in_ok-child.child in
     let e = c.in_ok-child.ensures in
-    let x = reached r layout old.content n c.loop-number.at old before after c.args.told.now child c.requires.told c.loop-number-test.true i.here i.under e.tells
+    let x = reached r layout old.content n c.loop-number.at old before after c.args.told.now child c.requires.told.told_is c.loop-number-test.true i.here i.under e.tells
     (record { stays = e.stays; limits = e.spends.limits }) in
     let some : 1 ≤ c.args.bound = omega (arith, c.if-bound-eq0.false) in
     let room = columns.column_room r layout old after (left_of layout (progress c.loop-number.at)) c.args.bound c.requires.room some x.under in
     let told = subst (λ (s : Content). IsTold r layout s child) (sym x.here.content_is) x.told in
-    (omega (arith, c.decreases, some), (within, (told, (x.here.layout_is, (room, omega (arith, c.requires.few))))))
+    (omega (arith, c.decreases, some), (within, (record { layout_is = x.here.layout_is; told_is = told }, (room, omega (arith, c.requires.few)))))
 
 pub pass-requires : goal.pass-requires
 pass-requires g t c =
@@ -93,7 +93,7 @@ pass-requires g t c =
     let after = g.F.Flash.seen c.child.new.flash in
     let child = c.in_ok-child.child in
     let e = c.in_ok-child.ensures in
-    let x = reached r layout old.content n c.loop-number.at old before after c.args.told.now child c.requires.told c.loop-number-test.true i.here i.under e.tells
+    let x = reached r layout old.content n c.loop-number.at old before after c.args.told.now child c.requires.told.told_is c.loop-number-test.true i.here i.under e.tells
     (record { stays = e.stays; limits = e.spends.limits }) in
     let some : 1 ≤ c.args.bound = omega (arith, c.if-bound-eq0.false) in
     let mid = g.F.Flash.seen c.match-find.flash in
@@ -116,7 +116,7 @@ loop-number-preserved g t c =
     let after = g.F.Flash.seen c.child.new.flash in
     let child = c.in_ok-child.child in
     let e = c.in_ok-child.ensures in
-    let x = reached r layout old.content n c.loop-number.at old before after c.args.told.now child c.requires.told c.loop-number-test.true i.here i.under e.tells
+    let x = reached r layout old.content n c.loop-number.at old before after c.args.told.now child c.requires.told.told_is c.loop-number-test.true i.here i.under e.tells
     (record { stays = e.stays; limits = e.spends.limits }) in
     let some : 1 ≤ c.args.bound = omega (arith, c.if-bound-eq0.false) in
     let mid = g.F.Flash.seen c.match-find.flash in
@@ -130,7 +130,7 @@ loop-number-preserved g t c =
     let P : Below → Type 0 = λ b. IsBelow r layout s c.args.bound u b in
     let below : P c.match-find.below = elim c.match-find.branch [
       | in-Some w ↦ subst P (sym w.below-is)
-          (columns.joined_here r layout s n c.loop-number.at child c.args.told.now after w.in-Some.rejoin x.here x.early c.requires.told x.told w.in-Some.ensures)
+          (columns.joined_here r layout s n c.loop-number.at child c.args.told.now after w.in-Some.rejoin x.here x.early c.requires.told.told_is x.told w.in-Some.ensures)
       | in-None+in_ok-census_column-in-None w ↦
           let column = w.in_ok-census_column-in-None in
           subst P (sym w.below-is) (columns.column_here r layout after.content u c.args.bound some column.field-0.items x.here.content_is column.ensures.column)
@@ -159,10 +159,10 @@ returns-clause-column g t c =
     let s : Content = old.content in
     let told = c.args.told.now in
     let all : c.loop-number._number ≡ told.outcome.ops = omega (arith, c.loop-number-test.false, c.loop-number.auto._number-end) in
-    let own_is = c.of-own.ensures ∙ ap cut_off (columns.own_told r layout s told c.requires.told) in
+    let own_is = c.of-own.ensures ∙ ap cut_off (columns.own_told r layout s told c.requires.told.told_is) in
     let positions = subst (ArePositions r layout s c.args.bound) (sym c.deref.ensures.value) i.positions in
     let many : told.outcome.ops ≡ length c.deref.result.now = omega (arith, all, i.many, ap length c.deref.ensures.value) in
-    c.in_ok-column_of.ensures r layout s own_is positions many (width_is r layout told s c.requires.told)
+    c.in_ok-column_of.ensures r layout s own_is positions many (width_is r layout told s c.requires.told.told_is)
 
 pub returns-clause-stays : goal.returns-clause-stays
 returns-clause-stays g t c =

@@ -40,8 +40,8 @@ returns c =
 pub invariant_of-result : goal.invariant_of-result
 invariant_of-result c = (
   c.fits.ensures.valid,
-  c.in_ok-slots.ensures.sized,
+  c.in_ok-content.ensures.sized,
   c.in_ok-line.ensures,
-  subst (λ (x : List ℕ). IsKnown x c.known_id.result) c.deref.ensures.value c.known_id.ensures,
-  subst (λ (x : List ℕ). IsKnown x c.known_id-2.result) c.deref-2.ensures.value c.known_id-2.ensures,
+  subst (λ (x : List ℕ). IsKnown x c.known_id.result) c.bytes.ensures c.known_id.ensures,
+  subst (λ (x : List ℕ). IsKnown x c.known_id-2.result) c.bytes-2.ensures c.known_id-2.ensures,
 )

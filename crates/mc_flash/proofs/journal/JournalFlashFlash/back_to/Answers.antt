@@ -2,7 +2,6 @@ use Rattle.std.proofs.Common.{◌≡◌, ◌<◌, length, subst, sym, ap, ◌∙
 use Rattle.std.specs.Vec.{vec_capacity}
 use Rattle.std.proofs.lemmas.List.{length-map, length-take-le}
 use Rattle.mc_flash.specs.Geometry.{Geometry}
-use Rattle.mc_flash.specs.Slots.{held}
 use Rattle.mc_flash.specs.Reserve.{limits_of}
 use Rattle.mc_flash.specs.Seen.{Seen, went_back}
 use Rattle.mc_flash.specs.Journal.{journal_of, IsSound, spot_after}
@@ -16,7 +15,7 @@ undo_to-requires-clause-above c =
       arith,
       c.requires,
       ap (λ (j : Seen). length j.marks) c.self.view_is,
-      length-map f.marks.items (spot_after f.entries.items f.saved.items (held f.slots)),
+      length-map f.marks.items (spot_after f.entries.items f.saved.items f.slots.content),
     ) in
     mark_below f.entries.items f.marks.items c.args.place c.index-count.result.now c.self.invariant.ascend c.index-count.ensures below
 
@@ -28,13 +27,13 @@ invariant_of-self c =
       arith,
       c.requires,
       ap (λ (j : Seen). length j.marks) c.self.view_is,
-      length-map f.marks.items (spot_after f.entries.items f.saved.items (held f.slots)),
+      length-map f.marks.items (spot_after f.entries.items f.saved.items f.slots.content),
     ) in
     subst (λ (g : Geometry). IsSound g (limits_of f.reserve) (vec_capacity c.undo_to.new.entries) (vec_capacity c.undo_to.new.saved) (vec_capacity c.truncate.new.self) c.undo_to.new.entries.items
     c.undo_to.new.saved.items c.truncate.new.self.items) (sym u.layout)
     (sound_back f.slots.layout (limits_of f.reserve) (vec_capacity f.entries) (vec_capacity f.saved) (vec_capacity f.marks) _ _ (vec_capacity c.truncate.new.self) c.args.place c.index-count.result.now
     f.entries.items c.undo_to.new.entries.items f.saved.items c.undo_to.new.saved.items f.marks.items c.truncate.new.self.items
-    c.self.invariant c.index-count.ensures below c.truncate.ensures.items u.left u.saved_for u.fewer (omega (arith, u.room_entries)) (omega (arith, u.room_saved))
+    c.self.invariant c.index-count.ensures below c.truncate.ensures.items u.undone.left u.undone.saved_for (omega (arith, u.room_entries)) (omega (arith, u.room_saved))
     (omega (arith, c.truncate.ensures.capacity)))
 
 pub returns : goal.returns
@@ -45,16 +44,16 @@ returns c =
       arith,
       c.requires,
       ap (λ (j : Seen). length j.marks) c.self.view_is,
-      length-map f.marks.items (spot_after f.entries.items f.saved.items (held f.slots)),
+      length-map f.marks.items (spot_after f.entries.items f.saved.items f.slots.content),
     ) in
     let early = mark_below f.entries.items f.marks.items c.args.place c.index-count.result.now c.self.invariant.ascend c.index-count.ensures below in
-    let n = ap length u.left ∙ length-take-le c.index-count.result.now f.entries.items early in
-    let there = restored f.entries.items c.undo_to.new.entries.items f.saved.items c.undo_to.new.saved.items f.marks.items (held f.slots) (held c.undo_to.new.slots) c.args.place
-    c.index-count.result.now c.index-count.ensures below n u.saved_for u.same in
-    let left = earlier f.entries.items c.undo_to.new.entries.items f.saved.items c.undo_to.new.saved.items f.marks.items c.truncate.new.self.items (held f.slots) (held c.undo_to.new.slots)
-    c.args.place c.index-count.result.now c.self.invariant.ascend c.index-count.ensures below c.truncate.ensures.items u.same in
-    let after : Geometry → Seen = λ g. journal_of g (held c.undo_to.new.slots) (limits_of f.reserve) c.undo_to.new.entries.items c.undo_to.new.saved.items c.truncate.new.self.items f.applied in
+    let n = ap length u.undone.left ∙ length-take-le c.index-count.result.now f.entries.items early in
+    let there = restored f.entries.items c.undo_to.new.entries.items f.saved.items c.undo_to.new.saved.items f.marks.items f.slots.content c.undo_to.new.slots.content c.args.place
+    c.index-count.result.now c.index-count.ensures below n u.undone.saved_for u.undone.same in
+    let left = earlier f.entries.items c.undo_to.new.entries.items f.saved.items c.undo_to.new.saved.items f.marks.items c.truncate.new.self.items f.slots.content c.undo_to.new.slots.content
+    c.args.place c.index-count.result.now c.self.invariant.ascend c.index-count.ensures below c.truncate.ensures.items u.undone.same in
+    let after : Geometry → Seen = λ g. journal_of g c.undo_to.new.slots.content (limits_of f.reserve) c.undo_to.new.entries.items c.undo_to.new.saved.items c.truncate.new.self.items f.applied in
     subst (λ (g : Geometry). after g ≡ went_back c.args.place c.args.self.now) (sym u.layout)
-    (journal_back f.slots.layout (limits_of f.reserve) (held f.slots) (held c.undo_to.new.slots) f.entries.items c.undo_to.new.entries.items f.saved.items c.undo_to.new.saved.items f.marks.items
+    (journal_back f.slots.layout (limits_of f.reserve) f.slots.content c.undo_to.new.slots.content f.entries.items c.undo_to.new.entries.items f.saved.items c.undo_to.new.saved.items f.marks.items
     c.truncate.new.self.items f.applied c.args.place there left
     ∙ ap (went_back c.args.place) c.self.view_is)

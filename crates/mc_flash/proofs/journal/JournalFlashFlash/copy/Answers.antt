@@ -6,7 +6,6 @@ use Rattle.std.proofs.lemmas.List.Edits.{length-between}
 use Rattle.mc_flash.specs.Geometry.{Geometry}
 use Rattle.mc_flash.specs.Content.{Content, bytes_of, with_bytes, put}
 use Rattle.mc_flash.specs.Apply.{CanTry}
-use Rattle.mc_flash.specs.Slots.{held}
 use Rattle.mc_flash.specs.Reserve.{limits_of}
 use Rattle.mc_flash.specs.Seen.{Seen, Does}
 use Rattle.mc_flash.specs.Journal.{journal_of, IsSound}
@@ -34,10 +33,10 @@ returns-then-not-is_blank c =
     let r = f.reserve in
     let op : Op = Copy c.args.from c.args.at c.args.to c.args.offset c.args.len in
     let can : CanTry f.slots.layout op = subst (λ (j : Seen). CanTry j.geometry op) (sym c.self.view_is) c.requires in
-    let long = length_of f.slots.layout (held f.slots) c.args.from f.slots.primary_sized f.slots.secondary_sized in
+    let long = length_of f.slots.layout f.slots.content c.args.from f.slots.sized in
     subst (λ (j : Seen). Does op j (Err NotErased) j) c.self.view_is
-    (journal_refuses f.slots.layout r.entries r.saved r.marks op (held f.slots) f.entries.items f.saved.items f.marks.items f.applied
-    (copy_refused f.slots.layout (held f.slots) (held f.slots) c.args.from c.args.to c.args.at c.args.offset c.args.len (omega (arith, can.0.inside, long)) (sym c.if-not-is_blank.ensures)))
+    (journal_refuses f.slots.layout r.entries r.saved r.marks op f.slots.content f.entries.items f.saved.items f.marks.items f.applied
+    (copy_refused f.slots.layout f.slots.content f.slots.content c.args.from c.args.to c.args.at c.args.offset c.args.len (omega (arith, can.0.inside, long)) (sym c.if-not-is_blank.ensures)))
 
 pub returns-then-len-self : goal.returns-then-len-self
 returns-then-len-self c =
@@ -45,11 +44,11 @@ returns-then-len-self c =
     let r = f.reserve in
     let op : Op = Copy c.args.from c.args.at c.args.to c.args.offset c.args.len in
     let can : CanTry f.slots.layout op = subst (λ (j : Seen). CanTry j.geometry op) (sym c.self.view_is) c.requires in
-    let long = length_of f.slots.layout (held f.slots) c.args.from f.slots.primary_sized f.slots.secondary_sized in
-    let t : Content = with_bytes (held f.slots) c.args.to (put (bytes_of (held f.slots) c.args.to) c.args.offset (between c.args.at (c.args.at + c.args.len) (bytes_of (held f.slots) c.args.from))) in
+    let long = length_of f.slots.layout f.slots.content c.args.from f.slots.sized in
+    let t : Content = with_bytes f.slots.content c.args.to (put (bytes_of f.slots.content c.args.to) c.args.offset (between c.args.at (c.args.at + c.args.len) (bytes_of f.slots.content c.args.from))) in
     subst (λ (j : Seen). Does op j (Err Memory) j) c.self.view_is
-    (journal_full f.slots.layout r.entries r.saved r.marks op (held f.slots) f.entries.items f.saved.items f.marks.items f.applied t
-    (copy_done f.slots.layout (held f.slots) t c.args.from c.args.to c.args.at c.args.offset c.args.len (omega (arith, can.0.inside, long)) (sym c.if-not-is_blank.ensures) refl)
+    (journal_full f.slots.layout r.entries r.saved r.marks op f.slots.content f.entries.items f.saved.items f.marks.items f.applied t
+    (copy_done f.slots.layout f.slots.content t c.args.from c.args.to c.args.at c.args.offset c.args.len (omega (arith, can.0.inside, long)) (sym c.if-not-is_blank.ensures) refl)
     (inl (omega (arith, f.entries.ok.0))))
 
 pub returns : goal.returns
@@ -58,19 +57,19 @@ returns c =
     let r = f.reserve in
     let op : Op = Copy c.args.from c.args.at c.args.to c.args.offset c.args.len in
     let can : CanTry f.slots.layout op = subst (λ (j : Seen). CanTry j.geometry op) (sym c.self.view_is) c.requires in
-    let source = length_of f.slots.layout (held f.slots) c.args.from f.slots.primary_sized f.slots.secondary_sized in
-    let target = length_of f.slots.layout (held f.slots) c.args.to f.slots.primary_sized f.slots.secondary_sized in
-    let new = between c.args.at (c.args.at + c.args.len) (bytes_of (held f.slots) c.args.from) in
-    let n : length (between c.args.at (c.args.at + c.args.len) (bytes_of (held f.slots) c.args.from)) ≡ c.args.len =
-    omega (arith, length-between (bytes_of (held f.slots) c.args.from) c.args.at (c.args.at + c.args.len) (omega (arith, can.0.inside, source))) in
-    let kept = marks_write f.entries.items c.push.new.self.items f.saved.items f.marks.items (held f.slots) (held c.put_copy.new.self) c.args.to c.args.offset c.args.len new
-    c.self.invariant.ascend c.in_ok-push.ensures.items c.put_copy.ensures.held n (omega (arith, can.1.inside, target)) (sym c.if-not-is_blank.ensures) in
-    let does = journal_does f.slots.layout r.entries r.saved r.marks op (held f.slots) f.entries.items f.saved.items f.marks.items f.applied (held c.put_copy.new.self) c.push.new.self.items
+    let source = length_of f.slots.layout f.slots.content c.args.from f.slots.sized in
+    let target = length_of f.slots.layout f.slots.content c.args.to f.slots.sized in
+    let new = between c.args.at (c.args.at + c.args.len) (bytes_of f.slots.content c.args.from) in
+    let n : length (between c.args.at (c.args.at + c.args.len) (bytes_of f.slots.content c.args.from)) ≡ c.args.len =
+    omega (arith, length-between (bytes_of f.slots.content c.args.from) c.args.at (c.args.at + c.args.len) (omega (arith, can.0.inside, source))) in
+    let kept = marks_write f.entries.items c.push.new.self.items f.saved.items f.marks.items f.slots.content c.put_copy.new.self.content c.args.to c.args.offset c.args.len new
+    c.self.invariant.ascend c.in_ok-push.ensures.items c.put_copy.ensures.content n (omega (arith, can.1.inside, target)) (sym c.if-not-is_blank.ensures) in
+    let does = journal_does f.slots.layout r.entries r.saved r.marks op f.slots.content f.entries.items f.saved.items f.marks.items f.applied c.put_copy.new.self.content c.push.new.self.items
     f.saved.items c.saturating_add-self-inside.result
-    (copy_done f.slots.layout (held f.slots) (held c.put_copy.new.self) c.args.from c.args.to c.args.at c.args.offset c.args.len (omega (arith, can.0.inside, source)) (sym c.if-not-is_blank.ensures)
-    c.put_copy.ensures.held) kept
+    (copy_done f.slots.layout f.slots.content c.put_copy.new.self.content c.args.from c.args.to c.args.at c.args.offset c.args.len (omega (arith, can.0.inside, source)) (sym c.if-not-is_blank.ensures)
+    c.put_copy.ensures.content) kept
     (ap length c.in_ok-push.ensures.items ∙ length-append f.entries.items (Written c.args.to c.args.offset c.args.len ∷ [])) (omega arith) c.saturating_add-self-inside.ensures
     (omega (arith, f.entries.ok.0)) (omega (arith, c.self.invariant.few_saved)) in
-    let after : Geometry → Seen = λ g. journal_of g (held c.put_copy.new.self) (limits_of r) c.push.new.self.items f.saved.items f.marks.items c.saturating_add-self-inside.result in
+    let after : Geometry → Seen = λ g. journal_of g c.put_copy.new.self.content (limits_of r) c.push.new.self.items f.saved.items f.marks.items c.saturating_add-self-inside.result in
     subst (λ (g : Geometry). Does op c.args.self.now (Ok tt) (after g)) (sym c.put_copy.ensures.layout)
     (subst (λ (j : Seen). Does op j (Ok tt) (after f.slots.layout)) c.self.view_is does)

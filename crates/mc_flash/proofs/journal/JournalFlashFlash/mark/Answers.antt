@@ -1,8 +1,7 @@
-use Rattle.std.proofs.Common.{◌≡◌, List, ◌++◌, [], ◌∷◌, length, map, subst, ap, ◌∙◌, arith}
+use Rattle.std.proofs.Common.{List, ◌++◌, [], ◌∷◌, subst, ap, ◌∙◌, arith}
 use Rattle.std.specs.Prelude.{Ok}
 use Rattle.std.proofs.lemmas.List.{length-map}
 use Rattle.std.specs.Vec.{vec_capacity}
-use Rattle.mc_flash.specs.Slots.{held}
 use Rattle.mc_flash.specs.Ledger.{Spot}
 use Rattle.mc_flash.specs.Reserve.{limits_of}
 use Rattle.mc_flash.specs.Seen.{Seen, Marks}
@@ -20,13 +19,13 @@ invariant_of-self-2 c =
 pub returns : goal.returns
 returns c =
     let f = c.self.inside in
-    let spots = spot_after f.entries.items f.saved.items (held f.slots) in
-    let kept = mark_more f.entries.items f.saved.items f.marks.items c.push.new.self.items (held f.slots) c.self.invariant.saved_for
+    let spots = spot_after f.entries.items f.saved.items f.slots.content in
+    let kept = mark_more f.entries.items f.saved.items f.marks.items c.push.new.self.items f.slots.content c.self.invariant.journal.saved_for
     (c.in_ok-push.ensures.items ∙ ap (λ z. f.marks.items ++ z ∷ []) (omega (arith, f.entries.ok.0))) in
-    let after : Seen = journal_of f.slots.layout (held f.slots) (limits_of f.reserve) f.entries.items f.saved.items c.push.new.self.items f.applied in
-    let long = length-map f.marks.items (spot_after f.entries.items f.saved.items (held f.slots)) in
+    let after : Seen = journal_of f.slots.layout f.slots.content (limits_of f.reserve) f.entries.items f.saved.items c.push.new.self.items f.applied in
+    let long = length-map f.marks.items (spot_after f.entries.items f.saved.items f.slots.content) in
     subst (λ (j : Seen). Marks j (Ok c.len-place.result) after) c.self.view_is (
       omega (arith, long, f.marks.ok.0),
-      ap (λ (ms : List Spot). with_marks f.slots.layout (held f.slots) ms after.ledger) kept,
+      ap (λ (ms : List Spot). with_marks f.slots.layout f.slots.content ms after.ledger) kept,
       λ _ full. omega (arith, full, long, f.marks.ok.0),
     )

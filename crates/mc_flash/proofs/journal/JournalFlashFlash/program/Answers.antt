@@ -3,7 +3,6 @@ use Rattle.std.specs.Prelude.{Ok, Err}
 use Rattle.std.specs.Vec.{vec_capacity}
 use Rattle.mc_flash.specs.Geometry.{Geometry}
 use Rattle.mc_flash.specs.Content.{Content, bytes_of, with_bytes, put, size_of}
-use Rattle.mc_flash.specs.Slots.{held}
 use Rattle.mc_flash.specs.Reserve.{limits_of}
 use Rattle.mc_flash.specs.Seen.{Seen, Does}
 use Rattle.mc_flash.specs.Journal.{journal_of, IsSound}
@@ -31,18 +30,18 @@ returns-then-not-is_blank c =
     let r = f.reserve in
     let op : Op = Program c.args.slot c.args.offset c.args.bytes.now in
     subst (λ (j : Seen). Does op j (Err NotErased) j) c.self.view_is
-    (journal_refuses f.slots.layout r.entries r.saved r.marks op (held f.slots) f.entries.items f.saved.items f.marks.items f.applied
-    (program_refused f.slots.layout (held f.slots) (held f.slots) c.args.slot c.args.offset c.args.bytes.now (sym c.if-not-is_blank.ensures)))
+    (journal_refuses f.slots.layout r.entries r.saved r.marks op f.slots.content f.entries.items f.saved.items f.marks.items f.applied
+    (program_refused f.slots.layout f.slots.content f.slots.content c.args.slot c.args.offset c.args.bytes.now (sym c.if-not-is_blank.ensures)))
 
 pub returns-then-len-self : goal.returns-then-len-self
 returns-then-len-self c =
     let f = c.self.inside in
     let r = f.reserve in
     let op : Op = Program c.args.slot c.args.offset c.args.bytes.now in
-    let t : Content = with_bytes (held f.slots) c.args.slot (put (bytes_of (held f.slots) c.args.slot) c.args.offset c.args.bytes.now) in
+    let t : Content = with_bytes f.slots.content c.args.slot (put (bytes_of f.slots.content c.args.slot) c.args.offset c.args.bytes.now) in
     subst (λ (j : Seen). Does op j (Err Memory) j) c.self.view_is
-    (journal_full f.slots.layout r.entries r.saved r.marks op (held f.slots) f.entries.items f.saved.items f.marks.items f.applied t
-    (program_done f.slots.layout (held f.slots) t c.args.slot c.args.offset c.args.bytes.now (sym c.if-not-is_blank.ensures) refl) (inl (omega (arith, f.entries.ok.0))))
+    (journal_full f.slots.layout r.entries r.saved r.marks op f.slots.content f.entries.items f.saved.items f.marks.items f.applied t
+    (program_done f.slots.layout f.slots.content t c.args.slot c.args.offset c.args.bytes.now (sym c.if-not-is_blank.ensures) refl) (inl (omega (arith, f.entries.ok.0))))
 
 pub returns : goal.returns
 returns c =
@@ -51,14 +50,14 @@ returns c =
     let op : Op = Program c.args.slot c.args.offset c.args.bytes.now in
     let fits : c.args.offset + length c.args.bytes.now ≤ size_of f.slots.layout c.args.slot =
     subst (λ (j : Seen). c.args.offset + length c.args.bytes.now ≤ size_of j.geometry c.args.slot) (sym c.self.view_is) c.requires.inside in
-    let long = length_of f.slots.layout (held f.slots) c.args.slot f.slots.primary_sized f.slots.secondary_sized in
-    let kept = marks_write f.entries.items c.push.new.self.items f.saved.items f.marks.items (held f.slots) (held c.put.new.self) c.args.slot c.args.offset (length c.args.bytes.now) c.args.bytes.now
-    c.self.invariant.ascend c.in_ok-push.ensures.items c.put.ensures.held refl (omega (arith, fits, long)) (sym c.if-not-is_blank.ensures) in
-    let does = journal_does f.slots.layout r.entries r.saved r.marks op (held f.slots) f.entries.items f.saved.items f.marks.items f.applied (held c.put.new.self) c.push.new.self.items f.saved.items
+    let long = length_of f.slots.layout f.slots.content c.args.slot f.slots.sized in
+    let kept = marks_write f.entries.items c.push.new.self.items f.saved.items f.marks.items f.slots.content c.put.new.self.content c.args.slot c.args.offset (length c.args.bytes.now) c.args.bytes.now
+    c.self.invariant.ascend c.in_ok-push.ensures.items c.put.ensures.content refl (omega (arith, fits, long)) (sym c.if-not-is_blank.ensures) in
+    let does = journal_does f.slots.layout r.entries r.saved r.marks op f.slots.content f.entries.items f.saved.items f.marks.items f.applied c.put.new.self.content c.push.new.self.items f.saved.items
     c.saturating_add-self-inside.result
-    (program_done f.slots.layout (held f.slots) (held c.put.new.self) c.args.slot c.args.offset c.args.bytes.now (sym c.if-not-is_blank.ensures) c.put.ensures.held) kept
+    (program_done f.slots.layout f.slots.content c.put.new.self.content c.args.slot c.args.offset c.args.bytes.now (sym c.if-not-is_blank.ensures) c.put.ensures.content) kept
     (ap length c.in_ok-push.ensures.items ∙ length-append f.entries.items (Written c.args.slot c.args.offset (length c.args.bytes.now) ∷ [])) (omega arith) c.saturating_add-self-inside.ensures
     (omega (arith, f.entries.ok.0)) (omega (arith, c.self.invariant.few_saved)) in
-    let after : Geometry → Seen = λ g. journal_of g (held c.put.new.self) (limits_of r) c.push.new.self.items f.saved.items f.marks.items c.saturating_add-self-inside.result in
+    let after : Geometry → Seen = λ g. journal_of g c.put.new.self.content (limits_of r) c.push.new.self.items f.saved.items f.marks.items c.saturating_add-self-inside.result in
     subst (λ (g : Geometry). Does op c.args.self.now (Ok tt) (after g)) (sym c.put.ensures.layout)
     (subst (λ (j : Seen). Does op j (Ok tt) (after f.slots.layout)) c.self.view_is does)

@@ -1,6 +1,5 @@
-use Rattle.mc_flash.specs.Slots.{held}
 use Rattle.mc_flash.specs.Snap.{copy_seen}
-use Rattle.std.proofs.Common.{map, refl}
+use Rattle.std.proofs.Common.{map}
 use Rattle.mc_flash.specs.declared.op.Op.TheVariants.{Erase}
 use Rattle.mc_flash.proofs.Copies.{copies_do}
 use Rattle.mc_flash.proofs.Kept.{erase_done}
@@ -9,5 +8,5 @@ use Rattle.mc_flash.proofs.snap.SnapFlashFlash.erase.Goals as goal
 pub returns : goal.returns
 returns c =
     let f = c.args.self.now in
-    copies_do (Erase c.args.slot c.args.sector) f.slots.layout c.erase.new.self.layout (held f.slots) (held c.erase.new.self) (map copy_seen f.marks.items) f.failed c.erase.ensures.layout
-    (erase_done f.slots.layout (held f.slots) (held c.erase.new.self) c.args.slot c.args.sector c.erase.ensures.held)
+    copies_do (Erase c.args.slot c.args.sector) f.slots.layout c.erase.new.self.layout f.slots.content c.erase.new.self.content (map copy_seen f.marks.items) f.failed c.erase.ensures.layout
+    (erase_done f.slots.layout f.slots.content c.erase.new.self.content c.args.slot c.args.sector c.erase.ensures.content)

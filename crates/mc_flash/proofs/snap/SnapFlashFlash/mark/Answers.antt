@@ -1,6 +1,5 @@
 use Rattle.std.proofs.Common.{rules, ◌≡◌, true, false, [], ◌∷◌, ◌++◌, map, refl, ap, ◌∙◌, arith}
 use Rattle.std.specs.Prelude.{is_ok, if◌then◌else◌}
-use Rattle.mc_flash.specs.Slots.{held}
 use Rattle.mc_flash.specs.Snap.{copy_seen}
 use Rattle.mc_flash.proofs.Copies.{copies_fail, copies_mark}
 use Rattle.mc_flash.proofs.snap.SnapFlashFlash.mark.Goals as goal
@@ -8,19 +7,19 @@ use Rattle.mc_flash.proofs.snap.SnapFlashFlash.mark.Goals as goal
 pub returns-in_default : goal.returns-in_default
 returns-in_default c =
     let f = c.args.self.now in
-    copies_fail _ f.slots.layout (held f.slots) (map copy_seen f.marks.items) (map copy_seen f.marks.items) f.failed refl
+    copies_fail _ f.slots.layout f.slots.content (map copy_seen f.marks.items) (map copy_seen f.marks.items) f.failed refl
 
 pub returns-then-is_err : goal.returns-then-is_err
 returns-then-is_err c =
     let f = c.args.self.now in
     let refused : is_ok c.push.result ≡ false = search rules in
-    let same = c.push.ensures.items ∙ ap (λ b. if b then f.marks.items ++ c.in-Ok.snapshot ∷ [] else f.marks.items) refused in
-    copies_fail _ f.slots.layout (held f.slots) (map copy_seen f.marks.items) (map copy_seen c.push.new.self.items) f.failed (ap (map copy_seen) same)
+    let same = c.push.ensures.items ∙ ap (λ b. if b then f.marks.items ++ c.in-Ok.content ∷ [] else f.marks.items) refused in
+    copies_fail _ f.slots.layout f.slots.content (map copy_seen f.marks.items) (map copy_seen c.push.new.self.items) f.failed (ap (map copy_seen) same)
 
 pub returns : goal.returns
 returns c =
     let f = c.args.self.now in
     let done : is_ok c.push.result ≡ true = search rules in
-    let more = c.push.ensures.items ∙ ap (λ b. if b then f.marks.items ++ c.in-Ok.snapshot ∷ [] else f.marks.items) done in
-    copies_mark f.slots.layout (held f.slots) f.marks.items c.push.new.self.items c.in-Ok.snapshot f.failed c.len-place.result more c.in-Ok.ensures.primary c.in-Ok.ensures.secondary
+    let more = c.push.ensures.items ∙ ap (λ b. if b then f.marks.items ++ c.in-Ok.content ∷ [] else f.marks.items) done in
+    copies_mark f.slots.layout f.slots.content f.marks.items c.push.new.self.items c.in-Ok.content f.failed c.len-place.result more c.in-Ok.ensures
     (omega (arith, f.marks.ok.0))

@@ -71,7 +71,7 @@ enter-requires g c =
       comes = ready_here k _ _ _ _ _ _ r;
       room = ready_room k _ _ _ _ _ _ r;
       mark = ready_mark k _ _ _ _ _ _ r;
-      capacity = omega (arith, r.few, c.self.invariant.reserved, c.self.inside.frames.ok.0);
+      few = omega (arith, r.few, c.self.invariant.reserved, c.self.inside.frames.ok.0);
     }
 
 pub invariant_of-self-2 : goal.invariant_of-self-2
