@@ -9,6 +9,7 @@ pub mod Inside
 pub mod CourseList
 pub mod Boot
 pub mod Run
+pub mod Goes
 pub mod RunFacts
 pub mod Bounds
 pub mod StepFacts

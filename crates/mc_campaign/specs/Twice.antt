@@ -7,6 +7,7 @@ use Rattle.mc_tree.specs.facts.Rounds.{child_second}
 use Rattle.mc_flash.specs.Content.{Content}
 use Rattle.mc_flash.specs.Geometry.{Geometry}
 use Rattle.mc_flash.specs.Ledger.{Counts, no_counts}
+use Rattle.mc_flash.specs.Seen.{Seen}
 use Rattle.mc_flash.specs.Spends.{LeaveRoom, plus}
 use Rattle.mc_trailer.specs.declared.tables.Rules.{Rules}
 use Rattle.mc_boot.specs.Boot.{progress}
@@ -15,7 +16,7 @@ use Rattle.mc_boot.specs.Confirm.{one_write}
 use Rattle.mc_boot.specs.Runs.{ops_of}
 use Rattle.mc_boot.specs.declared.boot.Boot.{Boot}
 use Rattle.mc_walk.specs.Kind.{Kind}
-use Rattle.mc_explore.specs.Once.{HasMade, IsTold, most_of}
+use Rattle.mc_explore.specs.Once.{HasMade, IsBegun, IsTold, most_of}
 use Rattle.mc_explore.specs.declared.once.Told.{Told}
 use Rattle.mc_explore.specs.Boots.{boots}
 use Rattle.mc_campaign.specs.Boots.{rounds, second_start}
@@ -37,6 +38,11 @@ round_at (second began s) = rounds_of.Second
 abbrev pub began_at : Place Content → Content
 began_at (first s) = s
 began_at (second began s) = began
+
+-- A boot at power-on from where a flash of that layout stands.
+pub record BeginsOn (r : Rules) (g : Geometry) (seen : Seen) (boot : Boot) : Type 0 where
+  pub layout_is : seen.geometry ≡ g
+  pub begun : IsBegun r seen boot
 
 -- What both rounds count at most, with the write between them.
 abbrev pub most_of_both : Rules → Geometry → Counts

@@ -59,13 +59,12 @@ pub(crate) fn go_between<F: Flash>(confirms: bool, flash: &mut F) -> Result<(), 
 }
 
 impl Twice {
-    ghost use Rattle.mc_explore.specs.Once.{IsBegun};
-    ghost use Rattle.mc_campaign.specs.Twice.{AreTold, most_of_both};
+    ghost use Rattle.mc_campaign.specs.Twice.{AreTold, BeginsOn, most_of_both};
 
     // Runs the boot at power-on to its end, and then that of the second round.
     fn run<F: Flash>(&self, flash: &mut F, boot: Boot, start: &Start) -> Result<Both, FlashError>
-        requires begun { IsBegun self.now.once.rules (F.seen flash.old) boot }
-        requires layout { (F.seen flash.old).geometry ≡ self.now.once.layout }
+        requires begun { BeginsOn self.now.once.rules self.now.once.layout (F.seen flash.old)
+            boot }
         requires room { Allows (most_of_both self.now.once.rules self.now.once.layout)
             (F.seen flash.old) }
         ensures told { IfOk result (AreTold self.now.once.rules self.now.once.layout
@@ -93,8 +92,8 @@ impl Twice {
         boot: Boot,
         start: &Start,
     ) -> Result<Both, FlashError>
-        requires begun { IsBegun self.now.once.rules (F.seen flash.old) boot }
-        requires layout { (F.seen flash.old).geometry ≡ self.now.once.layout }
+        requires begun { BeginsOn self.now.once.rules self.now.once.layout (F.seen flash.old)
+            boot }
         requires room { HasRoom (most_of_both self.now.once.rules self.now.once.layout)
             (F.seen flash.old) }
         ensures told { IfOk result (AreTold self.now.once.rules self.now.once.layout

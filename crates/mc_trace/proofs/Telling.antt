@@ -1,5 +1,5 @@
 -- The lines of a boot's operations, one step after another.
-use Rattle.std.specs.Prelude.{◌≡◌, ℕ, zero, suc, ◌+◌, ◌-◌, ◌<◌, ◌≤◌, List, [], ◌∷◌, ◌++◌, take, slice_get, codes, Option, Some, None, IfSome, Result, Ok, Err, is_some, true, refl}
+use Rattle.std.specs.Prelude.{◌≡◌, ℕ, zero, suc, ◌+◌, ◌-◌, ◌<◌, ◌≤◌, List, [], ◌∷◌, ◌++◌, take, slice_get, codes, Option, Some, None, IfSome, Result, Ok, Err, is_some, true, refl, OnOk, OnErr}
 use Rattle.std.specs.Io.KnownBytes.{Appends}
 use Rattle.std.proofs.Common.{arith, sym, ap, subst, append-nil, ◌∙◌}
 use Rattle.mc_flash.specs.DoneFacts.{did, undefined}
@@ -8,9 +8,12 @@ use Rattle.mc_flash.specs.Seen.{Seen}
 use Rattle.mc_flash.specs.declared.flash.FlashError.{FlashError}
 use Rattle.mc_flash.specs.declared.flash.FlashError.TheVariants as errors
 use Rattle.mc_flash.specs.declared.op.Op.{Op}
-use Rattle.mc_boot.specs.Boot.{Progress, StepsAlong, Steps}
+use Rattle.mc_boot.specs.Boot.{Progress, StepsAlong, Steps, progress}
+use Rattle.mc_boot.specs.Goes.{GoesOn, goes_further}
+use Rattle.mc_boot.specs.declared.boot.Boot.{Boot}
 use Rattle.mc_output.specs.FrontFacts.{IsOut, out_front, out_more}
 use Rattle.mc_output.specs.Fronts.{AppendsFront}
+use Rattle.mc_trace.specs.Boots.{GoesUpTo, Tells}
 use Rattle.mc_trace.specs.Operations.{numbered_text}
 use Rattle.mc_trace.specs.Trace.{told, told_first, up_to}
 
@@ -128,6 +131,19 @@ none_more p q old new (Some m) (Err errors.NotErased) is steps going = at p.to_c
     at [] d = absurd d
     at (x ∷ rest) d = omega (arith, going, ap (λ (z : Progress). z.count) d.0)
 
+pub goes_up_to : (until : Option ℕ) (a : Boot) (x : Seen) (b : Boot) (y : Seen) (c : Boot) (z : Seen) → GoesUpTo until a x b y → GoesOn b y c z → IfSome until (λ n. (progress c).count ≤ n)
+    → GoesUpTo until a x c z
+goes_up_to until a x b y c z first then below = record { goes = goes_further a x b y c z first.goes then; below = below }
+
 pub none_to_come : (ops : List Op) (first : Option Op) → first ≡ slice_get ops 0 → ((op : Op) → first ≡ Some op → ⊥) → ops ≡ []
 none_to_come [] first is none = refl
 none_to_come (op ∷ rest) first is none = absurd (none op is)
+
+-- A text that comes out whole or in part, by the answer.
+pub tells_ok : {A E : Type 0} (r : Result A E) (before after : Option (List ℕ)) (text : List ℕ) → Tells r before after text → OnOk r (Appends before after text)
+tells_ok (Ok _) before after text t = t
+tells_ok (Err _) before after text t = tt
+
+pub tells_err : {A E : Type 0} (r : Result A E) (before after : Option (List ℕ)) (text : List ℕ) → Tells r before after text → OnErr r (AppendsFront before after text)
+tells_err (Ok _) before after text t = tt
+tells_err (Err _) before after text t = t

@@ -5,3 +5,4 @@ pub mod Sectors
 pub mod Pictures
 pub mod LayoutText
 pub mod Slots
+pub mod Boots

@@ -1,14 +1,11 @@
 //! One boot, told operation by operation.
 ghost use Rattle.std.specs.Prelude.{◌≡◌, ◌+◌, ◌<◌, ◌≤◌, ◌⊎◌, [], length, IfErr, IfSome, OnOk, OnErr, Some};
 ghost use Rattle.std.specs.Io.KnownBytes.{Appends};
-ghost use Rattle.mc_flash.specs.Content.{Content};
-ghost use Rattle.mc_flash.specs.Seen.{Keeps};
 ghost use Rattle.mc_output.specs.Fronts.{AppendsFront};
-ghost use Rattle.mc_trailer.specs.declared.tables.Rules.{Rules};
 ghost use Rattle.mc_boot.specs.Boot.{progress, to_come, IsBootOf};
-ghost use Rattle.mc_boot.specs.Run.{HasCome};
 ghost use Rattle.mc_boot.specs.Runs.{ops_of};
 ghost use Rattle.mc_explore.specs.Boots.{at_cut};
+ghost use Rattle.mc_trace.specs.Boots.{Tells, GoesUpTo};
 ghost use Rattle.mc_trace.specs.Trace.{told, up_to, cut_text, last_text};
 
 use crate::error::TraceError;
@@ -28,22 +25,13 @@ fn write_operations<F: Flash, W: Write>(
 ) -> Result<(), TraceError>
     requires layout { IsBootOf (F.seen flash.old).geometry boot.old }
     requires before { IfSome until (λ n. (progress boot.old).count ≤ n) }
-    ensures whole { let p = progress boot.old in OnOk result
-        (Appends (W.contents writer.old) (W.contents writer.new)
+    ensures told { let p = progress boot.old in Tells result
+        (W.contents writer.old) (W.contents writer.new)
         (told (F.seen flash.old).geometry p.count (up_to until p.count p.to_come)
-        (F.seen flash.old).content)) }
-    ensures front { let p = progress boot.old in OnErr result
-        (AppendsFront (W.contents writer.old) (W.contents writer.new)
-        (told (F.seen flash.old).geometry p.count (up_to until p.count p.to_come)
-        (F.seen flash.old).content)) }
-    ensures come { (r : Rules) (s : Content)
-        → HasCome r (F.seen flash.old).geometry s (progress boot.old) (F.seen flash.old).content
-        → HasCome r (F.seen flash.old).geometry s (progress boot.new) (F.seen flash.new).content }
+        (F.seen flash.old).content) }
+    ensures goes { GoesUpTo until boot.old (F.seen flash.old) boot.new (F.seen flash.new) }
     ensures end { OnOk result ((to_come boot.new ≡ [])
         ⊎ IfSome until (λ n. (progress boot.new).count ≡ n)) }
-    ensures before { IfSome until (λ n. (progress boot.new).count ≤ n) }
-    ensures layout { IsBootOf (F.seen flash.new).geometry boot.new }
-    ensures keeps { Keeps (F.seen flash.old) (F.seen flash.new) }
     ensures err { IfErr result (λ e. (e ≡ TraceError.Memory) ⊎ (e ≡ TraceError.Write)) }
 {
     let layout = *flash.layout();

@@ -1,15 +1,12 @@
-use Rattle.std.proofs.Common.{rules, ◌<◌, sym, subst, ◌∙◌, inl, IfSome}
+use Rattle.std.proofs.Common.{rules, ◌<◌, sym, ◌∙◌, inl, IfSome}
 use Rattle.std.proofs.lemmas.Result.{err_from_is_err_and}
-use Rattle.mc_flash.specs.Geometry.{Geometry}
-use Rattle.mc_flash.specs.SpendsFacts.{keeps_both}
 use Rattle.mc_output.specs.FrontFacts.{out_all, out_stops}
 use Rattle.mc_boot.specs.Boot.{progress, to_come}
-use Rattle.mc_boot.specs.Run.{HasCome}
-use Rattle.mc_trace.proofs.Telling.{none_to_come, happened, refused, over, line_out, line_begun, refusal_out, refusal_begun, one_more, none_more}
+use Rattle.mc_trace.proofs.Telling.{none_to_come, happened, refused, over, line_out, line_begun, refusal_out, refusal_begun, one_more, none_more, goes_up_to}
 use Rattle.mc_trace.proofs.boots.write_operations.Goals as goal
 
-pub returns-in_default-clause-whole : goal.returns-in_default-clause-whole
-returns-in_default-clause-whole g c =
+pub returns-in_default-clause-told : goal.returns-in_default-clause-told
+returns-in_default-clause-told g c =
     let i = c.operations.invariant in
     let end = none_to_come (to_come c.operations.boot) c.peek.result c.peek.ensures.first c.in_default.not-Some in
     out_all _ _ _ (rw (over c.args.until (g.F.Flash.seen c.operations.flash) (progress c.operations.boot) end) at i.out)
@@ -30,18 +27,13 @@ operations-preserved-in-Continue-1 g c =
     let lines = happened now new p q c.in-Some.op c.args.until (sym c.peek.ensures.first ∙ c.in-Some.is) going c.step.result c.in-Ok.is e.step in
     record {
       out = line_out _ _ _ _ _ _ _ _ _ _ _ i.place c.count.ensures i.out lines c.in_ok-write_line-in-Ok.ensures.whole;
-      come = λ r s began.
-          let P : Geometry → Type 0 = λ x. HasCome r x s p now.content in
-          let Q : Geometry → Type 0 = λ x. HasCome r x s q new.content in
-          subst Q i.keeps.geometry (e.come r s (subst P (sym i.keeps.geometry) (i.come r s began)));
-      before = one_more p q now new c.args.until c.step.result c.in-Ok.is e.step going;
-      layout = e.layout;
-      keeps = keeps_both old now new i.keeps e.keeps;
+      goes = goes_up_to c.args.until c.args.boot.now old c.operations.boot now c.step.new.self new i.goes (record { come = e.come; layout = e.layout; whole = e.whole; keeps = e.keeps })
+          (one_more p q now new c.args.until c.step.result c.in-Ok.is e.step going);
       place = i.place ∙ sym e.keeps.geometry;
     }
 
-pub returns-in_err-write_line-in-Ok-clause-front : goal.returns-in_err-write_line-in-Ok-clause-front
-returns-in_err-write_line-in-Ok-clause-front g c =
+pub returns-in_err-write_line-in-Ok-clause-told : goal.returns-in_err-write_line-in-Ok-clause-told
+returns-in_err-write_line-in-Ok-clause-told g c =
     let i = c.operations.invariant in
     let now = g.F.Flash.seen c.operations.flash in
     let new = g.F.Flash.seen c.step.new.flash in
@@ -65,18 +57,13 @@ operations-preserved g c =
     let lines = refused now new p q c.in-Some.op c.args.until (sym c.peek.ensures.first ∙ c.in-Some.is) going c.step.result (search rules) e.step in
     record {
       out = refusal_out _ _ _ _ _ _ _ _ _ _ _ i.place c.count.ensures i.out lines c.in_ok-write_line-in-Err-NotErased.ensures.whole;
-      come = λ r s began.
-          let P : Geometry → Type 0 = λ x. HasCome r x s p now.content in
-          let Q : Geometry → Type 0 = λ x. HasCome r x s q new.content in
-          subst Q i.keeps.geometry (e.come r s (subst P (sym i.keeps.geometry) (i.come r s began)));
-      before = none_more p q now new c.args.until c.step.result (search rules) e.step going;
-      layout = e.layout;
-      keeps = keeps_both old now new i.keeps e.keeps;
+      goes = goes_up_to c.args.until c.args.boot.now old c.operations.boot now c.step.new.self new i.goes (record { come = e.come; layout = e.layout; whole = e.whole; keeps = e.keeps })
+          (none_more p q now new c.args.until c.step.result (search rules) e.step going);
       place = i.place ∙ sym e.keeps.geometry;
     }
 
-pub returns-in_err-write_line-in-Err-NotErased-clause-front : goal.returns-in_err-write_line-in-Err-NotErased-clause-front
-returns-in_err-write_line-in-Err-NotErased-clause-front g c =
+pub returns-in_err-write_line-in-Err-NotErased-clause-told : goal.returns-in_err-write_line-in-Err-NotErased-clause-told
+returns-in_err-write_line-in-Err-NotErased-clause-told g c =
     let i = c.operations.invariant in
     let now = g.F.Flash.seen c.operations.flash in
     let new = g.F.Flash.seen c.step.new.flash in
@@ -87,5 +74,5 @@ returns-in_err-write_line-in-Err-NotErased-clause-front g c =
     let failed = err_from_is_err_and c.from_residual-in_err-write_line-in-Err-NotErased.result c.from_residual-in_err-write_line-in-Err-NotErased.ensures.1 in
     rw failed.1 (refusal_begun _ _ _ _ _ _ _ _ _ _ _ i.place c.count.ensures i.out lines c.in_err-write_line-in-Err-NotErased.ensures.front)
 
-pub returns-in-Err-Memory-clause-front : goal.returns-in-Err-Memory-clause-front
-returns-in-Err-Memory-clause-front g c = out_stops _ _ _ _ c.operations.invariant.out
+pub returns-in-Err-Memory-clause-told : goal.returns-in-Err-Memory-clause-told
+returns-in-Err-Memory-clause-told g c = out_stops _ _ _ _ c.operations.invariant.out
