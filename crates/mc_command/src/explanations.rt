@@ -16,11 +16,49 @@ pub struct Explanation {
 pub fn explanation_of(number: u8) -> Option<&'static Explanation>
     ensures { IfSome result (λ e. e.now.number ≡ number) }
 {
-    EXPLANATIONS.iter().find(|e| e.number == number)
+    explanations_near(number)
+        .iter()
+        .find(|e| e.number == number)
 }
 
-/// All refusals, by their numbers. `docs/FORMAT.md` has the same table.
-static EXPLANATIONS: [Explanation; 48] = [
+/// The explanations among which that of a number stands. All of them are by their numbers, and `docs/FORMAT.md` has the same
+/// tables.
+fn explanations_near(number: u8) -> &'static [Explanation] {
+    match number {
+        0..=19 => of_images(),
+        20..=29 => of_the_image_tool(),
+        30..=49 => of_flashes(),
+        50..=69 => of_explorations(),
+        _ => of_commands(),
+    }
+}
+
+/// What is refused of images and versions.
+fn of_images() -> &'static [Explanation] {
+    &IMAGES
+}
+
+/// What the image tool refuses.
+fn of_the_image_tool() -> &'static [Explanation] {
+    &IMAGE_TOOL
+}
+
+/// What is refused of layouts and flashes.
+fn of_flashes() -> &'static [Explanation] {
+    &FLASHES
+}
+
+/// What is refused of starts, schedules, explorations and their cursors.
+fn of_explorations() -> &'static [Explanation] {
+    &EXPLORATIONS
+}
+
+/// What is refused of a command line and its files.
+fn of_commands() -> &'static [Explanation] {
+    &COMMANDS
+}
+
+static IMAGES: [Explanation; 16] = [
     Explanation {
         number: 1,
         name: "Truncated",
@@ -133,6 +171,9 @@ static EXPLANATIONS: [Explanation; 48] = [
         when: "A part of the version is too large: 255, 255, 65535 and 4294967295 are the largest.",
         remedy: "Choose smaller numbers.",
     },
+];
+
+static IMAGE_TOOL: [Explanation; 7] = [
     Explanation {
         number: 20,
         name: "NotZeros",
@@ -182,6 +223,9 @@ static EXPLANATIONS: [Explanation; 48] = [
         when: "An allocation failed.",
         remedy: "Free some memory and try again.",
     },
+];
+
+static FLASHES: [Explanation; 7] = [
     Explanation {
         number: 30,
         name: "Unit",
@@ -231,6 +275,9 @@ static EXPLANATIONS: [Explanation; 48] = [
         when: "An allocation of the flash failed, or its journal is full.",
         remedy: "Free some memory and try again.",
     },
+];
+
+static EXPLORATIONS: [Explanation; 13] = [
     Explanation {
         number: 50,
         name: "DoesNotFit",
@@ -322,6 +369,9 @@ static EXPLANATIONS: [Explanation; 48] = [
         when: "The text is not a campaign.",
         remedy: "Write - for no cut, or 1 to 16 cuts joined by commas, as 1.0,2.5.",
     },
+];
+
+static COMMANDS: [Explanation; 5] = [
     Explanation {
         number: 70,
         name: "SourceOptions",

@@ -69,23 +69,50 @@ fn run_command<F: Files, R: Read, O: Write>(
     input: &mut R,
     out: &mut O,
 ) -> Result<(), Refusal> {
-    match matches.subcommand() {
-        Some(("create", arguments)) => commands::create::run(files, alloc, arguments),
-        Some(("verify", arguments)) => commands::verify::run(files, arguments, input, out),
-        Some(("dumpinfo", arguments)) => {
-            commands::dumpinfo::run(files, alloc, arguments, input, out)
-        }
-        Some(("layout", arguments)) => commands::layout::run(arguments, out),
-        Some(("type", arguments)) => commands::trailers::run(files, alloc, arguments, out),
-        Some(("boot", arguments)) => commands::replay::boot(files, alloc, arguments, out),
-        Some(("replay", arguments)) => commands::replay::run(files, alloc, arguments, out),
-        Some(("trace", arguments)) => commands::trace::run(files, alloc, arguments, out),
-        Some(("sectors", arguments)) => commands::trace::sectors(files, alloc, arguments, out),
-        Some(("explain", arguments)) => commands::explain::run(arguments, out),
-        Some(("explore", arguments)) => commands::explore::run(files, alloc, arguments, out),
-        Some(("campaign", arguments)) => commands::campaign::run(files, alloc, arguments, out),
-        Some(("survey", arguments)) => commands::explore::survey(files, alloc, arguments, out),
-        Some(("census", arguments)) => commands::census::run(files, alloc, arguments, out),
+    let Some((name, arguments)) = matches.subcommand() else {
+        return Err(Refusal::Argument);
+    };
+    match name {
+        "create" => commands::create::run(files, alloc, arguments),
+        "verify" => commands::verify::run(files, arguments, input, out),
+        "dumpinfo" => commands::dumpinfo::run(files, alloc, arguments, input, out),
+        "layout" => commands::layout::run(arguments, out),
+        "explain" => commands::explain::run(arguments, out),
+        _ => run_boots(files, alloc, name, arguments, out),
+    }
+}
+
+/// Runs a command on the boots of a flash.
+fn run_boots<F: Files, O: Write>(
+    files: &F,
+    alloc: Global,
+    name: &str,
+    arguments: &ArgMatches<'_>,
+    out: &mut O,
+) -> Result<(), Refusal> {
+    match name {
+        "type" => commands::trailers::run(files, alloc, arguments, out),
+        "boot" => commands::replay::boot(files, alloc, arguments, out),
+        "replay" => commands::replay::run(files, alloc, arguments, out),
+        "trace" => commands::trace::run(files, alloc, arguments, out),
+        "sectors" => commands::trace::sectors(files, alloc, arguments, out),
+        _ => run_exploration(files, alloc, name, arguments, out),
+    }
+}
+
+/// Runs a command on many schedules of power cuts.
+fn run_exploration<F: Files, O: Write>(
+    files: &F,
+    alloc: Global,
+    name: &str,
+    arguments: &ArgMatches<'_>,
+    out: &mut O,
+) -> Result<(), Refusal> {
+    match name {
+        "explore" => commands::explore::run(files, alloc, arguments, out),
+        "campaign" => commands::campaign::run(files, alloc, arguments, out),
+        "survey" => commands::explore::survey(files, alloc, arguments, out),
+        "census" => commands::census::run(files, alloc, arguments, out),
         _ => Err(Refusal::Argument),
     }
 }

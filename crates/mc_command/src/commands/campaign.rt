@@ -78,8 +78,20 @@ pub fn run<F: Files, O: Write>(
 ) -> Result<(), Refusal> {
     let exploration = read(files, alloc, arguments)?;
     let mut explorer = exploration.explorer(alloc)?;
-    let mut page = BufWriter::new(alloc, out).map_err(|_| ExploreError::Memory)?;
-    write_campaign_page(&mut explorer, exploration.extent.limit, &mut page)?;
-    page.flush().map_err(|_| ExploreError::Write)?;
+    print_page(alloc, &mut explorer, exploration.extent.limit, out)?;
     Ok(())
+}
+
+/// Prints a page over a buffer.
+fn print_page<O: Write>(
+    alloc: Global,
+    explorer: &mut CampaignExplorer<'_, JournalFlash>,
+    limit: u32,
+    out: &mut O,
+) -> Result<(), ExploreError>
+    requires { 1 ≤ limit }
+{
+    let mut page = BufWriter::new(alloc, out).map_err(|_| ExploreError::Memory)?;
+    write_campaign_page(explorer, limit, &mut page)?;
+    page.flush().map_err(|_| ExploreError::Write)
 }

@@ -5,7 +5,7 @@ use crate::options::{ExploreOptions, RangeOptions, explore_options, flash_option
 use crate::refusal::Refusal;
 use crate::source::read_start;
 use clap::ArgMatches;
-use mc_explore::{ExploreError, Explorer, Start, survey_until, write_page_until};
+use mc_explore::{ExploreError, Explorer, Schedule, Start, Tally, survey_until, write_page_until};
 use mc_flash::JournalFlash;
 use std::alloc::Global;
 use std::io::{BufWriter, Write};
@@ -60,6 +60,20 @@ impl Exploration {
             None => Ok(Explorer::start(alloc, start, cuts)?),
         }
     }
+
+    /// Counts the rows of the page.
+    ///
+    /// # Errors
+    ///
+    /// Those of `explorer`, and `Explore` where memory failed.
+    fn tally(&self, alloc: Global) -> Result<Tally, Refusal>
+        requires cuts { self.now.extent.cuts ≤ 16 }
+        requires limit { 1 ≤ self.now.extent.limit }
+    {
+        let mut explorer = self.explorer(alloc)?;
+        let (until, limit) = (self.range.until, self.extent.limit);
+        Ok(survey_until(&mut explorer, until, limit)?)
+    }
 }
 
 /// Prints a page of rows: one for each schedule of at most so many cuts that can occur, in their order, from the first or
@@ -76,11 +90,24 @@ pub fn run<F: Files, O: Write>(
 ) -> Result<(), Refusal> {
     let exploration = read(files, alloc, arguments)?;
     let mut explorer = exploration.explorer(alloc)?;
-    let mut page = BufWriter::new(alloc, out).map_err(|_| ExploreError::Memory)?;
     let (until, limit) = (exploration.range.until, exploration.extent.limit);
-    write_page_until(&mut explorer, until, limit, &mut page)?;
-    page.flush().map_err(|_| ExploreError::Write)?;
+    print_page(alloc, &mut explorer, until, limit, out)?;
     Ok(())
+}
+
+/// Prints a page over a buffer.
+fn print_page<O: Write>(
+    alloc: Global,
+    explorer: &mut Explorer<'_, JournalFlash>,
+    until: Option<Schedule>,
+    limit: u32,
+    out: &mut O,
+) -> Result<(), ExploreError>
+    requires { 1 ≤ limit }
+{
+    let mut page = BufWriter::new(alloc, out).map_err(|_| ExploreError::Memory)?;
+    write_page_until(explorer, until, limit, &mut page)?;
+    page.flush().map_err(|_| ExploreError::Write)
 }
 
 /// Prints how many rows that page would have, how many of them with each result, the greatest number of operations, and where
@@ -97,9 +124,7 @@ pub fn survey<F: Files, O: Write>(
     out: &mut O,
 ) -> Result<(), Refusal> {
     let exploration = read(files, alloc, arguments)?;
-    let mut explorer = exploration.explorer(alloc)?;
-    let (until, limit) = (exploration.range.until, exploration.extent.limit);
-    let tally = survey_until(&mut explorer, until, limit)?;
+    let tally = exploration.tally(alloc)?;
     write!(out, "{tally}").map_err(|_| Refusal::Write)?;
     if arguments.get_flag("all-boot") && tally.boot != tally.rows {
         return Err(Refusal::NotAllBoot);

@@ -44,10 +44,21 @@ pub fn run<F: Files, O: Write>(
     let schedule = required(arguments, "schedule")?;
     let (start, schedule) = read_schedule(files, alloc, arguments, schedule)?;
     if let Some(path) = arguments.get_str("at-cut") {
-        let flash: JournalFlash = flash_at_cut(alloc, &start, &schedule)?;
-        write_file(files, path, &flash)?;
+        write_cut(files, alloc, path, &start, &schedule)?;
     }
     tell(files, alloc, arguments, &start, &schedule, out)
+}
+
+// Writes the flash as it was when the last cut of a schedule fell.
+fn write_cut<F: Files>(
+    files: &F,
+    alloc: Global,
+    path: &str,
+    start: &Start,
+    schedule: &Schedule,
+) -> Result<(), Refusal> {
+    let flash: JournalFlash = flash_at_cut(alloc, start, schedule)?;
+    write_file(files, path, &flash)
 }
 
 // Prints the outcome of a schedule, after the flash that is left was written where `--out` names a file.
