@@ -12,6 +12,7 @@ pub mod Run
 pub mod Goes
 pub mod RunFacts
 pub mod Bounds
+pub mod Cold
 pub mod StepFacts
 pub mod WriteFacts
 pub mod Outcome

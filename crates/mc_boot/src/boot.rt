@@ -1,12 +1,11 @@
 //! The boot as a machine that makes one operation at a time.
-ghost use Rattle.std.specs.Prelude.{◌≡◌, ◌<◌, ◌≤◌, [], length, slice_get, Some, ◌↔◌, IsSome, IfSome, IfErr, OnOk};
+ghost use Rattle.std.specs.Prelude.{◌≡◌, ◌<◌, ◌≤◌, [], length, slice_get, Some, ◌↔◌, IsSome, IfSome, MatchResult};
 ghost use Rattle.mc_trailer.specs.Entries.{highest_entry};
 ghost use Rattle.mc_flash.specs.Geometry.{Geometry};
-ghost use Rattle.mc_flash.specs.Content.{Content, IsSized};
+ghost use Rattle.mc_flash.specs.Content.{Content};
 ghost use Rattle.mc_flash.specs.Apply.{CanTry};
 ghost use Rattle.mc_flash.specs.Seen.{Does, Keeps};
 ghost use Rattle.mc_flash.specs.Spends.{Spends, Allows};
-ghost use Rattle.mc_flash.specs.Ledger.{most_operations, most_saved};
 ghost use Rattle.mc_trailer.specs.declared.tables.Rules.{Rules};
 ghost use Rattle.mc_boot.specs.After.{IsCut, operations_kept};
 ghost use Rattle.mc_boot.specs.Boot.{progress, IsBootOf, begun};
@@ -61,7 +60,9 @@ impl Boot {
     ghost use Rattle.mc_boot.specs.Boot.{all_of, to_come, progress, IsBootOf, Steps, begun};
     ghost use Rattle.mc_boot.specs.After.{IsStopped};
     ghost use Rattle.mc_boot.specs.Run.{HasCome};
-    ghost use Rattle.mc_boot.specs.Bounds.{all_saves, left_of, CountsOn};
+    ghost use Rattle.mc_boot.specs.Goes.{GoesOn};
+    ghost use Rattle.mc_boot.specs.Cold.{IsCold};
+    ghost use Rattle.mc_boot.specs.Bounds.{left_of, CountsOn};
     ghost use Rattle.mc_boot.specs.Outcome.{shown, report, outcome_of};
 
     // A boot with no operations.
@@ -203,19 +204,9 @@ impl Boot {
     /// A boot at power-on. It reads and hashes images only where it begins a swap.
     #[tactic(auto, using(crate::specs::Bounds::plan_few, crate::specs::Bounds::plan_saves, crate::proofs::AfterCut::begun_list))]
     pub fn cold<F: Flash>(flash: &F, rules: Rules) -> Boot
-        ensures progress { progress result
-            ≡ begun rules (plan rules (F.seen flash.now).geometry (F.seen flash.now).content) }
-        ensures layout { IsBootOf (F.seen flash.now).geometry result }
-        ensures whole { all_of result
-            ≡ (plan rules (F.seen flash.now).geometry (F.seen flash.now).content).list }
+        ensures cold { IsCold rules (F.seen flash.now) result }
         ensures come { HasCome rules (F.seen flash.now).geometry (F.seen flash.now).content
             (progress result) (F.seen flash.now).content }
-        ensures sized { IsSized (F.seen flash.now).geometry (F.seen flash.now).content }
-        // It has few operations, and what their erases save is little.
-        ensures few { length (progress result).to_come ≤ most_operations rules.grain
-            (F.seen flash.now).geometry }
-        ensures few_saves { all_saves (F.seen flash.now).geometry
-            (progress result).to_come ≤ most_saved (F.seen flash.now).geometry }
     {
         // Each number of a layout tells that it is one, and each slot how long it is.
         let _sector = flash.layout().sector();
@@ -231,17 +222,7 @@ impl Boot {
     pub fn after_cut<F: Flash>(flash: &F, cut: &Boot) -> Boot
         requires { (s : Content) × IsStopped (F.seen flash.now).geometry s
             (F.seen flash.now).content cut.now }
-        ensures progress { let r = cut.now.rules in progress result
-            ≡ begun r (plan r (F.seen flash.now).geometry (F.seen flash.now).content) }
-        ensures layout { IsBootOf (F.seen flash.now).geometry result }
-        ensures whole { all_of result
-            ≡ (plan cut.now.rules (F.seen flash.now).geometry (F.seen flash.now).content).list }
-        ensures sized { IsSized (F.seen flash.now).geometry (F.seen flash.now).content }
-        // It has few operations, and what their erases save is little.
-        ensures few { length (progress result).to_come ≤ most_operations cut.now.rules.grain
-            (F.seen flash.now).geometry }
-        ensures few_saves { all_saves (F.seen flash.now).geometry
-            (progress result).to_come ≤ most_saved (F.seen flash.now).geometry }
+        ensures { IsCold cut.now.rules (F.seen flash.now) result }
     {
         // All that is used of images is what these laws say.
         one_reading();
@@ -346,21 +327,15 @@ impl Boot {
         requires layout { IsBootOf (F.seen flash.old).geometry self.old }
         requires room { Allows (left_of (F.seen flash.old).geometry (progress self.old))
             (F.seen flash.old) }
-        ensures come { (r : Rules) (s : Content)
-            → HasCome r (F.seen flash.old).geometry s (progress self.old) (F.seen flash.old).content
-            → HasCome r (F.seen flash.old).geometry s (progress self.new)
-            (F.seen flash.new).content }
-        ensures end { OnOk result (to_come self.new ≡ []) }
-        ensures layout { IsBootOf (F.seen flash.new).geometry self.new }
-        ensures whole { all_of self.new ≡ all_of self.old }
-        ensures keeps { Keeps (F.seen flash.old) (F.seen flash.new) }
+        ensures goes { GoesOn self.old (F.seen flash.old) self.new (F.seen flash.new) }
+        ensures end { MatchResult result (λ _. to_come self.new ≡ [])
+            (λ e. e ≡ FlashError.Memory) }
         // With that room it fails only where the flash takes memory as it goes.
         ensures spends { Spends (length (to_come self.old)) (F.seen flash.old) result
             (F.seen flash.new) }
         // What it counts is no more than was to come.
         ensures counts { CountsOn (progress self.old) (progress self.new) (F.seen flash.old)
             (F.seen flash.new) }
-        ensures err { IfErr result (λ e. e ≡ FlashError.Memory) }
     {
         'steps: while self.peek().is_some() {
             match self.step(flash) {

@@ -12,4 +12,4 @@ pub returns-clause-replayed : goal.returns-clause-replayed
 returns-clause-replayed g c =
     let e = c.in_ok-there.ensures in
     replayed g.F.Flash.counted (begun_of c.args.walk) _ _ c.in_ok-there.there c.in_ok-there.told e.followed e.told (progress c.finish.new.self) (g.F.Flash.seen c.finish.new.flash)
-    (rw c.into_flash-flash.ensures at c.in_ok-finish.ensures.come) c.in_ok-finish.ensures.end
+    (rw c.into_flash-flash.ensures at c.in_ok-finish.ensures.goes.come) c.in_ok-finish.ensures.end

@@ -9,17 +9,17 @@ pub returns-in_err-write_line-clause-front : goal.returns-in_err-write_line-clau
 returns-in_err-write_line-clause-front g c =
     let f = g.F.Flash.seen c.args.flash.now in
     let failed = err_from_is_err_and c.from_residual.result c.from_residual.ensures.1 in
-    rw failed.1 (head_begun c.args.rules f.geometry f.content (progress c.cold-machine.result) c.cold-machine.ensures.progress c.args.boot c.kind-kind.result c.kind-kind.ensures _ _ _
+    rw failed.1 (head_begun c.args.rules f.geometry f.content (progress c.cold-machine.result) c.cold-machine.ensures.cold.boot c.args.boot c.kind-kind.result c.kind-kind.ensures _ _ _
     c.in_err-write_line.ensures.front)
 
 pub returns-clause-whole : goal.returns-clause-whole
 returns-clause-whole g c =
     let f = g.F.Flash.seen c.args.flash.now in
-    on_ok c.write_operations.result _ _ (last_out c.args.rules f.geometry f.content (progress c.cold-machine.result) c.cold-machine.ensures.progress c.args.boot c.kind-kind.result c.kind-kind.ensures
+    on_ok c.write_operations.result _ _ (last_out c.args.rules f.geometry f.content (progress c.cold-machine.result) c.cold-machine.ensures.cold.boot c.args.boot c.kind-kind.result c.kind-kind.ensures
     _ _ c.in_ok-write_line.ensures.whole _) (tells_ok c.write_operations.result _ _ _ c.write_operations.ensures.told)
 
 pub returns-clause-front : goal.returns-clause-front
 returns-clause-front g c =
     let f = g.F.Flash.seen c.args.flash.now in
-    on_err c.write_operations.result _ _ (last_begun c.args.rules f.geometry f.content (progress c.cold-machine.result) c.cold-machine.ensures.progress c.args.boot c.kind-kind.result
+    on_err c.write_operations.result _ _ (last_begun c.args.rules f.geometry f.content (progress c.cold-machine.result) c.cold-machine.ensures.cold.boot c.args.boot c.kind-kind.result
     c.kind-kind.ensures _ _ c.in_ok-write_line.ensures.whole _) (tells_err c.write_operations.result _ _ _ c.write_operations.ensures.told)

@@ -1,9 +1,7 @@
-use Rattle.std.proofs.Common.{◌≡◌, Err, sym, subst, ◌∙◌}
-use Rattle.mc_flash.specs.Geometry.{Geometry}
+use Rattle.std.proofs.Common.{◌≡◌, Err}
 use Rattle.mc_flash.specs.declared.flash.FlashError.TheVariants as errors
-use Rattle.mc_flash.specs.SpendsFacts.{keeps_both}
 use Rattle.mc_boot.specs.Boot.{progress, to_come}
-use Rattle.mc_boot.specs.Run.{HasCome}
+use Rattle.mc_boot.specs.Goes.{goes_further}
 use Rattle.mc_boot.specs.StepFacts.{counts_on_both, none_first, step_allows, step_counts, step_spends, step_spends_both}
 use Rattle.mc_boot.proofs.boot.Boot.finish.Goals as goal
 
@@ -18,15 +16,9 @@ steps-preserved-in-Ok-1 g c =
     let q = progress c.step.new.self in
     let fine : c.step.result ≡ Err errors.Memory → ⊥ = λ memory. absurd cc in
     record {
-      come = λ r s began.
-          let P : Geometry → Type 0 = λ x. HasCome r x s p now.content in
-          let Q : Geometry → Type 0 = λ x. HasCome r x s q new.content in
-          subst Q i.keeps.geometry (e.come r s (subst P (sym i.keeps.geometry) (i.come r s began)));
-      layout = e.layout;
-      whole = e.whole ∙ i.whole;
-      keeps = keeps_both old now new i.keeps e.keeps;
+      goes = goes_further c.args.self.now old c.steps.self now c.step.new.self new i.goes (record { come = e.come; layout = e.layout; whole = e.whole; keeps = e.keeps });
       room = step_allows p q now new c.step.result fine e.step e.keeps.geometry i.room;
-      counts = counts_on_both (progress c.args.self.now) p q old now new i.keeps.geometry i.counts (step_counts p q now new c.step.result e.step);
+      counts = counts_on_both (progress c.args.self.now) p q old now new i.goes.keeps.geometry i.counts (step_counts p q now new c.step.result e.step);
       spends = step_spends_both (progress c.args.self.now) p q old now new i.spends (step_spends p q now new c.step.result fine e.step);
     }
 

@@ -27,7 +27,7 @@ returns-in-Some-clause-told g c =
     let b = c.after_cut-boot.ensures in
     let boot = c.after_cut-boot.result in
     let bytes : IsBytes f.content.secondary = subst (λ (x : List ℕ). IsBytes x) c.read.ensures.value c.bytes_stand.ensures in
-    let begins : IsBegun c.args.at.now.rules f boot = record { boot = b.progress; list = b.whole; layout = b.layout; few = b.few; saves = b.few_saves; sized = b.sized; bytes = bytes } in
+    let begins : IsBegun c.args.at.now.rules f boot = record { boot = b.boot; list = b.list; layout = b.layout; few = b.few; saves = b.saves; sized = b.sized; bytes = bytes } in
     λ s i here early told.
     told_derived r c.args.self.now.layout f boot here.layout_is (subst (λ (x : Rules). IsBegun x f boot) here.on_is.come.rules begins) s i c.args.at.now c.args.parent.now c.in-Some.outcome
     here early told
@@ -40,7 +40,7 @@ returns-in-Some-clause-left g c =
     let b = c.after_cut-boot.ensures in
     let boot = c.after_cut-boot.result in
     let bytes : IsBytes f.content.secondary = subst (λ (x : List ℕ). IsBytes x) c.read.ensures.value c.bytes_stand.ensures in
-    let begins : IsBegun c.args.at.now.rules f boot = record { boot = b.progress; list = b.whole; layout = b.layout; few = b.few; saves = b.few_saves; sized = b.sized; bytes = bytes } in
+    let begins : IsBegun c.args.at.now.rules f boot = record { boot = b.boot; list = b.list; layout = b.layout; few = b.few; saves = b.saves; sized = b.sized; bytes = bytes } in
     λ s i here early told.
     left_derived r c.args.self.now.layout f boot here.layout_is (subst (λ (x : Rules). IsBegun x f boot) here.on_is.come.rules begins) s i c.args.at.now c.args.parent.now here early told
     c.in-Some.ensures.left
@@ -51,5 +51,5 @@ returns-in-None-clause-begun g c =
     let b = c.after_cut-boot.ensures in
     let boot = c.after_cut-boot.result in
     let bytes : IsBytes f.content.secondary = subst (λ (x : List ℕ). IsBytes x) c.read.ensures.value c.bytes_stand.ensures in
-    let begins : IsBegun c.args.at.now.rules f boot = record { boot = b.progress; list = b.whole; layout = b.layout; few = b.few; saves = b.few_saves; sized = b.sized; bytes = bytes } in
+    let begins : IsBegun c.args.at.now.rules f boot = record { boot = b.boot; list = b.list; layout = b.layout; few = b.few; saves = b.saves; sized = b.sized; bytes = bytes } in
     subst (λ (x : Rules). IsBegun x f boot) (c.requires.2).on_is.come.rules begins

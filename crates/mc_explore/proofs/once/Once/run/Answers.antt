@@ -9,10 +9,10 @@ returns-clause-told g c =
     let new = g.F.Flash.seen c.finish.new.flash in
     let e = c.in_ok-finish.ensures in
     told_run r c.args.self.now.layout f c.args.boot c.requires.layout c.requires.begun c.outcome_among-outcome.result
-    (ends_with f new (progress c.args.boot) (progress c.finish.new.self) c.outcome_among-outcome.result e.keeps e.come e.end c.outcome_among-outcome.ensures.end)
+    (ends_with f new (progress c.args.boot) (progress c.finish.new.self) c.outcome_among-outcome.result e.goes.keeps e.goes.come e.end c.outcome_among-outcome.ensures.end)
 
 pub returns-clause-left : goal.returns-clause-left
 returns-clause-left g c =
     let e = c.in_ok-finish.ensures in
     left_run c.args.self.now.rules c.args.self.now.layout (g.F.Flash.seen c.args.flash.now) c.args.boot c.requires.layout c.requires.begun (progress c.finish.new.self)
-    (g.F.Flash.seen c.finish.new.flash) e.come e.end
+    (g.F.Flash.seen c.finish.new.flash) e.goes.come e.end
