@@ -35,8 +35,8 @@ returns-in_ok-write_line-2-clause-whole g c =
     let e = c.in_ok-write_operations.ensures in
     let next = next_there c.args.rules f.geometry f.content (progress c.write_operations.new.boot) (g.F.Flash.seen c.write_operations.new.flash).content c.args.cut
     (e.goes.goes.come c.args.rules f.content c.cold-machine.ensures.come) e.goes.below e.end c.requires in
-    cut_out c.args.rules f.geometry f.content (progress c.cold-machine.result) c.cold-machine.ensures.cold.boot c.args.boot c.kind-kind.result c.kind-kind.ensures _ _ c.in_ok-write_line.ensures.whole _
-    c.args.cut e.told c.in-Some.op (sym next ∙ sym c.peek.ensures.first ∙ c.in-Some.is) _ c.layout.result.now c.layout.ensures c.in_ok-write_line-2.ensures.whole
+    cut_out c.args.rules f.geometry f.content (progress c.cold-machine.result) c.cold-machine.ensures.cold.boot c.args.boot c.kind-kind.result c.kind-kind.ensures _ _
+    c.in_ok-write_line.ensures.whole _ c.args.cut e.told c.in-Some.op (sym next ∙ sym c.peek.ensures.first ∙ c.in-Some.is) _ c.layout.result.now c.layout.ensures c.in_ok-write_line-2.ensures.whole
 
 pub returns-in_ok-write_line-2-clause-left : goal.returns-in_ok-write_line-2-clause-left
 returns-in_ok-write_line-2-clause-left g c =

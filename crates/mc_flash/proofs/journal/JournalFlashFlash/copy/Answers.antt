@@ -45,7 +45,8 @@ returns-then-len-self c =
     let op : Op = Copy c.args.from c.args.at c.args.to c.args.offset c.args.len in
     let can : CanTry f.slots.layout op = subst (λ (j : Seen). CanTry j.geometry op) (sym c.self.view_is) c.requires in
     let long = length_of f.slots.layout f.slots.content c.args.from f.slots.sized in
-    let t : Content = with_bytes f.slots.content c.args.to (put (bytes_of f.slots.content c.args.to) c.args.offset (between c.args.at (c.args.at + c.args.len) (bytes_of f.slots.content c.args.from))) in
+    let moved = between c.args.at (c.args.at + c.args.len) (bytes_of f.slots.content c.args.from) in
+    let t : Content = with_bytes f.slots.content c.args.to (put (bytes_of f.slots.content c.args.to) c.args.offset moved) in
     subst (λ (j : Seen). Does op j (Err Memory) j) c.self.view_is
     (journal_full f.slots.layout r.entries r.saved r.marks op f.slots.content f.entries.items f.saved.items f.marks.items f.applied t
     (copy_done f.slots.layout f.slots.content t c.args.from c.args.to c.args.at c.args.offset c.args.len (omega (arith, can.0.inside, long)) (sym c.if-not-is_blank.ensures) refl)
