@@ -18,13 +18,33 @@ pub fn campaign_row<F: Flash + Drop>(
     let start = start_of(alloc, start)?;
     let bound = bound.parse::<u8>()?.min(16);
     let mut explorer = CampaignExplorer::<F>::start(alloc, &start, bound, confirms == "confirm")?;
-    for rows in 0..place.parse::<u32>()? {
+    row_at(alloc, &mut explorer, place.parse::<u32>()?)
+}
+
+/// The row at a place of an exploration, counted from 0, or how many rows there are.
+fn row_at<F: Flash + Drop>(
+    alloc: Global,
+    explorer: &mut CampaignExplorer<'_, F>,
+    place: u32,
+) -> Result<String, Fail> {
+    for rows in 0..place {
         if explorer.next_row()?.is_none() {
             return Ok(format!(in alloc; "{rows} rows")?);
         }
     }
     let row = explorer.next_row()?.ok_or("a row")?;
     Ok(format!(in alloc; "{row}")?)
+}
+
+/// The next row of an exploration, or its end.
+fn next_of(
+    alloc: Global,
+    explorer: &mut CampaignExplorer<'_, JournalFlash>,
+) -> Result<String, Fail> {
+    match explorer.next_row()? {
+        Some(row) => Ok(format!(in alloc; "{row}")?),
+        None => Ok(String::from_str(alloc, "end")?),
+    }
 }
 
 /// The row behind a campaign of at most one cut, which the new image does not confirm, or why there is none.
@@ -38,15 +58,9 @@ pub fn campaign_behind(
     let cursor = CampaignCursor::of(&start, 1, false, &Campaign::read(text)?);
     let bound = bound.parse::<u8>()?.min(16);
     let confirms = confirms == "confirm";
-    let mut explorer: CampaignExplorer<'_, JournalFlash> = match CampaignExplorer::resume(
-        alloc, &start, bound, confirms, &cursor,
-    ) {
-        Ok(explorer) => explorer,
-        Err(error) => return refused(alloc, error),
-    };
-    match explorer.next_row()? {
-        Some(row) => Ok(format!(in alloc; "{row}")?),
-        None => Ok(String::from_str(alloc, "end")?),
+    match CampaignExplorer::resume(alloc, &start, bound, confirms, &cursor) {
+        Ok(mut explorer) => next_of(alloc, &mut explorer),
+        Err(error) => refused(alloc, error),
     }
 }
 

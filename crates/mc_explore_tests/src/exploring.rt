@@ -1,7 +1,7 @@
 //! The rows of explorations of two small images.
 use crate::common::{start_of, swap};
 use crate::sessions::{plays, refused};
-use mc_explore::{Cursor, Explorer, Kind, replay};
+use mc_explore::{Cursor, Explorer, Kind, Row, Start, replay};
 use mc_flash::SnapFlash;
 use std::alloc::Global;
 use std::test::Fail;
@@ -11,13 +11,36 @@ pub fn row(alloc: Global, start: &str, bound: &str, place: &str) -> Result<Strin
     let start = start_of(alloc, start)?;
     let bound = bound.parse::<u8>()?.min(16);
     let mut explorer = Explorer::<SnapFlash>::start(alloc, &start, bound)?;
-    for rows in 0..place.parse::<u32>()? {
+    row_at(alloc, &mut explorer, place.parse::<u32>()?)
+}
+
+/// The row at a place of an exploration, counted from 0, or how many rows there are.
+fn row_at(
+    alloc: Global,
+    explorer: &mut Explorer<'_, SnapFlash>,
+    place: u32,
+) -> Result<String, Fail> {
+    for rows in 0..place {
         if explorer.next_row()?.is_none() {
             return Ok(format!(in alloc; "{rows} rows")?);
         }
     }
     let row = explorer.next_row()?.ok_or("a row")?;
     Ok(format!(in alloc; "{row}")?)
+}
+
+/// Whether a row is replayed with its outcome.
+fn is_replayed(alloc: Global, start: &Start, row: &Row) -> Result<bool, Fail> {
+    let (outcome, _) = replay::<SnapFlash>(alloc, start, &row.schedule)?;
+    Ok(outcome == row.outcome)
+}
+
+/// The next row of an exploration, or its end.
+fn next_of(alloc: Global, explorer: &mut Explorer<'_, SnapFlash>) -> Result<String, Fail> {
+    match explorer.next_row()? {
+        Some(row) => Ok(format!(in alloc; "{row}")?),
+        None => Ok(String::from_str(alloc, "end")?),
+    }
 }
 
 /// How many of the rows of a start, with at most two cuts, are replayed with their outcomes.
@@ -28,8 +51,7 @@ pub fn rows_replayed(alloc: Global, start: &str) -> Result<String, Fail> {
         let Some(row) = explorer.next_row()? else {
             return Ok(format!(in alloc; "{rows}")?);
         };
-        let (outcome, _) = replay::<SnapFlash>(alloc, &start, &row.schedule)?;
-        if outcome != row.outcome {
+        if !is_replayed(alloc, &start, &row)? {
             break;
         }
     }
@@ -44,13 +66,9 @@ pub fn behind(alloc: Global, bound: &str, cursor: &str) -> Result<String, Fail> 
         Ok(cursor) => cursor,
         Err(error) => return refused(alloc, error),
     };
-    let mut explorer = match Explorer::<SnapFlash>::resume(alloc, &start, bound, &cursor) {
-        Ok(explorer) => explorer,
-        Err(error) => return refused(alloc, error),
-    };
-    match explorer.next_row()? {
-        Some(row) => Ok(format!(in alloc; "{row}")?),
-        None => Ok(String::from_str(alloc, "end")?),
+    match Explorer::resume(alloc, &start, bound, &cursor) {
+        Ok(mut explorer) => next_of(alloc, &mut explorer),
+        Err(error) => refused(alloc, error),
     }
 }
 

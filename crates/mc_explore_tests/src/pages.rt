@@ -38,18 +38,26 @@ pub fn page(
     let limit = limit.parse::<u32>()?.max(1);
     let mut explorer = explorer_behind(alloc, &start, bound, behind)?;
     let mut page = Vec::with_capacity(alloc, 2048)?;
-    if until == "end" {
-        write_page(&mut explorer, limit, &mut page)?;
-        write_page(&mut explorer, limit, &mut page)?;
-    } else {
-        write_page_until(
-            &mut explorer,
-            Some(Schedule::read(until)?),
-            limit,
-            &mut page,
-        )?;
-    }
+    write_pages(&mut explorer, until, limit, &mut page)?;
     Ok(String::from_utf8(page)?)
+}
+
+/// Writes the page up to a schedule, or two pages.
+fn write_pages(
+    explorer: &mut Explorer<'_, SnapFlash>,
+    until: &str,
+    limit: u32,
+    page: &mut Vec<u8>,
+) -> Result<(), Fail>
+    requires { 1 ≤ limit }
+{
+    if until == "end" {
+        write_page(explorer, limit, page)?;
+        write_page(explorer, limit, page)?;
+    } else {
+        write_page_until(explorer, Some(Schedule::read(until)?), limit, page)?;
+    }
+    Ok(())
 }
 
 /// Pages of at most so many rows.

@@ -105,34 +105,74 @@ fn read_of(alloc: Global, step: &str, text: &str) -> Result<Option<String>, Fail
 /// What is told of any other step, by its name and its words.
 fn told_of(alloc: Global, step: &str, rest: &str) -> Result<String, Fail> {
     let words: Vec<&str> = rest.split(' ').collect(alloc)?;
-    match (step, words.as_slice()) {
-        ("row", [start, bound, place]) => row(alloc, start, bound, place),
-        ("replayed-rows", [kind]) => rows_replayed(alloc, kind),
-        ("behind", [bound, cursor]) => behind(alloc, bound, cursor),
-        ("page", [bound, behind, until, limit]) => page(alloc, bound, behind, until, limit),
-        ("sums", [start, bound]) => sums(alloc, start, bound),
-        ("tally", [start, bound, limit]) => tally(alloc, start, bound, limit),
-        ("census", [start, bound]) => census(alloc, start, bound),
-        ("schedules", [start, bound]) => schedules(alloc, start, bound),
-        ("replay", [schedule]) => replayed::<SnapFlash>(alloc, schedule),
-        ("journal-replay", [schedule]) => replayed::<JournalFlash>(alloc, schedule),
-        ("flash", [schedule]) => flash_at(alloc, schedule),
-        ("sectors", [schedule]) => sectors(alloc, schedule),
-        ("campaign-row", [start, confirms, bound, place]) => {
-            campaign_row::<SnapFlash>(alloc, start, confirms, bound, place)
-        }
-        ("journal-campaign-row", [start, confirms, bound, place]) => {
-            campaign_row::<JournalFlash>(alloc, start, confirms, bound, place)
-        }
-        ("campaign-behind", [bound, confirms, text]) => {
-            campaign_behind(alloc, bound, confirms, text)
-        }
-        ("campaign-replay", [confirms, text]) => campaign_replayed(alloc, confirms, text),
-        ("digest", [start]) => starts_digest(alloc, start),
-        ("named", [start]) => named(alloc, start),
-        ("bytes", [size]) => of_bytes(alloc, size),
-        ("payloads", [first, second]) => of_payloads(alloc, first, second),
-        ("wrong", [length]) => of_wrong(alloc, length),
+    match words.as_slice() {
+        [word] => told_of_one(alloc, step, word),
+        [first, second] => told_of_two(alloc, step, first, second),
+        [first, second, third] => told_of_three(alloc, step, first, second, third),
+        [first, second, third, fourth] => told_of_four(alloc, step, [first, second, third, fourth]),
+        _ => Err(Fail::from("a step that is known")),
+    }
+}
+
+/// What is told of a step with one word.
+fn told_of_one(alloc: Global, step: &str, word: &str) -> Result<String, Fail> {
+    match step {
+        "replayed-rows" => rows_replayed(alloc, word),
+        "replay" => replayed::<SnapFlash>(alloc, word),
+        "journal-replay" => replayed::<JournalFlash>(alloc, word),
+        "flash" => flash_at(alloc, word),
+        "sectors" => sectors(alloc, word),
+        _ => told_of_start(alloc, step, word),
+    }
+}
+
+/// What is told of a start, or of bytes that are none.
+fn told_of_start(alloc: Global, step: &str, word: &str) -> Result<String, Fail> {
+    match step {
+        "digest" => starts_digest(alloc, word),
+        "named" => named(alloc, word),
+        "bytes" => of_bytes(alloc, word),
+        "wrong" => of_wrong(alloc, word),
+        _ => Err(Fail::from("a step that is known")),
+    }
+}
+
+/// What is told of a step with two words.
+fn told_of_two(alloc: Global, step: &str, first: &str, second: &str) -> Result<String, Fail> {
+    match step {
+        "behind" => behind(alloc, first, second),
+        "sums" => sums(alloc, first, second),
+        "census" => census(alloc, first, second),
+        "schedules" => schedules(alloc, first, second),
+        "campaign-replay" => campaign_replayed(alloc, first, second),
+        "payloads" => of_payloads(alloc, first, second),
+        _ => Err(Fail::from("a step that is known")),
+    }
+}
+
+/// What is told of a step with three words.
+fn told_of_three(
+    alloc: Global,
+    step: &str,
+    first: &str,
+    second: &str,
+    third: &str,
+) -> Result<String, Fail> {
+    match step {
+        "row" => row(alloc, first, second, third),
+        "tally" => tally(alloc, first, second, third),
+        "campaign-behind" => campaign_behind(alloc, first, second, third),
+        _ => Err(Fail::from("a step that is known")),
+    }
+}
+
+/// What is told of a step with four words.
+fn told_of_four(alloc: Global, step: &str, words: [&str; 4]) -> Result<String, Fail> {
+    let [first, second, third, fourth] = words;
+    match step {
+        "page" => page(alloc, first, second, third, fourth),
+        "campaign-row" => campaign_row::<SnapFlash>(alloc, first, second, third, fourth),
+        "journal-campaign-row" => campaign_row::<JournalFlash>(alloc, first, second, third, fourth),
         _ => Err(Fail::from("a step that is known")),
     }
 }
