@@ -1,6 +1,7 @@
 //! Why a command ended without a result, and the status for it.
 ghost use Rattle.std.specs.Prelude.{◌≡◌, ◌≤◌};
-ghost use Rattle.mc_command.specs.Statuses.{status_of};
+ghost use Rattle.mc_command.specs.Statuses.{status_of, status_of_start, status_of_replay, status_of_trace, status_of_tool};
+ghost use Rattle.mc_command.specs.Statuses.{status_of_exploration};
 
 use crate::numbers::NumberOption;
 use mc_explore::{CursorError, ExploreError, ReplayError, ScheduleError, StartError};
@@ -99,41 +100,11 @@ impl Refusal {
             | Refusal::Schedule(_)
             | Refusal::Cursor(_) => 2,
             Refusal::NotAllBoot => 1,
-            Refusal::Start(error) => match error {
-                StartError::Memory
-                | StartError::ImageA(ImageError::Memory)
-                | StartError::ImageB(ImageError::Memory) => 3,
-                StartError::ImageA(_)
-                | StartError::ImageB(_)
-                | StartError::DoesNotFit
-                | StartError::FlashSize => 1,
-            },
-            Refusal::Replay(error) => match error {
-                ReplayError::CannotOccur(_) => 1,
-                ReplayError::Memory => 3,
-            },
-            Refusal::Trace(error) => match error {
-                TraceError::CannotOccur(_) => 1,
-                TraceError::Memory | TraceError::Write => 3,
-            },
-            Refusal::Tool(error) => match error {
-                ToolError::Image(ImageError::Memory)
-                | ToolError::Read
-                | ToolError::Write
-                | ToolError::Memory => 3,
-                ToolError::NeedsSlotSize => 2,
-                ToolError::Image(_)
-                | ToolError::NotZeros
-                | ToolError::SlotTooSmall
-                | ToolError::InputTooLong => 1,
-            },
-            Refusal::Explore(error) => match error {
-                ExploreError::OtherStart
-                | ExploreError::OtherRules
-                | ExploreError::OtherBound
-                | ExploreError::CannotOccur => 1,
-                ExploreError::Memory | ExploreError::Failed | ExploreError::Write => 3,
-            },
+            Refusal::Start(error) => start_status(*error),
+            Refusal::Replay(error) => replay_status(*error),
+            Refusal::Trace(error) => trace_status(*error),
+            Refusal::Tool(error) => tool_status(*error),
+            Refusal::Explore(error) => exploration_status(*error),
             Refusal::Flash(_) | Refusal::Open | Refusal::Write | Refusal::Memory => 3,
         }
     }
@@ -145,5 +116,75 @@ impl Refusal {
     {
         let _ = writeln!(err, "mcsim: {self}");
         self.status()
+    }
+}
+
+/// The status for a refused start.
+fn start_status(error: StartError) -> u8
+    ensures exact { result ≡ status_of_start error }
+    ensures range { (1 ≤ result) × (result ≤ 3) }
+{
+    match error {
+        StartError::Memory
+        | StartError::ImageA(ImageError::Memory)
+        | StartError::ImageB(ImageError::Memory) => 3,
+        StartError::ImageA(_)
+        | StartError::ImageB(_)
+        | StartError::DoesNotFit
+        | StartError::FlashSize => 1,
+    }
+}
+
+/// The status for a schedule that is not replayed.
+fn replay_status(error: ReplayError) -> u8
+    ensures exact { result ≡ status_of_replay error }
+    ensures range { (1 ≤ result) × (result ≤ 3) }
+{
+    match error {
+        ReplayError::CannotOccur(_) => 1,
+        ReplayError::Memory => 3,
+    }
+}
+
+/// The status for a schedule that is not told.
+fn trace_status(error: TraceError) -> u8
+    ensures exact { result ≡ status_of_trace error }
+    ensures range { (1 ≤ result) × (result ≤ 3) }
+{
+    match error {
+        TraceError::CannotOccur(_) => 1,
+        TraceError::Memory | TraceError::Write => 3,
+    }
+}
+
+/// The status for a refusal of the image tool.
+fn tool_status(error: ToolError) -> u8
+    ensures exact { result ≡ status_of_tool error }
+    ensures range { (1 ≤ result) × (result ≤ 3) }
+{
+    match error {
+        ToolError::Image(ImageError::Memory)
+        | ToolError::Read
+        | ToolError::Write
+        | ToolError::Memory => 3,
+        ToolError::NeedsSlotSize => 2,
+        ToolError::Image(_)
+        | ToolError::NotZeros
+        | ToolError::SlotTooSmall
+        | ToolError::InputTooLong => 1,
+    }
+}
+
+/// The status for an exploration that ends early.
+fn exploration_status(error: ExploreError) -> u8
+    ensures exact { result ≡ status_of_exploration error }
+    ensures range { (1 ≤ result) × (result ≤ 3) }
+{
+    match error {
+        ExploreError::OtherStart
+        | ExploreError::OtherRules
+        | ExploreError::OtherBound
+        | ExploreError::CannotOccur => 1,
+        ExploreError::Memory | ExploreError::Failed | ExploreError::Write => 3,
     }
 }
