@@ -12,3 +12,6 @@ mod schedule;
 pub mod trace;
 pub mod trailers;
 pub mod verify;
+
+/// How many bytes of a page go out at once.
+const PAGE_BUFFER: usize = 65_536;

@@ -1,6 +1,7 @@
 //! `campaign`: every campaign of power cuts in two rounds, with what the boots that end its rounds do.
 ghost use Rattle.std.specs.Prelude.{◌≤◌, IfOk};
 
+use super::PAGE_BUFFER;
 use crate::options::{ExploreOptions, campaign_cursor, explore_options, flash_options};
 use crate::refusal::Refusal;
 use crate::source::read_start;
@@ -82,7 +83,11 @@ pub fn run<F: Files, O: Write>(
     Ok(())
 }
 
-/// Prints a page over a buffer.
+/// Prints a page, which goes out in blocks.
+///
+/// # Errors
+///
+/// `Memory`, `Write`, and what the pages refuse.
 fn print_page<O: Write>(
     alloc: Global,
     explorer: &mut CampaignExplorer<'_, JournalFlash>,
@@ -91,7 +96,9 @@ fn print_page<O: Write>(
 ) -> Result<(), ExploreError>
     requires { 1 ≤ limit }
 {
-    let mut page = BufWriter::new(alloc, out).map_err(|_| ExploreError::Memory)?;
+    let mut page = BufWriter::with_capacity(alloc, PAGE_BUFFER, out).map_err(
+        |_| ExploreError::Memory,
+    )?;
     write_campaign_page(explorer, limit, &mut page)?;
     page.flush().map_err(|_| ExploreError::Write)
 }

@@ -1,6 +1,7 @@
 //! `explore` and `survey`: every schedule of power cuts, with what the boot after it does, and how many do what.
 ghost use Rattle.std.specs.Prelude.{◌≤◌, IfOk};
 
+use super::PAGE_BUFFER;
 use crate::options::{ExploreOptions, RangeOptions, explore_options, flash_options, range_options};
 use crate::refusal::Refusal;
 use crate::source::read_start;
@@ -95,7 +96,11 @@ pub fn run<F: Files, O: Write>(
     Ok(())
 }
 
-/// Prints a page over a buffer.
+/// Prints a page, which goes out in blocks.
+///
+/// # Errors
+///
+/// `Memory`, `Write`, and what the pages refuse.
 fn print_page<O: Write>(
     alloc: Global,
     explorer: &mut Explorer<'_, JournalFlash>,
@@ -105,7 +110,9 @@ fn print_page<O: Write>(
 ) -> Result<(), ExploreError>
     requires { 1 ≤ limit }
 {
-    let mut page = BufWriter::new(alloc, out).map_err(|_| ExploreError::Memory)?;
+    let mut page = BufWriter::with_capacity(alloc, PAGE_BUFFER, out).map_err(
+        |_| ExploreError::Memory,
+    )?;
     write_page_until(explorer, until, limit, &mut page)?;
     page.flush().map_err(|_| ExploreError::Write)
 }
