@@ -1,5 +1,5 @@
 -- The rows of a tour through two rounds.
-use Rattle.std.specs.Prelude.{◌≡◌, ◌≢◌, ℕ, Bool, List, [], Some, None, refl}
+use Rattle.std.specs.Prelude.{◌≡◌, ◌≢◌, ◌≤◌, ℕ, Bool, true, false, List, [], length, Some, refl}
 use Rattle.std.proofs.Common.{arith, sym, ap, subst, ◌∙◌}
 use Rattle.mc_tree.specs.Tree as tree
 use Rattle.mc_tree.specs.Tree.{Allowed, landed}
@@ -15,7 +15,7 @@ use Rattle.mc_boot.specs.Outcome.{shown}
 use Rattle.mc_boot.specs.declared.outcome.Outcome.{Outcome}
 use Rattle.mc_walk.specs.Kind.{Kind}
 use Rattle.mc_walk.specs.Tours.{Toured, StandsAt, Visits}
-use Rattle.mc_walk.specs.Walks.{Walked, IsPath, IsSame, start_of}
+use Rattle.mc_walk.specs.Walks.{Walked, IsPath, IsSame, IsThere, start_of}
 use Rattle.mc_walk.specs.facts.Same.{over_there}
 use Rattle.mc_walk.specs.declared.tour.Phase.{Phase}
 use Rattle.mc_walk.specs.declared.tour.Phase.TheVariants as phases
@@ -135,92 +135,121 @@ pairs_there old new path s =
 
 -- ---- what a visit finds
 
-module _ (counted : Bool) (start : Begun) (confirms : Bool) (bound : ℕ) (old new : Toured Twice) (last : Places) (works : old.phase ≢ phases.Broken)
-    (sound : IsSound counted start confirms bound old last) where
-  abbrev pub w : Walked Twice
+-- A tour of a sound explorer came behind its last row and went to the next node, or there is none; and what it counts then.
+pub record Visited (counted : Bool) (start : Begun) (confirms : Bool) (bound : ℕ) (old new : Toured Twice) (last : Places) (went : Bool) : Type 0 where
+  pub works : old.phase ≢ phases.Broken
+  pub sound : IsSound counted start confirms bound old last
+  pub visits : Visits (kind_of old.walk.branches) old (position_of old.phase (sound works).1.path) went new
+  pub limits : new.walk.seen.ledger.limits ≡ old.walk.seen.ledger.limits
+  pub failed : new.walk.seen.ledger.failed ≡ old.walk.seen.ledger.failed
+
+module _ (counted : Bool) (start : Begun) (confirms : Bool) (bound : ℕ) (old new : Toured Twice) (last : Places) where
+  abbrev w : Walked Twice
   w = old.walk
 
-  abbrev pub here : Position Places
+  abbrev here : Position Places
   here = position_of old.phase last
 
-  abbrev pub behind : StandsBehind old last
-  behind = (sound works).1
-
-  ours_there : IsSame old.walk new.walk → new.walk.seen.ledger.limits ≡ old.walk.seen.ledger.limits → IsOurs counted start confirms bound new.walk
-  ours_there same limits =
-      let ours = (sound works).0 in
+  ours_there : (went : Bool) → Visited counted start confirms bound old new last went → IsSame old.walk new.walk → IsOurs counted start confirms bound new.walk
+  ours_there went v same =
+      let ours = (v.sound v.works).0 in
       record {
         start_is = same_begun old.walk new.walk same ∙ ours.start_is;
         choice_is = ap (λ (b : Twice). b.confirms) same.branches ∙ ours.choice_is;
         bound_is = same.bound ∙ ours.bound_is;
         few = ours.few;
-        counted_is = ap (λ (x : Limits). x.counted) limits ∙ ours.counted_is;
+        counted_is = ap (λ (x : Limits). x.counted) v.limits ∙ ours.counted_is;
       }
 
   -- The next row.
-  module _ (told : Both) (visits : Visits (kind_of w.branches) old (position_of old.phase behind.path) (Some told) new) where
-    abbrev pub cuts : List (ℕ × ℕ)
+  module _ (v : Visited counted start confirms bound old new last true) where
+    abbrev behind : StandsBehind old last
+    behind = (v.sound v.works).1
+
+    abbrev cuts : List (ℕ × ℕ)
     cuts = pairs_along w.branches.once.rules w.branches.once.layout w.branches.confirms (start_of w.seen) new.walk.path
 
     path_is : IsPathFor w new.walk.path (placed cuts)
-    path_is = campaign_of w.branches.once.rules w.branches.once.layout w.branches.confirms (start_of w.seen) w.bound new.walk.path visits.0.listed
+    path_is = campaign_of w.branches.once.rules w.branches.once.layout w.branches.confirms (start_of w.seen) w.bound new.walk.path v.visits.0.listed
 
-    pub finds_row : (row : CampaignRow) → row.campaign ≡ placed cuts → row.first ≡ told.first.outcome → row.second ≡ told.second.outcome → Finds (state_of w here) (Some row)
-    finds_row row is one two =
+    pub stands_next : new.walk.stands ≡ true
+    stands_next = v.visits.3
+
+    pub few_next : length new.walk.path ≤ 16
+    few_next = let ours = (v.sound v.works).0 in omega (arith, v.visits.0.listed.0, ours.few, ours.bound_is)
+
+    -- The campaign of the path to which it went.
+    pub campaign_is : (l : Places) → (let b = new.walk.branches in l ≡ placed (pairs_along b.once.rules b.once.layout b.confirms (begun_of new.walk).content new.walk.path)) → l ≡ placed cuts
+    campaign_is l is = is ∙ ap placed (pairs_there old.walk new.walk new.walk.path v.visits.1)
+
+    told_next : (told : Both) → IsThere (kind_of new.walk.branches) new.walk told
+        → AreTold w.branches.once.rules w.branches.once.layout w.branches.confirms
+        (landed (rounds w.branches.once.rules w.branches.once.layout w.branches.confirms) (first (start_of w.seen)) new.walk.path) told
+    told_next told there =
+        let P : Twice → Type 0 = λ b. AreTold b.once.rules b.once.layout b.confirms (landed (rounds b.once.rules b.once.layout b.confirms) (first (start_of new.walk.seen)) new.walk.path) told in
+        let Q : Content → Type 0 = λ x. AreTold w.branches.once.rules w.branches.once.layout w.branches.confirms
+        (landed (rounds w.branches.once.rules w.branches.once.layout w.branches.confirms) (first x) new.walk.path) told in
+        subst Q v.visits.1.start (subst P v.visits.1.branches there.told_is)
+
+    pub finds_row : (told : Both) → IsThere (kind_of new.walk.branches) new.walk told → (row : CampaignRow) → row.campaign ≡ placed cuts → row.first ≡ told.first.outcome
+        → row.second ≡ told.second.outcome → Finds (state_of w here) (Some row)
+    finds_row told there row is one two =
         let r = w.branches.once.rules in
         let g = w.branches.once.layout in
         let k = w.branches.confirms in
-        let told_here = subst (λ x. AreTold r g k (landed (rounds r g k) (first x) new.walk.path) told) visits.2.start visits.1 in
-        let outcomes = outcomes_told r g k (start_of w.seen) w.bound new.walk.path (placed cuts) told path_is told_here in
+        let outcomes = outcomes_told r g k (start_of w.seen) w.bound new.walk.path (placed cuts) told path_is (told_next told there) in
         let P : Places → Type 0 = λ d. (z : Content) × AreReplayed r g k (start_of w.seen) d (shown told.first.outcome) (shown told.second.outcome) z in
         let Q : Outcome → Type 0 = λ o. (z : Content) × AreReplayed r g k (start_of w.seen) row.campaign (shown o) (shown told.second.outcome) z in
         let R : Outcome → Type 0 = λ o. (z : Content) × AreReplayed r g k (start_of w.seen) row.campaign (shown row.first) (shown o) z in (
           subst (IsNextIn Precedes (IsMember r g k (start_of w.seen) w.bound) here) (sym is)
-              (next_campaign r g k (start_of w.seen) w.bound behind.path last behind.path_is old.phase new.walk.path (placed cuts) path_is visits.0),
+              (next_campaign r g k (start_of w.seen) w.bound behind.path last behind.path_is old.phase new.walk.path (placed cuts) path_is v.visits.0),
           subst R (sym two) (subst Q (sym one) (subst P (sym is) outcomes)),
         )
 
-    pub moved_on : (l : Places) → new.walk.seen.ledger.failed ≡ old.walk.seen.ledger.failed → state_of new.walk (position_of new.phase l) ≡ moved_to (state_of w here) l
-    moved_on l calm = ap (λ p. state_of new.walk (position_of p l)) visits.3 ∙ same_state w new.walk (After l) visits.2 calm
+    pub moved_on : (l : Places) → state_of new.walk (position_of new.phase l) ≡ moved_to (state_of w here) l
+    moved_on l = ap (λ p. state_of new.walk (position_of p l)) v.visits.2 ∙ same_state w new.walk (After l) v.visits.1 v.failed
 
-    pub sound_on : (l : Places) → l ≡ placed cuts → new.walk.seen.ledger.limits ≡ old.walk.seen.ledger.limits
-        → IsSound counted start confirms bound new l
-    sound_on l is limits = λ _. (
-      ours_there visits.2 limits,
+    pub sound_on : (l : Places) → l ≡ placed cuts → IsSound counted start confirms bound new l
+    sound_on l is = λ _. (
+      ours_there true v v.visits.1,
       record {
         path = new.walk.path;
-        path_is = path_there w new.walk new.walk.path l visits.2 (subst (IsPathFor w new.walk.path) (sym is) path_is);
-        stands = subst (λ p. StandsAt (kind_of new.walk.branches) (record { walk = new.walk; phase = p }) (position_of p new.walk.path)) (sym visits.3) refl;
+        path_is = path_there w new.walk new.walk.path l v.visits.1 (subst (IsPathFor w new.walk.path) (sym is) path_is);
+        stands = subst (λ p. StandsAt (kind_of new.walk.branches) (record { walk = new.walk; phase = p }) (position_of p new.walk.path)) (sym v.visits.2) refl;
       },
     )
 
   -- Or there is none.
-  module _ (visits : Visits (kind_of w.branches) old (position_of old.phase behind.path) None new) where
+  module _ (v : Visited counted start confirms bound old new last false) where
+    abbrev before : StandsBehind old last
+    before = (v.sound v.works).1
+
     pub finds_none : states.IsOver (state_of w here)
-    finds_none = over_campaign w.branches.once.rules w.branches.once.layout w.branches.confirms (start_of w.seen) w.bound behind.path last behind.path_is old.phase visits.0
+    finds_none =
+        over_campaign w.branches.once.rules w.branches.once.layout w.branches.confirms (start_of w.seen) w.bound before.path last before.path_is old.phase v.visits.0
 
     stays_there : {K : Type 0} (x : K) → position_of phases.Done x ≡ position_of old.phase x
     stays_there x = by old.phase refl
       where
         by : (p : Phase) → old.phase ≡ p → After x ≡ position_of p x
         by phases.Fresh is =
-            let over = subst (λ q. paths.IsOver (IsPath (kind_of w.branches) w) (position_of q behind.path)) is visits.0 in
+            let over = subst (λ q. paths.IsOver (IsPath (kind_of w.branches) w) (position_of q before.path)) is v.visits.0 in
             absurd (over [] (omega arith, tt) tt)
         by phases.Going is = refl
         by phases.Done is = refl
-        by phases.Broken is = absurd (works is)
+        by phases.Broken is = absurd (v.works is)
 
-    pub stays_so : new.walk.seen.ledger.failed ≡ old.walk.seen.ledger.failed → state_of new.walk (position_of new.phase last) ≡ state_of w here
-    stays_so calm =
-        ap (λ p. state_of new.walk (position_of p last)) visits.3 ∙ ap (state_of new.walk) (stays_there last) ∙ same_state w new.walk here visits.2 calm
+    pub stays_so : state_of new.walk (position_of new.phase last) ≡ state_of w here
+    stays_so =
+        ap (λ p. state_of new.walk (position_of p last)) v.visits.3 ∙ ap (state_of new.walk) (stays_there last) ∙ same_state w new.walk here v.visits.2 v.failed
 
-    pub sound_over : new.walk.seen.ledger.limits ≡ old.walk.seen.ledger.limits → IsSound counted start confirms bound new last
-    sound_over limits = λ _. (
-      ours_there visits.2 limits,
+    pub sound_over : IsSound counted start confirms bound new last
+    sound_over = λ _. (
+      ours_there false v v.visits.2,
       record {
-        path = behind.path;
-        path_is = path_there w new.walk behind.path last visits.2 behind.path_is;
-        stands = subst (λ p. StandsAt (kind_of new.walk.branches) (record { walk = new.walk; phase = p }) (position_of p behind.path)) (sym visits.3)
-            (subst (paths.IsOver (IsPath (kind_of new.walk.branches) new.walk)) (sym (stays_there behind.path)) (over_there kind_of w new.walk (position_of old.phase behind.path) visits.2 visits.0));
+        path = before.path;
+        path_is = path_there w new.walk before.path last v.visits.2 before.path_is;
+        stands = subst (λ p. StandsAt (kind_of new.walk.branches) (record { walk = new.walk; phase = p }) (position_of p before.path)) (sym v.visits.3)
+            (subst (paths.IsOver (IsPath (kind_of new.walk.branches) new.walk)) (sym (stays_there before.path)) (over_there kind_of w new.walk (position_of old.phase before.path) v.visits.2 v.visits.0));
       },
     )

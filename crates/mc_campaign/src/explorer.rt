@@ -165,16 +165,19 @@ impl<'a, F: Flash + Drop> CampaignExplorer<'a, F> {
         ensures err { IfErr result (λ e. (e ≡ ExploreError.Memory) ⊎ (e ≡ ExploreError.Failed)) }
     {
         restart_law();
-        let Some(told) = self.tour.visit(self.start)? else {
+        if !self.tour.visit(self.start)? {
             return Ok(None);
-        };
-        let campaign = campaign_at(self.tour.walk());
-        self.last = campaign;
-        Ok(Some(CampaignRow {
+        }
+        let walk = self.tour.walk();
+        let campaign = campaign_at(walk);
+        let told = walk.told();
+        let row = CampaignRow {
             campaign,
             first: told.first.outcome,
             second: told.second.outcome,
-        }))
+        };
+        self.last = campaign;
+        Ok(Some(row))
     }
 
     /// The flash as it is.

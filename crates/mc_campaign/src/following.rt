@@ -55,9 +55,7 @@ pub(crate) fn follow<F: Flash>(
     if !walk.follow(campaign.cuts(Round::First), start)? {
         return Ok(false);
     }
-    let Some(told) = walk.told() else {
-        return Ok(false);
-    };
+    let told = *walk.told();
     match told.round {
         Round::First => {
             let ops = told.first.outcome.ops;

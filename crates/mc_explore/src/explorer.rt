@@ -171,15 +171,14 @@ impl<'a, F: Flash + Drop> Explorer<'a, F> {
         ensures err { IfErr result (λ e. (e ≡ ExploreError.Memory) ⊎ (e ≡ ExploreError.Failed)) }
     {
         restart_law();
-        let Some(told) = self.tour.visit(self.start)? else {
+        if !self.tour.visit(self.start)? {
             return Ok(None);
-        };
-        let schedule = Schedule::of(self.tour.walk().path().as_slice());
+        }
+        let walk = self.tour.walk();
+        let schedule = Schedule::of(walk.path().as_slice());
+        let outcome = walk.told().outcome;
         self.last = schedule;
-        Ok(Some(Row {
-            schedule,
-            outcome: told.outcome,
-        }))
+        Ok(Some(Row { schedule, outcome }))
     }
 
     /// The flash as it is.

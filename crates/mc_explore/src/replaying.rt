@@ -60,9 +60,7 @@ fn follow<F: Flash>(
     if !walk.follow(cuts, start)? {
         return Err(ReplayError::CannotOccur(walk.path().len()));
     }
-    let Some(told) = walk.told() else {
-        return Err(ReplayError::Memory);
-    };
+    let told = *walk.told();
     Ok((walk, told))
 }
 

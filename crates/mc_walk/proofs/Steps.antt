@@ -1,8 +1,8 @@
 -- A walk on its way to a further node.
-use Rattle.std.proofs.Common.{◌≡◌, ℕ, ◌+◌, ◌*◌, ◌<◌, ◌≤◌, true, false, List, [], ◌∷◌, ◌++◌, length, Option, Some, None, Ok, IfSome, is_some, slice_index_or, refl, sym, ap, subst, ◌∙◌, arith}
+use Rattle.std.proofs.Common.{◌≡◌, ℕ, ◌+◌, ◌*◌, ◌<◌, ◌≤◌, true, false, List, [], ◌∷◌, ◌++◌, length, Option, Some, None, Result, Ok, Err, OnOk, IfSome, is_some, slice_index_or, slice_set, ◌-◌, refl, sym, ap, subst, ◌∙◌, arith}
 use Rattle.std.proofs.Common.{length-append}
 use Rattle.std.proofs.Math.Nat.{mul-le-mul_right}
-use Rattle.std.proofs.lemmas.List.{map-append, length-map}
+use Rattle.std.proofs.lemmas.List.{map-append, length-map, get_or_at, set_at}
 use Rattle.mc_tree.specs.Tree.{Allowed, IsMember}
 use Rattle.mc_tree.specs.facts.Order.{IsNextBeyond, allowed-last, none_beyond, next_beyond}
 use Rattle.mc_flash.specs.Content.{Content}
@@ -12,10 +12,14 @@ use Rattle.mc_flash.specs.Spends.{Spent, Stays, HasRoom, LeaveRoom, plus, room_o
 use Rattle.mc_flash.specs.SpendsFacts.{spent_back, spent_both, spent_more}
 use Rattle.mc_flash.specs.declared.flash.FlashError.{FlashError}
 use Rattle.mc_walk.specs.Kind.{Kind, owed_there, telling, IsAt, IsNode, HasNext, GoesOn, CanReach, Reaches}
-use Rattle.mc_walk.specs.Stack.{path_of, most_at, AreSpent, IsLastOpen, AreFrames, Stacked, node_of, Stands, Comes, IsRoomy}
+use Rattle.mc_walk.specs.Stack.{path_of, most_at, AreSpent, IsLastOpen, AreFrames, Stacked, node_of, Stands, Comes, CanGoOn, IsLeft, IsOneOn, IsRoomy}
 use Rattle.mc_walk.specs.Walks.{walked, start_of, IsFresh, Begins, IsThere, IsGoing, IsPath, IsSound, GoesDown, Climbs}
 use Rattle.mc_walk.specs.declared.frame.Frame.{Frame}
 use Rattle.mc_walk.proofs.Stacks.{path-push, no_path, frames_allowed, frames_last, among, started, length-stack, popped}
+
+pub ok_any : {X E P : Type 0} (r : Result X E) → P → OnOk r P
+ok_any (Ok x) p = p
+ok_any (Err e) p = tt
 
 module _ {N A T : Type 0} (k : Kind N A T) where
   -- A walk that does not stand.
@@ -160,15 +164,46 @@ module _ {N A T : Type 0} (k : Kind N A T) where
     pub roomy : IsRoomy k bound old
     pub spent : Spent cost old mid
 
-  pub ready_up : (bound : ℕ) (old seen mid : Seen) (all fs : List (Frame A T)) (f : Frame A T) (at : A) → IsRoomy k bound old → Back bound old seen all fs f → Keeps seen mid
-      → GoesOn k {E = FlashError} f.at seen (Ok tt) at mid → Spent k.step seen mid
-      → Ready bound ((0 + 1) * k.step) old mid fs (record { at = at; number = f.number + 1; parent = f.parent })
-  ready_up bound old seen mid all fs f at roomy b keeps goes spent = record {
-    comes = went_on (start_of old) seen mid fs f at b.comes b.more keeps goes;
-    few = b.few;
-    roomy = roomy;
-    spent = spent_more (0 + k.step) ((0 + 1) * k.step) old mid (omega arith) (spent_both 0 k.step old seen mid b.spent spent);
-  }
+  -- From the child of the last frame it went on to the next one.
+  module _ (seen mid : Seen) (all : List (Frame A T)) (c : CanGoOn k (start_of seen) seen all) (f : Frame A T) (f_is : f ≡ c.frame) (at : A) (keeps : Keeps seen mid)
+      (goes : GoesOn k {E = FlashError} f.at seen (Ok tt) at mid) (spent : Spent k.step seen mid) where
+    abbrev pub next_on : Frame A T
+    next_on = record { at = at; number = f.number + 1; parent = f.parent }
+
+    pub comes_on : Comes k (start_of seen) mid c.before next_on
+    comes_on =
+        let more : f.number + 1 < k.tree.width (node_of k (start_of seen) c.before) = omega (arith, c.more, ap (λ (z : Frame A T). z.number) f_is) in
+        went_on (start_of seen) seen mid c.before f at (subst (Comes k (start_of seen) seen c.before) (sym f_is) c.comes) more keeps goes
+
+    pub mark_on : length mid.marks < mid.ledger.limits.marks
+    mark_on = mark_room c.bound (start_of seen) mid c.before next_on comes_on (roomy_stays c.bound seen mid spent.limits c.roomy) c.few
+
+    pub room_on : HasRoom (owed_there k at) (marked mid)
+    room_on = enter_room c.bound (start_of seen) mid c.before next_on comes_on (roomy_stays c.bound seen mid spent.limits c.roomy) c.few
+
+  -- The last frame, and what is put in its place.
+  last_now : (all before : List (Frame A T)) (f now : Frame A T) (n : ℕ) → n ≡ length all - 1 → now ≡ slice_index_or all n now → all ≡ before ++ f ∷ [] → now ≡ f
+  last_now all before f now n is value split =
+      let place : length before ≡ n = omega (arith, is, ap length split, length-append before (f ∷ [])) in
+      value ∙ ap (λ z. slice_index_or z n now) split ∙ get_or_at before f [] now n place
+
+  last_set : (all before : List (Frame A T)) (f next : Frame A T) (n : ℕ) → n ≡ length all - 1 → all ≡ before ++ f ∷ [] → slice_set all n next ≡ before ++ next ∷ []
+  last_set all before f next n is split =
+      let place : length before ≡ n = omega (arith, is, ap length split, length-append before (f ∷ [])) in
+      ap (λ z. slice_set z n next) split ∙ set_at before f [] next n place
+
+  pub one_on : (all : List (Frame A T)) (now next : Frame A T) (n : ℕ) → n ≡ length all - 1 → now ≡ slice_index_or all n now → next.number ≡ now.number + 1
+      → IsOneOn all (slice_set all n next)
+  one_on all now next n is value number before f split =
+      (next, last_set all before f next n is split, number ∙ ap (λ (z : Frame A T). z.number + 1) (last_now all before f now n is value split))
+
+  pub frames_on : (start : Content) (seen : Seen) (all : List (Frame A T)) (c : CanGoOn k start seen all) (next : Frame A T) (n : ℕ) → n ≡ length all - 1
+      → slice_set all n next ≡ c.before ++ next ∷ []
+  frames_on start seen all c next n is = last_set all c.before c.frame next n is c.frames_are
+
+  pub last_is : (start : Content) (seen : Seen) (all : List (Frame A T)) (c : CanGoOn k start seen all) (now : Frame A T) (n : ℕ) → n ≡ length all - 1
+      → now ≡ slice_index_or all n now → now ≡ c.frame
+  last_is start seen all c now n is value = last_now all c.before c.frame now n is value c.frames_are
 
   here_node : (old : Seen) (fs : List (Frame A T)) (told : T) → Stands k (start_of old) old fs told → IsNode k (node_of k (start_of old) fs) told old
   here_node old fs told s = record { told_is = s.told_is; content_is = s.content_is; layout_is = s.layout_is }
@@ -234,10 +269,11 @@ module _ {N A T : Type 0} (k : Kind N A T) where
         };
       }
 
-  pub told_there : {B : Type 0} (b : B) (bound : ℕ) (seen : Seen) (fs : List (Frame A T)) (told : Option T) → IfSome told (IsGoing k bound seen fs)
-      → IfSome told (IsThere k (walked b bound seen fs told))
-  told_there b bound seen fs None going = tt
-  told_there b bound seen fs (Some told) going = is_there b bound seen fs told going
+  pub told_there : {B : Type 0} (b : B) (bound : ℕ) (seen : Seen) (fs : List (Frame A T)) (stood : Option T) (told : T) → stood ≡ Some told → IfSome stood (IsGoing k bound seen fs)
+      → IsThere k (walked b bound seen fs stood) told
+  told_there b bound seen fs stood told is going =
+      let here : IsGoing k bound seen fs told = subst (λ o. IfSome o (IsGoing k bound seen fs)) is going in
+      subst (λ o. IsThere k (walked b bound seen fs o) told) (sym is) (is_there b bound seen fs told here)
 
   -- It has arrived.
   pub record Arrives (bound cost : ℕ) (old new : Seen) (all : List (Frame A T)) (told : T) : Type 0 where
@@ -258,6 +294,59 @@ module _ {N A T : Type 0} (k : Kind N A T) where
         start = here ∙ started k (start_of old) mid fs r.comes.stacked;
         spent = spent_both cost (telling k) old mid new r.spent spent;
       }
+
+  -- It stood, and the last frame that is open is left.
+  pub record Leaves (bound : ℕ) (old : Seen) (all left : List (Frame A T)) : Type 0 where
+    pub told : T
+    pub going : IsGoing k bound old all told
+    pub is : IsLeft k all left
+
+  module _ (bound : ℕ) (old seen : Seen) (all left : List (Frame A T)) (l : Leaves bound old all left) (e : seen ≡ went_back (length left) old) where
+    is : IsLeft k all left
+    is = l.is
+
+    last_place : length left ≡ length is.before + 1
+    last_place = ap length is.frames_are ∙ length-append is.before (is.frame ∷ [])
+
+    back_at : Back bound old seen all is.before is.frame
+    back_at = went_up bound old seen all is.before is.frame l.told l.going is.last (e ∙ ap (λ n. went_back n old) last_place)
+
+    pub mark_there : length left < length old.marks
+    mark_there = omega (arith, last_place, back_at.in_range)
+
+    pub can_go_on : CanGoOn k (start_of seen) seen left
+    can_go_on =
+        let b = back_at in
+        let here = started k (start_of old) seen is.before b.comes.stacked in
+        subst (λ z. CanGoOn k z seen left) (sym here) (record {
+          before = is.before;
+          frame = is.frame;
+          frames_are = is.frames_are;
+          comes = b.comes;
+          more = b.more;
+          small = is.small;
+          has_next = b.has_next;
+          bound = bound;
+          few = b.few;
+          roomy = b.roomy;
+        })
+
+    pub arrives_on : (new : Seen) (next : List (Frame A T)) (told : T) → Stands k (start_of seen) new next told → IsOneOn left next → Spent (k.step + telling k) seen new
+        → Arrives bound ((0 + 1) * k.step) old new next told
+    arrives_on new next told s one spent =
+        let b = back_at in
+        let o = one is.before is.frame is.frames_are in
+        let here = started k (start_of seen) new next s.stacked in
+        let most : 0 + (k.step + telling k) ≤ (0 + 1) * k.step + telling k = omega arith in
+        record {
+          going = record {
+            stands = subst (λ z. Stands k z new next told) (sym here) s;
+            few = omega (arith, ap length o.1, length-append is.before (o.0 ∷ []), b.few);
+            roomy = roomy_stays bound seen new spent.limits b.roomy;
+          };
+          start = here ∙ started k (start_of old) seen is.before b.comes.stacked;
+          spent = spent_more (0 + (k.step + telling k)) _ old new most (spent_both 0 (k.step + telling k) old seen new b.spent spent);
+        }
 
   pub gone_down : {B : Type 0} (b : B) (bound cost number : ℕ) (old new : Seen) (fs all : List (Frame A T)) (f : Frame A T) (told : T) (stood : Option T)
       → Arrives bound cost old new all told → f.number ≡ number → all ≡ fs ++ f ∷ [] → GoesDown k number (walked b bound old fs stood) true (walked b bound new all (Some told))

@@ -1,11 +1,10 @@
 -- The first node that a tour visits.
-use Rattle.std.proofs.Common.{◌≡◌, ℕ, List, [], Some, refl, sym, ap, subst, ◌∙◌, arith}
-use Rattle.mc_tree.specs.Tree.{landed}
+use Rattle.std.proofs.Common.{◌≡◌, ℕ, List, [], true, refl, sym, subst, arith}
 use Rattle.mc_tree.specs.Paths.{Position, AtStart, IsNext}
 use Rattle.mc_tree.specs.facts.Order.{none_before_root}
 use Rattle.mc_walk.specs.Kind.{Kind}
 use Rattle.mc_walk.specs.Tours.{Toured, StandsAt, Visits}
-use Rattle.mc_walk.specs.Walks.{Walked, Begins, IsPath, node_at, root_of}
+use Rattle.mc_walk.specs.Walks.{Walked, Begins, IsPath}
 use Rattle.mc_walk.specs.declared.tour.Phase.TheVariants.{Fresh, Going}
 
 module _ {N A T B : Type 0} (k : Kind N A T) (old : Toured B) (told : T) (new : Walked B) (begins : Begins k old.walk told new) where
@@ -24,10 +23,5 @@ module _ {N A T B : Type 0} (k : Kind N A T) (old : Toured B) (told : T) (new : 
       subst (IsNext (IsPath k old.walk) position) (sym begins.path)
       (subst (λ p. IsNext (IsPath k old.walk) p []) (sym (at_start position fresh at)) root_first)
 
-  told_root : k.IsTold (node_at k new) told
-  told_root =
-      let at_root : root_of k old.walk ≡ node_at k new = sym (ap (landed k.tree (root_of k new)) begins.path ∙ ap k.root begins.same.start) in
-      subst (λ n. k.IsTold n told) at_root begins.told_is
-
-  pub visits_first : (position : Position (List ℕ)) → old.phase ≡ Fresh → StandsAt k old position → Visits k old position (Some told) (record { walk = new; phase = Going })
-  visits_first position fresh at = (visits_root position fresh at, told_root, begins.same, refl, begins.stands)
+  pub visits_first : (position : Position (List ℕ)) → old.phase ≡ Fresh → StandsAt k old position → Visits k old position true (record { walk = new; phase = Going })
+  visits_first position fresh at = (visits_root position fresh at, begins.same, refl, begins.stands)

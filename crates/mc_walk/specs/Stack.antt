@@ -1,16 +1,22 @@
 -- The frames of a walk.
-use Rattle.std.specs.Prelude.{◌≡◌, ℕ, ◌+◌, ◌<◌, ◌≤◌, List, [], ◌∷◌, ◌++◌, length, map}
+use Rattle.std.specs.Prelude.{◌≡◌, ℕ, ◌+◌, ◌<◌, ◌≤◌, ◌^◌, Bool, true, false, List, [], ◌∷◌, ◌++◌, length, map}
 use Rattle.mc_tree.specs.Tree.{landed}
 use Rattle.mc_flash.specs.Content.{Content}
 use Rattle.mc_flash.specs.Ledger.{Counts, Spot}
 use Rattle.mc_flash.specs.Seen.{Seen, marked, spot_of}
 use Rattle.mc_flash.specs.Spends.{HasRoom, LeaveRoom, plus, times}
-use Rattle.mc_walk.specs.Kind.{Kind, owed_there}
+use Rattle.mc_walk.specs.Kind.{Kind, HasNext, owed_there}
 use Rattle.mc_walk.specs.declared.frame.Frame.{Frame}
 
 -- The path that the frames stand for.
 abbrev pub path_of : {A T : Type 0} → List (Frame A T) → List ℕ
 path_of fs = map (λ f. f.number) fs
+
+-- The last frame is that of the next child.
+abbrev pub IsOneOn : {A T : Type 0} → List (Frame A T) → List (Frame A T) → Type 0
+IsOneOn {A} {T} old new =
+    (before : List (Frame A T)) (f : Frame A T) → old ≡ before ++ f ∷ []
+    → (g : Frame A T) × (new ≡ before ++ g ∷ []) × (g.number ≡ f.number + 1)
 
 module _ {N A T : Type 0} (k : Kind N A T) where
   -- It is the last child of its parent.
@@ -41,6 +47,19 @@ module _ {N A T : Type 0} (k : Kind N A T) where
   -- What is counted at most down to a node after so many steps, with what is owed there.
   abbrev pub most_at : ℕ → Counts
   most_at steps = plus (times steps k.most) k.all
+
+  -- The last frame that is left is the last that is open; those behind it were taken off. Its number is no greatest one.
+  pub record IsLeft (old new : List (Frame A T)) : Type 0 where
+    pub before : List (Frame A T)
+    pub frame : Frame A T
+    pub frames_are : new ≡ before ++ frame ∷ []
+    pub last : IsLastOpen frame old before
+    pub small : frame.number + 1 < 2 ^ 32
+
+  -- It is left; or there is none.
+  abbrev pub LeavesOpen : List (Frame A T) → Bool → List (Frame A T) → Type 0
+  LeavesOpen old true new = IsLeft old new
+  LeavesOpen old false new = AreSpent old
 
   -- The child of a node after so many steps that a frame says was on its way when the flash was marked. What is counted there,
   -- with what it has left, is no more than what is counted and owed at the node.
@@ -97,3 +116,17 @@ module _ {N A T : Type 0} (k : Kind N A T) where
     pub entries : (most_at bound).entries ≤ seen.ledger.limits.entries
     pub saved : (most_at bound).saved ≤ seen.ledger.limits.saved
     pub marks : bound + 2 ≤ seen.ledger.limits.marks
+
+  -- The flash stands at the child of the last frame, and its parent has a next one. There is room to go to that, to mark the flash
+  -- there, and to tell of it.
+  pub record CanGoOn (start : Content) (seen : Seen) (fs : List (Frame A T)) : Type 0 where
+    pub before : List (Frame A T)
+    pub frame : Frame A T
+    pub frames_are : fs ≡ before ++ frame ∷ []
+    pub comes : Comes start seen before frame
+    pub more : frame.number + 1 < k.tree.width (node_of start before)
+    pub small : frame.number + 1 < 2 ^ 32
+    pub has_next : HasNext k frame.at seen
+    pub bound : ℕ
+    pub few : length before < bound
+    pub roomy : IsRoomy bound seen

@@ -1,9 +1,9 @@
 -- What callers see of a tour, and the node that it visits next.
-use Rattle.std.specs.Prelude.{◌≡◌, ◌≢◌, ℕ, List, true, Option, Some, None, Result, Ok, Err}
+use Rattle.std.specs.Prelude.{◌≡◌, ◌≢◌, ℕ, List, Bool, true, false, Result, Ok, Err}
 use Rattle.mc_tree.specs.Paths.{Position, AtStart, After, Lost, IsNext, IsOver}
 use Rattle.mc_flash.specs.Spends.{RanOut, Spent}
 use Rattle.mc_walk.specs.Kind.{Kind}
-use Rattle.mc_walk.specs.Walks.{Walked, IsFresh, IsPath, IsSame, child_cost, node_at}
+use Rattle.mc_walk.specs.Walks.{Walked, IsFresh, IsPath, IsSame, child_cost}
 use Rattle.mc_walk.specs.declared.tour.Phase.{Phase}
 use Rattle.mc_walk.specs.declared.tour.Phase.TheVariants.{Fresh, Going, Done, Broken}
 use Rattle.mc_walk.specs.declared.tour.TourError.{TourError}
@@ -33,12 +33,11 @@ module _ {N A T B : Type 0} (k : Kind N A T) where
       by Done = IsOver (IsPath k tour.walk) position
       by Broken = position ≡ Lost
 
-  -- It goes to the next node past the position, and that is told of it; or there is none, and the flash stays.
-  abbrev pub Visits : Toured B → Position (List ℕ) → Option T → Toured B → Type 0
-  Visits old position (Some told) new =
-      IsNext (IsPath k old.walk) position new.walk.path × k.IsTold (node_at k new.walk) told
-      × IsSame old.walk new.walk × (new.phase ≡ Going) × (new.walk.stands ≡ true)
-  Visits old position None new =
+  -- It goes to the next node past the position; or there is none, and the flash stays.
+  abbrev pub Visits : Toured B → Position (List ℕ) → Bool → Toured B → Type 0
+  Visits old position true new =
+      IsNext (IsPath k old.walk) position new.walk.path × IsSame old.walk new.walk × (new.phase ≡ Going) × (new.walk.stands ≡ true)
+  Visits old position false new =
       IsOver (IsPath k old.walk) position × (new.walk.seen ≡ old.walk.seen) × IsSame old.walk new.walk × (new.phase ≡ Done)
 
   -- It takes no more than to go to a child and to tell of it, and fails only where memory fails the flash. From then on it has

@@ -1,7 +1,7 @@
 //! The children on the way to the node at which a walk stands.
-ghost use Rattle.std.specs.Prelude.{◌≡◌, ◌+◌, ◌<◌, ◌^◌, MatchOption, IfSome};
+ghost use Rattle.std.specs.Prelude.{◌≡◌};
 ghost use Rattle.std.specs.Vec.{vec_capacity};
-ghost use Rattle.mc_walk.specs.Stack.{AreSpent, IsLastOpen};
+ghost use Rattle.mc_walk.specs.Stack.{LeavesOpen};
 
 use crate::Branches;
 
@@ -14,21 +14,20 @@ pub struct Frame<A, T> {
     pub parent: T,
 }
 
-/// Takes frames off, up to the last whose parent has one child more.
-pub(crate) fn take_last_open<B: Branches>(
+/// Takes frames off, up to the last whose parent has one child more, which stays. Tells whether there is one.
+pub(crate) fn leave_spent<B: Branches>(
     branches: B,
     frames: &mut Vec<Frame<B::At, B::Told>>,
-) -> Option<Frame<B::At, B::Told>>
+) -> bool
     ensures capacity { vec_capacity frames.new ≡ vec_capacity frames.old }
-    ensures taken { MatchOption result (AreSpent (B.kind branches) frames.old.items)
-        (λ frame. IsLastOpen (B.kind branches) frame frames.old.items frames.new.items) }
-    ensures small { IfSome result (λ frame. frame.number + 1 < 2 ^ 32) }
+    ensures left { LeavesOpen (B.kind branches) frames.old.items result frames.new.items }
 {
-    while let Some(frame) = frames.pop() {
+    while let Some(frame) = frames.last() {
         let last = branches.width(&frame.parent).saturating_sub(1);
         if frame.number < last {
-            return Some(frame);
+            return true;
         }
+        frames.pop();
     }
-    None
+    false
 }

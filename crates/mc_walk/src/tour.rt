@@ -80,34 +80,34 @@ impl<F: Flash, B: Branches> Tour<F, B> {
         }
     }
 
-    /// Goes on to the next node, if there is one, and tells of it.
+    /// Goes on to the next node, if there is one, and tells whether there is.
     ///
     /// # Errors
     ///
     /// `Memory` where the flash was refused memory; from then on always `Failed`.
-    pub fn visit(&mut self, known: &B::Known) -> Result<Option<B::Told>, TourError>
-        ensures visits { IfOk result (λ found. (position : Position (List ℕ))
+    pub fn visit(&mut self, known: &B::Known) -> Result<bool, TourError>
+        ensures visits { IfOk result (λ went. (position : Position (List ℕ))
             → StandsAt (B.kind self.old.walk.branches) self.old position
-            → Visits (B.kind self.old.walk.branches) self.old position found self.new) }
+            → Visits (B.kind self.old.walk.branches) self.old position went self.new) }
         ensures costs { Costs (B.kind self.old.walk.branches) self.old result self.new }
     {
         match self.phase {
             Phase::Broken => Err(TourError::Failed),
-            Phase::Done => Ok(None),
+            Phase::Done => Ok(false),
             Phase::Fresh => {
                 self.phase = Phase::Broken;
-                let told = self.walk.begin(known)?;
+                self.walk.begin(known)?;
                 self.phase = Phase::Going;
-                Ok(Some(told))
+                Ok(true)
             }
             Phase::Going => {
                 self.phase = Phase::Broken;
                 if !self.walk.advance(known)? {
                     self.phase = Phase::Done;
-                    return Ok(None);
+                    return Ok(false);
                 }
                 self.phase = Phase::Going;
-                Ok(self.walk.told())
+                Ok(true)
             }
         }
     }

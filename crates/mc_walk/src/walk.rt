@@ -7,8 +7,8 @@ ghost use Rattle.mc_walk.specs.Kind.{telling};
 ghost use Rattle.mc_walk.specs.Walks.{IsClear, IsFresh, IsOf, Begins, GoesDown, Climbs, Advances, Follows, IsThere, root_of, child_cost, path_cost};
 
 use crate::Branches;
-use crate::enter::enter;
-use crate::frame::{Frame, take_last_open};
+use crate::enter::{enter, go_on};
+use crate::frame::{Frame, leave_spent};
 use crate::reach::reach;
 use arrayvec::ArrayVec;
 use mc_flash::{Flash, FlashError};
@@ -89,12 +89,15 @@ impl<F: Flash, B: Branches> Walk<F, B> {
         Ok(told)
     }
 
-    /// What is told of the node at the end of its path, where it stands there.
-    pub fn told(&self) -> Option<B::Told>
-        ensures stands { is_some result ≡ self.now.stands }
-        ensures told { IfSome result (IsThere (B.kind self.now.branches) self.now) }
+    /// What is told of the node at whose place it stands.
+    pub fn told(&self) -> &B::Told
+        requires { self.now.stands ≡ true }
+        ensures { IsThere (B.kind self.now.branches) self.now result.now }
     {
-        self.told
+        match &self.told {
+            Some(told) => told,
+            None => unreachable!(),
+        }
     }
 
     /// The path at whose end it stands.
@@ -149,12 +152,12 @@ impl<F: Flash, B: Branches> Walk<F, B> {
             self.new.seen }
         ensures err { IfErr result (λ e. e ≡ FlashError.Memory) }
     {
-        let Some(told) = self.told else {
-            return Ok(false);
-        };
         if self.frames.len() >= self.bound {
             return Ok(false);
         }
+        let Some(told) = self.told else {
+            return Ok(false);
+        };
         if number >= self.branches.width(&told) {
             return Ok(false);
         }
@@ -192,20 +195,12 @@ impl<F: Flash, B: Branches> Walk<F, B> {
         ensures err { IfErr result (λ e. e ≡ FlashError.Memory) }
     {
         self.told = None;
-        let Some(mut frame) = take_last_open(self.branches, &mut self.frames) else {
+        if !leave_spent(self.branches, &mut self.frames) {
             return Ok(false);
-        };
-        // Its mark stands behind that of the root and those of the frames below it.
-        self.flash.back_to(self.frames.len() + 1);
-        self.branches.next(&mut self.flash, &mut frame.at)?;
-        frame.number += 1;
-        let told = enter(
-            self.branches,
-            &mut self.flash,
-            &mut self.frames,
-            frame,
-            known,
-        )?;
+        }
+        // The mark of the last frame stands behind that of the root and those of the frames below it.
+        self.flash.back_to(self.frames.len());
+        let told = go_on(self.branches, &mut self.flash, &mut self.frames, known)?;
         self.told = Some(told);
         Ok(true)
     }

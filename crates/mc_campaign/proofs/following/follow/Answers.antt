@@ -10,14 +10,14 @@ returns-then-not-branch-clause-follows g c =
 
 pub returns-in-First-clause-follows : goal.returns-in-First-clause-follows
 returns-in-First-clause-follows g c =
-    if_ok c.follow_later.result (λ went. FollowsLater c.follow.new.self c.in-Some.told.first.outcome.ops c.cuts-in-First.result.now went c.follow_later.new.walk)
+    if_ok c.follow_later.result (λ went. FollowsLater c.follow.new.self c.told-told.result.now.first.outcome.ops c.cuts-in-First.result.now went c.follow_later.new.walk)
     (λ went. FollowsCampaign c.args.walk.now c.args.campaign.now went c.follow_later.new.walk)
     (λ went goes.
     goes_through c.args.walk.now c.follow.new.self c.args.campaign.now c.requires.root c.in_ok-follow.field-0 c.if-not-branch.false (rw c.cuts.ensures at c.in_ok-follow.ensures.step)
-    c.in-Some.told c.in-Some.ensures.told c.follow_later.new.walk c.cuts-in-First.result.now went c.in-First.is c.requires.valid (sym c.cuts-in-First.ensures) goes)
+    c.told-told.result.now c.told-told.ensures c.follow_later.new.walk c.cuts-in-First.result.now went c.in-First.is c.requires.valid (sym c.cuts-in-First.ensures) goes)
     c.follow_later.ensures.follows
 
 pub returns-in-Second-clause-follows : goal.returns-in-Second-clause-follows
 returns-in-Second-clause-follows g c =
     too_late c.args.walk.now c.follow.new.self c.args.campaign.now c.requires.root c.in_ok-follow.field-0 c.if-not-branch.false (rw c.cuts.ensures at c.in_ok-follow.ensures.step)
-    c.in-Some.told c.in-Some.ensures.told c.in-Second.is
+    c.told-told.result.now c.told-told.ensures c.in-Second.is

@@ -1,15 +1,15 @@
-use Rattle.std.proofs.Common.{ℕ, List, Some, subst}
+use Rattle.std.proofs.Common.{ℕ, List, true, subst}
 use Rattle.mc_tree.specs.Paths.{Position}
 use Rattle.mc_walk.specs.Tours.{Toured, StandsAt, Visits}
 use Rattle.mc_walk.specs.declared.tour.Phase.TheVariants.{Going}
 use Rattle.mc_walk.proofs.Touring.{visits_first}
 use Rattle.mc_walk.proofs.tour.Tour.visit.Goals as goal
 
-pub returns-in_ok-told-in-Fresh-clause-visits : goal.returns-in_ok-told-in-Fresh-clause-visits
-returns-in_ok-told-in-Fresh-clause-visits g c =
+pub returns-in_ok-begin-in-Fresh-clause-visits : goal.returns-in_ok-begin-in-Fresh-clause-visits
+returns-in_ok-begin-in-Fresh-clause-visits g c =
     let w = c.self.inside.walk in
     let k = g.B.Branches.kind w.branches in
     let old : Toured g.row.B.Denot = record { walk = w; phase = c.self.inside.phase } in
     subst (λ (t : Toured g.row.B.Denot). (position : Position (List ℕ)) → StandsAt (g.B.Branches.kind t.walk.branches) t position
-    → Visits (g.B.Branches.kind t.walk.branches) t position (Some c.in_ok-told-in-Fresh.told) (record { walk = c.begin.new.self; phase = Going })) c.self.view_is
-    (λ position at. visits_first k old c.in_ok-told-in-Fresh.told c.begin.new.self c.in_ok-told-in-Fresh.ensures.begins position c.in-Fresh.is at)
+    → Visits (g.B.Branches.kind t.walk.branches) t position true (record { walk = c.begin.new.self; phase = Going })) c.self.view_is
+    (λ position at. visits_first k old c.in_ok-begin-in-Fresh.field-0 c.begin.new.self c.in_ok-begin-in-Fresh.ensures.begins position c.in-Fresh.is at)
