@@ -162,11 +162,11 @@ module _ (r : Rules) (g : Geometry) where
       let Q : Geometry → Type 0 = λ x. IsSized x f.content in
       let R : Geometry → Type 0 = λ x. IsBounded x (progress b).to_come (most_operations r.grain x) (most_saved x) in
       record {
-        boot_is = begins.boot ∙ ap (begun r) plans;
-        list_is = begins.list ∙ ap (λ p. p.list) plans;
-        layout_is = subst (λ (x : Geometry). IsBootOf x b) layout begins.layout;
-        few = subst P (ap (λ (p : Progress). p.to_come) (begins.boot ∙ ap (begun r) plans)) (subst R layout (record { few = begins.few; saves = begins.saves }));
-        sized = subst (IsSized g) content (subst Q layout begins.sized);
+        boot_is = begins.cold.boot ∙ ap (begun r) plans;
+        list_is = begins.cold.list ∙ ap (λ p. p.list) plans;
+        layout_is = subst (λ (x : Geometry). IsBootOf x b) layout begins.cold.layout;
+        few = subst P (ap (λ (p : Progress). p.to_come) (begins.cold.boot ∙ ap (begun r) plans)) (subst R layout (record { few = begins.cold.few; saves = begins.cold.saves }));
+        sized = subst (IsSized g) content (subst Q layout begins.cold.sized);
         bytes = subst (λ (x : Content). IsBytes x.secondary) content begins.bytes;
         outcome_is = is;
       }
@@ -207,7 +207,7 @@ module _ (r : Rules) (g : Geometry) where
   -- What runs a boot, and a boot that was cut.
   module _ (f : Seen) (b : Boot) (layout : f.geometry ≡ g) (begins : IsBegun r f b) where
     comes : HasCome r f.geometry f.content (progress b) f.content
-    comes = let P : Progress → Type 0 = λ p. HasCome r f.geometry f.content p f.content in subst P (sym begins.boot) (come_begun r f.geometry f.content)
+    comes = let P : Progress → Type 0 = λ p. HasCome r f.geometry f.content p f.content in subst P (sym begins.cold.boot) (come_begun r f.geometry f.content)
 
     pub told_run : (outcome : Outcome) → EndsWith f (progress b) outcome → IsTold r g f.content (record { boot = b; outcome = outcome })
     told_run outcome ends =
@@ -225,12 +225,12 @@ module _ (r : Rules) (g : Geometry) where
         → ((x : Rules) (y : Geometry) (v u : Content) → IsCut x y v u at (shown parent.outcome) → IsBootOf y b → progress b ≡ begun x (plan x y u) → outcome_of x y u ≡ Some (shown outcome))
         → IsTold r g (at_cut r g s i) (record { boot = b; outcome = outcome })
     told_derived s i at parent outcome here early told after =
-        let is = after r g s (at_cut r g s i) (cut_here s i at f parent here early told) (subst (λ (x : Geometry). IsBootOf x b) layout begins.layout)
-        (begins.boot ∙ ap (begun r) (plans s i at here)) in
+        let is = after r g s (at_cut r g s i) (cut_here s i at f parent here early told) (subst (λ (x : Geometry). IsBootOf x b) layout begins.cold.layout)
+        (begins.cold.boot ∙ ap (begun r) (plans s i at here)) in
         told_of (at_cut r g s i) f b outcome layout here.content_is begins is
 
     pub left_derived : (s : Content) (i : ℕ) (at : Boot) (parent : Told) → IsAt (once r g) s i at f → i < length (ops_of r g s) → IsTold r g s parent
         → ((x : Rules) (y : Geometry) (v u : Content) → IsCut x y v u at (shown parent.outcome) → IsBootOf y b → progress b ≡ begun x (plan x y u) → left_by x y u ≡ left_by x y v)
         → left_by r g (at_cut r g s i) ≡ left_by r g s
     left_derived s i at parent here early told after =
-        after r g s (at_cut r g s i) (cut_here s i at f parent here early told) (subst (λ (x : Geometry). IsBootOf x b) layout begins.layout) (begins.boot ∙ ap (begun r) (plans s i at here))
+        after r g s (at_cut r g s i) (cut_here s i at f parent here early told) (subst (λ (x : Geometry). IsBootOf x b) layout begins.cold.layout) (begins.cold.boot ∙ ap (begun r) (plans s i at here))

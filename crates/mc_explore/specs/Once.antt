@@ -1,5 +1,5 @@
 -- The tree of boots that are cut, as a walk goes through it.
-use Rattle.std.specs.Prelude.{◌≡◌, ℕ, ◌+◌, ◌<◌, ◌≤◌, length, Some, Result, Ok, Err, refl}
+use Rattle.std.specs.Prelude.{◌≡◌, ℕ, ◌+◌, ◌<◌, length, Some, Result, Ok, Err, refl}
 use Rattle.std.proofs.Common.{arith}
 use Rattle.mc_flash.specs.Content.{Content, IsSized}
 use Rattle.mc_flash.specs.Geometry.{Geometry}
@@ -9,7 +9,8 @@ use Rattle.mc_flash.specs.Spends.{Allows, HasRoom, LeaveRoom, plus}
 use Rattle.mc_image.specs.Bytes.{IsBytes}
 use Rattle.mc_trailer.specs.declared.tables.Rules.{Rules}
 use Rattle.mc_boot.specs.Boot.{IsBootOf, all_of, begun, progress}
-use Rattle.mc_boot.specs.Bounds.{IsBounded, all_saves, left_of}
+use Rattle.mc_boot.specs.Bounds.{IsBounded, left_of}
+use Rattle.mc_boot.specs.Cold.{IsCold}
 use Rattle.mc_boot.specs.Outcome.{outcome_of, shown}
 use Rattle.mc_boot.specs.Plan.{plan}
 use Rattle.mc_boot.specs.Run.{HasCome}
@@ -41,14 +42,9 @@ pub record IsTold (r : Rules) (g : Geometry) (s : Content) (told : Told) : Type 
   pub bytes : IsBytes s.secondary
   pub outcome_is : outcome_of r g s ≡ Some (shown told.outcome)
 
--- A boot at power-on from where a flash stands, with few operations.
+-- A boot at power-on from where a flash stands, with bytes in the secondary.
 pub record IsBegun (r : Rules) (f : Seen) (b : Boot) : Type 0 where
-  pub boot : progress b ≡ begun r (plan r f.geometry f.content)
-  pub list : all_of b ≡ (plan r f.geometry f.content).list
-  pub layout : IsBootOf f.geometry b
-  pub few : length (progress b).to_come ≤ most_operations r.grain f.geometry
-  pub saves : all_saves f.geometry (progress b).to_come ≤ most_saved f.geometry
-  pub sized : IsSized f.geometry f.content
+  pub cold : IsCold r f b
   pub bytes : IsBytes f.content.secondary
 
 -- Such a boot, of a flash of that layout, with room to run it and to go back.

@@ -15,10 +15,7 @@ pub struct Frame<A, T> {
 }
 
 /// Takes frames off, up to the last whose parent has one child more, which stays. Tells whether there is one.
-pub(crate) fn leave_spent<B: Branches>(
-    branches: B,
-    frames: &mut Vec<Frame<B::At, B::Told>>,
-) -> bool
+pub(crate) fn leave_spent<B: Branches>(branches: B, frames: &mut Vec<Frame<B::At, B::Told>>) -> bool
     ensures capacity { vec_capacity frames.new ≡ vec_capacity frames.old }
     ensures left { LeavesOpen (B.kind branches) frames.old.items result frames.new.items }
 {
