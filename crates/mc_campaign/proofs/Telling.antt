@@ -250,6 +250,6 @@ module _ (counted : Bool) (start : Begun) (confirms : Bool) (bound : ℕ) (old n
         path = before.path;
         path_is = path_there w new.walk before.path last v.visits.2 before.path_is;
         stands = subst (λ p. StandsAt (kind_of new.walk.branches) (record { walk = new.walk; phase = p }) (position_of p before.path)) (sym v.visits.3)
-            (subst (paths.IsOver (IsPath (kind_of new.walk.branches) new.walk)) (sym (stays_there before.path)) (over_there kind_of w new.walk (position_of old.phase before.path) v.visits.2 v.visits.0));
+            (subst (paths.IsOver (IsPath (kind_of new.walk.branches) new.walk)) (sym (stays_there before.path)) (over_there kind_of w new.walk _ v.visits.2 v.visits.0));
       },
     )
