@@ -8,7 +8,7 @@ use Rattle.mc_walk.specs.Stack.{IsSpent, IsOpen, AreSpent, AreOff, IsLastOpen, I
 use Rattle.mc_walk.specs.declared.frame.Frame.{Frame}
 
 -- The last of a list stands behind the others.
-last_of : {X : Type 0} (xs : List X) (n : ℕ) (x : X) → length xs ≡ n + 1 → slice_get xs n ≡ Some x → (before : List X) × (xs ≡ before ++ x ∷ [])
+pub last_of : {X : Type 0} (xs : List X) (n : ℕ) (x : X) → length xs ≡ n + 1 → slice_get xs n ≡ Some x → (before : List X) × (xs ≡ before ++ x ∷ [])
 last_of [] n x len e = absurd cc
 last_of (y ∷ []) zero x len e = ([], ap (λ z. z ∷ []) (same_Some y x e))
 last_of (y ∷ z ∷ zs) zero x len e = absurd (omega (arith, len))

@@ -13,9 +13,9 @@ use Rattle.mc_flash.specs.SpendsFacts.{spent_back, spent_both, spent_more}
 use Rattle.mc_flash.specs.declared.flash.FlashError.{FlashError}
 use Rattle.mc_walk.specs.Kind.{Kind, owed_there, telling, IsAt, IsNode, HasNext, GoesOn, CanReach, Reaches}
 use Rattle.mc_walk.specs.Stack.{path_of, most_at, AreSpent, IsLastOpen, AreFrames, Stacked, node_of, Stands, Comes, CanGoOn, IsLeft, IsOneOn, IsRoomy}
-use Rattle.mc_walk.specs.Walks.{walked, start_of, IsFresh, Begins, IsThere, IsGoing, IsPath, IsSound, GoesDown, Climbs}
+use Rattle.mc_walk.specs.Walks.{walked, start_of, IsFresh, Begins, IsThere, IsGoing, IsLastStep, IsPath, IsSound, GoesDown, Climbs}
 use Rattle.mc_walk.specs.declared.frame.Frame.{Frame}
-use Rattle.mc_walk.proofs.Stacks.{path-push, no_path, frames_allowed, frames_last, among, started, length-stack, popped}
+use Rattle.mc_walk.proofs.Stacks.{path-push, no_path, frames_allowed, frames_last, among, node-push, started, length-stack, popped}
 
 pub ok_any : {X E P : Type 0} (r : Result X E) → P → OnOk r P
 ok_any (Ok x) p = p
@@ -274,6 +274,24 @@ module _ {N A T : Type 0} (k : Kind N A T) where
   told_there b bound seen fs stood told is going =
       let here : IsGoing k bound seen fs told = subst (λ o. IfSome o (IsGoing k bound seen fs)) is going in
       subst (λ o. IsThere k (walked b bound seen fs o) told) (sym is) (is_there b bound seen fs told here)
+
+  -- And its last frame is that of its last step.
+  pub last_there : {B : Type 0} (b : B) (bound : ℕ) (seen : Seen) (all fs : List (Frame A T)) (f : Frame A T) (stood : Option T) (told : T) → IsGoing k bound seen all told
+      → all ≡ fs ++ f ∷ [] → IsLastStep k (walked b bound seen all stood) f
+  last_there b bound seen all fs f stood told going split =
+      let s = going.stands in
+      let frame = (among k (k.root (start_of seen)) 0 s.stacked.above fs f [] (subst (AreFrames k (k.root (start_of seen)) 0 s.stacked.above) split s.stacked.frames)).frame in
+      record {
+        before = path_of fs;
+        path_is = ap path_of split ∙ path-push fs f;
+        at_is = record {
+          on_is = frame.on_is;
+          content_is = s.content_is ∙ ap (λ xs. k.content (node_of k (start_of seen) xs)) split ∙ ap k.content (node-push k (start_of seen) fs f);
+          layout_is = s.layout_is;
+        };
+        some = frame.some;
+        parent_is = frame.told_is;
+      }
 
   -- It has arrived.
   pub record Arrives (bound cost : ℕ) (old new : Seen) (all : List (Frame A T)) (told : T) : Type 0 where

@@ -1,11 +1,11 @@
 -- The first node that a tour visits.
-use Rattle.std.proofs.Common.{◌≡◌, ℕ, List, [], true, refl, sym, subst, arith}
-use Rattle.mc_tree.specs.Paths.{Position, AtStart, IsNext}
-use Rattle.mc_tree.specs.facts.Order.{none_before_root}
+use Rattle.std.proofs.Common.{◌≡◌, ℕ, List, [], Bool, true, false, refl, sym, subst, arith}
+use Rattle.mc_tree.specs.Paths.{Position, AtStart, IsNext, IsOver}
+use Rattle.mc_tree.specs.facts.Order.{next_after_last, none_after_last, none_before_root}
 use Rattle.mc_walk.specs.Kind.{Kind}
-use Rattle.mc_walk.specs.Tours.{Toured, StandsAt, Visits}
-use Rattle.mc_walk.specs.Walks.{Walked, Begins, IsPath}
-use Rattle.mc_walk.specs.declared.tour.Phase.TheVariants.{Fresh, Going}
+use Rattle.mc_walk.specs.Tours.{Toured, IsBehindLast, StandsAt, StandsBehind, Visits}
+use Rattle.mc_walk.specs.Walks.{Walked, Begins, Climbs, IsPath, root_of}
+use Rattle.mc_walk.specs.declared.tour.Phase.TheVariants.{Fresh, Going, Done}
 
 module _ {N A T B : Type 0} (k : Kind N A T) (old : Toured B) (told : T) (new : Walked B) (begins : Begins k old.walk told new) where
   root_first : IsNext (IsPath k old.walk) AtStart []
@@ -25,3 +25,27 @@ module _ {N A T B : Type 0} (k : Kind N A T) (old : Toured B) (told : T) (new : 
 
   pub visits_first : (position : Position (List ℕ)) → old.phase ≡ Fresh → StandsAt k old position → Visits k old position true (record { walk = new; phase = Going })
   visits_first position fresh at = (visits_root position fresh at, begins.same, refl, begins.stands)
+
+-- A tour leaves a node behind its last child.
+module _ {N A T B : Type 0} (k : Kind N A T) (old : Toured B) (new : Walked B) (position : Position (List ℕ)) (going : old.phase ≡ Going) (at : StandsBehind k old position) where
+  behind : IsBehindLast k old.walk position
+  behind = rw going at at
+
+  pub left_on : (went : Bool) → went ≡ true → Climbs k old.walk went new → Visits k old position true (record { walk = new; phase = Going })
+  left_on false is c = absurd cc
+  left_on true is c = (
+    subst (λ p. IsNext (IsPath k old.walk) p new.path) (sym behind.position_is)
+        (next_after_last k.tree (root_of k old.walk) old.walk.bound old.walk.path behind.number behind.deep new.path behind.last c.0),
+    c.1,
+    refl,
+    c.2,
+  )
+
+  pub left_over : (went : Bool) → went ≡ false → Climbs k old.walk went new → Visits k old position false (record { walk = new; phase = Done })
+  left_over true is c = absurd cc
+  left_over false is c = (
+    subst (IsOver (IsPath k old.walk)) (sym behind.position_is) (none_after_last k.tree (root_of k old.walk) old.walk.bound old.walk.path behind.number behind.deep behind.last c.0),
+    c.2,
+    c.1,
+    refl,
+  )

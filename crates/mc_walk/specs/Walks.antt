@@ -7,7 +7,7 @@ use Rattle.mc_flash.specs.Content.{Content}
 use Rattle.mc_flash.specs.Ledger.{no_counts}
 use Rattle.mc_flash.specs.Seen.{Seen, spot_at, spot_of}
 use Rattle.mc_flash.specs.Spends.{HasRoom}
-use Rattle.mc_walk.specs.Kind.{Kind, telling}
+use Rattle.mc_walk.specs.Kind.{Kind, IsAt, telling}
 use Rattle.mc_walk.specs.Stack.{Stands, IsRoomy, path_of}
 use Rattle.mc_walk.specs.declared.frame.Frame.{Frame}
 
@@ -48,6 +48,14 @@ module _ {N A T B : Type 0} (k : Kind N A T) where
     pub content_is : w.seen.content ≡ k.content (node_at w)
     pub layout_is : w.seen.geometry ≡ k.geometry
     pub room : HasRoom (k.owed (node_at w)) w.seen
+
+  -- The last step of its path is to that child of the node before, where the flash stands.
+  pub record IsLastStep (w : Walked B) (f : Frame A T) : Type 0 where
+    pub before : List ℕ
+    pub path_is : w.path ≡ before ++ f.number ∷ []
+    pub at_is : IsAt k (landed k.tree (root_of w) before) f.number f.at w.seen
+    pub some : f.number < k.tree.width (landed k.tree (root_of w) before)
+    pub parent_is : k.IsTold (landed k.tree (root_of w) before) f.parent
 
   -- The paths that it can take.
   abbrev pub IsPath : Walked B → List ℕ → Type 0

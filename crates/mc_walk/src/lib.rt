@@ -9,5 +9,6 @@ mod tour;
 mod walk;
 
 pub use branches::Branches;
+pub use frame::Frame;
 pub use tour::{Phase, Tour, TourError};
 pub use walk::Walk;

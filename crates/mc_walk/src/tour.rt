@@ -1,7 +1,7 @@
 //! The nodes of a tree, one after another.
 ghost use Rattle.std.specs.Prelude.{◌≡◌, ℕ, List, true, IfOk};
 ghost use Rattle.mc_tree.specs.Paths.{Position};
-ghost use Rattle.mc_walk.specs.Tours.{Toured, StandsAt, Visits, Costs};
+ghost use Rattle.mc_walk.specs.Tours.{Toured, StandsAt, StandsBehind, Visits, Costs};
 ghost use Rattle.mc_walk.specs.Walks.{IsFresh};
 
 use crate::{Branches, Walk};
@@ -110,6 +110,32 @@ impl<F: Flash, B: Branches> Tour<F, B> {
                 Ok(true)
             }
         }
+    }
+
+    /// Goes on to the next node behind all children of the one at which it stands, where those have none, if there is one, and tells
+    /// whether there is.
+    ///
+    /// # Errors
+    ///
+    /// `Memory` where the flash was refused memory; from then on always `Failed`.
+    pub fn leave(&mut self, known: &B::Known) -> Result<bool, TourError>
+        ensures visits { IfOk result (λ went. (position : Position (List ℕ))
+            → StandsBehind (B.kind self.old.walk.branches) self.old position
+            → Visits (B.kind self.old.walk.branches) self.old position went self.new) }
+        ensures costs { Costs (B.kind self.old.walk.branches) self.old result self.new }
+    {
+        match self.phase {
+            Phase::Going => {},
+            Phase::Fresh | Phase::Done => return Ok(false),
+            Phase::Broken => return Err(TourError::Failed),
+        }
+        self.phase = Phase::Broken;
+        if !self.walk.climb(known)? {
+            self.phase = Phase::Done;
+            return Ok(false);
+        }
+        self.phase = Phase::Going;
+        Ok(true)
     }
 
     /// The walk as it is.

@@ -4,7 +4,7 @@ ghost use Rattle.std.specs.List.{slice_get};
 ghost use Rattle.mc_tree.specs.Tree.{labelled};
 ghost use Rattle.mc_flash.specs.Spends.{Spends, Spent};
 ghost use Rattle.mc_walk.specs.Kind.{telling};
-ghost use Rattle.mc_walk.specs.Walks.{IsClear, IsFresh, IsOf, Begins, GoesDown, Climbs, Advances, Follows, IsThere, root_of, child_cost, path_cost};
+ghost use Rattle.mc_walk.specs.Walks.{IsClear, IsFresh, IsOf, Begins, GoesDown, Climbs, Advances, Follows, IsThere, IsLastStep, root_of, child_cost, path_cost};
 
 use crate::Branches;
 use crate::enter::{enter, go_on};
@@ -98,6 +98,23 @@ impl<F: Flash, B: Branches> Walk<F, B> {
             Some(told) => told,
             None => unreachable!(),
         }
+    }
+
+    /// The most steps of a path.
+    pub fn bound(&self) -> usize
+        ensures { result ≡ self.now.bound }
+    {
+        self.bound
+    }
+
+    /// The last step of its path, if it has one: the child where the flash stands, and what is told of its parent.
+    pub fn last_step(&self) -> Option<&Frame<B::At, B::Told>>
+        requires { self.now.stands ≡ true }
+        ensures { IfSome result (λ frame. IsLastStep (B.kind self.now.branches) self.now
+            frame.now) }
+    {
+        let last = self.frames.last()?;
+        Some(last)
     }
 
     /// The path at whose end it stands.

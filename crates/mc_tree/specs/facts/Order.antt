@@ -170,3 +170,43 @@ module _ {N : Type 0} (t : Tree N) where
 
   pub none_above : (s : N) (bound : ℕ) (l : List ℕ) → HasNoChild s bound l → NoneBeyond s l → IsOver (IsMember t s bound) (After l)
   none_above s bound l none nb = λ m mem p. nb m mem.1 (beyond_childless s bound l m none mem p)
+
+  -- ---- behind the last child of a node whose children have none
+
+  beyond_more : (l m : List ℕ) (number : ℕ) → Beyond l m → Beyond (l ++ number ∷ []) m
+  beyond_more [] m number b = absurd b
+  beyond_more (x ∷ xs) [] number b = absurd b
+  beyond_more (x ∷ xs) (y ∷ ys) number (inl lt) = inl lt
+  beyond_more (x ∷ xs) (y ∷ ys) number (inr b) = inr (b.0, beyond_more xs ys number b.1)
+
+  beyond_last : (s : N) (l m : List ℕ) (number : ℕ) → t.width (landed t s l) ≤ number + 1 → Allowed t s m → Beyond (l ++ number ∷ []) m → Beyond l m
+  beyond_last s [] [] number last a b = b
+  beyond_last s [] (y ∷ ys) number last a (inl lt) = omega (arith, last, a.0)
+  beyond_last s [] (y ∷ ys) number last a (inr b) = b.1
+  beyond_last s (x ∷ xs) [] number last a b = b
+  beyond_last s (x ∷ xs) (y ∷ ys) number last a (inl lt) = inl lt
+  beyond_last s (x ∷ xs) (y ∷ ys) number last a (inr b) =
+      inr (b.0, beyond_last (t.child s x) xs ys number last (allowed_at s x y ys b.0 a.1) b.1)
+
+  module _ (s : N) (bound : ℕ) (l : List ℕ) (number : ℕ) (deep : length l + 1 ≡ bound) where
+    full : HasNoChild s bound (l ++ number ∷ [])
+    full more m = omega (arith, deep, m.0, length-append (l ++ number ∷ []) (more ∷ []), length-append l (number ∷ []))
+
+    few : length (l ++ number ∷ []) ≤ bound
+    few = omega (arith, deep, length-append l (number ∷ []))
+
+    -- The next child of that node.
+    pub next_after : Allowed t s (l ++ number ∷ []) → number + 1 < t.width (landed t s l) → IsNext (IsMember t s bound) (After (l ++ number ∷ [])) (l ++ (number + 1) ∷ [])
+    next_after a lt = next_above s bound (l ++ number ∷ []) (l ++ (number + 1) ∷ []) few full (next_beyond s l number [] a tt lt)
+
+    -- Behind its last child what is beyond the node.
+    pub next_after_last : (next : List ℕ) → t.width (landed t s l) ≤ number + 1 → IsNextBeyond s l next → IsNext (IsMember t s bound) (After (l ++ number ∷ [])) next
+    next_after_last next last n = next_above s bound (l ++ number ∷ []) next few full (record {
+      shorter = omega (arith, n.shorter, length-append l (number ∷ []));
+      allowed = n.allowed;
+      beyond = beyond_more l next number n.beyond;
+      none_between = λ m a b p. n.none_between m a (beyond_last s l m number last a b) p;
+    })
+
+    pub none_after_last : t.width (landed t s l) ≤ number + 1 → NoneBeyond s l → IsOver (IsMember t s bound) (After (l ++ number ∷ []))
+    none_after_last last nb = none_above s bound (l ++ number ∷ []) full (λ m a b. nb m a (beyond_last s l m number last a b))
