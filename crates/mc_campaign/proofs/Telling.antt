@@ -14,7 +14,7 @@ use Rattle.mc_trailer.specs.declared.tables.Rules.{Rules}
 use Rattle.mc_boot.specs.Outcome.{shown}
 use Rattle.mc_boot.specs.declared.outcome.Outcome.{Outcome}
 use Rattle.mc_walk.specs.Kind.{Kind}
-use Rattle.mc_walk.specs.Tours.{Toured, StandsAt, Visits}
+use Rattle.mc_walk.specs.Tours.{StandsAt, Toured, Visits, position_of}
 use Rattle.mc_walk.specs.Walks.{Walked, IsPath, IsSame, IsThere, start_of}
 use Rattle.mc_walk.specs.facts.Same.{over_there}
 use Rattle.mc_walk.specs.declared.tour.Phase.{Phase}
@@ -22,7 +22,6 @@ use Rattle.mc_walk.specs.declared.tour.Phase.TheVariants as phases
 use Rattle.mc_explore.specs.Boots.{boots}
 use Rattle.mc_explore.specs.Once.{IsTold}
 use Rattle.mc_explore.specs.Start.{Begun}
-use Rattle.mc_explore.specs.View.{position_of}
 use Rattle.mc_campaign.specs.Boots.{IsPathOf, pairs_along, rounds, second_start}
 use Rattle.mc_campaign.specs.Campaigns.{IsMember, Precedes}
 use Rattle.mc_campaign.specs.Places.{Places, placed}

@@ -1,13 +1,12 @@
 -- What the fields of an explorer of campaigns stand for, and what holds of them.
 use Rattle.std.specs.Prelude.{◌≡◌, ◌≢◌, ◌⊎◌, ℕ, ◌+◌, ◌≤◌, ◌^◌, Bool, true, false, List, [], ◌∷◌, ◌++◌, length, take}
 use Rattle.mc_tree.specs.Paths.{Position}
-use Rattle.mc_walk.specs.Tours.{Toured, StandsAt}
+use Rattle.mc_walk.specs.Tours.{StandsAt, Toured, position_of}
 use Rattle.mc_flash.specs.Geometry.{IsLayout}
 use Rattle.mc_flash.specs.Seen.{Seen}
 use Rattle.mc_walk.specs.Walks.{Walked, IsFresh, IsPath, IsSame, start_of}
 use Rattle.mc_walk.specs.declared.tour.Phase.TheVariants.{Broken}
 use Rattle.mc_explore.specs.Start.{Begun}
-use Rattle.mc_explore.specs.View.{position_of}
 use Rattle.mc_campaign.specs.Boots.{IsPathOf}
 use Rattle.mc_campaign.specs.Campaigns.{IsMember}
 use Rattle.mc_campaign.specs.Places.{Places}

@@ -45,7 +45,8 @@ pub struct CampaignExplorer<'a, F: Flash> {
 
 impl<'a, F: Flash> Model for CampaignExplorer<'a, F> {
     ghost use Rattle.mc_explore.specs.Start.{begun};
-    ghost use Rattle.mc_explore.specs.View.{position_of, IsDigestOf};
+    ghost use Rattle.mc_explore.specs.View.{IsDigestOf};
+    ghost use Rattle.mc_walk.specs.Tours.{position_of};
     ghost use Rattle.mc_campaign.specs.State.{Explored};
     ghost use Rattle.mc_campaign.specs.View.{explored, IsSound};
 

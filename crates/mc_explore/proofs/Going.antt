@@ -26,12 +26,13 @@ use Rattle.mc_explore.specs.Boots.{at_cut, boots}
 use Rattle.mc_explore.specs.Once.{IsTold, most_of, once}
 use Rattle.mc_explore.specs.Replay.{CannotOccurAt, IsReplayed}
 use Rattle.mc_explore.specs.Resume.{behind}
+use Rattle.mc_explore.specs.Rowing.{Rowed, position_in}
 use Rattle.mc_explore.specs.Schedules.{IsMember, CanOccur}
 use Rattle.mc_explore.specs.Start.{Begun, start_digest}
 use Rattle.mc_explore.specs.State.{State}
-use Rattle.mc_walk.specs.Tours.{Toured}
+use Rattle.mc_walk.specs.Tours.{position_of}
 use Rattle.mc_walk.specs.declared.tour.Phase.TheVariants as phases
-use Rattle.mc_explore.specs.View.{Followed, IsLoaded, IsSound, begun_of, position_of, state_of}
+use Rattle.mc_explore.specs.View.{Followed, IsLoaded, IsSound, begun_of, state_of}
 use Rattle.mc_explore.specs.declared.once.Once.{Once}
 use Rattle.mc_explore.specs.declared.once.Told.{Told}
 use Rattle.mc_explore.proofs.Moving.{same_begun}
@@ -144,18 +145,12 @@ module _ (counted : Bool) (start : Begun) (bound : ℕ) (path : List ℕ) (zero_
 -- ---- an explorer behind a schedule
 
 pub resumed : (counted : Bool) (start : Begun) (bound : ℕ) (path : List ℕ) (w : Walked Once) → Followed counted start bound path w → bound ≤ 16
-    → IsSound counted start bound (record { walk = w; phase = phases.Going }) path
-resumed counted start bound path w f few = λ _. (
-  record { start_is = f.start_is; bound_is = f.bound_is; few = few; counted_is = f.counted_is },
-  ap (λ l. After l) (sym f.path_is),
-)
+    → IsSound counted start bound (record { walk = w; phase = phases.Going; last = path })
+resumed counted start bound path w f few = λ _. record { start_is = f.start_is; bound_is = f.bound_is; few = few; counted_is = f.counted_is }
 
-pub started : (counted : Bool) (start : Begun) (bound : ℕ) (path : List ℕ) (w : Walked Once) → IsLoaded counted start bound w → bound ≤ 16
-    → IsSound counted start bound (record { walk = w; phase = phases.Fresh }) path
-started counted start bound path w l few = λ _. (
-  record { start_is = l.start_is; bound_is = l.bound_is; few = few; counted_is = l.counted_is },
-  refl,
-)
+pub started : (counted : Bool) (start : Begun) (bound : ℕ) (w : Walked Once) → IsLoaded counted start bound w → bound ≤ 16
+    → IsSound counted start bound (record { walk = w; phase = phases.Fresh; last = [] })
+started counted start bound w l few = λ _. record { start_is = l.start_is; bound_is = l.bound_is; few = few; counted_is = l.counted_is }
 
 pub behind_it : (counted : Bool) (start : Begun) (bound : ℕ) (path : List ℕ) (w : Walked Once) → Followed counted start bound path w → state_of w (After path) ≡ behind start bound path
 behind_it counted start bound path w f =
@@ -164,10 +159,10 @@ behind_it counted start bound path w f =
     ∙ ap (λ (b : Bool). record { start = start; bound = bound; position = After path; failed = b }) f.calm
 
 -- The start of an explorer behind a schedule is the one that it tells.
-pub same_digest : (counted : Bool) (start : Begun) (bound : ℕ) (t : Toured Once) (last : List ℕ) (told : Begun) (many : ℕ) (path d : List ℕ) → IsSound counted start bound t last
-    → state_of t.walk (position_of t.phase last) ≡ behind told many path → d ≡ start_digest told → d ≡ start_digest start
-same_digest counted start bound t last told many path d sound is at =
-    let ours = (sound (λ broken. let q : Lost ≡ After path = ap (λ p. position_of p last) (sym broken) ∙ ap (λ (s : State). s.position) is in absurd cc)).0 in
+pub same_digest : (counted : Bool) (start : Begun) (bound : ℕ) (rows : Rowed) (told : Begun) (many : ℕ) (path d : List ℕ) → IsSound counted start bound rows
+    → state_of rows.walk (position_in rows) ≡ behind told many path → d ≡ start_digest told → d ≡ start_digest start
+same_digest counted start bound rows told many path d sound is at =
+    let ours = sound (λ broken. let q : Lost ≡ After path = ap (λ p. position_of p rows.last) (sym broken) ∙ ap (λ (s : State). s.position) is in absurd cc) in
     at ∙ ap start_digest (sym (ap (λ (s : State). s.start) is) ∙ ours.start_is)
 
 pub listed : (counted : Bool) (start : Begun) (bound : ℕ) (path : List ℕ) (w : Walked Once) → Followed counted start bound path w → IsMember start.rules start.geometry start.content bound path

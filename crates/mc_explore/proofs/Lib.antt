@@ -19,3 +19,5 @@ mod Counting
 mod Counted
 mod Cursors
 mod Continued
+pub mod LastRows
+pub mod Rowing

@@ -1,37 +1,34 @@
--- The node that a tour visits is the next row of the schedules.
-use Rattle.std.specs.Prelude.{◌≡◌, ◌≢◌, ◌≤◌, Bool, true, false, List, ℕ, [], Some, refl}
-use Rattle.std.proofs.Common.{arith, sym, ap, subst, ◌∙◌}
+-- The row that is found is the next one of the schedules.
+use Rattle.std.specs.Prelude.{◌≡◌, ◌≢◌, ◌+◌, ◌≤◌, Bool, List, ℕ, [], Option, Some, None, IfSome, refl}
+use Rattle.std.proofs.Common.{arith, ap, subst, ◌∙◌}
+use Rattle.mc_boot.specs.Restart.{RestartLaw}
 use Rattle.mc_tree.specs.Tree as tree
-use Rattle.mc_tree.specs.Tree.{landed}
 use Rattle.mc_tree.specs.Paths as paths
-use Rattle.mc_tree.specs.Paths.{Position, After}
+use Rattle.mc_tree.specs.Paths.{Position, After, IsOver}
 use Rattle.mc_tree.specs.facts.Past.{same_next, same_over}
 use Rattle.mc_flash.specs.Content.{Content}
 use Rattle.mc_flash.specs.Ledger.{Limits}
-use Rattle.mc_walk.specs.Kind.{Kind}
-use Rattle.mc_walk.specs.Tours.{Toured, StandsAt, Visits}
-use Rattle.mc_walk.specs.Walks.{Walked, IsPath, IsSame, IsThere, start_of}
-use Rattle.mc_walk.specs.facts.Same.{over_there}
+use Rattle.mc_flash.specs.Seen.{Seen}
+use Rattle.mc_flash.specs.Spends.{Spent}
+use Rattle.mc_trailer.specs.declared.tables.Rules.{Rules}
+use Rattle.mc_walk.specs.Tours.{position_of}
+use Rattle.mc_walk.specs.Walks.{Walked, IsPath, IsSame, child_cost, start_of}
 use Rattle.mc_walk.specs.declared.tour.Phase.{Phase}
 use Rattle.mc_walk.specs.declared.tour.Phase.TheVariants as phases
-use Rattle.mc_boot.specs.Outcome.{shown}
-use Rattle.mc_boot.specs.declared.boot.Boot.{Boot}
 use Rattle.mc_explore.specs.Boots.{boots}
-use Rattle.mc_explore.specs.Once.{IsTold, once}
+use Rattle.mc_explore.specs.Bounds.{row_cost}
+use Rattle.mc_explore.specs.Restarts.{RowRestarts}
+use Rattle.mc_explore.specs.Rowing.{FindsRow, Rowed, kind_of, position_in}
 use Rattle.mc_explore.specs.Schedules.{IsMember}
 use Rattle.mc_explore.specs.Start.{Begun}
 use Rattle.mc_explore.specs.State as states
-use Rattle.mc_explore.specs.State.{State, Finds, moved_to}
-use Rattle.mc_explore.specs.View.{IsOurs, IsSound, begun_of, position_of, state_of}
+use Rattle.mc_explore.specs.State.{State, Finds, moved_to, state_after, told}
+use Rattle.mc_explore.specs.View.{IsOurs, IsSound, begun_of, state_of}
 use Rattle.mc_explore.specs.declared.once.Once.{Once}
-use Rattle.mc_explore.specs.declared.once.Told.{Told}
 use Rattle.mc_explore.specs.declared.row.Row.{Row}
 use Rattle.mc_explore.specs.facts.Listed.{lands_told}
 use Rattle.mc_explore.specs.facts.Occurring.{member_of, path_of}
-
--- The kind of tree that a walk goes through.
-abbrev pub kind_of : Once → Kind Content Boot Told
-kind_of b = once b.rules b.layout
+use Rattle.mc_explore.proofs.Restarts.{row_restarts}
 
 -- The paths of a walk are the schedules to go through.
 module _ (w : Walked Once) (position : Position (List ℕ)) where
@@ -58,88 +55,63 @@ same_state old new position s calm =
     ∙ ap (λ (n : ℕ). record { start = begun_of old; bound = n; position = position; failed = new.seen.ledger.failed }) s.bound
     ∙ ap (λ (f : Bool). record { start = begun_of old; bound = old.bound; position = position; failed = f }) calm
 
--- ---- what a visit finds
+-- ---- what is found
 
--- A tour of a sound explorer came behind its last row and went to the next node, or there is none; and what it counts then.
-pub record Visited (counted : Bool) (start : Begun) (bound : ℕ) (old new : Toured Once) (last : List ℕ) (went : Bool) : Type 0 where
+-- The rows of a sound explorer found the next one, or there is none; and what they count then.
+pub record Found (counted : Bool) (start : Begun) (bound : ℕ) (old new : Rowed) (found : Option Row) : Type 0 where
   pub works : old.phase ≢ phases.Broken
-  pub sound : IsSound counted start bound old last
-  pub visits : Visits (kind_of old.walk.branches) old (position_of old.phase last) went new
+  pub sound : IsSound counted start bound old
+  pub finds : FindsRow old found new
   pub limits : new.walk.seen.ledger.limits ≡ old.walk.seen.ledger.limits
   pub failed : new.walk.seen.ledger.failed ≡ old.walk.seen.ledger.failed
 
-module _ (counted : Bool) (start : Begun) (bound : ℕ) (old new : Toured Once) (last : List ℕ) where
-  abbrev here : Position (List ℕ)
-  here = position_of old.phase last
+module _ (counted : Bool) (start : Begun) (bound : ℕ) (old new : Rowed) where
+  abbrev here : State
+  here = state_of old.walk (position_in old)
 
-  ours_there : (went : Bool) → Visited counted start bound old new last went → IsSame old.walk new.walk → IsOurs counted start bound new.walk
-  ours_there went v same =
-      let ours = (v.sound v.works).0 in
+  ours_there : (found : Option Row) → Found counted start bound old new found → IsSame old.walk new.walk → IsOurs counted start bound new.walk
+  ours_there found f same =
+      let ours = f.sound f.works in
       record {
         start_is = same_begun old.walk new.walk same ∙ ours.start_is;
         bound_is = same.bound ∙ ours.bound_is;
         few = ours.few;
-        counted_is = ap (λ (l : Limits). l.counted) v.limits ∙ ours.counted_is;
+        counted_is = ap (λ (l : Limits). l.counted) f.limits ∙ ours.counted_is;
       }
 
-  -- The next row.
-  module _ (v : Visited counted start bound old new last true) where
-    pub stands_next : new.walk.stands ≡ true
-    stands_next = v.visits.3
+  -- Where there is none the position stays.
+  stays_there : IsOver (IsPath (kind_of old.walk.branches) old.walk) (position_in old) → old.phase ≢ phases.Broken → After old.last ≡ position_in old
+  stays_there over works = by old.phase refl
+    where
+      by : (p : Phase) → old.phase ≡ p → After old.last ≡ position_of p old.last
+      by phases.Fresh is =
+          let none = subst (λ q. IsOver (IsPath (kind_of old.walk.branches) old.walk) (position_of q old.last)) is over in
+          absurd (none [] (omega arith, tt) tt)
+      by phases.Going is = refl
+      by phases.Done is = refl
+      by phases.Broken is = absurd (works is)
 
-    pub few_next : new.walk.bound ≤ 16
-    few_next = let ours = (v.sound v.works).0 in omega (arith, ours.few, ours.bound_is, v.visits.1.bound)
+  pub finds_it : (found : Option Row) → Found counted start bound old new found → Finds here found
+  finds_it (Some row) f = (next_listed old.walk (position_in old) row.schedule f.finds.0, lands_told (begun_of old.walk) row.schedule f.finds.0.listed.1 ∙ f.finds.1)
+  finds_it None f = over_listed old.walk (position_in old) f.finds.0
 
-    told_next : (told : Told) → IsThere (kind_of new.walk.branches) new.walk told
-        → IsTold old.walk.branches.rules old.walk.branches.layout (landed (boots old.walk.branches.rules old.walk.branches.layout) (start_of old.walk.seen) new.walk.path) told
-    told_next told there =
-        let b : Once = old.walk.branches in
-        let P : Once → Type 0 = λ x. IsTold x.rules x.layout (landed (boots x.rules x.layout) (start_of new.walk.seen) new.walk.path) told in
-        let Q : Content → Type 0 = λ x. IsTold b.rules b.layout (landed (boots b.rules b.layout) x new.walk.path) told in
-        subst Q v.visits.1.start (subst P v.visits.1.branches there.told_is)
+  pub moved_on : (found : Option Row) → Found counted start bound old new found → state_of new.walk (position_in new) ≡ state_after here found
+  moved_on (Some row) f =
+      ap (λ p. state_of new.walk (position_of p new.last)) f.finds.3 ∙ ap (λ l. state_of new.walk (After l)) f.finds.4
+      ∙ same_state old.walk new.walk (After row.schedule) f.finds.2 f.failed
+  moved_on None f =
+      ap (λ p. state_of new.walk (position_of p new.last)) f.finds.3 ∙ ap (λ l. state_of new.walk (After l)) f.finds.4
+      ∙ ap (state_of new.walk) (stays_there f.finds.0 f.works) ∙ same_state old.walk new.walk (position_in old) f.finds.2 f.failed
 
-    pub finds_row : (told : Told) → IsThere (kind_of new.walk.branches) new.walk told → (row : Row) → row.schedule ≡ new.walk.path → row.outcome ≡ told.outcome
-        → Finds (state_of old.walk here) (Some row)
-    finds_row told there row s o =
-        let w = old.walk in
-        let outcome = lands_told (begun_of w) new.walk.path v.visits.0.listed.1 ∙ (told_next told there).outcome_is in (
-          subst (states.IsNext (state_of w here)) (sym s) (next_listed w here new.walk.path v.visits.0),
-          ap (states.outcome_after (begun_of w)) s ∙ outcome ∙ ap (λ x. Some (shown x)) (sym o),
-        )
+  pub sound_on : (found : Option Row) → Found counted start bound old new found → IsSound counted start bound new
+  sound_on (Some row) f = λ _. ours_there (Some row) f f.finds.2
+  sound_on None f = λ _. ours_there None f f.finds.2
 
-    pub moved_on : (l : List ℕ) → state_of new.walk (position_of new.phase l) ≡ moved_to (state_of old.walk here) l
-    moved_on l =
-        ap (λ p. state_of new.walk (position_of p l)) v.visits.2 ∙ same_state old.walk new.walk (After l) v.visits.1 v.failed
+  pub costs_row : (found : Option Row) → Found counted start bound old new found → Spent (child_cost (kind_of old.walk.branches) 0) old.walk.seen new.walk.seen
+      → new.walk.seen.ledger.applied ≤ old.walk.seen.ledger.applied + row_cost here.start.rules here.start.geometry found
+  costs_row (Some row) f spent = omega (arith, spent.applied)
+  costs_row None f spent = omega (arith, ap (λ (x : Seen). x.ledger.applied) f.finds.1)
 
-    pub sound_on : (l : List ℕ) → l ≡ new.walk.path → IsSound counted start bound new l
-    sound_on l path = λ _. (
-      ours_there true v v.visits.1,
-      subst (λ p. StandsAt (kind_of new.walk.branches) (record { walk = new.walk; phase = p }) (position_of p l)) (sym v.visits.2) (ap (λ x. After x) path),
-    )
-
-  -- Or there is none.
-  module _ (v : Visited counted start bound old new last false) where
-    pub finds_none : states.IsOver (state_of old.walk here)
-    finds_none = over_listed old.walk here v.visits.0
-
-    stays_there : position_of phases.Done last ≡ here
-    stays_there = by old.phase refl
-      where
-        by : (p : Phase) → old.phase ≡ p → After last ≡ position_of p last
-        by phases.Fresh is =
-            let over = subst (λ q. paths.IsOver (IsPath (kind_of old.walk.branches) old.walk) (position_of q last)) is v.visits.0 in
-            absurd (over [] (omega arith, tt) tt)
-        by phases.Going is = refl
-        by phases.Done is = refl
-        by phases.Broken is = absurd (v.works is)
-
-    pub stays_so : state_of new.walk (position_of new.phase last) ≡ state_of old.walk here
-    stays_so =
-        ap (λ p. state_of new.walk (position_of p last)) v.visits.3 ∙ ap (state_of new.walk) stays_there ∙ same_state old.walk new.walk here v.visits.2 v.failed
-
-    pub sound_over : IsSound counted start bound new last
-    sound_over = λ _. (
-      ours_there false v v.visits.2,
-      subst (λ p. StandsAt (kind_of new.walk.branches) (record { walk = new.walk; phase = p }) (position_of p last)) (sym v.visits.3)
-          (subst (paths.IsOver (IsPath (kind_of new.walk.branches) new.walk)) (sym stays_there) (over_there kind_of old.walk new.walk here v.visits.2 v.visits.0)),
-    )
+  pub restarts_it : (found : Option Row) → ((rules : Rules) → RestartLaw rules) → Found counted start bound old new found → IfSome found (λ row. RowRestarts here.start (told row))
+  restarts_it (Some row) law f = row_restarts here.start (told row) law (finds_it (Some row) f).1
+  restarts_it None law f = tt

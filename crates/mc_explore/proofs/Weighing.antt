@@ -77,7 +77,7 @@ module _ (r : Rules) (g : Geometry) where
         let test : nat_le x.erases i ≡ true = grind (arith, nat_tests) in
         ap (λ b. if b then x.kept + i else (if nat_le x.done (x.kept + x.erases) then max x.done (x.kept + i) else if nat_le i x.only then x.done else x.kept + x.erases)) test
 
-    placed_at : (i : ℕ) → i < length (ops_of r g u) → at_cut r g u i ≡ at_cut r g s (place_of x i)
+    pub placed_at : (i : ℕ) → i < length (ops_of r g u) → at_cut r g u i ≡ at_cut r g s (place_of x i)
     placed_at i lt = lands_at r g s (at_cut r g u i) (place_of x i) (sym (joined.same i lt) ∙ at_is r g u i)
 
     placed : IsPlaced (boots r g) s u x.kept x.erases (place_of x)

@@ -10,6 +10,8 @@ pub mod Pages
 pub mod Rest
 pub mod RowText
 pub mod Once
+pub mod LastCuts
+pub mod Rowing
 pub mod View
 pub mod Want
 pub mod Explores

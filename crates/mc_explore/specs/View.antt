@@ -1,7 +1,7 @@
 -- What an explorer's fields stand for, and what holds of them.
 use Rattle.std.specs.Prelude.{◌≡◌, ◌≢◌, ℕ, ◌+◌, ◌*◌, ◌≤◌, Bool, true, false, List, length, Option, IfSome}
 use Rattle.mc_tree.specs.Tree as tree
-use Rattle.mc_tree.specs.Paths.{Position, AtStart, After, Lost}
+use Rattle.mc_tree.specs.Paths.{Position}
 use Rattle.mc_flash.specs.Geometry.{IsLayout}
 use Rattle.mc_flash.specs.Ledger.{most_operations}
 use Rattle.mc_walk.specs.Walks.{Walked, IsFresh, start_of}
@@ -10,16 +10,8 @@ use Rattle.mc_explore.specs.Once.{once}
 use Rattle.mc_explore.specs.Start.{Begun, start_digest}
 use Rattle.mc_explore.specs.State.{State, Explored}
 use Rattle.mc_explore.specs.declared.once.Once.{Once}
-use Rattle.mc_walk.specs.Tours.{Toured, StandsAt}
-use Rattle.mc_walk.specs.declared.tour.Phase.{Phase}
-use Rattle.mc_walk.specs.declared.tour.Phase.TheVariants.{Fresh, Going, Done, Broken}
-
--- Where an explorer has come to, by how its tour stands and the last row.
-abbrev pub position_of : {K : Type 0} → Phase → K → Position K
-position_of Fresh last = AtStart
-position_of Going last = After last
-position_of Done last = After last
-position_of Broken last = Lost
+use Rattle.mc_walk.specs.declared.tour.Phase.TheVariants.{Broken}
+use Rattle.mc_explore.specs.Rowing.{Rowed}
 
 -- The start of a walk.
 abbrev pub begun_of : Walked Once → Begun
@@ -52,11 +44,9 @@ pub record IsOurs (counted : Bool) (start : Begun) (bound : ℕ) (w : Walked Onc
   pub few : bound ≤ 16
   pub counted_is : w.seen.ledger.limits.counted ≡ counted
 
--- What holds of an explorer's fields until it fails: the tour stands where the last row says.
-abbrev pub IsSound : Bool → Begun → ℕ → Toured Once → List ℕ → Type 0
-IsSound counted start bound t last =
-    t.phase ≢ Broken
-    → IsOurs counted start bound t.walk × StandsAt (once t.walk.branches.rules t.walk.branches.layout) t (position_of t.phase last)
+-- What holds of an explorer's rows until they fail.
+abbrev pub IsSound : Bool → Begun → ℕ → Rowed → Type 0
+IsSound counted start bound rows = rows.phase ≢ Broken → IsOurs counted start bound rows.walk
 
 -- It is the digest of that start, where there is one.
 abbrev pub IsDigestOf : Begun → Option (List ℕ) → Type 0

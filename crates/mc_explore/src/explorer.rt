@@ -1,5 +1,5 @@
 //! Goes through the schedules of power cuts, one after another.
-ghost use Rattle.std.specs.Prelude.{◌≡◌, ℕ, List, ◌+◌, ◌*◌, ◌≤◌, true, length, IfOk, IfErr, IfSome, OnOk, OnErr, IsErrOf, ◌⊎◌};
+ghost use Rattle.std.specs.Prelude.{◌≡◌, ℕ, List, [], ◌+◌, ◌*◌, ◌≤◌, true, length, IfOk, IfErr, IfSome, OnOk, OnErr, IsErrOf, ◌⊎◌};
 ghost use Rattle.mc_flash.specs.Ledger.{limits_for, most_operations};
 ghost use Rattle.mc_explore.specs.Bounds.{row_cost};
 ghost use Rattle.mc_explore.specs.Rest.{cursor_of};
@@ -13,19 +13,33 @@ ghost use Rattle.mc_tree.specs.Paths.{After};
 use crate::cursor::Cursor;
 use crate::error::ExploreError;
 use crate::labels::Labels;
+use crate::last_cuts::AtCuts;
 use crate::line::Line;
 use crate::loading::{ask, load};
-use crate::once::Once;
 use crate::output::{write_line, write_text};
 use crate::row::Row;
+use crate::rows::Rows;
 use crate::source::RowSource;
 use crate::{Schedule, Start};
 use mc_boot::restart_law;
-use mc_flash::Flash;
-use mc_walk::Tour;
-use std::alloc::Global;
+use mc_flash::{Flash, most_operations};
+use std::alloc::{AllocError, Global};
 use std::io::Write;
 use std::marker::Model;
+
+/// For how many cuts of one boot an explorer keeps what is told there, at the most.
+const MOST_KEPT: u64 = 0x1_0000;
+
+// Room for what is told at the cuts of one boot. Below two cuts no boot goes on with another that could be cut as well.
+fn room_for(alloc: Global, start: &Start, bound: u8) -> Result<AtCuts, AllocError>
+    ensures { IfOk result (λ none. none.outcomes.items ≡ []) }
+{
+    let most = match bound {
+        0 | 1 => 0,
+        _ => most_operations(start.layout(), start.rules().grain).min(MOST_KEPT),
+    };
+    AtCuts::new(alloc, most as usize)
+}
 
 /// Goes through all schedules of at most so many cuts that can occur, in their order, each with its outcome, over one
 /// flash.
@@ -35,22 +49,21 @@ pub struct Explorer<'a, F: Flash> {
     // What tells the start apart, where a cursor told it.
     digest: Option<[u8; 32]>,
     bound: u8,
-    tour: Tour<F, Once>,
-    // The schedule of the last row.
-    last: Schedule,
+    rows: Rows<F>,
     labels: Labels,
 }
 
 impl<'a, F: Flash> Model for Explorer<'a, F> {
     ghost use Rattle.mc_explore.specs.Start.{begun};
     ghost use Rattle.mc_explore.specs.State.{Explored};
-    ghost use Rattle.mc_explore.specs.View.{explored, position_of, IsDigestOf, IsSound};
+    ghost use Rattle.mc_explore.specs.Rowing.{position_in};
+    ghost use Rattle.mc_explore.specs.View.{explored, IsDigestOf, IsSound};
 
     ghost Value = { Explored };
 
-    ghost view = { λ e. explored e.tour.walk (position_of e.tour.phase e.last) };
+    ghost view = { λ e. explored e.rows.walk (position_in e.rows) };
 
-    ghost invariant = { λ e. IsSound F.counted (begun e.start.now) e.bound e.tour e.last
+    ghost invariant = { λ e. IsSound F.counted (begun e.start.now) e.bound e.rows
         × IsDigestOf (begun e.start.now) e.digest };
 }
 
@@ -75,12 +88,12 @@ impl<'a, F: Flash + Drop> Explorer<'a, F> {
         ensures err { IfErr result (λ e. e ≡ ExploreError.Memory) }
     {
         let walk = load(alloc, start, bound)?;
+        let at_cuts = room_for(alloc, start, bound)?;
         Ok(Explorer {
             start,
             digest: None,
             bound,
-            tour: Tour::fresh(walk),
-            last: Schedule::new(),
+            rows: Rows::fresh(walk, at_cuts),
             labels: Labels::of(start),
         })
     }
@@ -114,12 +127,12 @@ impl<'a, F: Flash + Drop> Explorer<'a, F> {
         if !walk.follow(cuts, start)? {
             return Err(ExploreError::CannotOccur);
         }
+        let at_cuts = room_for(alloc, start, bound)?;
         Ok(Explorer {
             start,
             digest: None,
             bound,
-            tour: Tour::behind(walk),
-            last: *last,
+            rows: Rows::behind(walk, *last, at_cuts),
             labels: Labels::of(start),
         })
     }
@@ -171,14 +184,8 @@ impl<'a, F: Flash + Drop> Explorer<'a, F> {
         ensures err { IfErr result (λ e. (e ≡ ExploreError.Memory) ⊎ (e ≡ ExploreError.Failed)) }
     {
         restart_law();
-        if !self.tour.visit(self.start)? {
-            return Ok(None);
-        }
-        let walk = self.tour.walk();
-        let schedule = Schedule::of(walk.path().as_slice());
-        let outcome = walk.told().outcome;
-        self.last = schedule;
-        Ok(Some(Row { schedule, outcome }))
+        let found = self.rows.next(self.start)?;
+        Ok(found)
     }
 
     /// The flash as it is.
@@ -187,7 +194,7 @@ impl<'a, F: Flash + Drop> Explorer<'a, F> {
         ensures ledger { (F.seen result.now).ledger ≡ self.now.ledger }
         ensures marked { length (F.seen result.now).marks ≡ self.now.marked }
     {
-        self.tour.walk().flash()
+        self.rows.flash()
     }
 
     /// Where to go on behind the last row. Only here the start is hashed, where no cursor told its digest.
@@ -204,7 +211,7 @@ impl<'a, F: Flash + Drop> Explorer<'a, F> {
             rules: start.rules(),
             digest,
             bound: self.bound,
-            schedule: self.last,
+            schedule: self.rows.last(),
         }
     }
 }
@@ -248,13 +255,15 @@ impl<'a, F: Flash + Drop> RowSource for Explorer<'a, F> {
     ghost cost_stays = { λ s k. refl };
 
     fn next_before(&mut self, until: &Option<Schedule>) -> Result<Option<Row>, ExploreError> {
-        let Some(until) = until else {
-            return self.next_row();
-        };
-        match self.next_row()? {
-            Some(row) if !row.schedule.is_before(until) => Ok(None),
-            found => Ok(found),
+        let found = self.next_row()?;
+        if let Some(until) = until {
+            if let Some(row) = &found {
+                if !row.schedule.is_before(until) {
+                    return Ok(None);
+                }
+            }
         }
+        Ok(found)
     }
 
     fn write_row<W: Write>(&self, row: Row, writer: &mut W) -> Result<(), ExploreError> {
@@ -270,6 +279,6 @@ impl<'a, F: Flash + Drop> RowSource for Explorer<'a, F> {
     }
 
     fn give_up(&mut self) {
-        self.tour.give_up();
+        self.rows.give_up();
     }
 }

@@ -32,13 +32,13 @@ impl Label {
         Label { image, text }
     }
 
-    // The text, if it is that image's.
+    // The text, if it is that image's: an image of the same version and size has the same one.
     fn text_of(&self, image: &ImageId) -> Option<&str>
         ensures text { IfSome result (λ text. text.now
             ≡ slot_text (Some (identity_of image.now))) }
         ensures length { IfSome result (λ text. length text.now ≤ 54) }
     {
-        if self.image == *image {
+        if self.image.version == image.version && self.image.size == image.size {
             Some(self.text.as_str())
         } else {
             None

@@ -41,16 +41,16 @@ impl Line {
     }
 
     // Adds what a slot holds, in a word: the version and the size of its valid image.
-    fn put_slot(&mut self, held: Option<ImageId>, labels: &Labels)
+    fn put_slot(&mut self, held: &Option<ImageId>, labels: &Labels)
         requires { length self.old + 54 ≤ MOST_LINE }
-        ensures text { self.new ≡ self.old ++ slot_text (option_map identity_of held) }
+        ensures text { self.new ≡ self.old ++ slot_text (option_map identity_of held.now) }
         ensures length { length self.new ≤ length self.old + 54 }
     {
         match held {
             None => self.put("none"),
-            Some(image) => match labels.find(&image) {
+            Some(image) => match labels.find(image) {
                 Some(label) => self.put(label),
-                None => self.put_image(image),
+                None => self.put_image(*image),
             },
         }
     }
@@ -75,9 +75,9 @@ impl Line {
         ensures text { self.new ≡ self.old ++ slots_text (shown outcome.now) }
         ensures length { length self.new ≤ length self.old + 116 }
     {
-        self.put_slot(outcome.primary, labels);
+        self.put_slot(&outcome.primary, labels);
         self.put(" ");
-        self.put_slot(outcome.secondary, labels);
+        self.put_slot(&outcome.secondary, labels);
         self.put(" ");
         self.put(outcome.next.name());
     }

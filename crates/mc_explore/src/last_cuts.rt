@@ -1,0 +1,135 @@
+//! The schedules of the most cuts: the outcomes behind their last cuts are found among those at the cuts of another boot.
+ghost use Rattle.std.specs.Prelude.{◌≡◌, ℕ, List, ◌+◌, ◌∷◌, ◌++◌, [], ◌<◌, ◌≤◌, ◌^◌, length, slice_get, Some, IfOk, IfSome, MatchOption, true};
+ghost use Rattle.mc_boot.specs.Outcome.{outcome_of, shown};
+ghost use Rattle.mc_boot.specs.Rejoin.{place_of};
+ghost use Rattle.mc_flash.specs.Content.{Content};
+ghost use Rattle.mc_flash.specs.Geometry.{Geometry};
+ghost use Rattle.mc_trailer.specs.declared.tables.Rules.{Rules};
+ghost use Rattle.mc_tree.specs.Tree.{landed};
+ghost use Rattle.mc_explore.specs.Boots.{boots};
+ghost use Rattle.mc_explore.specs.LastCuts.{AreAtCuts, AreLastCuts, IsSpent};
+ghost use Rattle.mc_walk.specs.Walks.{start_of};
+
+use crate::Schedule;
+use crate::once::Once;
+use mc_boot::{Outcome, Rejoin};
+use mc_flash::Flash;
+use mc_walk::Walk;
+use std::alloc::{AllocError, Global};
+
+/// More operations than a boot makes.
+const MOST_COUNT: u32 = 0x8000_0000;
+
+/// The outcomes of the boots after the first cuts of one boot. It keeps no more of them than it took room for.
+#[derive(Drop)]
+pub(crate) struct AtCuts {
+    /// The schedule behind which that boot begins.
+    pub of: Schedule,
+    pub outcomes: Vec<Outcome>,
+    room: usize,
+}
+
+/// The last cuts that are still to come, in a boot that goes on with the one that was cut.
+#[derive(Clone, Copy)]
+pub(crate) struct LastCuts {
+    pub rejoin: Rejoin,
+    /// How many operations the boot makes, before each of which it can be cut.
+    pub count: u32,
+    /// The next cut.
+    pub next: u32,
+}
+
+/// The last cuts where one is still to come.
+pub(crate) fn still_to_come(cuts: Option<LastCuts>) -> Option<LastCuts>
+    ensures { MatchOption result (IfSome cuts IsSpent) (λ left. (cuts ≡ Some left) × (left.next
+        < left.count)) }
+{
+    match cuts {
+        Some(left) if left.next < left.count => Some(left),
+        _ => None,
+    }
+}
+
+impl AtCuts {
+    /// No outcomes yet, with room for so many.
+    ///
+    /// # Errors
+    ///
+    /// Where the allocation failed.
+    pub fn new(alloc: Global, room: usize) -> Result<AtCuts, AllocError>
+        ensures { IfOk result (λ none. none.outcomes.items ≡ []) }
+    {
+        Ok(AtCuts {
+            of: Schedule::new(),
+            outcomes: Vec::with_capacity(alloc, room)?,
+            room,
+        })
+    }
+
+    /// The outcome at the cut of its boot where that of the other boot finds its flash.
+    pub fn outcome(&self, rejoin: &Rejoin, number: u32) -> Outcome
+        requires small { number < 2 ^ 31 }
+        requires within { place_of rejoin.now number < length self.now.outcomes.items }
+        ensures { slice_get self.now.outcomes.items (place_of rejoin.now number) ≡ Some result }
+    {
+        let place = rejoin.place(number) as usize;
+        match self.outcomes.get(place) {
+            Some(outcome) => *outcome,
+            None => unreachable!(),
+        }
+    }
+
+    /// The last cuts behind the path of a walk, where its boot goes on with the one that was cut, and all outcomes at the cuts of
+    /// that one are there.
+    pub fn behind<F: Flash>(&self, walk: &Walk<F, Once>, path: &[u32]) -> Option<LastCuts>
+        requires stands { walk.now.stands ≡ true }
+        requires path { path.now ≡ walk.now.path }
+        ensures cuts { let w = walk.now in IfSome result (AreLastCuts w.branches.rules
+            w.branches.layout (start_of w.seen) self.now.of path.now self.now.outcomes.items) }
+        ensures fresh { IfSome result (λ cuts. cuts.next ≡ 0) }
+    {
+        let step = walk.last_step()?;
+        let (_, of) = path.split_last()?;
+        let told = walk.told();
+        let count = told.outcome.ops;
+        let whole = step.parent.outcome.ops as usize;
+        if self.of.cuts() != of
+            || self.outcomes.len() != whole
+            || count == 0
+            || count > MOST_COUNT
+        {
+            return None;
+        }
+        let rejoin = Rejoin::find(walk.flash(), &step.at, &told.boot)?;
+        Some(LastCuts {
+            rejoin,
+            count,
+            next: 0,
+        })
+    }
+
+    /// Keeps the outcome behind a schedule whose last cut but one is before the first operation: what the boot there begins with is
+    /// what the boot before it began with.
+    pub fn keep(&mut self, schedule: &[u32], outcome: Outcome)
+        requires few { length schedule.now ≤ 16 }
+        ensures { (r : Rules) (g : Geometry) (start : Content)
+            → AreAtCuts r g start self.old.of self.old.outcomes.items
+            → outcome_of r g (landed (boots r g) start schedule.now) ≡ Some (shown outcome)
+            → AreAtCuts r g start self.new.of self.new.outcomes.items }
+    {
+        let Some((last, before)) = schedule.split_last() else {
+            return;
+        };
+        let Some((0, of)) = before.split_last() else {
+            return;
+        };
+        if *last == 0 {
+            self.of = Schedule::of(of);
+            self.outcomes.clear();
+        }
+        let count = self.outcomes.len();
+        if self.of.cuts() == of && count == *last as usize && count < self.room {
+            let _ = self.outcomes.push(outcome);
+        }
+    }
+}
