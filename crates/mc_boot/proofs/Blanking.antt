@@ -9,7 +9,7 @@ use Rattle.mc_flash.specs.Blank.{is_blank}
 use Rattle.mc_flash.specs.Content.{Content, IsSized, byte, bytes_of, put, with_bytes}
 use Rattle.mc_flash.specs.Apply.{apply, erased, in_slot, programmed}
 use Rattle.mc_flash.specs.Changes.{Changed, changed, copied, copy_is_program, program_changes, program_was_blank, sized_is}
-use Rattle.mc_flash.specs.Facts.{sector_inside}
+use Rattle.mc_flash.specs.facts.Layouts.{sector_inside}
 use Rattle.mc_boot.proofs.Meets.{Sector, WritesIn, AreThere, IsListed}
 use Rattle.mc_flash.specs.declared.op.Op.{Op}
 use Rattle.mc_flash.specs.declared.op.Op.TheVariants.{Erase, Program, Copy}

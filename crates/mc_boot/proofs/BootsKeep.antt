@@ -19,35 +19,39 @@ use Rattle.mc_flash.specs.declared.flash.Grain.{Grain}
 use Rattle.mc_trailer.specs.declared.tables.Rules.{Rules}
 use Rattle.mc_trailer.specs.declared.tables.SwapType.{SwapType}
 use Rattle.mc_trailer.specs.declared.tables.SwapType.TheVariants as kinds
+use Rattle.mc_boot.specs.PowerOn.{PowerOn, again, power_on}
 
 -- the kind and the count of a boot's plan
 pub record Planned (r : Rules) (g : Geometry) (n : ℕ) (b : Bool) (s : Content) : Type 0 where
   pub kind : SwapType
   pub of : IsSwapOf b kind
-  pub is : (plan r g s).kind ≡ kind
-  pub sectors : (plan r g s).sectors ≡ n
+  pub is : (plan (power_on r g s)).kind ≡ kind
+  pub sectors : (plan (power_on r g s)).sectors ≡ n
 
 -- what a boot from a phase does
-pub record Swaps (R : Content → Type 0) (r : Rules) (g : Geometry) (start : Content) (size n : ℕ) (b : Bool) (s : Content) : Type 0 where
-  pub keeps : Keeps g (Phase R g start size n b) (plan r g s).list s (Ended g start size n b)
-  pub planned : Planned r g n b s
+pub record Swaps (R : Content → Type 0) (x : PowerOn) (size n : ℕ) (b : Bool) (s : Content) : Type 0 where
+  pub keeps : Keeps x.geometry (Phase R x.geometry x.content size n b) (plan (again x s)).list s (Ended x.geometry x.content size n b)
+  pub planned : Planned x.rules x.geometry n b s
 
 -- by the plan that is known
-by_plan : (R : Content → Type 0) (r : Rules) (g : Geometry) (start : Content) (size n : ℕ) (b : Bool) (s : Content) (p : Plan) → plan r g s ≡ p → IsSwapOf b p.kind → p.sectors ≡ n
-    → Keeps g (Phase R g start size n b) p.list s (Ended g start size n b) → Swaps R r g start size n b s
-by_plan R r g start size n b s p is of sectors keeps = record {
-  keeps = let E : Plan → Type 0 = λ q. Keeps g (Phase R g start size n b) q.list s (Ended g start size n b) in subst E (sym is) keeps;
+by_plan : (R : Content → Type 0) (x : PowerOn) (size n : ℕ) (b : Bool) (s : Content) (p : Plan) → plan (again x s) ≡ p → IsSwapOf b p.kind → p.sectors ≡ n
+    → Keeps x.geometry (Phase R x.geometry x.content size n b) p.list s (Ended x.geometry x.content size n b) → Swaps R x size n b s
+by_plan R x size n b s p is of sectors keeps = record {
+  keeps = let E : Plan → Type 0 = λ q. Keeps x.geometry (Phase R x.geometry x.content size n b) q.list s (Ended x.geometry x.content size n b) in subst E (sym is) keeps;
   planned = record { kind = p.kind; of = of; is = ap (λ (q : Plan). q.kind) is; sectors = ap (λ (q : Plan). q.sectors) is ∙ sectors };
 }
 
 -- a boot from where a revert waits
-pub waiting_swaps : (r : Rules) (g : Geometry) (start : Content) (size n : ℕ) → in_pieces r.grain g ≡ g → forgets_reverts r.grain r.profile ≡ false → Swap g start size n → (s : Content)
-    → Waiting r.grain g start n s → Swaps (Waiting r.grain g start n) r g start size n false s
-waiting_swaps r g start size n whole keeps w s is =
-    let F : Geometry → Type 0 = λ x. Keeps g (Phase (Waiting r.grain g start n) g start size n false) (new_list r.grain x kinds.Revert size n) s (Ended g start size n false) in
-    by_plan (Waiting r.grain g start n) r g start size n false s (starting r.grain g kinds.Revert size n) (plan_waiting r g start size n s keeps w (sees_start g start size n s w is.data_) is) refl
+pub waiting_swaps : (x : PowerOn) (size n : ℕ) → in_pieces x.rules.grain x.geometry ≡ x.geometry → forgets_reverts x.rules.grain x.rules.profile ≡ false → Swap x.geometry x.content size n
+    → (s : Content)
+    → Waiting x.rules.grain x.geometry x.content n s → Swaps (Waiting x.rules.grain x.geometry x.content n) x size n false s
+waiting_swaps from size n whole keeps w s is =
+    let g = from.geometry in
+    let c = from.rules.grain in
+    let F : Geometry → Type 0 = λ x. Keeps g (Phase (Waiting c g from.content n) g from.content size n false) (new_list c x kinds.Revert size n) s (Ended g from.content size n false) in
+    by_plan (Waiting c g from.content n) from size n false s (starting c g kinds.Revert size n) (plan_waiting from size n s keeps w (sees_start g from.content size n s w is.data_) is) refl
     refl
-    (subst F (sym whole) (revert_keeps r.grain g start size n s w is))
+    (subst F (sym whole) (revert_keeps c g from.content size n s w is))
 
 -- from where a swap is asked for
 asked_keeps : (R : Content → Type 0) (c : Grain) (g : Geometry) (start : Content) (size n : ℕ) (b : Bool) (s : Content) → Swap g start size n → Asked g start n b s
@@ -59,12 +63,15 @@ of_asked : (b : Bool) → IsSwapOf b (kind_asked b)
 of_asked true = refl
 of_asked false = refl
 
-asked_swaps : (R : Content → Type 0) (r : Rules) (g : Geometry) (start : Content) (size n : ℕ) (b : Bool) → in_pieces r.grain g ≡ g → Swap g start size n → (s : Content) → Asked g start n b s
-    → Swaps R r g start size n b s
-asked_swaps R r g start size n b whole w s is =
-    let F : Geometry → Type 0 = λ x. Keeps g (Phase R g start size n b) (new_list r.grain x (kind_asked b) size n) s (Ended g start size n b) in
-    by_plan R r g start size n b s (starting r.grain g (kind_asked b) size n) (plan_asked r g start size n b s w (sees_start g start size n s w is.data_) is) (of_asked b) refl
-    (subst F (sym whole) (asked_keeps R r.grain g start size n b s w is))
+asked_swaps : (R : Content → Type 0) (x : PowerOn) (size n : ℕ) (b : Bool) → in_pieces x.rules.grain x.geometry ≡ x.geometry → Swap x.geometry x.content size n → (s : Content)
+    → Asked x.geometry x.content n b s
+    → Swaps R x size n b s
+asked_swaps R from size n b whole w s is =
+    let g = from.geometry in
+    let c = from.rules.grain in
+    let F : Geometry → Type 0 = λ x. Keeps g (Phase R g from.content size n b) (new_list c x (kind_asked b) size n) s (Ended g from.content size n b) in
+    by_plan R from size n b s (starting c g (kind_asked b) size n) (plan_asked from size n b s w (sees_start g from.content size n s w is.data_) is) (of_asked b) refl
+    (subst F (sym whole) (asked_keeps R c g from.content size n b s w is))
 
 -- from where it runs
 running_keeps : (R : Content → Type 0) (g : Geometry) (start : Content) (size n : ℕ) (b : Bool) (kind : SwapType) (k : ℕ) (s : Content) → Swap g start size n → IsSwapOf b kind → k ≤ 3 * n
@@ -74,16 +81,17 @@ running_keeps R g start size n b kind (suc j) s w of most is =
     let E : Bool → Type 0 = λ c. Keeps g (Phase R g start size n b) (running g kind n (suc j) c).list s (Ended g start size n b) in
     subst E (sym (other_number (suc j) 0 (λ e. omega (arith, e)))) (rest_keeps R g start size n b kind (suc j) s w of most is)
 
-running_swaps : (R : Content → Type 0) (r : Rules) (g : Geometry) (start : Content) (size n : ℕ) (b : Bool) (kind : SwapType) (k : ℕ) → in_pieces r.grain g ≡ g → Swap g start size n → IsSwapOf b kind
-    → k ≤ 3 * n → (s : Content) → Under g start size n kind k s → Swaps R r g start size n b s
-running_swaps R r g start size n b kind k whole w of most s is =
-    let F : Geometry → Type 0 = λ x. Keeps g (Phase R g start size n b) (running x kind n k (k == 0)).list s (Ended g start size n b) in
-    by_plan R r g start size n b s (running (in_pieces r.grain g) kind n k (k == 0)) (plan_under r g start size n b kind k s w of most is) of refl
-    (subst F (sym whole) (running_keeps R g start size n b kind k s w of most is))
+running_swaps : (R : Content → Type 0) (x : PowerOn) (size n : ℕ) (b : Bool) (kind : SwapType) (k : ℕ) → in_pieces x.rules.grain x.geometry ≡ x.geometry → Swap x.geometry x.content size n
+    → IsSwapOf b kind
+    → k ≤ 3 * n → (s : Content) → Under x.geometry x.content size n kind k s → Swaps R x size n b s
+running_swaps R from size n b kind k whole w of most s is =
+    let F : Geometry → Type 0 = λ x. Keeps from.geometry (Phase R from.geometry from.content size n b) (running x kind n k (k == 0)).list s (Ended from.geometry from.content size n b) in
+    by_plan R from size n b s (running (in_pieces from.rules.grain from.geometry) kind n k (k == 0)) (plan_under from size n b kind k s w of most is) of refl
+    (subst F (sym whole) (running_keeps R from.geometry from.content size n b kind k s w of most is))
 
 -- from each phase
-pub phase_swaps : (R : Content → Type 0) (r : Rules) (g : Geometry) (start : Content) (size n : ℕ) (b : Bool) → in_pieces r.grain g ≡ g → Swap g start size n
-    → ((s : Content) → R s → Swaps R r g start size n b s) → (s : Content) → Phase R g start size n b s → Swaps R r g start size n b s
-phase_swaps R r g start size n b whole w before s (inl is) = before s is
-phase_swaps R r g start size n b whole w before s (inr (inl is)) = asked_swaps R r g start size n b whole w s is
-phase_swaps R r g start size n b whole w before s (inr (inr under)) = running_swaps R r g start size n b under.0 under.1 whole w under.2 under.3 s under.4
+pub phase_swaps : (R : Content → Type 0) (x : PowerOn) (size n : ℕ) (b : Bool) → in_pieces x.rules.grain x.geometry ≡ x.geometry → Swap x.geometry x.content size n
+    → ((s : Content) → R s → Swaps R x size n b s) → (s : Content) → Phase R x.geometry x.content size n b s → Swaps R x size n b s
+phase_swaps R x size n b whole w before s (inl is) = before s is
+phase_swaps R x size n b whole w before s (inr (inl is)) = asked_swaps R x size n b whole w s is
+phase_swaps R x size n b whole w before s (inr (inr under)) = running_swaps R x size n b under.0 under.1 whole w under.2 under.3 s under.4

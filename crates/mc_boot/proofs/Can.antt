@@ -5,7 +5,7 @@ use Rattle.std.proofs.Math.Nat.{mul-le-mul_right, zero-mul}
 use Rattle.mc_flash.specs.Geometry.{Geometry, IsLayout}
 use Rattle.mc_flash.specs.Content.{sectors_of, size_of}
 use Rattle.mc_flash.specs.Apply.{IsRange, CanTry}
-use Rattle.mc_flash.specs.Facts.{whole_add, whole_times, whole_sector, chunks_cover}
+use Rattle.mc_flash.specs.facts.Layouts.{whole_add, whole_times, whole_sector, chunks_cover}
 use Rattle.mc_flash.specs.declared.op.Slot.{Slot}
 use Rattle.mc_flash.specs.declared.op.Slot.TheVariants.{Primary, Secondary}
 use Rattle.mc_boot.specs.declared.transfer.Transfer.{Transfer}

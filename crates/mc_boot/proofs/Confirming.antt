@@ -14,16 +14,16 @@ use Rattle.mc_boot.specs.Restart.{IsSettled}
 use Rattle.mc_flash.specs.Blank.{is_blank}
 use Rattle.mc_flash.specs.Changes.{Changed, blank_range, changed, changed_sized, sized_is}
 use Rattle.mc_flash.specs.Content.{Content, IsSized, put, with_bytes}
-use Rattle.mc_flash.specs.Facts.{small_unit}
+use Rattle.mc_flash.specs.facts.Layouts.{small_unit}
 use Rattle.mc_flash.specs.Geometry.{Geometry, IsLayout}
 use Rattle.mc_flash.specs.Pieces.{in_pieces}
 use Rattle.mc_flash.specs.declared.flash.Grain.{Grain}
-use Rattle.mc_trailer.specs.FieldFacts.{FieldIs, blank_byte, field_as, field_kept_beside, field_kept_elsewhere, reads_absent, reads_copy_done, reads_good, reads_image_ok, same_field_is, written_field}
+use Rattle.mc_trailer.specs.facts.Fields.{FieldIs, blank_byte, field_as, field_kept_beside, field_kept_elsewhere}
+use Rattle.mc_trailer.specs.facts.Fields.{reads_absent, reads_copy_done, reads_good, reads_image_ok, same_field_is, written_field}
 use Rattle.mc_trailer.specs.Fields.{bytes_at, flag_of, one_unit, trailer_of}
-use Rattle.mc_trailer.specs.PlaceFacts.{field_ends, one_unit_fits, one_unit_len}
+use Rattle.mc_trailer.specs.facts.Places.{field_ends, one_unit_fits, one_unit_len}
 use Rattle.mc_trailer.specs.Places.{place}
 use Rattle.mc_trailer.specs.Tables.{is_good, is_set}
-use Rattle.mc_trailer.specs.declared.tables.Rules.{Rules}
 use Rattle.mc_trailer.specs.declared.trailer.Trailer.{Trailer}
 use Rattle.mc_trailer.specs.declared.places.Field.TheVariants as field
 use Rattle.mc_trailer.specs.declared.tables.SwapType.TheVariants as kinds
@@ -31,6 +31,7 @@ use Rattle.mc_trailer.specs.declared.trailer.Flag.TheVariants as flags
 use Rattle.mc_trailer.specs.declared.trailer.Magic.TheVariants as magics
 use Rattle.mc_flash.specs.declared.flash.Grain.TheVariants as grains
 use Rattle.mc_flash.specs.declared.op.Slot.TheVariants.{Primary, Secondary}
+use Rattle.mc_boot.specs.PowerOn.{PowerOn, again}
 
 -- the chunk plays no part in it
 pub confirmed_pieces : (c : Grain) (g : Geometry) (s : Content) → confirmed (in_pieces c g) s ≡ confirmed g s
@@ -39,67 +40,70 @@ confirmed_pieces grains.Call g s = refl
 confirmed_pieces grains.Unit g s = refl
 
 -- after a test: image-ok is written, and the swap stays
-pub record Confirmed (r : Rules) (g : Geometry) (start : Content) (n : ℕ) (m : Content) : Type 0 where
-  pub data_ : Data g n start (3 * n) m
-  pub settled : IsSettled r g m
+pub record Confirmed (x : PowerOn) (n : ℕ) (m : Content) : Type 0 where
+  pub data_ : Data x.geometry n x.content (3 * n) m
+  pub settled : IsSettled (again x m)
 
-module _ (r : Rules) (g : Geometry) (start : Content) (size n : ℕ) (z : Content) (w : Swap g start size n) (e : Ended g start size n true z) where
+module _ (from : PowerOn) (size n : ℕ) (z : Content) (w : Swap from.geometry from.content size n) (e : Ended from.geometry from.content size n true z) where
   m : Content
-  m = with_bytes z Primary (put z.primary (place g Primary field.ImageOk) (one_unit g 1))
+  m = with_bytes z Primary (put z.primary (place from.geometry Primary field.ImageOk) (one_unit from.geometry 1))
 
-  free : FieldIs g z Primary field.ImageOk (replicate 8 255)
-  free = field_as g z Primary field.ImageOk _ (replicate 8 255) (ap (λ (c : Bool). if c then replicate 8 255 else one_unit g 1) (swap_of true e.0 e.1)) (e.2.primary field.ImageOk)
+  free : FieldIs from.geometry z Primary field.ImageOk (replicate 8 255)
+  free = field_as from.geometry z Primary field.ImageOk _ (replicate 8 255) (ap (λ (c : Bool). if c then replicate 8 255 else one_unit from.geometry 1) (swap_of true e.0 e.1))
+      (e.2.primary field.ImageOk)
 
-  inside : place g Primary field.ImageOk + g.unit ≤ length z.primary
-  inside = let unit = small_unit g w.ok in omega (arith, unit, field_ends g Primary field.ImageOk w.ok, sized_is g z Primary e.2.data_.sized)
+  inside : place from.geometry Primary field.ImageOk + from.geometry.unit ≤ length z.primary
+  inside = let unit = small_unit from.geometry w.ok in omega (arith, unit, field_ends from.geometry Primary field.ImageOk w.ok, sized_is from.geometry z Primary e.2.data_.sized)
 
-  blank : is_blank (bytes_at z Primary (place g Primary field.ImageOk) g.unit) ≡ true
-  blank = blank_range z.primary (place g Primary field.ImageOk) g.unit inside (λ i h. let unit = small_unit g w.ok in blank_byte g z Primary field.ImageOk i free (omega (arith, h, unit)))
+  blank : is_blank (bytes_at z Primary (place from.geometry Primary field.ImageOk) from.geometry.unit) ≡ true
+  blank = blank_range z.primary (place from.geometry Primary field.ImageOk) from.geometry.unit inside
+      (λ i h. let unit = small_unit from.geometry w.ok in blank_byte from.geometry z Primary field.ImageOk i free (omega (arith, h, unit)))
 
   all_three : (p : Trailer) (free : Bool) → p.magic ≡ magics.Good → p.copy_done ≡ flags.Set → free ≡ true → (is_good p.magic && is_set p.copy_done && free) ≡ true
   all_three p free good set is = rw good (rw set (rw is refl))
 
-  may : may_confirm g z ≡ true
+  may : may_confirm from.geometry z ≡ true
   may =
-      all_three (trailer_of g z Primary) (is_blank (bytes_at z Primary (place g Primary field.ImageOk) g.unit))
-      (reads_good g z Primary w.ok e.2.data_.sized (e.2.primary field.Magic))
-      (reads_copy_done g z Primary 1 (replicate (g.unit - 1) 255) (e.2.primary field.CopyDone))
+      all_three (trailer_of from.geometry z Primary) (is_blank (bytes_at z Primary (place from.geometry Primary field.ImageOk) from.geometry.unit))
+      (reads_good from.geometry z Primary w.ok e.2.data_.sized (e.2.primary field.Magic))
+      (reads_copy_done from.geometry z Primary 1 (replicate (from.geometry.unit - 1) 255) (e.2.primary field.CopyDone))
       blank
 
-  confirmed_is : confirmed g z ≡ m
+  confirmed_is : confirmed from.geometry z ≡ m
   unfolding confirmed m
   confirmed_is = ap (λ (c : Bool). if c then m else z) may
 
-  ch : Changed z m Primary (place g Primary field.ImageOk) (one_unit g 1)
+  ch : Changed z m Primary (place from.geometry Primary field.ImageOk) (one_unit from.geometry 1)
   unfolding m
-  ch = changed z Primary (place g Primary field.ImageOk) (one_unit g 1) (omega (arith, inside, one_unit_len g 1 w.ok))
+  ch = changed z Primary (place from.geometry Primary field.ImageOk) (one_unit from.geometry 1) (omega (arith, inside, one_unit_len from.geometry 1 w.ok))
 
-  sized : IsSized g m
-  sized = changed_sized g z m Primary (place g Primary field.ImageOk) (one_unit g 1) ch e.2.data_.sized
+  sized : IsSized from.geometry m
+  sized = changed_sized from.geometry z m Primary (place from.geometry Primary field.ImageOk) (one_unit from.geometry 1) ch e.2.data_.sized
 
-  set : (trailer_of g m Primary).image_ok ≡ flags.Set
-  set = reads_image_ok g m Primary 1 (replicate (g.unit - 1) 255) (written_field g z m Primary field.ImageOk (one_unit g 1) ch)
+  set : (trailer_of from.geometry m Primary).image_ok ≡ flags.Set
+  set = reads_image_ok from.geometry m Primary 1 (replicate (from.geometry.unit - 1) 255) (written_field from.geometry z m Primary field.ImageOk (one_unit from.geometry 1) ch)
 
-  copied : (trailer_of g m Primary).copy_done ≡ flags.Set
+  copied : (trailer_of from.geometry m Primary).copy_done ≡ flags.Set
   copied =
-      reads_copy_done g m Primary 1 (replicate (g.unit - 1) 255)
-      (same_field_is g z m Primary field.CopyDone (one_unit g 1)
-      (field_kept_beside g z m Primary field.ImageOk field.CopyDone (one_unit g 1) w.ok ch (one_unit_fits g 1 field.ImageOk w.ok) (λ same. cc))
+      reads_copy_done from.geometry m Primary 1 (replicate (from.geometry.unit - 1) 255)
+      (same_field_is from.geometry z m Primary field.CopyDone (one_unit from.geometry 1)
+      (field_kept_beside from.geometry z m Primary field.ImageOk field.CopyDone (one_unit from.geometry 1) w.ok ch (one_unit_fits from.geometry 1 field.ImageOk w.ok) (λ same. cc))
       (e.2.primary field.CopyDone))
 
-  absent : (trailer_of g m Secondary).magic ≡ magics.Unset
+  absent : (trailer_of from.geometry m Secondary).magic ≡ magics.Unset
   absent =
-      reads_absent g m Secondary w.ok sized
-      (same_field_is g z m Secondary field.Magic (unasked field.Magic)
-      (field_kept_elsewhere g z m Primary Secondary (place g Primary field.ImageOk) (one_unit g 1) field.Magic ch (λ same. cc))
+      reads_absent from.geometry m Secondary w.ok sized
+      (same_field_is from.geometry z m Secondary field.Magic (unasked field.Magic)
+      (field_kept_elsewhere from.geometry z m Primary Secondary (place from.geometry Primary field.ImageOk) (one_unit from.geometry 1) field.Magic ch (λ same. cc))
       (e.2.secondary field.Magic))
 
-  pub confirmed_stays : Confirmed r g start n (confirmed g z)
+  pub confirmed_stays : Confirmed from n (confirmed from.geometry z)
   confirmed_stays =
-      let stays : plan r g m ≡ nothing kinds.None = plan_settled r g m copied absent set in
-      let E : Content → Type 0 = λ x. Confirmed r g start n x in
+      let stays : plan (again from m) ≡ nothing kinds.None = plan_settled (again from m) copied absent set in
+      let E : Content → Type 0 = λ x. Confirmed from n x in
       subst E (sym confirmed_is) (record {
-        data_ = data_same g n start (3 * n) z m sized (kept_below g z m Primary (place g Primary field.ImageOk) (one_unit g 1) ch (place_behind_data g Primary field.ImageOk w.ok)) e.2.data_;
+        data_ = data_same from.geometry n from.content (3 * n) z m sized
+            (kept_below from.geometry z m Primary (place from.geometry Primary field.ImageOk) (one_unit from.geometry 1) ch (place_behind_data from.geometry Primary field.ImageOk w.ok)) e.2.data_;
         settled = record { image_ok = set; copy_done = copied; next = ap (λ (p : Plan). p.kind) stays; idle = ap (λ (p : Plan). p.list) stays };
       })
 
@@ -123,19 +127,19 @@ never true true = refl
 never true false = refl
 never false done = refl
 
-pub settled_stays : (r : Rules) (g : Geometry) (z : Content) → IsLayout g → IsSettled r g z → confirmed g z ≡ z
+pub settled_stays : (x : PowerOn) → IsLayout x.geometry → IsSettled x → confirmed x.geometry x.content ≡ x.content
 unfolding confirmed trailer_of
-settled_stays r g z ok settled =
-    let unit = small_unit g ok in
-    let one : slice_index z.primary (place g Primary field.ImageOk) ≡ 1 = is_one (slice_index z.primary (place g Primary field.ImageOk)) settled.image_ok in
-    let written : is_blank (bytes_at z Primary (place g Primary field.ImageOk) g.unit) ≡ false =
-    marked (bytes_at z Primary (place g Primary field.ImageOk) g.unit)
-    (get_or-between z.primary (place g Primary field.ImageOk) (place g Primary field.ImageOk + g.unit) 0 0 (omega (arith, unit))
-    ∙ ap (slice_index z.primary) (add-zero (place g Primary field.ImageOk)) ∙ one) in
-    let may : may_confirm g z ≡ false =
-    ap (λ (c : Bool). is_good (trailer_of g z Primary).magic && is_set (trailer_of g z Primary).copy_done && c) written
-    ∙ never (is_good (trailer_of g z Primary).magic) (is_set (trailer_of g z Primary).copy_done) in
-    ap (λ (c : Bool). if c then with_bytes z Primary (put z.primary (place g Primary field.ImageOk) (one_unit g 1)) else z) may
+settled_stays x ok settled =
+    let unit = small_unit x.geometry ok in
+    let one : slice_index x.content.primary (place x.geometry Primary field.ImageOk) ≡ 1 = is_one (slice_index x.content.primary (place x.geometry Primary field.ImageOk)) settled.image_ok in
+    let written : is_blank (bytes_at x.content Primary (place x.geometry Primary field.ImageOk) x.geometry.unit) ≡ false =
+    marked (bytes_at x.content Primary (place x.geometry Primary field.ImageOk) x.geometry.unit)
+    (get_or-between x.content.primary (place x.geometry Primary field.ImageOk) (place x.geometry Primary field.ImageOk + x.geometry.unit) 0 0 (omega (arith, unit))
+    ∙ ap (slice_index x.content.primary) (add-zero (place x.geometry Primary field.ImageOk)) ∙ one) in
+    let may : may_confirm x.geometry x.content ≡ false =
+    ap (λ (c : Bool). is_good (trailer_of x.geometry x.content Primary).magic && is_set (trailer_of x.geometry x.content Primary).copy_done && c) written
+    ∙ never (is_good (trailer_of x.geometry x.content Primary).magic) (is_set (trailer_of x.geometry x.content Primary).copy_done) in
+    ap (λ (c : Bool). if c then with_bytes x.content Primary (put x.content.primary (place x.geometry Primary field.ImageOk) (one_unit x.geometry 1)) else x.content) may
 
 -- no magic, and nothing to confirm
 pub unmarked_stays : (g : Geometry) (z : Content) → (trailer_of g z Primary).magic ≡ magics.Unset → confirmed g z ≡ z

@@ -9,7 +9,7 @@ use Rattle.std.proofs.Math.Seq.{drop-append-add}
 use Rattle.std.proofs.lemmas.List.{drop-drop, length-drop}
 use Rattle.std.proofs.lemmas.List.FromFn.{length-map-range_with_len}
 use Rattle.mc_flash.specs.Geometry.{Geometry, IsLayout, greatest_sectors, trailer_sectors}
-use Rattle.mc_flash.specs.Facts.{trailer_leaves_one}
+use Rattle.mc_flash.specs.facts.Layouts.{trailer_leaves_one}
 use Rattle.mc_flash.specs.Content.{Content, IsSized, sectors_of}
 use Rattle.mc_flash.specs.Pieces.{in_pieces}
 use Rattle.mc_flash.specs.declared.flash.Grain.{Grain}
@@ -18,7 +18,6 @@ use Rattle.mc_flash.specs.declared.op.Op.{Op}
 use Rattle.mc_flash.specs.declared.op.Op.TheVariants.{Erase, Program, Copy}
 use Rattle.mc_flash.specs.declared.op.Slot.{Slot}
 use Rattle.mc_flash.specs.declared.op.Slot.TheVariants.{Primary, Secondary}
-use Rattle.mc_trailer.specs.declared.tables.Rules.{Rules}
 use Rattle.mc_trailer.specs.declared.tables.SwapType.{SwapType}
 use Rattle.mc_boot.specs.declared.course.Course.{Course}
 use Rattle.mc_boot.specs.declared.course.Opening.{Opening}
@@ -37,6 +36,7 @@ use Rattle.mc_boot.proofs.Joins.{Joins}
 use Rattle.mc_boot.proofs.Places.{drop_at_place}
 use Rattle.mc_boot.proofs.Sections.{length-steps, length-transfers}
 use Rattle.mc_boot.proofs.TransferFacts.{fits_at, there_is}
+use Rattle.mc_boot.specs.PowerOn.{PowerOn, again}
 
 -- ---- lists
 
@@ -267,9 +267,9 @@ begins_pieces c g ops es reach b = record {
 -- ---- the test
 
 -- Where the next list goes on with the one that was cut the boots join.
-pub met_joins : (r : Rules) (g : Geometry) (s u : Content) (c j erases : ℕ) (ops rest : List Op) (m : Meets g ops rest c j erases) → IsSized g s → at r g s c ≡ Some u → c < length (ops_of r g s)
-    → (plan r g s).list ≡ ops → (plan r g u).list ≡ rest → Joins r g s u c j m.sectors
-met_joins r g s u c j erases ops rest m sized cut early list_s list_u = record {
+pub met_joins : (x : PowerOn) (u : Content) (c j erases : ℕ) (ops rest : List Op) (m : Meets x.geometry ops rest c j erases) → IsSized x.geometry x.content → at x c ≡ Some u → c < length (ops_of x)
+    → (plan x).list ≡ ops → (plan (again x u)).list ≡ rest → Joins x u c j m.sectors
+met_joins x u c j erases ops rest m sized cut early list_s list_u = record {
   sized = sized;
   cut = cut;
   early = early;
@@ -278,9 +278,9 @@ met_joins r g s u c j erases ops rest m sized cut early list_s list_u = record {
   there = m.begins.there;
   erases = ap (take (length m.sectors)) list_u ∙ m.begins.erases;
   inside =
-      let P : List Op → Type 0 = λ xs. AllByRecursion (WritesIn g m.sectors) (take (c - j) xs) in
+      let P : List Op → Type 0 = λ xs. AllByRecursion (WritesIn x.geometry m.sectors) (take (c - j) xs) in
       let high = m.reached in
-      subst P (sym list_u) (all_less (WritesIn g m.sectors) rest (c - j) m.reach (omega (arith, high)) m.begins.inside);
+      subst P (sym list_u) (all_less (WritesIn x.geometry m.sectors) rest (c - j) m.reach (omega (arith, high)) m.begins.inside);
 }
 
 -- ---- erases before others

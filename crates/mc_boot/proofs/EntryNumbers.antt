@@ -5,12 +5,12 @@ use Rattle.std.proofs.lemmas.Bool.Decides.{nat_tests}
 use Rattle.std.proofs.lemmas.Bool.{cases_lt}
 use Rattle.mc_flash.specs.Changes.{Changed}
 use Rattle.mc_flash.specs.Content.{Content, IsSized, byte, size_of}
-use Rattle.mc_flash.specs.Facts.{small_unit}
+use Rattle.mc_flash.specs.facts.Layouts.{small_unit}
 use Rattle.mc_flash.specs.Geometry.{Geometry, IsLayout, trailer_bytes}
 use Rattle.mc_trailer.specs.Entries.{highest_entry}
-use Rattle.mc_trailer.specs.EntryFacts.{blank_entry, entries_same, entry_kept_beside, highest_at, highest_none, written_entry}
+use Rattle.mc_trailer.specs.facts.Entries.{blank_entry, entries_same, entry_kept_beside, highest_at, highest_none, written_entry}
 use Rattle.mc_trailer.specs.Fields.{one_unit}
-use Rattle.mc_trailer.specs.PlaceFacts.{entry_ends, entry_inside}
+use Rattle.mc_trailer.specs.facts.Places.{entry_ends, entry_inside}
 use Rattle.mc_trailer.specs.Places.{entry_place}
 use Rattle.mc_flash.specs.declared.op.Slot.TheVariants.{Primary}
 

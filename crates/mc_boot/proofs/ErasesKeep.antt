@@ -7,7 +7,7 @@ use Rattle.mc_boot.proofs.Keeps.{Keeps, keeps_range}
 use Rattle.mc_boot.specs.Writes.{trailer_erase, trailer_erases}
 use Rattle.mc_flash.specs.Changes.{Changed, erase_changes, sized_is}
 use Rattle.mc_flash.specs.Content.{Content, IsSized, byte, bytes_of, sectors_of, size_of}
-use Rattle.mc_flash.specs.Facts.{data_end, sector_inside, trailer_leaves_one, trailer_sector_behind_data}
+use Rattle.mc_flash.specs.facts.Layouts.{data_end, sector_inside, trailer_leaves_one, trailer_sector_behind_data}
 use Rattle.mc_flash.specs.Geometry.{Geometry, IsLayout, trailer_sectors}
 use Rattle.mc_flash.specs.declared.op.Slot.{Slot}
 

@@ -7,12 +7,13 @@ use Rattle.mc_boot.proofs.PiecesKeep.{Part, pieces_keep}
 use Rattle.mc_boot.specs.Writes.{write}
 use Rattle.mc_flash.specs.Changes.{Changed, sized_is}
 use Rattle.mc_flash.specs.Content.{Content, IsSized}
-use Rattle.mc_flash.specs.Facts.{data_end}
+use Rattle.mc_flash.specs.facts.Layouts.{data_end}
 use Rattle.mc_flash.specs.Geometry.{Geometry, IsLayout}
 use Rattle.mc_flash.specs.declared.flash.Grain.{Grain}
 use Rattle.mc_flash.specs.declared.op.Slot.{Slot}
-use Rattle.mc_trailer.specs.FieldFacts.{FieldIs, blank_byte, field_write}
-use Rattle.mc_trailer.specs.PlaceFacts.{field_behind_data, field_ends, room}
+use Rattle.mc_trailer.specs.facts.Fields.{FieldIs, blank_byte, field_write}
+use Rattle.mc_trailer.specs.facts.Places.{field_behind_data, field_ends}
+use Rattle.mc_trailer.specs.Places.{room}
 use Rattle.mc_trailer.specs.Places.{place}
 use Rattle.mc_trailer.specs.declared.places.Field.{Field}
 use Rattle.mc_flash.specs.declared.flash.Grain.TheVariants as grains

@@ -17,11 +17,11 @@ use Rattle.mc_boot.specs.Transfers.{moved_up, transfers}
 use Rattle.mc_boot.specs.declared.transfer.Transfer.{Transfer}
 use Rattle.mc_flash.specs.Changes.{sized_is}
 use Rattle.mc_flash.specs.Content.{Content, IsSized, byte, bytes_of, size_of}
-use Rattle.mc_flash.specs.Facts.{data_before_trailer, data_sectors, image_is_data}
+use Rattle.mc_flash.specs.facts.Layouts.{data_before_trailer, data_sectors, image_is_data}
 use Rattle.mc_flash.specs.Geometry.{Geometry, IsLayout, greatest_sectors}
 use Rattle.mc_flash.specs.declared.op.Slot.{Slot}
 use Rattle.mc_image.specs.Valid.{is_valid}
-use Rattle.mc_trailer.specs.PlaceFacts.{room}
+use Rattle.mc_trailer.specs.Places.{room}
 use Rattle.mc_flash.specs.declared.op.Slot.TheVariants.{Primary, Secondary}
 
 abbrev pub other_slot : Slot → Slot

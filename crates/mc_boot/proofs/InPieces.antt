@@ -13,7 +13,7 @@ use Rattle.mc_flash.specs.Geometry.{Geometry}
 use Rattle.mc_flash.specs.Pieces.{in_pieces, pieces_layout}
 use Rattle.mc_flash.specs.declared.flash.Grain.{Grain}
 use Rattle.mc_flash.specs.declared.op.Op.{Op}
-use Rattle.mc_trailer.specs.FieldFacts.{FieldsAre}
+use Rattle.mc_trailer.specs.facts.Fields.{FieldsAre}
 use Rattle.mc_trailer.specs.Fields.{trailer_of}
 use Rattle.mc_trailer.specs.declared.places.Field.{Field}
 use Rattle.mc_trailer.specs.declared.tables.Profile.{Profile}
@@ -21,12 +21,14 @@ use Rattle.mc_trailer.specs.declared.places.Field.TheVariants as field
 use Rattle.mc_flash.specs.declared.flash.Grain.TheVariants as grains
 use Rattle.mc_flash.specs.declared.op.Slot.TheVariants.{Primary, Secondary}
 use Rattle.mc_flash.specs.declared.op.Op.TheVariants.{Erase, Program, Copy}
+use Rattle.mc_boot.specs.PowerOn.{power_on}
 
 pub pieces_again : (c : Grain) (g : Geometry) → in_pieces c (in_pieces c g) ≡ in_pieces c g
 pieces_again grains.Call g = refl
 pieces_again grains.Unit g = refl
 
-pub plan_in_pieces : (c : Grain) (p : Profile) (g : Geometry) (s : Content) → plan (record { grain = c; profile = p }) (in_pieces c g) s ≡ plan (record { grain = c; profile = p }) g s
+pub plan_in_pieces : (c : Grain) (p : Profile) (g : Geometry) (s : Content)
+    → plan (power_on (record { grain = c; profile = p }) (in_pieces c g) s) ≡ plan (power_on (record { grain = c; profile = p }) g s)
 unfolding plan plan_with trailer_of
 plan_in_pieces grains.Call p g s = refl
 plan_in_pieces grains.Unit p g s = refl

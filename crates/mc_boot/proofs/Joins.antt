@@ -30,22 +30,23 @@ use Rattle.mc_boot.specs.Image.{images_of}
 use Rattle.mc_boot.specs.Course.{new_list}
 use Rattle.mc_boot.specs.Plan.{Plan, nothing, new_swap, new_plan, first_left, resumed_from, resumed_swap, resumed_plan, plan_with, plan}
 use Rattle.mc_boot.specs.Runs.{applied, first_then, happening, ops_of, at, is_faulted, left_by}
-use Rattle.mc_boot.specs.RunFacts.{happening_front, left_defined}
+use Rattle.mc_boot.specs.facts.Run.{happening_front, left_defined}
 use Rattle.mc_boot.specs.Outcome.{Report, is_panic, result_of, report, outcome_of}
 use Rattle.mc_boot.proofs.Meets.{Sector, WritesIn, AreThere, erase_of}
 use Rattle.mc_boot.proofs.Blanking.{blank, erase_in, Fit, fit_there, fit_longer, op_blanked, op_longer}
+use Rattle.mc_boot.specs.PowerOn.{PowerOn, again, power_on}
 
 -- A boot of s was cut after c operations and left u. The list of the next boot is the first one's without its first j, it
 -- begins with erases of some sectors, and what the first boot made of it wrote in these alone.
-pub record Joins (r : Rules) (g : Geometry) (s u : Content) (c j : ℕ) (es : List Sector) : Type 0 where
-  pub sized : IsSized g s
-  pub cut : at r g s c ≡ Some u
-  pub early : c < length (ops_of r g s)
+pub record Joins (x : PowerOn) (u : Content) (c j : ℕ) (es : List Sector) : Type 0 where
+  pub sized : IsSized x.geometry x.content
+  pub cut : at x c ≡ Some u
+  pub early : c < length (ops_of x)
   pub passed : j ≤ c
-  pub rest : (plan r g u).list ≡ drop j (plan r g s).list
-  pub there : AreThere g es
-  pub erases : take (length es) (plan r g u).list ≡ map erase_of es
-  pub inside : AllByRecursion (WritesIn g es) (take (c - j) (plan r g u).list)
+  pub rest : (plan (again x u)).list ≡ drop j (plan x).list
+  pub there : AreThere x.geometry es
+  pub erases : take (length es) (plan (again x u)).list ≡ map erase_of es
+  pub inside : AllByRecursion (WritesIn x.geometry es) (take (c - j) (plan (again x u)).list)
 
 -- The report of a boot of that type that makes j operations fewer.
 abbrev pub less : SwapType → ℕ → Report → Report
@@ -59,11 +60,11 @@ less kind j o = record {
 }
 
 -- The next boot ends as the one that was cut would have, with j operations fewer.
-pub record IsJoined (r : Rules) (g : Geometry) (s u : Content) (j : ℕ) : Type 0 where
-  pub count : length (ops_of r g u) + j ≡ length (ops_of r g s)
-  pub faulted : is_faulted r g u ≡ is_faulted r g s
-  pub left : left_by r g u ≡ left_by r g s
-  pub outcome : outcome_of r g u ≡ option_map (less (plan r g u).kind j) (outcome_of r g s)
+pub record IsJoined (x : PowerOn) (u : Content) (j : ℕ) : Type 0 where
+  pub count : length (ops_of (again x u)) + j ≡ length (ops_of x)
+  pub faulted : is_faulted (again x u) ≡ is_faulted x
+  pub left : left_by (again x u) ≡ left_by x
+  pub outcome : outcome_of (again x u) ≡ option_map (less (plan (again x u)).kind j) (outcome_of x)
 
 -- ---- lists of operations, some of which may be refused
 
@@ -202,63 +203,68 @@ resumed_plan_calm c g t highest =
     (resumed_swap_calm c g t.image_ok highest kinds.Revert n refl)
     (idle_calm kinds.None)))
 
-pub plan_calm : (r : Rules) (g : Geometry) (s : Content) → 0 < length (plan r g s).list → is_panic (plan r g s).kind ≡ false
+pub plan_calm : (x : PowerOn) → 0 < length (plan x).list → is_panic (plan x).kind ≡ false
 unfolding plan plan_with
-plan_calm r g s =
-    either_calm (is_resumed g s) (resumed_plan r.grain g (trailer_of g s Primary) (highest_entry g s)) (new_plan r.grain g (images_of s) (table_of r.profile g s))
-    (resumed_plan_calm r.grain g (trailer_of g s Primary) (highest_entry g s))
-    (new_plan_calm r.grain g (images_of s) (table_of r.profile g s))
+plan_calm x =
+    let g = x.geometry in
+    let s = x.content in
+    let c = x.rules.grain in
+    either_calm (is_resumed g s) (resumed_plan c g (trailer_of g s Primary) (highest_entry g s)) (new_plan c g (images_of s) (table_of x.rules.profile g s))
+    (resumed_plan_calm c g (trailer_of g s Primary) (highest_entry g s))
+    (new_plan_calm c g (images_of s) (table_of x.rules.profile g s))
 
 -- ---- the lemma
 
 -- What the first boot had left when the list of the next one begins: alike with what the next one begins with, once sectors are
 -- blanked, so that the same happens of that list.
-pub record Met (r : Rules) (g : Geometry) (s u : Content) (j : ℕ) (es : List Sector) : Type 0 where
+pub record Met (x : PowerOn) (u : Content) (j : ℕ) (es : List Sector) : Type 0 where
   pub from : Content
-  pub start : applied g (take j (plan r g s).list) s ≡ Some from
-  pub fits : Fit g es from
-  pub alike : blank g es u ≡ blank g es from
-  pub run : SameRun g (plan r g u).list from u
+  pub start : applied x.geometry (take j (plan x).list) x.content ≡ Some from
+  pub fits : Fit x.geometry es from
+  pub alike : blank x.geometry es u ≡ blank x.geometry es from
+  pub run : SameRun x.geometry (plan (again x u)).list from u
 
-pub meets : (r : Rules) (g : Geometry) (s u : Content) (c j : ℕ) (es : List Sector) → Joins r g s u c j es → Met r g s u j es
+pub meets : (x : PowerOn) (u : Content) (c j : ℕ) (es : List Sector) → Joins x u c j es → Met x u j es
 unfolding at ops_of
-meets r g s u c j es joins =
-    let cut : applied g (take c (happening g (plan r g s).list s)) s ≡ Some u = joins.cut in
+meets x u c j es joins =
+    let g = x.geometry in
+    let s = x.content in
+    let cut : applied g (take c (happening g (plan x).list s)) s ≡ Some u = joins.cut in
     let early = joins.early in
     let passed = joins.passed in
-    let front : take c (happening g (plan r g s).list s) ≡ take j (plan r g s).list ++ take (c - j) (plan r g u).list =
-    happens_front g (plan r g s).list c s (omega (arith, early))
-    ∙ ap (λ (n : ℕ). take n (plan r g s).list) (omega (arith, passed))
-    ∙ take-add j (c - j) (plan r g s).list
-    ∙ ap (λ (xs : List Op). take j (plan r g s).list ++ take (c - j) xs) (sym joins.rest) in
-    let parts = applied_parts g (take j (plan r g s).list) (take (c - j) (plan r g u).list) s u (ap (λ (xs : List Op). applied g xs s) (sym front) ∙ cut) in
-    let fits : Fit g es parts.0 = fit_longer g es s parts.0 (applied_longer g (take j (plan r g s).list) s parts.0 parts.1) (fit_there g es s joins.sized joins.there) in
-    let alike = applied_blanked g es (take (c - j) (plan r g u).list) parts.0 u joins.inside fits parts.2 in
+    let front : take c (happening g (plan x).list s) ≡ take j (plan x).list ++ take (c - j) (plan (again x u)).list =
+    happens_front g (plan x).list c s (omega (arith, early))
+    ∙ ap (λ (n : ℕ). take n (plan x).list) (omega (arith, passed))
+    ∙ take-add j (c - j) (plan x).list
+    ∙ ap (λ (xs : List Op). take j (plan x).list ++ take (c - j) xs) (sym joins.rest) in
+    let parts = applied_parts g (take j (plan x).list) (take (c - j) (plan (again x u)).list) s u (ap (λ (xs : List Op). applied g xs s) (sym front) ∙ cut) in
+    let fits : Fit g es parts.0 = fit_longer g es s parts.0 (applied_longer g (take j (plan x).list) s parts.0 parts.1) (fit_there g es s joins.sized joins.there) in
+    let alike = applied_blanked g es (take (c - j) (plan (again x u)).list) parts.0 u joins.inside fits parts.2 in
     record {
       from = parts.0;
       start = parts.1;
       fits = fits;
       alike = alike;
-      run = same_run g es (plan r g u).list parts.0 u joins.erases alike;
+      run = same_run g es (plan (again x u)).list parts.0 u joins.erases alike;
     }
 
-pub happens_few_of : (r : Rules) (g : Geometry) (s : Content) → length (ops_of r g s) ≤ length (plan r g s).list
+pub happens_few_of : (x : PowerOn) → length (ops_of x) ≤ length (plan x).list
 unfolding ops_of
-happens_few_of r g s = happens_few g (plan r g s).list s
+happens_few_of x = happens_few x.geometry (plan x).list x.content
 
 -- What happens of the boot that was cut: what it had made when the list of the next one begins, and what happens of that.
-pub happens_all : (r : Rules) (g : Geometry) (s u : Content) (c j : ℕ) (es : List Sector) → Joins r g s u c j es
-    → ops_of r g s ≡ take j (plan r g s).list ++ ops_of r g u
+pub happens_all : (x : PowerOn) (u : Content) (c j : ℕ) (es : List Sector) → Joins x u c j es
+    → ops_of x ≡ take j (plan x).list ++ ops_of (again x u)
 unfolding ops_of
-happens_all r g s u c j es joins =
-    let met = meets r g s u c j es joins in
-    happening_front g (plan r g s).list j s met.from met.start
-    ∙ ap (λ (xs : List Op). take j (plan r g s).list ++ happening g xs met.from) (sym joins.rest)
-    ∙ ap (λ (xs : List Op). take j (plan r g s).list ++ xs) met.run.happens
+happens_all x u c j es joins =
+    let met = meets x u c j es joins in
+    happening_front x.geometry (plan x).list j x.content met.from met.start
+    ∙ ap (λ (xs : List Op). take j (plan x).list ++ happening x.geometry xs met.from) (sym joins.rest)
+    ∙ ap (λ (xs : List Op). take j (plan x).list ++ xs) met.run.happens
 
-left_is : (r : Rules) (g : Geometry) (s : Content) → left_by r g s ≡ applied g (happening g (plan r g s).list s) s
+left_is : (x : PowerOn) → left_by x ≡ applied x.geometry (happening x.geometry (plan x).list x.content) x.content
 unfolding left_by at ops_of
-left_is r g s = ap (λ (xs : List Op). applied g xs s) (take-length (happening g (plan r g s).list s))
+left_is x = ap (λ (xs : List Op). applied x.geometry xs x.content) (take-length (happening x.geometry (plan x).list x.content))
 
 same_fault : (n m a b j : ℕ) → n + j ≡ m → a + j ≡ b → nat_lt n a ≡ nat_lt m b
 same_fault n m a b j p q = grind (arith, nat_tests)
@@ -270,7 +276,7 @@ less_report : (r : Rules) (g : Geometry) (k l : SwapType) (n m j : ℕ) (faulted
     → report r g k n faulted z ≡ less k j (report r g l m faulted z)
 unfolding report
 less_report r g k l n m j faulted z one two count =
-    let here : BootResult → ℕ → Report = λ x i. record { result = x; kind = k; ops = i; primary = id_of z.primary; secondary = id_of z.secondary; next = (plan r g z).kind } in
+    let here : BootResult → ℕ → Report = λ x i. record { result = x; kind = k; ops = i; primary = id_of z.primary; secondary = id_of z.secondary; next = (plan (power_on r g z)).kind } in
     ap (λ x. here x n) (calm_result k l faulted (is_valid z.primary) one two)
     ∙ ap (λ i. here (result_of l faulted (is_valid z.primary)) i) (omega (arith, count))
 
@@ -283,47 +289,48 @@ told_less r g k l n m j f h a b z calm_k calm_l count faults same left =
     ∙ ap (λ (x : Option Content). option_map (less k j) (option_map (λ y. report r g l m h y) x)) (sym left)
 
 -- After a cut that joins, the next boot ends as the one that was cut would have.
-pub joined : (r : Rules) (g : Geometry) (s u : Content) (c j : ℕ) (es : List Sector) → Joins r g s u c j es → IsJoined r g s u j
+pub joined : (x : PowerOn) (u : Content) (c j : ℕ) (es : List Sector) → Joins x u c j es → IsJoined x u j
 unfolding ops_of is_faulted outcome_of
-joined r g s u c j es joins = record { count = count; faulted = faulted; left = left; outcome = outcome }
+joined x u c j es joins = record { count = count; faulted = faulted; left = left; outcome = outcome }
   where
-    met : Met r g s u j es
-    met = meets r g s u c j es joins
+    met : Met x u j es
+    met = meets x u c j es joins
 
-    few : length (happening g (plan r g s).list s) ≤ length (plan r g s).list
-    few = happens_few g (plan r g s).list s
+    few : length (happening x.geometry (plan x).list x.content) ≤ length (plan x).list
+    few = happens_few x.geometry (plan x).list x.content
 
-    begins : length (take j (plan r g s).list) ≡ j
-    begins = length-take-le j (plan r g s).list (let a = joins.early in let b = joins.passed in omega (arith, a, b, few))
+    begins : length (take j (plan x).list) ≡ j
+    begins = length-take-le j (plan x).list (let a = joins.early in let b = joins.passed in omega (arith, a, b, few))
 
-    all : happening g (plan r g s).list s ≡ take j (plan r g s).list ++ happening g (plan r g u).list u
-    all = happens_all r g s u c j es joins
+    all : happening x.geometry (plan x).list x.content ≡ take j (plan x).list ++ happening x.geometry (plan (again x u)).list u
+    all = happens_all x u c j es joins
 
-    count : length (happening g (plan r g u).list u) + j ≡ length (happening g (plan r g s).list s)
-    count = omega (arith, begins, ap (λ (xs : List Op). length xs) all, length-append (take j (plan r g s).list) (happening g (plan r g u).list u))
+    count : length (happening x.geometry (plan (again x u)).list u) + j ≡ length (happening x.geometry (plan x).list x.content)
+    count = omega (arith, begins, ap (λ (xs : List Op). length xs) all, length-append (take j (plan x).list) (happening x.geometry (plan (again x u)).list u))
 
-    lists : length (plan r g u).list + j ≡ length (plan r g s).list
-    lists = let a = joins.early in let b = joins.passed in omega (arith, a, b, few, ap (λ (xs : List Op). length xs) joins.rest, length-drop j (plan r g s).list)
+    lists : length (plan (again x u)).list + j ≡ length (plan x).list
+    lists = let a = joins.early in let b = joins.passed in omega (arith, a, b, few, ap (λ (xs : List Op). length xs) joins.rest, length-drop j (plan x).list)
 
-    faulted : nat_lt (length (happening g (plan r g u).list u)) (length (plan r g u).list) ≡ nat_lt (length (happening g (plan r g s).list s)) (length (plan r g s).list)
-    faulted = same_fault (length (happening g (plan r g u).list u)) (length (happening g (plan r g s).list s)) (length (plan r g u).list) (length (plan r g s).list) j count lists
+    faulted : nat_lt (length (happening x.geometry (plan (again x u)).list u)) (length (plan (again x u)).list) ≡ nat_lt (length (happening x.geometry (plan x).list x.content)) (length (plan x).list)
+    faulted = same_fault (length (happening x.geometry (plan (again x u)).list u)) (length (happening x.geometry (plan x).list x.content)) (length (plan (again x u)).list)
+        (length (plan x).list) j count lists
 
-    left : left_by r g u ≡ left_by r g s
+    left : left_by (again x u) ≡ left_by x
     left =
-        left_is r g u
+        left_is (again x u)
         ∙ sym met.run.leaves
-        ∙ ap (λ (xs : List Op). applied g xs met.from) met.run.happens
-        ∙ sym (applied_behind g (take j (plan r g s).list) (happening g (plan r g u).list u) s met.from met.start)
-        ∙ ap (λ (xs : List Op). applied g xs s) (sym all)
-        ∙ sym (left_is r g s)
+        ∙ ap (λ (xs : List Op). applied x.geometry xs met.from) met.run.happens
+        ∙ sym (applied_behind x.geometry (take j (plan x).list) (happening x.geometry (plan (again x u)).list u) x.content met.from met.start)
+        ∙ ap (λ (xs : List Op). applied x.geometry xs x.content) (sym all)
+        ∙ sym (left_is x)
 
-    calm_s : is_panic (plan r g s).kind ≡ false
-    calm_s = plan_calm r g s (let a = joins.early in omega (arith, a, few))
+    calm_s : is_panic (plan x).kind ≡ false
+    calm_s = plan_calm x (let a = joins.early in omega (arith, a, few))
 
-    calm_u : is_panic (plan r g u).kind ≡ false
-    calm_u = plan_calm r g u (let a = joins.early in let b = joins.passed in omega (arith, a, b, few, lists))
+    calm_u : is_panic (plan (again x u)).kind ≡ false
+    calm_u = plan_calm (again x u) (let a = joins.early in let b = joins.passed in omega (arith, a, b, few, lists))
 
-    outcome : outcome_of r g u ≡ option_map (less (plan r g u).kind j) (outcome_of r g s)
+    outcome : outcome_of (again x u) ≡ option_map (less (plan (again x u)).kind j) (outcome_of x)
     outcome =
-        let z = left_defined r g s in
-        told_less r g (plan r g u).kind (plan r g s).kind _ _ j _ _ (left_by r g u) (left_by r g s) z.0 calm_u calm_s count faulted left z.1
+        let z = left_defined x in
+        told_less x.rules x.geometry (plan (again x u)).kind (plan x).kind _ _ j _ _ (left_by (again x u)) (left_by x) z.0 calm_u calm_s count faulted left z.1

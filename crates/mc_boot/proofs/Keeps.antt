@@ -10,6 +10,7 @@ use Rattle.mc_flash.specs.Content.{Content}
 use Rattle.mc_flash.specs.Geometry.{Geometry}
 use Rattle.mc_flash.specs.declared.op.Op.{Op}
 use Rattle.mc_trailer.specs.declared.tables.Rules.{Rules}
+use Rattle.mc_boot.specs.PowerOn.{power_on}
 
 -- From s each operation can be applied; before each P holds, and at the end Q.
 abbrev pub Keeps : Geometry → (Content → Type 0) → List Op → Content → (Content → Type 0) → Type 0
@@ -54,30 +55,33 @@ keeps_cut g P Q (op ∷ ops) s (suc c) below k =
     (rest.0, ap (option_and_then (λ t. applied g (take c ops) t)) k.1.1 ∙ rest.1, rest.2)
 
 -- the same of a boot's plan
-pub keeps_boot : (r : Rules) (g : Geometry) (P Q : Content → Type 0) (s : Content) → Keeps g P (plan r g s).list s Q → ops_of r g s ≡ (plan r g s).list
+pub keeps_boot : (r : Rules) (g : Geometry) (P Q : Content → Type 0) (s : Content) → Keeps g P (plan (power_on r g s)).list s Q → ops_of (power_on r g s) ≡ (plan (power_on r g s)).list
 unfolding ops_of
-keeps_boot r g P Q s k = keeps_whole g P Q (plan r g s).list s k
+keeps_boot r g P Q s k = keeps_whole g P Q (plan (power_on r g s)).list s k
 
-pub keeps_at : (r : Rules) (g : Geometry) (P Q : Content → Type 0) (s : Content) (c : ℕ) → c < length (ops_of r g s) → Keeps g P (plan r g s).list s Q → (t : Content) × (at r g s c ≡ Some t) × P t
+pub keeps_at : (r : Rules) (g : Geometry) (P Q : Content → Type 0) (s : Content) (c : ℕ) → c < length (ops_of (power_on r g s)) → Keeps g P (plan (power_on r g s)).list s Q → (t : Content)
+    × (at (power_on r g s) c ≡ Some t) × P t
 unfolding at
 keeps_at r g P Q s c below k =
     let whole = keeps_boot r g P Q s k in
-    let cut = keeps_cut g P Q (plan r g s).list s c (omega (arith, below, ap (λ (l : List Op). length l) whole)) k in
+    let cut = keeps_cut g P Q (plan (power_on r g s)).list s c (omega (arith, below, ap (λ (l : List Op). length l) whole)) k in
     (cut.0, ap (λ (l : List Op). applied g (take c l) s) whole ∙ cut.1, cut.2)
 
 -- Where each boot keeps P, P holds after every list of cuts.
-pub restart : (r : Rules) (g : Geometry) (P Q : Content → Type 0) → ((s : Content) → P s → Keeps g P (plan r g s).list s Q) → (cuts : List ℕ) (s t : Content) → P s → after r g s cuts ≡ Some t → P t
+pub restart : (r : Rules) (g : Geometry) (P Q : Content → Type 0) → ((s : Content) → P s → Keeps g P (plan (power_on r g s)).list s Q) → (cuts : List ℕ) (s t : Content) → P s
+    → after (power_on r g s) cuts ≡ Some t → P t
 restart r g P Q boot [] s t p is = let same : s ≡ t = cc in subst P same p
-restart r g P Q boot (c ∷ cuts) s t p is = go (restart r g P Q boot cuts) (nat_lt c (length (ops_of r g s))) refl
+restart r g P Q boot (c ∷ cuts) s t p is = go (restart r g P Q boot cuts) (nat_lt c (length (ops_of (power_on r g s)))) refl
   where
-    go : ((u v : Content) → P u → after r g u cuts ≡ Some v → P v) → (b : Bool) → nat_lt c (length (ops_of r g s)) ≡ b → P t
+    go : ((u v : Content) → P u → after (power_on r g u) cuts ≡ Some v → P v) → (b : Bool) → nat_lt c (length (ops_of (power_on r g s))) ≡ b → P t
     go later false no_cut =
-        let e : option_and_then (λ t. after r g t cuts) (if false then at r g s c else None) ≡ Some t =
-        ap (λ b. option_and_then (λ t. after r g t cuts) (if b then at r g s c else None)) (sym no_cut) ∙ is in
+        let e : option_and_then (λ t. after (power_on r g t) cuts) (if false then at (power_on r g s) c else None) ≡ Some t =
+        ap (λ b. option_and_then (λ t. after (power_on r g t) cuts) (if b then at (power_on r g s) c else None)) (sym no_cut) ∙ is in
         absurd cc
     go later true can =
-        let cut = keeps_at r g P Q s c (ltb-true c (length (ops_of r g s)) can) (boot s p) in
-        later cut.0 t cut.2 (sym (ap (λ b. option_and_then (λ t. after r g t cuts) (if b then at r g s c else None)) can ∙ ap (option_and_then (λ t. after r g t cuts)) cut.1) ∙ is)
+        let cut = keeps_at r g P Q s c (ltb-true c (length (ops_of (power_on r g s))) can) (boot s p) in
+        later cut.0 t cut.2 (sym (ap (λ b. option_and_then (λ t. after (power_on r g t) cuts) (if b then at (power_on r g s) c else None)) can
+        ∙ ap (option_and_then (λ t. after (power_on r g t) cuts)) cut.1) ∙ is)
 
 -- the same end, said weaker
 pub keeps_then : (g : Geometry) (P Q R : Content → Type 0) (ops : List Op) (s : Content) → ((t : Content) → Q t → R t) → Keeps g P ops s Q → Keeps g P ops s R

@@ -15,10 +15,10 @@ use Rattle.mc_boot.specs.declared.transfer.Transfer.{Transfer}
 use Rattle.mc_flash.specs.Apply.{apply}
 use Rattle.mc_flash.specs.Changes.{Changed, changed_sized, copied, copy_is_program, erase_changes, length-copied, program_changes, sized_is}
 use Rattle.mc_flash.specs.Content.{Content, IsSized, byte, bytes_of, sectors_of}
-use Rattle.mc_flash.specs.Facts.{chunks_cover}
+use Rattle.mc_flash.specs.facts.Layouts.{chunks_cover}
 use Rattle.mc_flash.specs.Geometry.{Geometry, IsLayout}
 use Rattle.mc_flash.specs.declared.op.Slot.{Slot}
-use Rattle.mc_trailer.specs.PlaceFacts.{room}
+use Rattle.mc_trailer.specs.Places.{room}
 use Rattle.mc_flash.specs.declared.op.Slot.TheVariants.{Primary, Secondary}
 use Rattle.mc_flash.specs.declared.op.Op.TheVariants.{Erase, Copy}
 

@@ -8,7 +8,7 @@ use Rattle.std.proofs.Math.Nat.{mul-le-mul_right}
 use Rattle.std.proofs.lemmas.Bool.Decides.{nat_tests}
 use Rattle.std.proofs.lemmas.Grind.{div_ceil_times}
 use Rattle.mc_flash.specs.Content.{Content}
-use Rattle.mc_flash.specs.Facts.{data_sectors, trailer_covered}
+use Rattle.mc_flash.specs.facts.Layouts.{data_sectors, trailer_covered}
 use Rattle.mc_flash.specs.Geometry.{Geometry, IsLayout, greatest_sectors, trailer_sectors}
 use Rattle.mc_flash.specs.Pieces.{in_pieces, pieces_layout}
 use Rattle.mc_flash.specs.declared.flash.Grain.{Grain}
@@ -38,6 +38,7 @@ use Rattle.mc_boot.proofs.Places.{get_dropped}
 use Rattle.mc_boot.proofs.Plans.{plan_new, plan_resumed}
 use Rattle.mc_boot.proofs.Sections.{get_after_erases, get_erase}
 use Rattle.mc_boot.proofs.TransferFacts.{fits_at}
+use Rattle.mc_boot.specs.PowerOn.{power_on}
 
 -- The secondary's image is valid, and no longer than what a swap can move.
 pub record HasFitting (g : Geometry) (s : Content) : Type 0 where
@@ -215,9 +216,9 @@ module _ (g : Geometry) (ok : IsLayout g) (c : Grain) (kind : SwapType) (size n 
       (λ _. either_tells s (t.swap_info == 3) (swap kinds.Perm) (if t.swap_info == 4 then swap kinds.Revert else nothing kinds.None) (λ _. tells kinds.Perm)
       (λ _. either_tells s (t.swap_info == 4) (swap kinds.Revert) (nothing kinds.None) (λ _. tells kinds.Revert) (λ _. idle_tells s kinds.None)))
 
-  pub new_fits : (r : Rules) (s : Content) → Tells s (plan r g s)
+  pub new_fits : (r : Rules) (s : Content) → Tells s (plan (power_on r g s))
   new_fits r s = by (is_resumed g s) refl
     where
-      by : (b : Bool) → is_resumed g s ≡ b → Tells s (plan r g s)
-      by true is = subst (Tells s) (sym (plan_resumed r g s is)) (resumed_tells s r.grain (trailer_of g s Primary) (highest_entry g s))
-      by false is = subst (Tells s) (sym (plan_new r g s is)) (new_tells s r.grain (table_of r.profile g s))
+      by : (b : Bool) → is_resumed g s ≡ b → Tells s (plan (power_on r g s))
+      by true is = subst (Tells s) (sym (plan_resumed (power_on r g s) is)) (resumed_tells s r.grain (trailer_of g s Primary) (highest_entry g s))
+      by false is = subst (Tells s) (sym (plan_new (power_on r g s) is)) (new_tells s r.grain (table_of r.profile g s))

@@ -7,7 +7,7 @@ use Rattle.std.proofs.lemmas.List.{length-take}
 use Rattle.std.proofs.lemmas.List.FromFn.{length-map-range_with_len}
 use Rattle.mc_flash.specs.Geometry.{Geometry, IsLayout, trailer_sectors}
 use Rattle.mc_flash.specs.Content.{sectors_of, size_of}
-use Rattle.mc_flash.specs.Facts.{trailer_covered, trailer_leaves_one}
+use Rattle.mc_flash.specs.facts.Layouts.{trailer_covered, trailer_leaves_one}
 use Rattle.mc_flash.specs.Pieces.{in_pieces}
 use Rattle.mc_flash.specs.declared.flash.Grain.{Grain}
 use Rattle.mc_flash.specs.declared.flash.Grain.TheVariants as grains
@@ -16,7 +16,8 @@ use Rattle.mc_flash.specs.declared.op.Op.TheVariants.{Program}
 use Rattle.mc_flash.specs.declared.op.Slot.{Slot}
 use Rattle.mc_flash.specs.declared.op.Slot.TheVariants.{Primary, Secondary}
 use Rattle.mc_trailer.specs.Fields.{one_unit, size_bytes}
-use Rattle.mc_trailer.specs.PlaceFacts.{field_ends, most_before_end, one_unit_fits, place_inside, room, size_bytes_fit}
+use Rattle.mc_trailer.specs.facts.Places.{field_ends, most_before_end, one_unit_fits, place_inside, size_bytes_fit}
+use Rattle.mc_trailer.specs.Places.{room}
 use Rattle.mc_trailer.specs.Places.{before_end, magic_bytes, place}
 use Rattle.mc_trailer.specs.declared.places.Field.{Field}
 use Rattle.mc_trailer.specs.declared.places.Field.TheVariants as field

@@ -21,12 +21,11 @@ use Rattle.mc_flash.specs.Pieces.{in_pieces}
 use Rattle.mc_flash.specs.declared.flash.Grain.{Grain}
 use Rattle.mc_image.specs.Valid.{is_valid}
 use Rattle.mc_trailer.specs.Entries.{highest_entry}
-use Rattle.mc_trailer.specs.FieldFacts.{FieldIs, FieldsAre, blank_fields, field_as, reads_absent, reads_copy_done, reads_good, reads_image_ok, reads_info, reads_not_good, reads_size}
+use Rattle.mc_trailer.specs.facts.Fields.{FieldIs, FieldsAre, blank_fields, field_as, reads_absent, reads_copy_done, reads_good, reads_image_ok, reads_info, reads_not_good, reads_size}
 use Rattle.mc_trailer.specs.Fields.{one_unit, trailer_of}
-use Rattle.mc_trailer.specs.TableFacts.{types_are_rows}
+use Rattle.mc_trailer.specs.facts.Tables.{types_are_rows}
 use Rattle.mc_trailer.specs.Tables.{asks_perm, asks_test, is_good, is_resumed, is_set, is_unset, resumes, reverts_at, swap_type, table_of}
 use Rattle.mc_trailer.specs.declared.tables.Profile.{Profile}
-use Rattle.mc_trailer.specs.declared.tables.Rules.{Rules}
 use Rattle.mc_trailer.specs.declared.tables.SwapType.{SwapType}
 use Rattle.mc_trailer.specs.declared.trailer.Flag.{Flag}
 use Rattle.mc_trailer.specs.declared.trailer.Magic.{Magic}
@@ -38,6 +37,7 @@ use Rattle.mc_trailer.specs.declared.tables.SwapType.TheVariants as kinds
 use Rattle.mc_flash.specs.declared.flash.Grain.TheVariants as grains
 use Rattle.mc_trailer.specs.declared.tables.Profile.TheVariants as profiles
 use Rattle.mc_flash.specs.declared.op.Slot.TheVariants.{Primary, Secondary}
+use Rattle.mc_boot.specs.PowerOn.{PowerOn, again}
 
 -- the tests of two trailers
 resumes_when : (p q : Trailer) → p.magic ≡ magics.Good → p.copy_done ≡ flags.Unset → q.magic ≡ magics.Unset → resumes p q ≡ true
@@ -91,8 +91,9 @@ none_at_all profile p q absent_p absent_q =
     (rw absent_p refl, (types_are_rows profile p q kinds.None).1 (asks.0, asks.1, rw absent_p refl))
 
 -- a plan where the boot does not resume
-new_is : (r : Rules) (g : Geometry) (s : Content) (kind : SwapType) (p : Plan) → is_resumed g s ≡ false → table_of r.profile g s ≡ kind → new_plan r.grain g (images_of s) kind ≡ p → plan r g s ≡ p
-new_is r g s kind p not_so of is = plan_new r g s not_so ∙ ap (new_plan r.grain g (images_of s)) of ∙ is
+new_is : (x : PowerOn) (kind : SwapType) (p : Plan) → is_resumed x.geometry x.content ≡ false → table_of x.rules.profile x.geometry x.content ≡ kind
+    → new_plan x.rules.grain x.geometry (images_of x.content) kind ≡ p → plan x ≡ p
+new_is x kind p not_so of is = plan_new x not_so ∙ ap (new_plan x.rules.grain x.geometry (images_of x.content)) of ∙ is
 
 pub swap_of : (b : Bool) (kind : SwapType) → IsSwapOf b kind → is_test kind ≡ b
 swap_of b kinds.Test of = sym of
@@ -155,20 +156,20 @@ image_ok_is g s kind true of is = reads_image_ok g s Primary 255 (replicate 7 25
 image_ok_is g s kind false of is = reads_image_ok g s Primary 1 (replicate (g.unit - 1) 255)
     (field_as g s Primary field.ImageOk _ (one_unit g 1) (ap (λ (c : Bool). if c then replicate 8 255 else one_unit g 1) of) is)
 
-pub plan_under : (r : Rules) (g : Geometry) (start : Content) (size n : ℕ) (b : Bool) (kind : SwapType) (k : ℕ) (s : Content) → Swap g start size n → IsSwapOf b kind → k ≤ 3 * n
-    → Under g start size n kind k s → plan r g s ≡ running (in_pieces r.grain g) kind n k (k == 0)
-plan_under r g start size n b kind k s w of most u =
+pub plan_under : (x : PowerOn) (size n : ℕ) (b : Bool) (kind : SwapType) (k : ℕ) (s : Content) → Swap x.geometry x.content size n → IsSwapOf b kind → k ≤ 3 * n
+    → Under x.geometry x.content size n kind k s → plan (again x s) ≡ running (in_pieces x.rules.grain x.geometry) kind n k (k == 0)
+plan_under x size n b kind k s w of most u =
     let sized = u.data_.sized in
-    let good = reads_good g s Primary w.ok sized (u.primary field.Magic) in
-    let unset = reads_copy_done g s Primary 255 (replicate 7 255) (u.primary field.CopyDone) in
-    let absent = reads_absent g s Secondary w.ok sized (u.secondary field.Magic) in
-    let info = reads_info g s Primary (number_of kind) (replicate (g.unit - 1) 255) (u.primary field.SwapInfo) in
-    let sized_is = reads_size g s Primary size (replicate (g.unit - 4) 255) w.ok sized w.small (u.primary field.SwapSize) in
-    let first = found g n k s w.ok sized w.few most u.entries in
-    let settled = confirms_not b kind (trailer_of g s Primary).image_ok (swap_of b kind of)
-    (λ stays. image_ok_is g s kind false (swap_of b kind of ∙ stays) (u.primary field.ImageOk)) in
-    plan_resumed r g s (resumes_when (trailer_of g s Primary) (trailer_of g s Secondary) good unset absent)
-    ∙ running_is r.grain g (trailer_of g s Primary) (highest_entry g s) b kind size n k of info sized_is w.count w.some w.few first.0 first.1 settled
+    let good = reads_good x.geometry s Primary w.ok sized (u.primary field.Magic) in
+    let unset = reads_copy_done x.geometry s Primary 255 (replicate 7 255) (u.primary field.CopyDone) in
+    let absent = reads_absent x.geometry s Secondary w.ok sized (u.secondary field.Magic) in
+    let info = reads_info x.geometry s Primary (number_of kind) (replicate (x.geometry.unit - 1) 255) (u.primary field.SwapInfo) in
+    let sized_is = reads_size x.geometry s Primary size (replicate (x.geometry.unit - 4) 255) w.ok sized w.small (u.primary field.SwapSize) in
+    let first = found x.geometry n k s w.ok sized w.few most u.entries in
+    let settled = confirms_not b kind (trailer_of x.geometry s Primary).image_ok (swap_of b kind of)
+    (λ stays. image_ok_is x.geometry s kind false (swap_of b kind of ∙ stays) (u.primary field.ImageOk)) in
+    plan_resumed (again x s) (resumes_when (trailer_of x.geometry s Primary) (trailer_of x.geometry s Secondary) good unset absent)
+    ∙ running_is x.rules.grain x.geometry (trailer_of x.geometry s Primary) (highest_entry x.geometry s) b kind size n k of info sized_is w.count w.some w.few first.0 first.1 settled
 
 -- the plan of a swap from its start
 abbrev pub starting : Grain → Geometry → SwapType → ℕ → ℕ → Plan
@@ -203,40 +204,41 @@ sees_images s size valid larger = record { valid = valid; larger = larger }
 abbrev pub kind_asked : Bool → SwapType
 kind_asked b = if b then kinds.Test else kinds.Perm
 
-pub plan_asked : (r : Rules) (g : Geometry) (start : Content) (size n : ℕ) (b : Bool) (s : Content) → Swap g start size n → SeesImages s size → Asked g start n b s
-    → plan r g s ≡ starting r.grain g (kind_asked b) size n
-plan_asked r g start size n b s w sees u =
-    let good = reads_good g s Secondary w.ok u.data_.sized (u.secondary field.Magic) in
-    new_is r g s (kind_asked b) (starting r.grain g (kind_asked b) size n) (not_when_asked (trailer_of g s Primary) (trailer_of g s Secondary) good) (table b good u.secondary) (swap b)
+pub plan_asked : (x : PowerOn) (size n : ℕ) (b : Bool) (s : Content) → Swap x.geometry x.content size n → SeesImages s size → Asked x.geometry x.content n b s
+    → plan (again x s) ≡ starting x.rules.grain x.geometry (kind_asked b) size n
+plan_asked x size n b s w sees u =
+    let good = reads_good x.geometry s Secondary w.ok u.data_.sized (u.secondary field.Magic) in
+    new_is (again x s) (kind_asked b) (starting x.rules.grain x.geometry (kind_asked b) size n) (not_when_asked (trailer_of x.geometry s Primary) (trailer_of x.geometry s Secondary) good)
+    (table b good u.secondary) (swap b)
   where
-    table : (e : Bool) → (trailer_of g s Secondary).magic ≡ magics.Good → FieldsAre g s Secondary (asked e) → table_of r.profile g s ≡ kind_asked e
-    table true good are = tests_when r.profile (trailer_of g s Primary) (trailer_of g s Secondary) good (reads_image_ok g s Secondary 255 [] (are field.ImageOk))
-    table false good are = stays_when r.profile (trailer_of g s Primary) (trailer_of g s Secondary) good (reads_image_ok g s Secondary 1 [] (are field.ImageOk))
+    table : (e : Bool) → (trailer_of x.geometry s Secondary).magic ≡ magics.Good → FieldsAre x.geometry s Secondary (asked e) → table_of x.rules.profile x.geometry s ≡ kind_asked e
+    table true good are = tests_when x.rules.profile (trailer_of x.geometry s Primary) (trailer_of x.geometry s Secondary) good (reads_image_ok x.geometry s Secondary 255 [] (are field.ImageOk))
+    table false good are = stays_when x.rules.profile (trailer_of x.geometry s Primary) (trailer_of x.geometry s Secondary) good (reads_image_ok x.geometry s Secondary 1 [] (are field.ImageOk))
 
-    swap : (e : Bool) → new_plan r.grain g (images_of s) (kind_asked e) ≡ starting r.grain g (kind_asked e) size n
-    swap true = new_swap_is r.grain g (images_of s) kinds.Test size n sees.valid sees.larger w.count w.few
-    swap false = new_swap_is r.grain g (images_of s) kinds.Perm size n sees.valid sees.larger w.count w.few
+    swap : (e : Bool) → new_plan x.rules.grain x.geometry (images_of s) (kind_asked e) ≡ starting x.rules.grain x.geometry (kind_asked e) size n
+    swap true = new_swap_is x.rules.grain x.geometry (images_of s) kinds.Test size n sees.valid sees.larger w.count w.few
+    swap false = new_swap_is x.rules.grain x.geometry (images_of s) kinds.Perm size n sees.valid sees.larger w.count w.few
 
 -- after a swap: the trailers decide
-pub plan_tested : (r : Rules) (g : Geometry) (s : Content) (size n : ℕ) → (trailer_of g s Primary).magic ≡ magics.Good → (trailer_of g s Primary).image_ok ≡ flags.Unset
-    → (trailer_of g s Primary).copy_done ≡ flags.Set → reverts_at r.profile (trailer_of g s Secondary).magic ≡ true
-    → SeesImages s size → div_ceil size g.sector ≡ n → n ≤ greatest_sectors g → plan r g s ≡ starting r.grain g kinds.Revert size n
-plan_tested r g s size n good unset done reverts sees count few =
-    new_is r g s kinds.Revert (starting r.grain g kinds.Revert size n) (not_when_done (trailer_of g s Primary) (trailer_of g s Secondary) done)
-    (reverts_when r.profile (trailer_of g s Primary) (trailer_of g s Secondary) good reverts unset done)
-    (new_swap_is r.grain g (images_of s) kinds.Revert size n sees.valid sees.larger count few)
+pub plan_tested : (x : PowerOn) (size n : ℕ) → (trailer_of x.geometry x.content Primary).magic ≡ magics.Good → (trailer_of x.geometry x.content Primary).image_ok ≡ flags.Unset
+    → (trailer_of x.geometry x.content Primary).copy_done ≡ flags.Set → reverts_at x.rules.profile (trailer_of x.geometry x.content Secondary).magic ≡ true
+    → SeesImages x.content size → div_ceil size x.geometry.sector ≡ n → n ≤ greatest_sectors x.geometry → plan x ≡ starting x.rules.grain x.geometry kinds.Revert size n
+plan_tested x size n good unset done reverts sees count few =
+    new_is x kinds.Revert (starting x.rules.grain x.geometry kinds.Revert size n) (not_when_done (trailer_of x.geometry x.content Primary) (trailer_of x.geometry x.content Secondary) done)
+    (reverts_when x.rules.profile (trailer_of x.geometry x.content Primary) (trailer_of x.geometry x.content Secondary) good reverts unset done)
+    (new_swap_is x.rules.grain x.geometry (images_of x.content) kinds.Revert size n sees.valid sees.larger count few)
 
-pub plan_settled : (r : Rules) (g : Geometry) (s : Content) → (trailer_of g s Primary).copy_done ≡ flags.Set → (trailer_of g s Secondary).magic ≡ magics.Unset
-    → (trailer_of g s Primary).image_ok ≡ flags.Set → plan r g s ≡ nothing kinds.None
-plan_settled r g s done absent set =
-    new_is r g s kinds.None (nothing kinds.None) (not_when_done (trailer_of g s Primary) (trailer_of g s Secondary) done)
-    (none_when r.profile (trailer_of g s Primary) (trailer_of g s Secondary) absent set) refl
+pub plan_settled : (x : PowerOn) → (trailer_of x.geometry x.content Primary).copy_done ≡ flags.Set → (trailer_of x.geometry x.content Secondary).magic ≡ magics.Unset
+    → (trailer_of x.geometry x.content Primary).image_ok ≡ flags.Set → plan x ≡ nothing kinds.None
+plan_settled x done absent set =
+    new_is x kinds.None (nothing kinds.None) (not_when_done (trailer_of x.geometry x.content Primary) (trailer_of x.geometry x.content Secondary) done)
+    (none_when x.rules.profile (trailer_of x.geometry x.content Primary) (trailer_of x.geometry x.content Secondary) absent set) refl
 
 -- no magic in either slot
-pub plan_none : (r : Rules) (g : Geometry) (s : Content) → (trailer_of g s Primary).magic ≡ magics.Unset → (trailer_of g s Secondary).magic ≡ magics.Unset → plan r g s ≡ nothing kinds.None
-plan_none r g s p q =
-    let none = none_at_all r.profile (trailer_of g s Primary) (trailer_of g s Secondary) p q in
-    new_is r g s kinds.None (nothing kinds.None) none.0 none.1 refl
+pub plan_none : (x : PowerOn) → (trailer_of x.geometry x.content Primary).magic ≡ magics.Unset → (trailer_of x.geometry x.content Secondary).magic ≡ magics.Unset → plan x ≡ nothing kinds.None
+plan_none x p q =
+    let none = none_at_all x.rules.profile (trailer_of x.geometry x.content Primary) (trailer_of x.geometry x.content Secondary) p q in
+    new_is x kinds.None (nothing kinds.None) none.0 none.1 refl
 
 -- an unset magic is one that either profile reverts at, and any that is not good is one of the second
 pub absent_reverts : (profile : Profile) (m : Magic) → m ≡ magics.Unset → reverts_at profile m ≡ true
@@ -249,12 +251,12 @@ quiet_reverts grains.Call profile g s keeps ok sized quiet = absent_reverts prof
 quiet_reverts grains.Unit profiles.One g s keeps ok sized quiet = absurd cc
 quiet_reverts grains.Unit profiles.Two g s keeps ok sized quiet = ap not (reads_not_good g s Secondary quiet)
 
-pub plan_waiting : (r : Rules) (g : Geometry) (start : Content) (size n : ℕ) (s : Content) → forgets_reverts r.grain r.profile ≡ false → Swap g start size n → SeesImages s size
-    → Waiting r.grain g start n s → plan r g s ≡ starting r.grain g kinds.Revert size n
-plan_waiting r g start size n s keeps w sees is =
-    plan_tested r g s size n
-    (reads_good g s Primary w.ok is.data_.sized (is.primary field.Magic))
-    (reads_image_ok g s Primary 255 [] (is.primary field.ImageOk))
-    (reads_copy_done g s Primary 1 [] (is.primary field.CopyDone))
-    (quiet_reverts r.grain r.profile g s keeps w.ok is.data_.sized is.quiet)
+pub plan_waiting : (x : PowerOn) (size n : ℕ) (s : Content) → forgets_reverts x.rules.grain x.rules.profile ≡ false → Swap x.geometry x.content size n → SeesImages s size
+    → Waiting x.rules.grain x.geometry x.content n s → plan (again x s) ≡ starting x.rules.grain x.geometry kinds.Revert size n
+plan_waiting x size n s keeps w sees is =
+    plan_tested (again x s) size n
+    (reads_good x.geometry s Primary w.ok is.data_.sized (is.primary field.Magic))
+    (reads_image_ok x.geometry s Primary 255 [] (is.primary field.ImageOk))
+    (reads_copy_done x.geometry s Primary 1 [] (is.primary field.CopyDone))
+    (quiet_reverts x.rules.grain x.rules.profile x.geometry s keeps w.ok is.data_.sized is.quiet)
     sees w.count w.few

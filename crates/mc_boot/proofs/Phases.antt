@@ -10,7 +10,7 @@ use Rattle.mc_boot.specs.Writes.{is_test, number_of}
 use Rattle.mc_flash.specs.Content.{Content, IsSized, byte}
 use Rattle.mc_flash.specs.Geometry.{Geometry, IsLayout, greatest_sectors}
 use Rattle.mc_flash.specs.declared.flash.Grain.{Grain}
-use Rattle.mc_trailer.specs.FieldFacts.{FieldIs, FieldsAre, blank_fields}
+use Rattle.mc_trailer.specs.facts.Fields.{FieldIs, FieldsAre, blank_fields}
 use Rattle.mc_trailer.specs.Fields.{one_unit, size_bytes}
 use Rattle.mc_trailer.specs.Places.{magic_bytes, place}
 use Rattle.mc_trailer.specs.declared.places.Field.{Field}

@@ -12,7 +12,6 @@ use Rattle.mc_trailer.specs.declared.tables.SwapType.{SwapType}
 use Rattle.mc_trailer.specs.declared.tables.SwapType.TheVariants as kinds
 use Rattle.mc_trailer.specs.declared.tables.Rules.{Rules}
 use Rattle.mc_boot.specs.Course.{resumed_list}
-use Rattle.mc_flash.specs.Content.{Content}
 use Rattle.mc_flash.specs.declared.op.Slot.TheVariants.{Primary, Secondary}
 use Rattle.mc_trailer.specs.Fields.{trailer_of}
 use Rattle.mc_trailer.specs.Entries.{highest_entry}
@@ -20,6 +19,7 @@ use Rattle.mc_trailer.specs.Tables.{is_resumed, resumes, swap_type, table_of}
 use Rattle.mc_boot.specs.Image.{images_of}
 use Rattle.mc_boot.specs.Plan.{nothing, first_left, confirms, resumed_swap, resumed_from, resumed_plan, new_plan, plan_with, plan}
 use Rattle.mc_boot.specs.Boot.{Progress, begun}
+use Rattle.mc_boot.specs.PowerOn.{PowerOn}
 
 may_swap : (n most : ℕ) → 0 < n → n ≤ most → (n == 0 || nat_lt most n) ≡ false
 may_swap n most some few =
@@ -52,24 +52,36 @@ resumed_begun r g image_ok highest kind n first l erases ok some few first_is la
     ∙ ap (λ (w : Option ℕ). begun r (resumed_swap r.grain g image_ok w kind n)) is
 
 -- the two halves of a plan
-pub plan_resumed : (r : Rules) (g : Geometry) (s : Content) → is_resumed g s ≡ true → plan r g s ≡ resumed_plan r.grain g (trailer_of g s Primary) (highest_entry g s)
+pub plan_resumed : (x : PowerOn) → is_resumed x.geometry x.content ≡ true
+    → plan x ≡ resumed_plan x.rules.grain x.geometry (trailer_of x.geometry x.content Primary) (highest_entry x.geometry x.content)
 unfolding plan plan_with
-plan_resumed r g s it = ap (λ (b : Bool). if b then resumed_plan r.grain g (trailer_of g s Primary) (highest_entry g s) else new_plan r.grain g (images_of s) (table_of r.profile g s)) it
+plan_resumed x it =
+    let g = x.geometry in
+    let s = x.content in
+    ap (λ (b : Bool). if b then resumed_plan x.rules.grain g (trailer_of g s Primary) (highest_entry g s) else new_plan x.rules.grain g (images_of s) (table_of x.rules.profile g s)) it
 
-pub plan_new : (r : Rules) (g : Geometry) (s : Content) → is_resumed g s ≡ false → plan r g s ≡ new_plan r.grain g (images_of s) (table_of r.profile g s)
+pub plan_new : (x : PowerOn) → is_resumed x.geometry x.content ≡ false → plan x ≡ new_plan x.rules.grain x.geometry (images_of x.content) (table_of x.rules.profile x.geometry x.content)
 unfolding plan plan_with
-plan_new r g s it = ap (λ (b : Bool). if b then resumed_plan r.grain g (trailer_of g s Primary) (highest_entry g s) else new_plan r.grain g (images_of s) (table_of r.profile g s)) it
+plan_new x it =
+    let g = x.geometry in
+    let s = x.content in
+    ap (λ (b : Bool). if b then resumed_plan x.rules.grain g (trailer_of g s Primary) (highest_entry g s) else new_plan x.rules.grain g (images_of s) (table_of x.rules.profile g s)) it
 
 -- the boot that the trailers decide on is that of the plan
-pub begun_resumed : (r : Rules) (g : Geometry) (s : Content) (p q : Trailer) (b : Bool) → p ≡ trailer_of g s Primary → q ≡ trailer_of g s Secondary → b ≡ resumes p q → b ≡ true
-    → begun r (resumed_plan r.grain g p (highest_entry g s)) ≡ begun r (plan r g s)
-begun_resumed r g s p q b first second is it =
+pub begun_resumed : (x : PowerOn) (p q : Trailer) (b : Bool) → p ≡ trailer_of x.geometry x.content Primary → q ≡ trailer_of x.geometry x.content Secondary → b ≡ resumes p q → b ≡ true
+    → begun x.rules (resumed_plan x.rules.grain x.geometry p (highest_entry x.geometry x.content)) ≡ begun x.rules (plan x)
+begun_resumed from p q b first second is it =
+    let g = from.geometry in
+    let s = from.content in
     let both : is_resumed g s ≡ true = ap (λ (x : Trailer). resumes x (trailer_of g s Secondary)) (sym first) ∙ ap (λ (x : Trailer). resumes p x) (sym second) ∙ sym is ∙ it in
-    ap (λ (x : Trailer). begun r (resumed_plan r.grain g x (highest_entry g s))) first ∙ ap (begun r) (sym (plan_resumed r g s both))
+    ap (λ (x : Trailer). begun from.rules (resumed_plan from.rules.grain g x (highest_entry g s))) first ∙ ap (begun from.rules) (sym (plan_resumed from both))
 
-pub begun_new : (r : Rules) (g : Geometry) (s : Content) (p q : Trailer) (b : Bool) (kind : SwapType) → p ≡ trailer_of g s Primary → q ≡ trailer_of g s Secondary → b ≡ resumes p q → b ≡ false
-    → kind ≡ swap_type r.profile p q → begun r (new_plan r.grain g (images_of s) kind) ≡ begun r (plan r g s)
-begun_new r g s p q b kind first second is it asks =
+pub begun_new : (x : PowerOn) (p q : Trailer) (b : Bool) (kind : SwapType) → p ≡ trailer_of x.geometry x.content Primary → q ≡ trailer_of x.geometry x.content Secondary → b ≡ resumes p q → b ≡ false
+    → kind ≡ swap_type x.rules.profile p q → begun x.rules (new_plan x.rules.grain x.geometry (images_of x.content) kind) ≡ begun x.rules (plan x)
+begun_new from p q b kind first second is it asks =
+    let g = from.geometry in
+    let s = from.content in
     let both : is_resumed g s ≡ false = ap (λ (x : Trailer). resumes x (trailer_of g s Secondary)) (sym first) ∙ ap (λ (x : Trailer). resumes p x) (sym second) ∙ sym is ∙ it in
-    let table : kind ≡ table_of r.profile g s = asks ∙ ap (λ (x : Trailer). swap_type r.profile x q) first ∙ ap (λ (x : Trailer). swap_type r.profile (trailer_of g s Primary) x) second in
-    ap (λ (k : SwapType). begun r (new_plan r.grain g (images_of s) k)) table ∙ ap (begun r) (sym (plan_new r g s both))
+    let table : kind ≡ table_of from.rules.profile g s = asks ∙ ap (λ (x : Trailer). swap_type from.rules.profile x q) first
+    ∙ ap (λ (x : Trailer). swap_type from.rules.profile (trailer_of g s Primary) x) second in
+    ap (λ (k : SwapType). begun from.rules (new_plan from.rules.grain g (images_of s) k)) table ∙ ap (begun from.rules) (sym (plan_new from both))

@@ -13,12 +13,13 @@ use Rattle.mc_boot.specs.Course.{new_list, swap_list}
 use Rattle.mc_boot.specs.Writes.{image_ok_write, marking, preparation_writes, trailer_erases, write}
 use Rattle.mc_flash.specs.Changes.{Changed, changed_sized}
 use Rattle.mc_flash.specs.Content.{Content, byte, size_of}
-use Rattle.mc_flash.specs.Facts.{data_end, small_unit}
+use Rattle.mc_flash.specs.facts.Layouts.{data_end, small_unit}
 use Rattle.mc_flash.specs.Geometry.{Geometry, trailer_sectors}
 use Rattle.mc_flash.specs.declared.flash.Grain.{Grain}
-use Rattle.mc_trailer.specs.FieldFacts.{FieldIs, FieldsAre, blank_byte, blank_field, blank_fields, field_as, field_kept_beside, fields_front, fields_same, same_field_is, set_field, write_field}
+use Rattle.mc_trailer.specs.facts.Fields.{FieldIs, FieldsAre, blank_byte, blank_field, blank_fields, field_as, field_kept_beside, fields_front, fields_same, same_field_is, set_field, write_field}
 use Rattle.mc_trailer.specs.Fields.{one_unit, size_bytes}
-use Rattle.mc_trailer.specs.PlaceFacts.{field_ends, magic_range, one_unit_fits, one_unit_whole, room, size_bytes_fit, size_bytes_whole}
+use Rattle.mc_trailer.specs.facts.Places.{field_ends, magic_range, one_unit_fits, one_unit_whole, size_bytes_fit, size_bytes_whole}
+use Rattle.mc_trailer.specs.Places.{room}
 use Rattle.mc_trailer.specs.Places.{magic_bytes, place}
 use Rattle.mc_trailer.specs.declared.places.Field.{Field}
 use Rattle.mc_trailer.specs.declared.places.Field.TheVariants as field

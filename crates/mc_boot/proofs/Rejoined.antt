@@ -5,14 +5,13 @@ use Rattle.std.proofs.lemmas.Bool.{cases_lt}
 use Rattle.std.proofs.lemmas.Bool.Decides.{nat_tests}
 use Rattle.mc_flash.specs.Apply.{CanTry}
 use Rattle.mc_flash.specs.Content.{Content, size_of}
-use Rattle.mc_flash.specs.Facts.{sector_inside}
+use Rattle.mc_flash.specs.facts.Layouts.{sector_inside}
 use Rattle.mc_flash.specs.Geometry.{Geometry, IsLayout}
 use Rattle.mc_flash.specs.Pieces.{in_pieces}
 use Rattle.mc_flash.specs.declared.flash.Grain.{Grain}
 use Rattle.mc_flash.specs.declared.op.Op.{Op}
 use Rattle.mc_flash.specs.declared.op.Op.TheVariants.{Erase}
 use Rattle.mc_flash.specs.declared.op.Slot.{Slot}
-use Rattle.mc_trailer.specs.declared.tables.Rules.{Rules}
 use Rattle.mc_boot.specs.After.{IsCut}
 use Rattle.mc_boot.specs.Boot.{IsBootOf, begun, progress}
 use Rattle.mc_boot.specs.CourseList.{course_list, whole_list}
@@ -21,7 +20,7 @@ use Rattle.mc_boot.specs.Outcome.{Report}
 use Rattle.mc_boot.specs.Plan.{plan}
 use Rattle.mc_boot.specs.Idle.{AllIdleBut, changes_nothing}
 use Rattle.mc_boot.specs.Rejoin.{IsRejoined, place_of}
-use Rattle.mc_boot.specs.RunFacts.{come_at}
+use Rattle.mc_boot.specs.facts.Run.{come_at}
 use Rattle.mc_boot.specs.Runs.{at, ops_of}
 use Rattle.mc_boot.specs.declared.boot.Boot.{Boot}
 use Rattle.mc_boot.specs.declared.course.Course.{Course}
@@ -34,6 +33,7 @@ use Rattle.mc_boot.proofs.Joins.{Joins, joined}
 use Rattle.mc_boot.proofs.JoinsMeet.{joins_meet}
 use Rattle.mc_boot.proofs.Meets.{Meets, Sector, erase_of}
 use Rattle.mc_boot.proofs.Rejoins.{among, behind_erased, fits, late, next_erases, stays}
+use Rattle.mc_boot.specs.PowerOn.{PowerOn, again}
 
 -- A sector that is erased lies in its slot, whatever the pieces in which sectors are copied.
 pub sector_there : (c : Grain) (g : Geometry) (slot : Slot) (sector : ℕ) → CanTry (in_pieces c g) (Erase slot sector)
@@ -81,67 +81,67 @@ module _ (x : Rejoin) (i : ℕ) where
   placed_over : i < x.erases → x.kept + x.erases < x.done → x.only < i → place_of x i ≡ x.kept + x.erases
   placed_over lt behind over = grind (arith, nat_tests)
 
-first_is : (r : Rules) (g : Geometry) (s u : Content) → at r g s 0 ≡ Some u → s ≡ u
+first_is : (x : PowerOn) (u : Content) → at x 0 ≡ Some u → x.content ≡ u
 unfolding at
-first_is r g s u is = cc
+first_is x u is = cc
 
 -- Before its first operation a boot has changed nothing.
-pub rejoins_here : (r : Rules) (g : Geometry) (s u : Content) (cut : Boot) (whole : Report) (x : Rejoin) → IsCut r g s u cut whole
-    → cut.done ≡ 0 → x.kept ≡ 0 → x.erases ≡ 0 → IsRejoined r g s u x
-rejoins_here r g s u cut whole x is none kept erases = record {
-  width = omega (arith, kept, ap (λ (t : Content). length (ops_of r g t)) stays_here);
+pub rejoins_here : (from : PowerOn) (u : Content) (cut : Boot) (whole : Report) (x : Rejoin) → IsCut from u cut whole
+    → cut.done ≡ 0 → x.kept ≡ 0 → x.erases ≡ 0 → IsRejoined from u x
+rejoins_here from u cut whole x is none kept erases = record {
+  width = omega (arith, kept, ap (λ (t : Content). length (ops_of (again from t))) stays_here);
   few = omega (arith, erases);
   same = λ i lt.
-      ap (λ (t : Content). at r g t i) (sym stays_here)
-      ∙ ap (at r g s) (let place = placed_behind x i (omega (arith, erases)) in omega (arith, place, kept));
+      ap (λ (t : Content). at (again from t) i) (sym stays_here)
+      ∙ ap (at from) (let place = placed_behind x i (omega (arith, erases)) in omega (arith, place, kept));
   within = λ i lt.
-      omega (arith, placed_behind x i (omega (arith, erases)), kept, lt, ap (λ (t : Content). length (ops_of r g t)) stays_here);
+      omega (arith, placed_behind x i (omega (arith, erases)), kept, lt, ap (λ (t : Content). length (ops_of (again from t))) stays_here);
 }
   where
-    stays_here : s ≡ u
-    stays_here = first_is r g s u (sym (ap (at r g s) none) ∙ come_at r g s (progress cut) u is.come)
+    stays_here : from.content ≡ u
+    stays_here = first_is from u (sym (ap (at from) none) ∙ come_at from (progress cut) u is.come)
 
-module _ (r : Rules) (g : Geometry) (s u : Content) (cut next : Boot) (a b : Course) (whole : Report) (x : Rejoin) where
-  module _ (is : IsCut r g s u cut whole) (at_a : cut.course ≡ Some a) (at_b : next.course ≡ Some b) (of : IsBootOf g next) where
-    module _ (start : progress next ≡ begun r (plan r g u)) (ok : IsLayout b.layout) (found : joins_of a cut.done b ≡ Some x.kept)
+module _ (from : PowerOn) (u : Content) (cut next : Boot) (a b : Course) (whole : Report) (x : Rejoin) where
+  module _ (is : IsCut from u cut whole) (at_a : cut.course ≡ Some a) (at_b : next.course ≡ Some b) (of : IsBootOf from.geometry next) where
+    module _ (start : progress next ≡ begun from.rules (plan (again from u))) (ok : IsLayout b.layout) (found : joins_of a cut.done b ≡ Some x.kept)
         (done : x.done ≡ cut.done) (erases : x.erases ≡ erases_of b) where
-      list_u : (plan r g u).list ≡ course_list b
-      list_u = sym (begun_list r (plan r g u) next start) ∙ ap whole_list at_b
+      list_u : (plan (again from u)).list ≡ course_list b
+      list_u = sym (begun_list from.rules (plan (again from u)) next start) ∙ ap whole_list at_b
 
-      met : Meets g (course_list a) (course_list b) cut.done x.kept (erases_of b)
-      met = joins_meet g a b cut.done x.kept ok (layout_is g cut.course a at_a is.layout) (layout_is g next.course b at_b of) found
+      met : Meets from.geometry (course_list a) (course_list b) cut.done x.kept (erases_of b)
+      met = joins_meet from.geometry a b cut.done x.kept ok (layout_is from.geometry cut.course a at_a is.layout) (layout_is from.geometry next.course b at_b of) found
 
-      joins : Joins r g s u cut.done x.kept met.sectors
+      joins : Joins from u cut.done x.kept met.sectors
       joins =
-          met_joins r g s u cut.done x.kept (erases_of b) (course_list a) (course_list b) met is.sized (come_at r g s (progress cut) u is.come) is.early
+          met_joins from u cut.done x.kept (erases_of b) (course_list a) (course_list b) met is.sized (come_at from (progress cut) u is.come) is.early
           (sym is.list ∙ ap whole_list at_a) list_u
 
       count : length met.sectors ≡ x.erases
       count = met.so_many ∙ sym erases
 
-      width : length (ops_of r g u) + x.kept ≡ length (ops_of r g s)
-      width = (joined r g s u cut.done x.kept met.sectors joins).count
+      width : length (ops_of (again from u)) + x.kept ≡ length (ops_of from)
+      width = (joined from u cut.done x.kept met.sectors joins).count
 
-      few : x.erases ≤ length (ops_of r g u)
-      few = let n = next_erases r g s u cut.done x.kept met.sectors joins in omega (arith, n, count)
+      few : x.erases ≤ length (ops_of (again from u))
+      few = let n = next_erases from u cut.done x.kept met.sectors joins in omega (arith, n, count)
 
-      early : cut.done < length (ops_of r g s)
+      early : cut.done < length (ops_of from)
       early = is.early
 
-      behind : (i : ℕ) → x.erases ≤ i → at r g u i ≡ at r g s (place_of x i)
+      behind : (i : ℕ) → x.erases ≤ i → at (again from u) i ≡ at from (place_of x i)
       behind i le =
-          late r g s u cut.done x.kept met.sectors joins i (omega (arith, le, count)) ∙ ap (at r g s) (sym (placed_behind x i le))
+          late from u cut.done x.kept met.sectors joins i (omega (arith, le, count)) ∙ ap (at from) (sym (placed_behind x i le))
 
       -- The power was lost before the end of the erases.
-      pub rejoins_among : x.done ≤ x.kept + x.erases → IsRejoined r g s u x
+      pub rejoins_among : x.done ≤ x.kept + x.erases → IsRejoined from u x
       rejoins_among low = record {
         width = width;
         few = few;
         same = λ i lt. elim (cases_lt i x.erases) [
           | inl under ↦
-              among r g s u cut.done x.kept met.sectors joins (omega (arith, low, done, count)) i (omega (arith, under, count))
-              ∙ ap (λ n. at r g s (max n (x.kept + i))) (sym done)
-              ∙ ap (at r g s) (sym (placed_among x i under low))
+              among from u cut.done x.kept met.sectors joins (omega (arith, low, done, count)) i (omega (arith, under, count))
+              ∙ ap (λ n. at from (max n (x.kept + i))) (sym done)
+              ∙ ap (at from) (sym (placed_among x i under low))
           | inr le ↦ behind i le
         ];
         within = λ i lt. elim (cases_lt i x.erases) [
@@ -151,20 +151,20 @@ module _ (r : Rules) (g : Geometry) (s u : Content) (cut next : Boot) (a b : Cou
       }
 
       -- The power was lost behind them, and all but one of them are made already.
-      pub rejoins_behind : x.kept + x.erases < x.done → AllIdleBut g u (course_list b) x.only x.erases → IsRejoined r g s u x
+      pub rejoins_behind : x.kept + x.erases < x.done → AllIdleBut from.geometry u (course_list b) x.only x.erases → IsRejoined from u x
       rejoins_behind high idle = record {
         width = width;
         few = few;
         same = λ i lt. elim (cases_lt i x.erases) [
           | inl under ↦ elim (cases_lt x.only i) [
             | inl over ↦
-                behind_erased r g s u cut.done x.kept met.sectors joins i (omega (arith, under, count)) (left i over)
-                ∙ ap (λ n. at r g s (x.kept + n)) count
-                ∙ ap (at r g s) (sym (placed_over x i under high over))
+                behind_erased from u cut.done x.kept met.sectors joins i (omega (arith, under, count)) (left i over)
+                ∙ ap (λ n. at from (x.kept + n)) count
+                ∙ ap (at from) (sym (placed_over x i under high over))
             | inr still ↦
-                stays r g s u cut.done x.kept met.sectors joins i (omega (arith, under, count)) (before i still)
-                ∙ ap (at r g s) (sym done)
-                ∙ ap (at r g s) (sym (placed_still x i under high still))
+                stays from u cut.done x.kept met.sectors joins i (omega (arith, under, count)) (before i still)
+                ∙ ap (at from) (sym done)
+                ∙ ap (at from) (sym (placed_still x i under high still))
           ]
           | inr le ↦ behind i le
         ];
@@ -177,16 +177,16 @@ module _ (r : Rules) (g : Geometry) (s u : Content) (cut next : Boot) (a b : Cou
         ];
       }
         where
-          fit : Fit g met.sectors u
-          fit = fits r g s u cut.done x.kept met.sectors joins
+          fit : Fit from.geometry met.sectors u
+          fit = fits from u cut.done x.kept met.sectors joins
 
           first : take (length met.sectors) (course_list b) ≡ map erase_of met.sectors
           first = met.begins.erases
 
-          before : (i : ℕ) → i ≤ x.only → AreErased g (take i met.sectors) u
+          before : (i : ℕ) → i ≤ x.only → AreErased from.geometry (take i met.sectors) u
           before i still =
-              idle_before g u met.sectors (course_list b) i first fit (λ k lt short. idle k (omega (arith, short, count)) (λ e. omega (arith, lt, still, e)))
+              idle_before from.geometry u met.sectors (course_list b) i first fit (λ k lt short. idle k (omega (arith, short, count)) (λ e. omega (arith, lt, still, e)))
 
-          left : (i : ℕ) → x.only < i → AreErased g (drop i met.sectors) u
+          left : (i : ℕ) → x.only < i → AreErased from.geometry (drop i met.sectors) u
           left i over =
-              idle_behind g u met.sectors (course_list b) i first fit (λ k le short. idle k (omega (arith, short, count)) (λ e. omega (arith, le, over, e)))
+              idle_behind from.geometry u met.sectors (course_list b) i first fit (λ k le short. idle k (omega (arith, short, count)) (λ e. omega (arith, le, over, e)))

@@ -7,14 +7,14 @@ use Rattle.std.proofs.lemmas.List.{length-take-le, length-map, take-append-drop}
 use Rattle.mc_flash.specs.Geometry.{Geometry}
 use Rattle.mc_flash.specs.Content.{Content}
 use Rattle.mc_flash.specs.declared.op.Op.{Op}
-use Rattle.mc_trailer.specs.declared.tables.Rules.{Rules}
 use Rattle.mc_boot.specs.Plan.{plan}
-use Rattle.mc_boot.specs.RunFacts.{happening_front}
+use Rattle.mc_boot.specs.facts.Run.{happening_front}
 use Rattle.mc_boot.specs.Runs.{applied, at, happening, ops_of}
 use Rattle.mc_boot.proofs.Blanking.{Fit, blank, fit_longer, fit_there, one_content}
 use Rattle.mc_boot.proofs.Erased.{AreErased, blank_erased, blank_noop, blank_stays, erased_front, fit_behind, fit_blanked, fit_front}
 use Rattle.mc_boot.proofs.Joins.{Joins, Met, applied_behind, applied_longer, erases_applied, happens_all, happens_few_of, meets}
 use Rattle.mc_boot.proofs.Meets.{Sector, erase_of}
+use Rattle.mc_boot.specs.PowerOn.{PowerOn, again}
 
 blank_append : (g : Geometry) (xs ys : List Sector) (s : Content) → blank g (xs ++ ys) s ≡ blank g ys (blank g xs s)
 blank_append g [] ys s = refl
@@ -41,125 +41,125 @@ take_less [] (suc i) k le = ap (take (suc i)) (take_none k)
 take_less (x ∷ xs) (suc i) zero le = absurd (omega (arith, le))
 take_less (x ∷ xs) (suc i) (suc k) le = ap (λ l. x ∷ l) (take_less xs i k (omega (arith, le)))
 
-module _ (r : Rules) (g : Geometry) (s u : Content) (c j : ℕ) (es : List Sector) (joins : Joins r g s u c j es) where
-  met : Met r g s u j es
-  met = meets r g s u c j es joins
+module _ (from : PowerOn) (u : Content) (c j : ℕ) (es : List Sector) (joins : Joins from u c j es) where
+  met : Met from u j es
+  met = meets from u c j es joins
 
   abbrev rest : List Op
-  rest = happening g (drop (length es) (plan r g u).list) (blank g es u)
+  rest = happening from.geometry (drop (length es) (plan (again from u)).list) (blank from.geometry es u)
 
-  ops_are : ops_of r g u ≡ map erase_of es ++ rest
+  ops_are : ops_of (again from u) ≡ map erase_of es ++ rest
   unfolding ops_of
   ops_are =
-      happening_front g (plan r g u).list (length es) u (blank g es u)
-      (ap (λ (xs : List Op). applied g xs u) joins.erases ∙ erases_applied g es u)
+      happening_front from.geometry (plan (again from u)).list (length es) u (blank from.geometry es u)
+      (ap (λ (xs : List Op). applied from.geometry xs u) joins.erases ∙ erases_applied from.geometry es u)
       ∙ ap (λ (xs : List Op). xs ++ rest) joins.erases
 
-  pub next_erases : length es ≤ length (ops_of r g u)
+  pub next_erases : length es ≤ length (ops_of (again from u))
   next_erases =
       omega (arith, ap (λ (xs : List Op). length xs) ops_are, length-append (map erase_of es) rest, length-map {A = Sector} {B = Op} es erase_of)
 
   -- The boot that was cut leaves after j operations more what the next one's first operations make of another content.
-  further : (i : ℕ) → at r g s (j + i) ≡ applied g (take i (ops_of r g u)) met.from
+  further : (i : ℕ) → at from (j + i) ≡ applied from.geometry (take i (ops_of (again from u))) met.from
   unfolding at
   further i =
-      let count : j ≡ length (take j (plan r g s).list) = sym (length-take-le j (plan r g s).list (omega (arith, joins.passed, joins.early, few))) in
-      let front : take (j + i) (ops_of r g s) ≡ take j (plan r g s).list ++ take i (ops_of r g u) =
-      ap (take (j + i)) (happens_all r g s u c j es joins)
-      ∙ ap (λ n. take (n + i) (take j (plan r g s).list ++ ops_of r g u)) count
-      ∙ take_behind (take j (plan r g s).list) (ops_of r g u) i in
-      ap (λ (xs : List Op). applied g xs s) front
-      ∙ applied_behind g (take j (plan r g s).list) (take i (ops_of r g u)) s met.from met.start
+      let count : j ≡ length (take j (plan from).list) = sym (length-take-le j (plan from).list (omega (arith, joins.passed, joins.early, few))) in
+      let front : take (j + i) (ops_of from) ≡ take j (plan from).list ++ take i (ops_of (again from u)) =
+      ap (take (j + i)) (happens_all from u c j es joins)
+      ∙ ap (λ n. take (n + i) (take j (plan from).list ++ ops_of (again from u))) count
+      ∙ take_behind (take j (plan from).list) (ops_of (again from u)) i in
+      ap (λ (xs : List Op). applied from.geometry xs from.content) front
+      ∙ applied_behind from.geometry (take j (plan from).list) (take i (ops_of (again from u))) from.content met.from met.start
     where
-      few : length (ops_of r g s) ≤ length (plan r g s).list
-      few = happens_few_of r g s
+      few : length (ops_of from) ≤ length (plan from).list
+      few = happens_few_of from
 
   -- Among the erases.
-  erased_some : (x : Content) (i : ℕ) → i ≤ length es → applied g (take i (ops_of r g u)) x ≡ Some (blank g (take i es) x)
+  erased_some : (x : Content) (i : ℕ) → i ≤ length es → applied from.geometry (take i (ops_of (again from u))) x ≡ Some (blank from.geometry (take i es) x)
   erased_some x i few =
-      ap (λ (xs : List Op). applied g xs x) (ap (take i) ops_are ∙ take_mapped erase_of es rest i few)
-      ∙ erases_applied g (take i es) x
+      ap (λ (xs : List Op). applied from.geometry xs x) (ap (take i) ops_are ∙ take_mapped erase_of es rest i few)
+      ∙ erases_applied from.geometry (take i es) x
 
-  next_at : (i : ℕ) → i ≤ length es → at r g u i ≡ Some (blank g (take i es) u)
+  next_at : (i : ℕ) → i ≤ length es → at (again from u) i ≡ Some (blank from.geometry (take i es) u)
   unfolding at
   next_at i few = erased_some u i few
 
-  further_at : (i : ℕ) → i ≤ length es → at r g s (j + i) ≡ Some (blank g (take i es) met.from)
+  further_at : (i : ℕ) → i ≤ length es → at from (j + i) ≡ Some (blank from.geometry (take i es) met.from)
   further_at i few = further i ∙ erased_some met.from i few
 
   -- Behind the erases both are the same.
-  pub late : (i : ℕ) → length es ≤ i → at r g u i ≡ at r g s (j + i)
+  pub late : (i : ℕ) → length es ≤ i → at (again from u) i ≡ at from (j + i)
   unfolding at
   late i many =
-      behind u ∙ ap (λ x. applied g (take (i - length es) rest) x) met.alike ∙ sym (behind met.from) ∙ sym (further i)
+      behind u ∙ ap (λ x. applied from.geometry (take (i - length es) rest) x) met.alike ∙ sym (behind met.from) ∙ sym (further i)
     where
       count : i ≡ length (map erase_of es) + (i - length es)
       count = omega (arith, many, length-map {A = Sector} {B = Op} es erase_of)
 
-      front : take i (ops_of r g u) ≡ map erase_of es ++ take (i - length es) rest
+      front : take i (ops_of (again from u)) ≡ map erase_of es ++ take (i - length es) rest
       front =
           ap (take i) ops_are
           ∙ ap (λ n. take n (map erase_of es ++ rest)) count
           ∙ take_behind (map erase_of es) rest (i - length es)
 
-      behind : (x : Content) → applied g (take i (ops_of r g u)) x ≡ applied g (take (i - length es) rest) (blank g es x)
+      behind : (x : Content) → applied from.geometry (take i (ops_of (again from u))) x ≡ applied from.geometry (take (i - length es) rest) (blank from.geometry es x)
       behind x =
-          ap (λ (xs : List Op). applied g xs x) front
-          ∙ applied_behind g (map erase_of es) (take (i - length es) rest) x (blank g es x) (erases_applied g es x)
+          ap (λ (xs : List Op). applied from.geometry xs x) front
+          ∙ applied_behind from.geometry (map erase_of es) (take (i - length es) rest) x (blank from.geometry es x) (erases_applied from.geometry es x)
 
-  pub fits : Fit g es u
+  pub fits : Fit from.geometry es u
   unfolding at ops_of
   fits =
-      fit_longer g es s u (applied_longer g (take c (ops_of r g s)) s u joins.cut) (fit_there g es s joins.sized joins.there)
+      fit_longer from.geometry es from.content u (applied_longer from.geometry (take c (ops_of from)) from.content u joins.cut) (fit_there from.geometry es from.content joins.sized joins.there)
 
-  fits_some : (i : ℕ) (x : Content) → Fit g es x → Fit g (take i es) x
-  fits_some i x fit = fit_front g es x i fit
+  fits_some : (i : ℕ) (x : Content) → Fit from.geometry es x → Fit from.geometry (take i es) x
+  fits_some i x fit = fit_front from.geometry es x i fit
 
   -- Sectors that are erased already change nothing.
-  pub stays : (i : ℕ) → i ≤ length es → AreErased g (take i es) u → at r g u i ≡ at r g s c
-  stays i few are = next_at i few ∙ ap (λ x. Some x) (blank_noop g (take i es) u (fits_some i u fits) are) ∙ sym joins.cut
+  pub stays : (i : ℕ) → i ≤ length es → AreErased from.geometry (take i es) u → at (again from u) i ≡ at from c
+  stays i few are = next_at i few ∙ ap (λ x. Some x) (blank_noop from.geometry (take i es) u (fits_some i u fits) are) ∙ sym joins.cut
 
   module _ (within : c ≤ j + length es) where
-    was : u ≡ blank g (take (c - j) es) met.from
+    was : u ≡ blank from.geometry (take (c - j) es) met.from
     was =
         let place : j + (c - j) ≡ c = (let p = joins.passed in omega (arith, p)) in
-        one_content u (blank g (take (c - j) es) met.from)
-        (sym joins.cut ∙ ap (at r g s) (sym place) ∙ further_at (c - j) (omega (arith, within)))
+        one_content u (blank from.geometry (take (c - j) es) met.from)
+        (sym joins.cut ∙ ap (at from) (sym place) ∙ further_at (c - j) (omega (arith, within)))
 
-    are_erased : AreErased g (take (c - j) es) u
+    are_erased : AreErased from.geometry (take (c - j) es) u
     are_erased =
-        subst (AreErased g (take (c - j) es)) (sym was) (blank_erased g (take (c - j) es) met.from (fits_some (c - j) met.from met.fits))
+        subst (AreErased from.geometry (take (c - j) es)) (sym was) (blank_erased from.geometry (take (c - j) es) met.from (fits_some (c - j) met.from met.fits))
 
     -- The cut lay among the erases, or before them.
-    pub among : (i : ℕ) → i < length es → at r g u i ≡ at r g s (max c (j + i))
+    pub among : (i : ℕ) → i < length es → at (again from u) i ≡ at from (max c (j + i))
     among i few = elim (cases_lt i (c - j)) [
       | inl low ↦
           let same : max c (j + i) ≡ c = omega (arith, low) in
           let front : take i (take (c - j) es) ≡ take i es = take_less es i (c - j) (omega (arith, low)) in
-          stays i (omega (arith, few)) (subst (λ xs. AreErased g xs u) front (erased_front g (take (c - j) es) u i are_erased)) ∙ ap (at r g s) (sym same)
+          stays i (omega (arith, few)) (subst (λ xs. AreErased from.geometry xs u) front (erased_front from.geometry (take (c - j) es) u i are_erased)) ∙ ap (at from) (sym same)
       | inr high ↦
           let same : max c (j + i) ≡ j + i = omega (arith, high) in
           let more : List Sector = take (i - (c - j)) (drop (c - j) es) in
           let parts : take i es ≡ take (c - j) es ++ more = ap (λ n. take n es) (omega (arith, high)) ∙ take-add (c - j) (i - (c - j)) es in
-          let blanked : (x : Content) → blank g (take i es) x ≡ blank g more (blank g (take (c - j) es) x) =
-          (λ x. ap (λ xs. blank g xs x) parts ∙ blank_append g (take (c - j) es) more x) in
-          let alike : blank g (take i es) u ≡ blank g (take i es) met.from =
-          blanked u ∙ ap (blank g more) (blank_noop g (take (c - j) es) u (fits_some (c - j) u fits) are_erased ∙ was) ∙ sym (blanked met.from) in
-          next_at i (omega (arith, few)) ∙ ap (λ x. Some x) alike ∙ sym (further_at i (omega (arith, few))) ∙ ap (at r g s) (sym same)
+          let blanked : (x : Content) → blank from.geometry (take i es) x ≡ blank from.geometry more (blank from.geometry (take (c - j) es) x) =
+          (λ x. ap (λ xs. blank from.geometry xs x) parts ∙ blank_append from.geometry (take (c - j) es) more x) in
+          let alike : blank from.geometry (take i es) u ≡ blank from.geometry (take i es) met.from =
+          blanked u ∙ ap (blank from.geometry more) (blank_noop from.geometry (take (c - j) es) u (fits_some (c - j) u fits) are_erased ∙ was) ∙ sym (blanked met.from) in
+          next_at i (omega (arith, few)) ∙ ap (λ x. Some x) alike ∙ sym (further_at i (omega (arith, few))) ∙ ap (at from) (sym same)
     ]
 
   -- All that is left to be erased is erased already.
-  pub behind_erased : (i : ℕ) → i ≤ length es → AreErased g (drop i es) u → at r g u i ≡ at r g s (j + length es)
+  pub behind_erased : (i : ℕ) → i ≤ length es → AreErased from.geometry (drop i es) u → at (again from u) i ≡ at from (j + length es)
   behind_erased i few are =
       let fit = fits_some i u fits in
       let parts : es ≡ take i es ++ drop i es = sym (take-append-drop i es) in
-      let left : Fit g (drop i es) (blank g (take i es) u) = fit_blanked g (take i es) (drop i es) u fit (fit_behind g es u i fits) in
-      let same : blank g es u ≡ blank g (take i es) u =
-      ap (λ xs. blank g xs u) parts
-      ∙ blank_append g (take i es) (drop i es) u
-      ∙ blank_noop g (drop i es) (blank g (take i es) u) left (blank_stays g (drop i es) (take i es) u fit are) in
+      let left : Fit from.geometry (drop i es) (blank from.geometry (take i es) u) = fit_blanked from.geometry (take i es) (drop i es) u fit (fit_behind from.geometry es u i fits) in
+      let same : blank from.geometry es u ≡ blank from.geometry (take i es) u =
+      ap (λ xs. blank from.geometry xs u) parts
+      ∙ blank_append from.geometry (take i es) (drop i es) u
+      ∙ blank_noop from.geometry (drop i es) (blank from.geometry (take i es) u) left (blank_stays from.geometry (drop i es) (take i es) u fit are) in
       let all : take (length es) es ≡ es = take-length es in
       next_at i few
       ∙ ap (λ x. Some x) (sym same ∙ met.alike)
-      ∙ ap (λ xs. Some (blank g xs met.from)) (sym all)
+      ∙ ap (λ xs. Some (blank from.geometry xs met.from)) (sym all)
       ∙ sym (further_at (length es) (omega arith))

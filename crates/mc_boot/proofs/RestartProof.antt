@@ -15,7 +15,7 @@ use Rattle.mc_boot.proofs.WholeBoots.{ends}
 use Rattle.mc_boot.specs.Outcome.{outcome_of, report, result_of}
 use Rattle.mc_boot.specs.Plan.{Plan, nothing, plain, plan}
 use Rattle.mc_boot.specs.Restart.{AreExchanged, BeginsImage, EndsIn, Holds, IsSettled, IsSwapped, IsTested, RestartLaw, StartsExist, forgets_reverts}
-use Rattle.mc_boot.specs.RunFacts.{left_defined}
+use Rattle.mc_boot.specs.facts.Run.{left_defined}
 use Rattle.mc_boot.specs.Runs.{after, is_faulted, left_by, ops_of}
 use Rattle.mc_boot.specs.Start.{image_bytes, named, other, perm_flash, placed, start_flash, test_flash}
 use Rattle.mc_boot.specs.declared.kind.Kind.{Kind}
@@ -28,7 +28,7 @@ use Rattle.mc_flash.specs.Pieces.{in_pieces}
 use Rattle.mc_flash.specs.declared.flash.Grain.{Grain}
 use Rattle.mc_flash.specs.declared.op.Op.{Op}
 use Rattle.mc_image.specs.Valid.{is_valid}
-use Rattle.mc_trailer.specs.FieldFacts.{FieldsAre, blank_fields, fields_front, reads_absent}
+use Rattle.mc_trailer.specs.facts.Fields.{FieldsAre, blank_fields, fields_front, reads_absent}
 use Rattle.mc_trailer.specs.Fields.{one_unit}
 use Rattle.mc_trailer.specs.declared.places.Field.{Field}
 use Rattle.mc_trailer.specs.declared.tables.Profile.{Profile}
@@ -40,6 +40,7 @@ use Rattle.mc_trailer.specs.declared.tables.SwapType.TheVariants as kinds
 use Rattle.mc_flash.specs.declared.flash.Grain.TheVariants as grains
 use Rattle.mc_trailer.specs.declared.tables.Profile.TheVariants as profiles
 use Rattle.mc_flash.specs.declared.op.Slot.TheVariants.{Primary, Secondary}
+use Rattle.mc_boot.specs.PowerOn.{PowerOn, again, power_on}
 
 -- the same image, whole
 pub held_whole : (a xs : List ℕ) → SameImage a xs → Holds a xs
@@ -54,47 +55,49 @@ calm_boots kinds.Revert calm = refl
 calm_boots kinds.Fail calm = refl
 calm_boots kinds.Panic calm = absurd (calm refl)
 
-boots_so : (r : Rules) (g : Geometry) (u z : Content) → left_by r g u ≡ Some z → is_faulted r g u ≡ false → (plan r g u).kind ≢ kinds.Panic → is_valid z.primary ≡ true
-    → option_map (λ o. o.result) (outcome_of r g u) ≡ Some results.Boot
+boots_so : (x : PowerOn) (z : Content) → left_by x ≡ Some z → is_faulted x ≡ false → (plan x).kind ≢ kinds.Panic → is_valid z.primary ≡ true
+    → option_map (λ o. o.result) (outcome_of x) ≡ Some results.Boot
 unfolding outcome_of report
-boots_so r g u z end whole calm valid =
-    let kind : SwapType = (plan r g u).kind in
-    ap (λ (x : Option Content). option_map (λ o. o.result) (option_map (λ y. report r g (plan r g u).kind (length (ops_of r g u)) (is_faulted r g u) y) x)) end
-    ∙ ap (λ (e : Bool). Some (result_of (plan r g u).kind e (is_valid z.primary))) whole
-    ∙ ap (λ (e : Bool). Some (result_of (plan r g u).kind false e)) valid
-    ∙ ap (λ (e : BootResult). Some e) (calm_boots (plan r g u).kind calm)
+boots_so from z end whole calm valid =
+    let kind : SwapType = (plan from).kind in
+    ap (λ (x : Option Content). option_map (λ o. o.result) (option_map (λ y. report from.rules from.geometry (plan from).kind (length (ops_of from)) (is_faulted from) y) x)) end
+    ∙ ap (λ (e : Bool). Some (result_of (plan from).kind e (is_valid z.primary))) whole
+    ∙ ap (λ (e : Bool). Some (result_of (plan from).kind false e)) valid
+    ∙ ap (λ (e : BootResult). Some e) (calm_boots (plan from).kind calm)
 
 -- no swap
-pub idle_at : (r : Rules) (g : Geometry) (a b : List ℕ) → ImageLaws → IsLayout g → BeginsImage g a → BeginsImage g b → plan r g (placed g (image_bytes a) (image_bytes b)) ≡ nothing kinds.None
+pub idle_at : (r : Rules) (g : Geometry) (a b : List ℕ) → ImageLaws → IsLayout g → BeginsImage g a → BeginsImage g b
+    → plan (power_on r g (placed g (image_bytes a) (image_bytes b))) ≡ nothing kinds.None
 idle_at r g a b laws ok at_a at_b =
     let sized = (placed_holds g a b laws ok at_a at_b).sized in
-    plan_none r g (placed g (image_bytes a) (image_bytes b))
+    plan_none (power_on r g (placed g (image_bytes a) (image_bytes b)))
     (reads_absent g (placed g (image_bytes a) (image_bytes b)) Primary ok sized (placed_unasked g a b Primary laws ok at_a at_b field.Magic))
     (reads_absent g (placed g (image_bytes a) (image_bytes b)) Secondary ok sized (placed_unasked g a b Secondary laws ok at_a at_b field.Magic))
 
 -- A flash whose boot has no operation: no cut can occur, and it stays.
-module _ (r : Rules) (g : Geometry) (m : Content) (idle : (plan r g m).list ≡ []) where
-  rests : (s : Content) → s ≡ m → Keeps g (λ t. t ≡ m) (plan r g s).list s (λ t. t ≡ m)
-  rests s same = let E : List Op → Type 0 = λ ops. Keeps g (λ t. t ≡ m) ops s (λ t. t ≡ m) in subst E (sym (ap (λ x. (plan r g x).list) same ∙ idle)) same
+module _ (from : PowerOn) (idle : (plan from).list ≡ []) where
+  rests : (s : Content) → s ≡ from.content → Keeps from.geometry (λ t. t ≡ from.content) (plan (again from s)).list s (λ t. t ≡ from.content)
+  rests s same = let E : List Op → Type 0 = λ ops. Keeps from.geometry (λ t. t ≡ from.content) ops s (λ t. t ≡ from.content) in subst E (sym (ap (λ x. (plan (again from x)).list) same ∙ idle)) same
 
-  pub uncut : (u : Content) (cuts : List ℕ) → after r g m cuts ≡ Some u → u ≡ m
-  uncut u cuts is = restart r g (λ t. t ≡ m) (λ t. t ≡ m) rests cuts m u refl is
+  pub uncut : (u : Content) (cuts : List ℕ) → after from cuts ≡ Some u → u ≡ from.content
+  uncut u cuts is = restart from.rules from.geometry (λ t. t ≡ from.content) (λ t. t ≡ from.content) rests cuts from.content u refl is
 
-  pub idle_leaves : left_by r g m ≡ Some m
-  idle_leaves = let end = ends r g (λ t. t ≡ m) (λ t. t ≡ m) m (rests m refl) in end.1.end ∙ ap (λ (t : Content). Some t) end.1.so
+  pub idle_leaves : left_by from ≡ Some from.content
+  idle_leaves = let end = ends from.rules from.geometry (λ t. t ≡ from.content) (λ t. t ≡ from.content) from.content (rests from.content refl) in end.1.end ∙ ap (λ (t : Content). Some t) end.1.so
 
   -- What holds there is what its boot ends in.
-  pub idle_ends : (kind : Kind) (a b : List ℕ) (s : Content) → (plan r g m).kind ≡ kinds.None → is_valid m.primary ≡ true → Holds (named kind a b) m.primary → Holds (other kind a b) m.secondary
-      → IsSwapped r g kind s m m → EndsIn r g kind a b s m m
+  pub idle_ends : (kind : Kind) (a b : List ℕ) (s : Content) → (plan from).kind ≡ kinds.None → is_valid from.content.primary ≡ true → Holds (named kind a b) from.content.primary
+      → Holds (other kind a b) from.content.secondary
+      → IsSwapped (again from s) kind from.content from.content → EndsIn (again from s) kind a b from.content from.content
   idle_ends kind a b s none valid one two swapped =
-      let end = ends r g (λ t. t ≡ m) (λ t. t ≡ m) m (rests m refl) in
-      let calm : (plan r g m).kind ≢ kinds.Panic = λ panic. no_panic (sym none ∙ panic) in
+      let end = ends from.rules from.geometry (λ t. t ≡ from.content) (λ t. t ≡ from.content) from.content (rests from.content refl) in
+      let calm : (plan from).kind ≢ kinds.Panic = λ panic. no_panic (sym none ∙ panic) in
       record {
         end = idle_leaves;
         whole = end.1.whole;
         calm = calm;
         boots = valid;
-        result = boots_so r g m m idle_leaves end.1.whole calm valid;
+        result = boots_so from from.content idle_leaves end.1.whole calm valid;
         primary = one;
         secondary = two;
         swapped = swapped;
@@ -103,41 +106,45 @@ module _ (r : Rules) (g : Geometry) (m : Content) (idle : (plan r g m).list ≡ 
       no_panic : kinds.None ≡ kinds.Panic → ⊥
       no_panic e = cc
 
-stays_idle : (r : Rules) (g : Geometry) (a b : List ℕ) (s u : Content) (cuts : List ℕ) → plan r g s ≡ nothing kinds.None → SameImage a s.primary → SameImage b s.secondary → after r g s cuts ≡ Some u
-    → (z : Content) × EndsIn r g starts.None a b s u z
+stays_idle : (r : Rules) (g : Geometry) (a b : List ℕ) (s u : Content) (cuts : List ℕ) → plan (power_on r g s) ≡ nothing kinds.None → SameImage a s.primary → SameImage b s.secondary
+    → after (power_on r g s) cuts ≡ Some u
+    → (z : Content) × EndsIn (power_on r g s) starts.None a b u z
 stays_idle r g a b s u cuts idle one two is =
-    let none : (plan r g s).list ≡ [] = ap (λ (p : Plan). p.list) idle in
-    let E : Content → Type 0 = λ t. EndsIn r g starts.None a b s t s in
-    (s, subst E (sym (uncut r g s none u cuts is)) (idle_ends r g s none starts.None a b s (ap (λ (p : Plan). p.kind) idle) one.valid (held_whole a s.primary one) (held_whole b s.secondary two) none))
+    let none : (plan (power_on r g s)).list ≡ [] = ap (λ (p : Plan). p.list) idle in
+    let E : Content → Type 0 = λ t. EndsIn (power_on r g s) starts.None a b t s in (
+      s,
+      subst E (sym (uncut (power_on r g s) none u cuts is))
+          (idle_ends (power_on r g s) none starts.None a b s (ap (λ (p : Plan). p.kind) idle) one.valid (held_whole a s.primary one) (held_whole b s.secondary two) none),
+    )
 
 -- the trailers after a test, and after a swap that stays
 abbrev AtEnd : Bool → Rules → Geometry → Content → Type 0
-AtEnd true r g z = IsTested r g z
-AtEnd false r g z = IsSettled r g z
+AtEnd true r g z = IsTested (power_on r g z)
+AtEnd false r g z = IsSettled (power_on r g z)
 
 -- The swap of a start, after every list of cuts. x is what the secondary held at first, and y what the primary held.
 pub record Law (r : Rules) (g : Geometry) (b : Bool) (n : ℕ) (x y : List ℕ) (s u z : Content) : Type 0 where
-  pub end : left_by r g u ≡ Some z
-  pub whole : is_faulted r g u ≡ false
-  pub calm : (plan r g u).kind ≢ kinds.Panic
+  pub end : left_by (power_on r g u) ≡ Some z
+  pub whole : is_faulted (power_on r g u) ≡ false
+  pub calm : (plan (power_on r g u)).kind ≢ kinds.Panic
   pub primary : SameImage x z.primary
   pub secondary : SameImage y z.secondary
-  pub sectors : (plan r g s).sectors ≡ n
+  pub sectors : (plan (power_on r g s)).sectors ≡ n
   pub exchange : AreExchanged g n s z
   pub trailer : AtEnd b r g z
 
 -- the exchange by the plan of the start
-pub by_start : (r : Rules) (g : Geometry) (n : ℕ) (s z : Content) → (plan r g s).sectors ≡ n → AreExchanged g n s z → AreExchanged g (plan r g s).sectors s z
+pub by_start : (r : Rules) (g : Geometry) (n : ℕ) (s z : Content) → (plan (power_on r g s)).sectors ≡ n → AreExchanged g n s z → AreExchanged g (plan (power_on r g s)).sectors s z
 by_start r g n s z count are = let E : ℕ → Type 0 = λ m. AreExchanged g m s z in subst E (sym count) are
 
 trailer_at_end : (c : Grain) (p : Profile) (g : Geometry) (s : Content) (size n : ℕ) (b : Bool) (z : Content) → Swap (in_pieces c g) s size n → Ended (in_pieces c g) s size n b z
     → AtEnd b (record { grain = c; profile = p }) g z
-trailer_at_end c p g s size n true z w e = tested_on c p g z (tested_end (record { grain = c; profile = p }) (in_pieces c g) s size n z w e)
-trailer_at_end c p g s size n false z w e = settled_on c p g z (settled_end (record { grain = c; profile = p }) (in_pieces c g) s size n z w e)
+trailer_at_end c p g s size n true z w e = tested_on c p g z (tested_end (power_on (record { grain = c; profile = p }) (in_pieces c g) s) size n z w e)
+trailer_at_end c p g s size n false z w e = settled_on c p g z (settled_end (power_on (record { grain = c; profile = p }) (in_pieces c g) s) size n z w e)
 
 law : (R : Content → Type 0) (c : Grain) (p : Profile) (g : Geometry) (b : Bool) (x y : List ℕ) (s u : Content) (size n : ℕ) (cuts : List ℕ) → Swap g s size n → BootsSwap R c p g s size n b
     → Phase R (in_pieces c g) s size n b s
-    → SameImage x s.secondary → SameImage y s.primary → after (record { grain = c; profile = p }) g s cuts ≡ Some u → (z : Content) × Law (record { grain = c; profile = p }) g b n x y s u z
+    → SameImage x s.secondary → SameImage y s.primary → after (power_on (record { grain = c; profile = p }) g s) cuts ≡ Some u → (z : Content) × Law (record { grain = c; profile = p }) g b n x y s u z
 law R c p g b x y s u size n cuts w boots begin at_x at_y is =
     let end = swap_ends R c p g s size n b cuts u boots begin is in
     let made = end.1.ends.so in
@@ -156,14 +163,15 @@ law R c p g b x y s u size n cuts w boots begin at_x at_y is =
       },
     )
 
-pub ended : (r : Rules) (g : Geometry) (kind : Kind) (c : Bool) (n : ℕ) (a b : List ℕ) (s u z : Content) → named kind a b ≡ b → other kind a b ≡ a → Law r g c n b a s u z → IsSwapped r g kind s u z
-    → EndsIn r g kind a b s u z
+pub ended : (r : Rules) (g : Geometry) (kind : Kind) (c : Bool) (n : ℕ) (a b : List ℕ) (s u z : Content) → named kind a b ≡ b → other kind a b ≡ a → Law r g c n b a s u z
+    → IsSwapped (power_on r g s) kind u z
+    → EndsIn (power_on r g s) kind a b u z
 ended r g kind c n a b s u z is_named is_other l swapped = record {
   end = l.end;
   whole = l.whole;
   calm = l.calm;
   boots = l.primary.valid;
-  result = boots_so r g u z l.end l.whole l.calm l.primary.valid;
+  result = boots_so (power_on r g u) z l.end l.whole l.calm l.primary.valid;
   primary = let E : List ℕ → Type 0 = λ x. Holds x z.primary in subst E (sym is_named) (held_whole b z.primary l.primary);
   secondary = let E : List ℕ → Type 0 = λ x. Holds x z.secondary in subst E (sym is_other) (held_whole a z.secondary l.secondary);
   swapped = swapped;
@@ -174,11 +182,11 @@ abbrev Nothing : Content → Type 0
 Nothing s = ⊥
 
 asked_boots : (c : Grain) (p : Profile) (g : Geometry) (s : Content) (size n : ℕ) (b : Bool) → Swap g s size n → BootsSwap Nothing c p g s size n b
-asked_boots c p g s size n b w = phase_swaps Nothing (record { grain = c; profile = p }) (in_pieces c g) s size n b (pieces_again c g) (swap_pieces c g s size n w) (λ t none. absurd none)
+asked_boots c p g s size n b w = phase_swaps Nothing (power_on (record { grain = c; profile = p }) (in_pieces c g) s) size n b (pieces_again c g) (swap_pieces c g s size n w) (λ t none. absurd none)
 
 asked_law : (c : Grain) (p : Profile) (g : Geometry) (e : Bool) (a b : List ℕ) (s u : Content) (cuts : List ℕ) → ImageLaws → IsLayout g → BeginsImage g a → BeginsImage g b → Holding g a b s
     → FieldsAre g s Secondary (asked e)
-    → after (record { grain = c; profile = p }) g s cuts ≡ Some u → (z : Content) × Law (record { grain = c; profile = p }) g e (count_of g s) b a s u z
+    → after (power_on (record { grain = c; profile = p }) g s) cuts ≡ Some u → (z : Content) × Law (record { grain = c; profile = p }) g e (count_of g s) b a s u z
 asked_law c p g e a b s u cuts laws ok at_a at_b h are is =
     let w = swap_held g a b s laws ok at_a at_b h in
     law Nothing c p g e b a s u (larger_size s) (count_of g s) cuts w (asked_boots c p g s (larger_size s) (count_of g s) e w)
@@ -222,15 +230,15 @@ swapped_back c g start size n z w e =
 
 -- What a test leaves after every list of cuts, from where it was asked for.
 pub record Tested (c : Grain) (p : Profile) (g : Geometry) (a b : List ℕ) (s t z : Content) : Type 0 where
-  pub end : left_by (record { grain = c; profile = p }) g t ≡ Some z
+  pub end : left_by (power_on (record { grain = c; profile = p }) g t) ≡ Some z
   pub swap : Swap g s (larger_size s) (count_of g s)
-  pub sectors : (plan (record { grain = c; profile = p }) g s).sectors ≡ count_of g s
+  pub sectors : (plan (power_on (record { grain = c; profile = p }) g s)).sectors ≡ count_of g s
   pub made : Ended (in_pieces c g) s (larger_size s) (count_of g s) true z
   pub reverts : Reverts g a b (larger_size s) (count_of g s) z
 
 pub test_leaves : (c : Grain) (p : Profile) (g : Geometry) (a b : List ℕ) (s t : Content) (cuts : List ℕ) → ImageLaws → IsLayout g → BeginsImage g a → BeginsImage g b → Holding g b a s
     → FieldsAre g s Secondary (asked true)
-    → after (record { grain = c; profile = p }) g s cuts ≡ Some t → (z : Content) × Tested c p g a b s t z
+    → after (power_on (record { grain = c; profile = p }) g s) cuts ≡ Some t → (z : Content) × Tested c p g a b s t z
 test_leaves c p g a b s t cuts laws ok at_a at_b h are is =
     let w = swap_held g b a s laws ok at_b at_a h in
     let end = swap_ends Nothing c p g s (larger_size s) (count_of g s) true cuts t (asked_boots c p g s (larger_size s) (count_of g s) true w)
@@ -254,24 +262,24 @@ test_leaves c p g a b s t cuts laws ok at_a at_b h are is =
     )
 
 pub revert_law : (c : Grain) (p : Profile) (g : Geometry) (a b : List ℕ) (s u : Content) (size n : ℕ) (cuts : List ℕ) → forgets_reverts c p ≡ false → Reverts g a b size n s
-    → after (record { grain = c; profile = p }) g s cuts ≡ Some u
+    → after (power_on (record { grain = c; profile = p }) g s) cuts ≡ Some u
     → (z : Content) × Law (record { grain = c; profile = p }) g false n b a s u z
 revert_law c p g a b s u size n cuts keeps from is =
     let w = from.swap in
     let R : Content → Type 0 = Waiting c (in_pieces c g) s n in
     let pieces = swap_pieces c g s size n w in
     law (Waiting c (in_pieces c g) s n) c p g false b a s u size n cuts w
-    (phase_swaps (Waiting c (in_pieces c g) s n) (record { grain = c; profile = p }) (in_pieces c g) s size n false (pieces_again c g) pieces
-    (waiting_swaps (record { grain = c; profile = p }) (in_pieces c g) s size n (pieces_again c g) keeps pieces))
+    (phase_swaps (Waiting c (in_pieces c g) s n) (power_on (record { grain = c; profile = p }) (in_pieces c g) s) size n false (pieces_again c g) pieces
+    (waiting_swaps (power_on (record { grain = c; profile = p }) (in_pieces c g) s) size n (pieces_again c g) keeps pieces))
     (waits (Waiting c (in_pieces c g) s n) (in_pieces c g) s size n false s (waiting_pieces c g s n w.sized from.tested_is from.unasked_is))
     from.secondary from.primary is
 
 -- for every kind
 law_none : (r : Rules) (g : Geometry) (a b : List ℕ) (s u : Content) (cuts : List ℕ) → ImageLaws → IsLayout g → BeginsImage g a → BeginsImage g b → placed g (image_bytes a) (image_bytes b) ≡ s
-    → after r g s cuts ≡ Some u → (z : Content) × EndsIn r g starts.None a b s u z
+    → after (power_on r g s) cuts ≡ Some u → (z : Content) × EndsIn (power_on r g s) starts.None a b u z
 law_none r g a b s u cuts laws ok at_a at_b start is =
     let h = placed_holds g a b laws ok at_a at_b in
-    let E : Content → Type 0 = λ t. (plan r g t ≡ nothing kinds.None) × SameImage a t.primary × SameImage b t.secondary in
+    let E : Content → Type 0 = λ t. (plan (power_on r g t) ≡ nothing kinds.None) × SameImage a t.primary × SameImage b t.secondary in
     let there = subst E start (
       idle_at r g a b laws ok at_a at_b,
       primary_image g a b (placed g (image_bytes a) (image_bytes b)) laws ok at_a h,
@@ -280,7 +288,7 @@ law_none r g a b s u cuts laws ok at_a at_b start is =
     stays_idle r g a b s u cuts there.0 there.1 there.2 is
 
 law_test : (r : Rules) (g : Geometry) (a b : List ℕ) (s u : Content) (cuts : List ℕ) → ImageLaws → IsLayout g → BeginsImage g a → BeginsImage g b → test_flash g (image_bytes a) (image_bytes b) ≡ s
-    → after r g s cuts ≡ Some u → (z : Content) × EndsIn r g starts.Test a b s u z
+    → after (power_on r g s) cuts ≡ Some u → (z : Content) × EndsIn (power_on r g s) starts.Test a b u z
 law_test r g a b s u cuts laws ok at_a at_b start is =
     let E : Content → Type 0 = λ t. Holding g a b t × FieldsAre g t Secondary (asked true) in
     let there = subst E start (test_holds g a b laws ok at_a at_b, test_asked g a b laws ok at_b) in
@@ -288,7 +296,7 @@ law_test r g a b s u cuts laws ok at_a at_b start is =
     (end.0, ended r g starts.Test true (count_of g s) a b s u end.0 refl refl end.1 (by_start r g (count_of g s) s end.0 end.1.sectors end.1.exchange, end.1.trailer))
 
 law_perm : (r : Rules) (g : Geometry) (a b : List ℕ) (s u : Content) (cuts : List ℕ) → ImageLaws → IsLayout g → BeginsImage g a → BeginsImage g b → perm_flash g (image_bytes a) (image_bytes b) ≡ s
-    → after r g s cuts ≡ Some u → (z : Content) × EndsIn r g starts.Perm a b s u z
+    → after (power_on r g s) cuts ≡ Some u → (z : Content) × EndsIn (power_on r g s) starts.Perm a b u z
 law_perm r g a b s u cuts laws ok at_a at_b start is =
     let E : Content → Type 0 = λ t. Holding g a b t × FieldsAre g t Secondary (asked false) in
     let there = subst E start (perm_holds g a b laws ok at_a at_b, perm_asked g a b laws ok at_b) in
@@ -296,7 +304,7 @@ law_perm r g a b s u cuts laws ok at_a at_b start is =
     (end.0, ended r g starts.Perm false (count_of g s) a b s u end.0 refl refl end.1 (by_start r g (count_of g s) s end.0 end.1.sectors end.1.exchange, end.1.trailer))
 
 law_revert : (r : Rules) (g : Geometry) (a b : List ℕ) (s u : Content) (cuts : List ℕ) → ImageLaws → IsLayout g → BeginsImage g a → BeginsImage g b → forgets_reverts r.grain r.profile ≡ false
-    → left_by plain g (test_flash g (image_bytes b) (image_bytes a)) ≡ Some s → after r g s cuts ≡ Some u → (z : Content) × EndsIn r g starts.Revert a b s u z
+    → left_by (power_on plain g (test_flash g (image_bytes b) (image_bytes a))) ≡ Some s → after (power_on r g s) cuts ≡ Some u → (z : Content) × EndsIn (power_on r g s) starts.Revert a b u z
 law_revert r g a b s u cuts laws ok at_a at_b keeps start is =
     let from : Content = test_flash g (image_bytes b) (image_bytes a) in
     let left = test_leaves grains.Call profiles.One g a b (test_flash g (image_bytes b) (image_bytes a)) (test_flash g (image_bytes b) (image_bytes a)) [] laws ok at_a at_b
@@ -324,4 +332,4 @@ unfolding start_flash
 starts_exist g starts.None a b ok at_a at_b = (placed g (image_bytes a) (image_bytes b), refl)
 starts_exist g starts.Test a b ok at_a at_b = (test_flash g (image_bytes a) (image_bytes b), refl)
 starts_exist g starts.Perm a b ok at_a at_b = (perm_flash g (image_bytes a) (image_bytes b), refl)
-starts_exist g starts.Revert a b ok at_a at_b = left_defined plain g (test_flash g (image_bytes b) (image_bytes a))
+starts_exist g starts.Revert a b ok at_a at_b = left_defined (power_on plain g (test_flash g (image_bytes b) (image_bytes a)))

@@ -23,11 +23,12 @@ use Rattle.mc_flash.specs.Content.{Content}
 use Rattle.mc_flash.specs.Geometry.{Geometry, IsLayout}
 use Rattle.mc_flash.specs.Pieces.{in_pieces}
 use Rattle.mc_image.specs.Valid.{is_valid}
-use Rattle.mc_trailer.specs.FieldFacts.{FieldsAre, reads_absent}
+use Rattle.mc_trailer.specs.facts.Fields.{FieldsAre, reads_absent}
 use Rattle.mc_trailer.specs.declared.tables.Rules.{Rules}
 use Rattle.mc_trailer.specs.declared.places.Field.TheVariants as field
 use Rattle.mc_trailer.specs.declared.tables.SwapType.TheVariants as kinds
 use Rattle.mc_flash.specs.declared.op.Slot.TheVariants.{Primary, Secondary}
+use Rattle.mc_boot.specs.PowerOn.{power_on}
 
 -- exchanged twice
 twice : (g : Geometry) (n : ℕ) (s x z : Content) → AreExchanged g n s x → AreExchanged g n x z → AreBack g n s z
@@ -36,30 +37,32 @@ twice g n s x z one two = record { primary = two.primary ∙ one.secondary; seco
 -- Where the first round leaves nothing to do, nothing is confirmed and the second round has no operation.
 module _ (r : Rules) (g : Geometry) (kind : Kind) (confirms : Bool) (a b : List ℕ) (s x u : Content) (second : List ℕ) where
   abbrev IsStill : Content → Type 0
-  IsStill z = EndsIn r g kind a b s u z × IsIdle r g x u × (confirmed_if confirms g x ≡ x)
+  IsStill z = EndsIn (power_on r g s) kind a b u z × IsIdle (power_on r g x) u × (confirmed_if confirms g x ≡ x)
 
-  module _ (idle : (plan r g x).list ≡ []) (none : (plan r g x).kind ≡ kinds.None) (stays : confirmed g x ≡ x) (again : after r g (confirmed_if confirms g x) second ≡ Some u) where
-    still_round : is_valid x.primary ≡ true → Holds (named kind a b) x.primary → Holds (other kind a b) x.secondary → IsSwapped r g kind s x x → (z : Content) × IsStill z
+  module _ (idle : (plan (power_on r g x)).list ≡ []) (none : (plan (power_on r g x)).kind ≡ kinds.None) (stays : confirmed g x ≡ x)
+      (occurs : after (power_on r g (confirmed_if confirms g x)) second ≡ Some u) where
+    still_round : is_valid x.primary ≡ true → Holds (named kind a b) x.primary → Holds (other kind a b) x.secondary → IsSwapped (power_on r g s) kind x x → (z : Content) × IsStill z
     still_round valid one two swapped =
         let same = unconfirmed confirms g x stays in
-        let there = uncut r g x idle u second (ap (λ m. after r g m second) (sym same) ∙ again) in
-        let E : Content → Type 0 = λ y. EndsIn r g kind a b s y x in
-        (x, (subst E (sym there) (idle_ends r g x idle kind a b s none valid one two swapped), record { idle = idle; uncut = there }, same))
+        let there = uncut (power_on r g x) idle u second (ap (λ m. after (power_on r g m) second) (sym same) ∙ occurs) in
+        let E : Content → Type 0 = λ y. EndsIn (power_on r g s) kind a b y x in
+        (x, (subst E (sym there) (idle_ends (power_on r g x) idle kind a b s none valid one two swapped), record { idle = idle; uncut = there }, same))
 
 -- A swap that stays.
 stays_round : (r : Rules) (g : Geometry) (kind : Kind) (confirms : Bool) (a b : List ℕ) (s t x u y : Content) (second : List ℕ) → IsLayout g
-    → EndsIn r g kind a b s t y → IsSettled r g y → IsSwapped r g kind s y y → left_by r g t ≡ Some x → after r g (confirmed_if confirms g x) second ≡ Some u
+    → EndsIn (power_on r g s) kind a b t y → IsSettled (power_on r g y) → IsSwapped (power_on r g s) kind y y → left_by (power_on r g t) ≡ Some x
+    → after (power_on r g (confirmed_if confirms g x)) second ≡ Some u
     → (z : Content) × IsStill r g kind confirms a b s x u second z
-stays_round r g kind confirms a b s t x u y second ok e settled swapped left again =
-    let E : Content → Type 0 = λ m. after r g (confirmed_if confirms g m) second ≡ Some u → (z : Content) × IsStill r g kind confirms a b s m u second z in
+stays_round r g kind confirms a b s t x u y second ok e settled swapped left occurs =
+    let E : Content → Type 0 = λ m. after (power_on r g (confirmed_if confirms g m)) second ≡ Some u → (z : Content) × IsStill r g kind confirms a b s m u second z in
     subst E (same_content y x (sym e.end ∙ left))
-    (λ at_y. still_round r g kind confirms a b s y u second settled.idle settled.next (settled_stays r g y ok settled) at_y e.boots e.primary e.secondary swapped)
-    again
+    (λ at_y. still_round r g kind confirms a b s y u second settled.idle settled.next (settled_stays (power_on r g y) ok settled) at_y e.boots e.primary e.secondary swapped)
+    occurs
 
 module _ (laws : ImageLaws) (r : Rules) (g : Geometry) (a b : List ℕ) (ok : IsLayout g) (at_a : BeginsImage g a) (at_b : BeginsImage g b) where
   -- No swap: it stays as it was placed.
   record IsPlaced (y : Content) : Type 0 where
-    none : plan r g y ≡ nothing kinds.None
+    none : plan (power_on r g y) ≡ nothing kinds.None
     stays : confirmed g y ≡ y
     first : SameImage a y.primary
     second : SameImage b y.secondary
@@ -75,21 +78,21 @@ module _ (laws : ImageLaws) (r : Rules) (g : Geometry) (a b : List ℕ) (ok : Is
         second = secondary_image g a b (placed g (image_bytes a) (image_bytes b)) laws ok at_b h;
       }
 
-  none_round : (confirms : Bool) (s t x u : Content) (first second : List ℕ) → IsPlaced s → after r g s first ≡ Some t → left_by r g t ≡ Some x
-      → after r g (confirmed_if confirms g x) second ≡ Some u → (z : Content) × EndsAgain r g starts.None confirms a b s x u z
-  none_round confirms s t x u first second at_s is left again =
+  none_round : (confirms : Bool) (s t x u : Content) (first second : List ℕ) → IsPlaced s → after (power_on r g s) first ≡ Some t → left_by (power_on r g t) ≡ Some x
+      → after (power_on r g (confirmed_if confirms g x)) second ≡ Some u → (z : Content) × EndsAgain (power_on r g s) starts.None confirms a b x u z
+  none_round confirms s t x u first second at_s is left occurs =
       let idle = ap (λ (p : Plan). p.list) at_s.none in
-      let there : t ≡ s = uncut r g s idle t first is in
-      let same : x ≡ s = same_content x s (sym left ∙ ap (left_by r g) there ∙ idle_leaves r g s idle) in
-      let E : Content → Type 0 = λ y. after r g (confirmed_if confirms g y) second ≡ Some u → (z : Content) × EndsAgain r g starts.None confirms a b s y u z in
+      let there : t ≡ s = uncut (power_on r g s) idle t first is in
+      let same : x ≡ s = same_content x s (sym left ∙ ap (λ s. left_by (power_on r g s)) there ∙ idle_leaves (power_on r g s) idle) in
+      let E : Content → Type 0 = λ y. after (power_on r g (confirmed_if confirms g y)) second ≡ Some u → (z : Content) × EndsAgain (power_on r g s) starts.None confirms a b y u z in
       let kind = ap (λ (p : Plan). p.kind) at_s.none in
       subst E (sym same)
       (λ at. still_round r g starts.None confirms a b s s u second idle kind at_s.stays at at_s.first.valid (held_whole a s.primary at_s.first) (held_whole b s.secondary at_s.second) idle)
-      again
+      occurs
 
   -- A test.
   module _ (s : Content) (h : Holding g a b s) (are : FieldsAre g s Secondary (asked true)) where
-    module _ (t x : Content) (first : List ℕ) (is : after r g s first ≡ Some t) (left : left_by r g t ≡ Some x) where
+    module _ (t x : Content) (first : List ℕ) (is : after (power_on r g s) first ≡ Some t) (left : left_by (power_on r g t) ≡ Some x) where
       round : Tested r.grain r.profile g b a s t x
       round =
           let one = test_leaves r.grain r.profile g b a s t first laws ok at_b at_a h are is in
@@ -103,9 +106,10 @@ module _ (laws : ImageLaws) (r : Rules) (g : Geometry) (a b : List ℕ) (ok : Is
       crossing y data_ = exchanged_pieces r.grain g (count_of g s) s y (exchanges (in_pieces r.grain g) s (larger_size s) (count_of g s) y pieces data_)
 
       -- left alone it is taken back
-      left_round : (u : Content) (second : List ℕ) → forgets_reverts r.grain r.profile ≡ false → after r g x second ≡ Some u → (z : Content) × EndsAgain r g starts.Test false a b s x u z
-      left_round u second keeps again =
-          let end = revert_law r.grain r.profile g b a x u (larger_size s) (count_of g s) second keeps round.reverts again in
+      left_round : (u : Content) (second : List ℕ) → forgets_reverts r.grain r.profile ≡ false → after (power_on r g x) second ≡ Some u → (z : Content)
+          × EndsAgain (power_on r g s) starts.Test false a b x u z
+      left_round u second keeps occurs =
+          let end = revert_law r.grain r.profile g b a x u (larger_size s) (count_of g s) second keeps round.reverts occurs in
           let back = by_start r g (count_of g s) x end.0 end.1.sectors end.1.exchange in
           let E : ℕ → Type 0 = λ m. AreBack g m s end.0 in (
             end.0,
@@ -116,26 +120,26 @@ module _ (laws : ImageLaws) (r : Rules) (g : Geometry) (a b : List ℕ) (ok : Is
           )
 
       -- confirmed it stays
-      kept : Confirmed r (in_pieces r.grain g) s (count_of g s) (confirmed g x)
+      kept : Confirmed (power_on r (in_pieces r.grain g) s) (count_of g s) (confirmed g x)
       kept =
-          let E : Content → Type 0 = λ m. Confirmed r (in_pieces r.grain g) s (count_of g s) m in
-          subst E (confirmed_pieces r.grain g x) (confirmed_stays r (in_pieces r.grain g) s (larger_size s) (count_of g s) x pieces round.made)
+          let E : Content → Type 0 = λ m. Confirmed (power_on r (in_pieces r.grain g) s) (count_of g s) m in
+          subst E (confirmed_pieces r.grain g x) (confirmed_stays (power_on r (in_pieces r.grain g) s) (larger_size s) (count_of g s) x pieces round.made)
 
-      kept_ends : EndsIn r g starts.Perm a b s (confirmed g x) (confirmed g x)
+      kept_ends : EndsIn (power_on r g s) starts.Perm a b (confirmed g x) (confirmed g x)
       kept_ends =
           let settled = settled_on r.grain r.profile g (confirmed g x) kept.settled in
           let held = crossed (in_pieces r.grain g) s (larger_size s) (count_of g s) (confirmed g x) pieces kept.data_ in
           let upper = same_then b s.secondary (confirmed g x).primary (secondary_image g a b s laws ok at_b h) held.primary in
           let lower = same_then a s.primary (confirmed g x).secondary (primary_image g a b s laws ok at_a h) held.secondary in
           let over = by_start r g (count_of g s) s (confirmed g x) round.sectors (crossing (confirmed g x) kept.data_) in
-          idle_ends r g (confirmed g x) settled.idle starts.Perm a b s settled.next upper.valid
+          idle_ends (power_on r g (confirmed g x)) settled.idle starts.Perm a b s settled.next upper.valid
           (held_whole b (confirmed g x).primary upper) (held_whole a (confirmed g x).secondary lower) (over, settled)
 
-      confirmed_round : (u : Content) (second : List ℕ) → after r g (confirmed g x) second ≡ Some u → (z : Content) × EndsAgain r g starts.Test true a b s x u z
-      confirmed_round u second again =
+      confirmed_round : (u : Content) (second : List ℕ) → after (power_on r g (confirmed g x)) second ≡ Some u → (z : Content) × EndsAgain (power_on r g s) starts.Test true a b x u z
+      confirmed_round u second occurs =
           let settled = settled_on r.grain r.profile g (confirmed g x) kept.settled in
-          let there = uncut r g (confirmed g x) settled.idle u second again in
-          let E : Content → Type 0 = λ y. EndsIn r g starts.Perm a b s y (confirmed g x) in
+          let there = uncut (power_on r g (confirmed g x)) settled.idle u second occurs in
+          let E : Content → Type 0 = λ y. EndsIn (power_on r g s) starts.Perm a b y (confirmed g x) in
           (confirmed g x, (subst E (sym there) kept_ends, record { idle = settled.idle; uncut = there }))
 
   -- For every kind and choice.
@@ -146,19 +150,19 @@ module _ (laws : ImageLaws) (r : Rules) (g : Geometry) (a b : List ℕ) (ok : Is
 
 pub rounds_law : ImageLaws → (r : Rules) → RoundsLaw r
 unfolding start_flash
-rounds_law laws r g starts.None confirms a b s t x u first second ok at_a at_b keeps start is left again =
+rounds_law laws r g starts.None confirms a b s t x u first second ok at_a at_b keeps start is left occurs =
     let placed_there : placed g (image_bytes a) (image_bytes b) ≡ s = same_content (placed g (image_bytes a) (image_bytes b)) s start in
     let at_s = subst (IsPlaced laws r g a b ok at_a at_b) placed_there (placed_is laws r g a b ok at_a at_b) in
-    none_round laws r g a b ok at_a at_b confirms s t x u first second at_s is left again
-rounds_law laws r g starts.Test false a b s t x u first second ok at_a at_b keeps start is left again =
+    none_round laws r g a b ok at_a at_b confirms s t x u first second at_s is left occurs
+rounds_law laws r g starts.Test false a b s t x u first second ok at_a at_b keeps start is left occurs =
     let from = test_start laws r g a b ok at_a at_b s (same_content (test_flash g (image_bytes a) (image_bytes b)) s start) in
-    left_round laws r g a b ok at_a at_b s from.0 from.1 t x first is left u second (keeps refl) again
-rounds_law laws r g starts.Test true a b s t x u first second ok at_a at_b keeps start is left again =
+    left_round laws r g a b ok at_a at_b s from.0 from.1 t x first is left u second (keeps refl) occurs
+rounds_law laws r g starts.Test true a b s t x u first second ok at_a at_b keeps start is left occurs =
     let from = test_start laws r g a b ok at_a at_b s (same_content (test_flash g (image_bytes a) (image_bytes b)) s start) in
-    confirmed_round laws r g a b ok at_a at_b s from.0 from.1 t x first is left u second again
-rounds_law laws r g starts.Perm confirms a b s t x u first second ok at_a at_b keeps start is left again =
+    confirmed_round laws r g a b ok at_a at_b s from.0 from.1 t x first is left u second occurs
+rounds_law laws r g starts.Perm confirms a b s t x u first second ok at_a at_b keeps start is left occurs =
     let e = restart_law laws r g starts.Perm a b s t first ok at_a at_b (λ same. absurd cc) start is in
-    stays_round r g starts.Perm confirms a b s t x u e.0 second ok e.1 e.1.swapped.1 e.1.swapped left again
-rounds_law laws r g starts.Revert confirms a b s t x u first second ok at_a at_b keeps start is left again =
+    stays_round r g starts.Perm confirms a b s t x u e.0 second ok e.1 e.1.swapped.1 e.1.swapped left occurs
+rounds_law laws r g starts.Revert confirms a b s t x u first second ok at_a at_b keeps start is left occurs =
     let e = restart_law laws r g starts.Revert a b s t first ok at_a at_b (λ same. keeps refl) start is in
-    stays_round r g starts.Revert confirms a b s t x u e.0 second ok e.1 e.1.swapped.1 e.1.swapped left again
+    stays_round r g starts.Revert confirms a b s t x u e.0 second ok e.1 e.1.swapped.1 e.1.swapped left occurs

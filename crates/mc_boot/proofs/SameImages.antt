@@ -3,8 +3,8 @@ use Rattle.std.specs.Prelude.{◌≡◌, ℕ, ◌<◌, ◌≤◌, ◌&&◌, Bool
 use Rattle.std.proofs.Common.{arith, sym, ap, ◌∙◌}
 use Rattle.std.proofs.lemmas.Grind.{same_number_lists}
 use Rattle.std.proofs.lemmas.List.{length-take-le, get_or-take}
-use Rattle.mc_image.specs.ValidFacts.{front_within}
-use Rattle.mc_boot.specs.SizeFacts.{size_read}
+use Rattle.mc_image.specs.facts.Valid.{front_within}
+use Rattle.mc_boot.specs.facts.Sizes.{size_read}
 use Rattle.mc_boot.specs.Image.{image_size}
 use Rattle.mc_image.specs.Bytes.{IsBytes}
 use Rattle.mc_image.specs.Faults.{first_fault}

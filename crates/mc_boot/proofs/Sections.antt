@@ -9,7 +9,7 @@ use Rattle.std.proofs.Math.Nat.{mul-le-mul_left, mul-le-mul_right, mod-add-div',
 use Rattle.std.proofs.lemmas.Nat.{mod_below}
 use Rattle.std.proofs.lemmas.List.FromFn.{length-range_with_len}
 use Rattle.mc_flash.specs.Geometry.{Geometry, IsLayout, trailer_sectors, greatest_sectors}
-use Rattle.mc_flash.specs.Facts.{chunks_cover}
+use Rattle.mc_flash.specs.facts.Layouts.{chunks_cover}
 use Rattle.mc_flash.specs.declared.op.Slot.{Slot}
 use Rattle.mc_flash.specs.declared.op.Slot.TheVariants.{Primary}
 use Rattle.mc_flash.specs.declared.op.Op.{Op}

@@ -11,7 +11,7 @@ use Rattle.mc_boot.specs.Transfers.{transfers}
 use Rattle.mc_boot.specs.declared.transfer.Transfer.{Transfer}
 use Rattle.mc_flash.specs.Changes.{Changed}
 use Rattle.mc_flash.specs.Content.{Content, IsSized, byte}
-use Rattle.mc_flash.specs.Facts.{chunks_cover, data_end, data_sectors, sector_in_data}
+use Rattle.mc_flash.specs.facts.Layouts.{chunks_cover, data_end, data_sectors, sector_in_data}
 use Rattle.mc_flash.specs.Geometry.{Geometry, IsLayout, greatest_sectors}
 use Rattle.mc_flash.specs.declared.op.Slot.{Slot}
 

@@ -4,7 +4,7 @@ use Rattle.std.specs.List.{AllByRecursion, range_with_len}
 use Rattle.std.proofs.Common.{arith, sym, subst, ◌∙◌, inl, inr, append_assoc, length-append}
 use Rattle.mc_flash.specs.Apply.{apply}
 use Rattle.mc_flash.specs.Content.{Content, IsSized, byte, sectors_of}
-use Rattle.mc_flash.specs.Facts.{data_end, data_sectors, trailer_leaves_one, trailer_sector_behind_data}
+use Rattle.mc_flash.specs.facts.Layouts.{data_end, data_sectors, trailer_leaves_one, trailer_sector_behind_data}
 use Rattle.mc_flash.specs.Geometry.{Geometry, IsLayout, trailer_sectors}
 use Rattle.mc_flash.specs.Pieces.{in_pieces}
 use Rattle.mc_flash.specs.declared.flash.Grain.{Grain}

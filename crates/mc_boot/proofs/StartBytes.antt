@@ -14,7 +14,7 @@ use Rattle.mc_boot.specs.Image.{image_size}
 use Rattle.mc_boot.specs.Restart.{BeginsImage}
 use Rattle.mc_boot.specs.Start.{filled, image_bytes}
 use Rattle.mc_flash.specs.Content.{Content, IsSized, size_of}
-use Rattle.mc_flash.specs.Facts.{data_before_trailer, data_end, fits_few, image_is_data}
+use Rattle.mc_flash.specs.facts.Layouts.{data_before_trailer, data_end, fits_few, image_is_data}
 use Rattle.mc_flash.specs.Geometry.{Geometry, IsLayout, greatest_sectors}
 use Rattle.mc_flash.specs.declared.op.Slot.{Slot}
 use Rattle.mc_flash.specs.declared.op.Slot.TheVariants.{Primary, Secondary}

@@ -10,11 +10,11 @@ use Rattle.mc_boot.specs.Restart.{BeginsImage}
 use Rattle.mc_boot.specs.Start.{filled, image_bytes, perm_flash, placed, test_flash}
 use Rattle.mc_flash.specs.Changes.{length-put, put_before, put_behind, put_inside}
 use Rattle.mc_flash.specs.Content.{Content, IsSized, put, size_of}
-use Rattle.mc_flash.specs.Facts.{data_before_trailer, data_end}
+use Rattle.mc_flash.specs.facts.Layouts.{data_before_trailer, data_end}
 use Rattle.mc_flash.specs.Geometry.{Geometry, IsLayout}
 use Rattle.mc_flash.specs.declared.op.Slot.{Slot}
-use Rattle.mc_trailer.specs.FieldFacts.{FieldsAre}
-use Rattle.mc_trailer.specs.PlaceFacts.{place_inside}
+use Rattle.mc_trailer.specs.facts.Fields.{FieldsAre}
+use Rattle.mc_trailer.specs.facts.Places.{place_inside}
 use Rattle.mc_trailer.specs.Places.{magic_bytes, place}
 use Rattle.mc_trailer.specs.declared.places.Field.TheVariants as field
 use Rattle.mc_flash.specs.declared.op.Slot.TheVariants.{Primary, Secondary}

@@ -43,12 +43,3 @@ module _ (b : Boot) (op : Op) (old new : Seen) (head : slice_get (to_come b) 0 �
       at (x ∷ rest) is first =
           let same : x ≡ op = cc in
           along (progress b) _ op rest old new (Err errors.NotErased) (is ∙ ap (λ (y : Op). y ∷ rest) same) refl does
-
-  pub wanting_step : Does op old (Err errors.Memory) new → Steps (progress b) old (Err errors.Memory) (progress b) new
-  wanting_step does = at (to_come b) refl head
-    where
-      at : (ops : List Op) → to_come b ≡ ops → slice_get ops 0 ≡ Some op → Steps (progress b) old (Err errors.Memory) (progress b) new
-      at [] is first = absurd cc
-      at (x ∷ rest) is first =
-          let same : x ≡ op = cc in
-          along (progress b) (progress b) op rest old new (Err errors.Memory) (is ∙ ap (λ (y : Op). y ∷ rest) same) refl does

@@ -3,7 +3,7 @@ use Rattle.std.specs.Prelude.{◌≡◌, ◌*◌, ◌<◌, ◌≤◌, true, List
 use Rattle.std.proofs.Common.{arith, sym, ap, subst, ◌∙◌}
 use Rattle.std.proofs.Math.Nat.{mul-le-mul_right}
 use Rattle.mc_flash.specs.Content.{Content, size_of}
-use Rattle.mc_flash.specs.Facts.{data_before_trailer, data_end, image_is_data}
+use Rattle.mc_flash.specs.facts.Layouts.{data_before_trailer, data_end, image_is_data}
 use Rattle.mc_flash.specs.Geometry.{Geometry, IsLayout, greatest_sectors}
 use Rattle.mc_flash.specs.Pieces.{in_pieces, pieces_layout}
 use Rattle.mc_flash.specs.declared.op.Op.{Op}
@@ -24,6 +24,7 @@ use Rattle.mc_boot.proofs.AfterCut.{layout_is}
 use Rattle.mc_boot.proofs.NewPlans.{HasFitting, new_fits}
 use Rattle.mc_boot.proofs.SetupKeeps.{SameData, applied_keeps, inside_pieces, setup_in}
 use Rattle.mc_boot.proofs.SameImages.{ImageLaws, image_front, same_fronts}
+use Rattle.mc_boot.specs.PowerOn.{power_on}
 
 -- Bytes that are the same before the trailers begin with the same valid image.
 valid_kept : (g : Geometry) (s u : Content) → ImageLaws → IsLayout g → IsBytes s.secondary → HasFitting g s → length s.secondary ≡ size_of g Secondary → SameData g s u → is_valid u.secondary ≡ true
@@ -48,7 +49,7 @@ still_valid g s u b a laws ok is at early = by a.opening refl early
     by (Resumed first erases image_ok) opens few = absurd (omega (arith, few))
     by (New kind size) opens few =
         let l : Geometry = in_pieces a.grain g in
-        let list : (plan b.rules g s).list ≡ new_list a.grain l kind size a.sectors =
+        let list : (plan (power_on b.rules g s)).list ≡ new_list a.grain l kind size a.sectors =
         sym is.list ∙ ap whole_list at ∙ ap (list_from a.grain a.layout a.sectors) opens ∙ ap (λ (x : Geometry). new_list a.grain x kind size a.sectors) layout in
         let P : Geometry → Type 0 = λ x. b.done < setup_of a.grain x (New kind size) in
         let inside = inside_pieces a.grain g (take b.done (new_list a.grain l kind size a.sectors))

@@ -17,39 +17,39 @@ use Rattle.mc_flash.specs.Content.{Content}
 use Rattle.mc_flash.specs.Geometry.{Geometry}
 use Rattle.mc_flash.specs.Pieces.{in_pieces}
 use Rattle.mc_flash.specs.declared.flash.Grain.{Grain}
-use Rattle.mc_trailer.specs.FieldFacts.{reads_absent, reads_copy_done, reads_good}
+use Rattle.mc_trailer.specs.facts.Fields.{reads_absent, reads_copy_done, reads_good}
 use Rattle.mc_trailer.specs.Fields.{trailer_of}
 use Rattle.mc_trailer.specs.declared.tables.Profile.{Profile}
-use Rattle.mc_trailer.specs.declared.tables.Rules.{Rules}
 use Rattle.mc_trailer.specs.declared.tables.SwapType.{SwapType}
 use Rattle.mc_trailer.specs.declared.trailer.Trailer.{Trailer}
 use Rattle.mc_trailer.specs.declared.places.Field.TheVariants as field
 use Rattle.mc_trailer.specs.declared.tables.SwapType.TheVariants as kinds
 use Rattle.mc_flash.specs.declared.op.Slot.TheVariants.{Primary, Secondary}
+use Rattle.mc_boot.specs.PowerOn.{PowerOn, again, power_on}
 
 -- Each boot by the rules, on any layout: the phases are of the layout in pieces.
 abbrev pub BootsSwap : (Content → Type 0) → Grain → Profile → Geometry → Content → ℕ → ℕ → Bool → Type 0
-BootsSwap R c p g start size n b = (s : Content) → Phase R (in_pieces c g) start size n b s → Swaps R (record { grain = c; profile = p }) (in_pieces c g) start size n b s
+BootsSwap R c p g start size n b = (s : Content) → Phase R (in_pieces c g) start size n b s → Swaps R (power_on (record { grain = c; profile = p }) (in_pieces c g) start) size n b s
 
 no_panic : (b : Bool) (kind : SwapType) → IsSwapOf b kind → kind ≢ kinds.Panic
 no_panic b kind of same = let E : SwapType → Type 0 = λ k. IsSwapOf b k in subst E same of
 
 keeps_on : (R : Content → Type 0) (c : Grain) (p : Profile) (g : Geometry) (start : Content) (size n : ℕ) (b : Bool) → BootsSwap R c p g start size n b → (s : Content)
     → Phase R (in_pieces c g) start size n b s
-    → Keeps g (Phase R (in_pieces c g) start size n b) (plan (record { grain = c; profile = p }) g s).list s (Ended (in_pieces c g) start size n b)
+    → Keeps g (Phase R (in_pieces c g) start size n b) (plan (power_on (record { grain = c; profile = p }) g s)).list s (Ended (in_pieces c g) start size n b)
 keeps_on R c p g start size n b boots s is =
-    keeps_pieces c g (Phase R (in_pieces c g) start size n b) (Ended (in_pieces c g) start size n b) (plan (record { grain = c; profile = p }) g s).list s
+    keeps_pieces c g (Phase R (in_pieces c g) start size n b) (Ended (in_pieces c g) start size n b) (plan (power_on (record { grain = c; profile = p }) g s)).list s
     (let E : Plan → Type 0 = λ q. Keeps (in_pieces c g) (Phase R (in_pieces c g) start size n b) q.list s (Ended (in_pieces c g) start size n b) in
     subst E (plan_in_pieces c p g s) (boots s is).keeps)
 
 -- after every list of cuts the boot ends the swap
 pub record SwapEnds (c : Grain) (p : Profile) (g : Geometry) (start : Content) (size n : ℕ) (b : Bool) (u z : Content) : Type 0 where
   pub ends : Ends (record { grain = c; profile = p }) g (Ended (in_pieces c g) start size n b) u z
-  pub calm : (plan (record { grain = c; profile = p }) g u).kind ≢ kinds.Panic
-  pub sectors : (plan (record { grain = c; profile = p }) g start).sectors ≡ n
+  pub calm : (plan (power_on (record { grain = c; profile = p }) g u)).kind ≢ kinds.Panic
+  pub sectors : (plan (power_on (record { grain = c; profile = p }) g start)).sectors ≡ n
 
 pub swap_ends : (R : Content → Type 0) (c : Grain) (p : Profile) (g : Geometry) (start : Content) (size n : ℕ) (b : Bool) (cuts : List ℕ) (u : Content) → BootsSwap R c p g start size n b
-    → Phase R (in_pieces c g) start size n b start → after (record { grain = c; profile = p }) g start cuts ≡ Some u
+    → Phase R (in_pieces c g) start size n b start → after (power_on (record { grain = c; profile = p }) g start) cuts ≡ Some u
     → (z : Content) × SwapEnds c p g start size n b u z
 swap_ends R c p g start size n b cuts u boots begin is =
     let at_u = restart (record { grain = c; profile = p }) g (Phase R (in_pieces c g) start size n b) (Ended (in_pieces c g) start size n b) (keeps_on R c p g start size n b boots) cuts start u begin
@@ -83,37 +83,39 @@ exchanges g start size n z w data_ = record {
 }
 
 -- the trailers at the end
-pub tested_end : (r : Rules) (g : Geometry) (start : Content) (size n : ℕ) (z : Content) → Swap g start size n → (e : Ended g start size n true z) → IsTested r g z
-tested_end r g start size n z w e =
+pub tested_end : (x : PowerOn) (size n : ℕ) (z : Content) → Swap x.geometry x.content size n → (e : Ended x.geometry x.content size n true z) → IsTested (again x z)
+tested_end x size n z w e =
     let done = e.2 in
-    let unset = image_ok_is g z e.0 true (swap_of true e.0 e.1) (done.primary field.ImageOk) in
-    let set = reads_copy_done g z Primary 1 (replicate (g.unit - 1) 255) (done.primary field.CopyDone) in
+    let unset = image_ok_is x.geometry z e.0 true (swap_of true e.0 e.1) (done.primary field.ImageOk) in
+    let set = reads_copy_done x.geometry z Primary 1 (replicate (x.geometry.unit - 1) 255) (done.primary field.CopyDone) in
     record {
       image_ok = unset;
       copy_done = set;
-      next = ap (λ (q : Plan). q.kind) (plan_tested r g z size n
-          (reads_good g z Primary w.ok done.data_.sized (done.primary field.Magic)) unset set
-          (absent_reverts r.profile (trailer_of g z Secondary).magic (reads_absent g z Secondary w.ok done.data_.sized (done.secondary field.Magic)))
-          (sees_end g start size n z w done.data_) w.count w.few);
+      next = ap (λ (q : Plan). q.kind) (plan_tested (again x z) size n
+          (reads_good x.geometry z Primary w.ok done.data_.sized (done.primary field.Magic)) unset set
+          (absent_reverts x.rules.profile (trailer_of x.geometry z Secondary).magic (reads_absent x.geometry z Secondary w.ok done.data_.sized (done.secondary field.Magic)))
+          (sees_end x.geometry x.content size n z w done.data_) w.count w.few);
     }
 
-pub settled_end : (r : Rules) (g : Geometry) (start : Content) (size n : ℕ) (z : Content) → Swap g start size n → (e : Ended g start size n false z) → IsSettled r g z
-settled_end r g start size n z w e =
+pub settled_end : (x : PowerOn) (size n : ℕ) (z : Content) → Swap x.geometry x.content size n → (e : Ended x.geometry x.content size n false z) → IsSettled (again x z)
+settled_end x size n z w e =
     let done = e.2 in
-    let set = image_ok_is g z e.0 false (swap_of false e.0 e.1) (done.primary field.ImageOk) in
-    let copied = reads_copy_done g z Primary 1 (replicate (g.unit - 1) 255) (done.primary field.CopyDone) in
-    let stays = plan_settled r g z copied (reads_absent g z Secondary w.ok done.data_.sized (done.secondary field.Magic)) set in
+    let set = image_ok_is x.geometry z e.0 false (swap_of false e.0 e.1) (done.primary field.ImageOk) in
+    let copied = reads_copy_done x.geometry z Primary 1 (replicate (x.geometry.unit - 1) 255) (done.primary field.CopyDone) in
+    let stays = plan_settled (again x z) copied (reads_absent x.geometry z Secondary w.ok done.data_.sized (done.secondary field.Magic)) set in
     record { image_ok = set; copy_done = copied; next = ap (λ (q : Plan). q.kind) stays; idle = ap (λ (q : Plan). q.list) stays }
 
 -- the same on the layout itself
-pub tested_on : (c : Grain) (p : Profile) (g : Geometry) (z : Content) → IsTested (record { grain = c; profile = p }) (in_pieces c g) z → IsTested (record { grain = c; profile = p }) g z
+pub tested_on : (c : Grain) (p : Profile) (g : Geometry) (z : Content) → IsTested (power_on (record { grain = c; profile = p }) (in_pieces c g) z)
+    → IsTested (power_on (record { grain = c; profile = p }) g z)
 tested_on c p g z is = record {
   image_ok = ap (λ (t : Trailer). t.image_ok) (sym (trailer_pieces c g z)) ∙ is.image_ok;
   copy_done = ap (λ (t : Trailer). t.copy_done) (sym (trailer_pieces c g z)) ∙ is.copy_done;
   next = ap (λ (q : Plan). q.kind) (sym (plan_in_pieces c p g z)) ∙ is.next;
 }
 
-pub settled_on : (c : Grain) (p : Profile) (g : Geometry) (z : Content) → IsSettled (record { grain = c; profile = p }) (in_pieces c g) z → IsSettled (record { grain = c; profile = p }) g z
+pub settled_on : (c : Grain) (p : Profile) (g : Geometry) (z : Content) → IsSettled (power_on (record { grain = c; profile = p }) (in_pieces c g) z)
+    → IsSettled (power_on (record { grain = c; profile = p }) g z)
 settled_on c p g z is = record {
   image_ok = ap (λ (t : Trailer). t.image_ok) (sym (trailer_pieces c g z)) ∙ is.image_ok;
   copy_done = ap (λ (t : Trailer). t.copy_done) (sym (trailer_pieces c g z)) ∙ is.copy_done;

@@ -14,13 +14,14 @@ use Rattle.mc_boot.specs.Course.{from_transfer, resumed_list, swap_list}
 use Rattle.mc_boot.specs.Writes.{image_ok_write, info_write, is_test, marking, number_of, opening_writes, trailer_erases, write}
 use Rattle.mc_flash.specs.Changes.{Changed, changed_sized}
 use Rattle.mc_flash.specs.Content.{Content, IsSized, byte, sectors_of, size_of}
-use Rattle.mc_flash.specs.Facts.{data_before_trailer, data_end, trailer_covered, trailer_leaves_one}
+use Rattle.mc_flash.specs.facts.Layouts.{data_before_trailer, data_end, trailer_covered, trailer_leaves_one}
 use Rattle.mc_flash.specs.Geometry.{Geometry, IsLayout, trailer_bytes, trailer_sectors}
 use Rattle.mc_flash.specs.declared.flash.Grain.{Grain}
 use Rattle.mc_flash.specs.declared.op.Slot.{Slot}
-use Rattle.mc_trailer.specs.FieldFacts.{FieldIs, FieldsAre, blank_fields, field_as, fields_as, fields_same, set_field, write_field}
+use Rattle.mc_trailer.specs.facts.Fields.{FieldIs, FieldsAre, blank_fields, field_as, fields_as, fields_same, set_field, write_field}
 use Rattle.mc_trailer.specs.Fields.{one_unit, size_bytes}
-use Rattle.mc_trailer.specs.PlaceFacts.{entry_ends, entry_inside, field_ends, magic_range, most_before_end, one_unit_fits, one_unit_whole, place_inside, room, size_bytes_fit, size_bytes_whole}
+use Rattle.mc_trailer.specs.facts.Places.{entry_ends, entry_inside, field_ends, magic_range, most_before_end, one_unit_fits, one_unit_whole, place_inside, size_bytes_fit, size_bytes_whole}
+use Rattle.mc_trailer.specs.Places.{room}
 use Rattle.mc_trailer.specs.Places.{entry_place, magic_bytes, place}
 use Rattle.mc_trailer.specs.declared.places.Field.{Field}
 use Rattle.mc_trailer.specs.declared.tables.SwapType.{SwapType}

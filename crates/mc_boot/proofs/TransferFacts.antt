@@ -12,7 +12,7 @@ use Rattle.mc_boot.specs.Inside.{IsInside}
 use Rattle.mc_boot.specs.Plan.{first_left}
 use Rattle.mc_boot.specs.Transfers.{brought_in, moved_up, taken_out, transfers}
 use Rattle.mc_boot.specs.declared.transfer.Transfer.{Transfer}
-use Rattle.mc_flash.specs.Facts.{data_sectors}
+use Rattle.mc_flash.specs.facts.Layouts.{data_sectors}
 use Rattle.mc_flash.specs.Geometry.{Geometry, IsLayout, greatest_sectors}
 use Rattle.mc_flash.specs.declared.op.Slot.{Slot}
 use Rattle.mc_flash.specs.declared.op.Slot.TheVariants.{Primary, Secondary}

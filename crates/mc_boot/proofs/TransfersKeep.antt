@@ -15,12 +15,12 @@ use Rattle.mc_boot.specs.Transfers.{steps, transfers}
 use Rattle.mc_boot.specs.declared.transfer.Transfer.{Transfer}
 use Rattle.mc_flash.specs.Changes.{Changed, changed_sized}
 use Rattle.mc_flash.specs.Content.{Content, byte, size_of}
-use Rattle.mc_flash.specs.Facts.{data_before_trailer, data_end, sector_in_data}
+use Rattle.mc_flash.specs.facts.Layouts.{data_before_trailer, data_end, sector_in_data}
 use Rattle.mc_flash.specs.Geometry.{Geometry, IsLayout, greatest_sectors, trailer_bytes}
 use Rattle.mc_flash.specs.declared.op.Slot.{Slot}
-use Rattle.mc_trailer.specs.FieldFacts.{field_write, fields_as, fields_same, set_field, write_field}
+use Rattle.mc_trailer.specs.facts.Fields.{field_write, fields_as, fields_same, set_field, write_field}
 use Rattle.mc_trailer.specs.Fields.{one_unit}
-use Rattle.mc_trailer.specs.PlaceFacts.{entry_ends, entry_inside, one_unit_fits, one_unit_len}
+use Rattle.mc_trailer.specs.facts.Places.{entry_ends, entry_inside, one_unit_fits, one_unit_len}
 use Rattle.mc_trailer.specs.Places.{entry_place, place}
 use Rattle.mc_trailer.specs.declared.places.Field.{Field}
 use Rattle.mc_trailer.specs.declared.tables.SwapType.{SwapType}

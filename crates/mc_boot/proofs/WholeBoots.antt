@@ -10,25 +10,26 @@ use Rattle.mc_flash.specs.Content.{Content}
 use Rattle.mc_flash.specs.Geometry.{Geometry}
 use Rattle.mc_flash.specs.declared.op.Op.{Op}
 use Rattle.mc_trailer.specs.declared.tables.Rules.{Rules}
+use Rattle.mc_boot.specs.PowerOn.{PowerOn, power_on}
 
 pub record Ends (r : Rules) (g : Geometry) (Q : Content → Type 0) (u z : Content) : Type 0 where
-  pub end : left_by r g u ≡ Some z
-  pub whole : is_faulted r g u ≡ false
+  pub end : left_by (power_on r g u) ≡ Some z
+  pub whole : is_faulted (power_on r g u) ≡ false
   pub so : Q z
 
 not_below : (n : ℕ) → nat_lt n n ≡ false
 not_below n = grind (arith, nat_tests)
 
-left_whole : (r : Rules) (g : Geometry) (u z : Content) → ops_of r g u ≡ (plan r g u).list → applied g (plan r g u).list u ≡ Some z → left_by r g u ≡ Some z
+left_whole : (x : PowerOn) (z : Content) → ops_of x ≡ (plan x).list → applied x.geometry (plan x).list x.content ≡ Some z → left_by x ≡ Some z
 unfolding left_by at
-left_whole r g u z whole end = ap (λ (l : List Op). applied g l u) (take_whole (ops_of r g u) (length (ops_of r g u)) refl ∙ whole) ∙ end
+left_whole x z whole end = ap (λ (l : List Op). applied x.geometry l x.content) (take_whole (ops_of x) (length (ops_of x)) refl ∙ whole) ∙ end
 
-not_faulted : (r : Rules) (g : Geometry) (u : Content) → ops_of r g u ≡ (plan r g u).list → is_faulted r g u ≡ false
+not_faulted : (x : PowerOn) → ops_of x ≡ (plan x).list → is_faulted x ≡ false
 unfolding is_faulted
-not_faulted r g u whole = ap (λ (l : List Op). nat_lt (length l) (length (plan r g u).list)) whole ∙ not_below (length (plan r g u).list)
+not_faulted x whole = ap (λ (l : List Op). nat_lt (length l) (length (plan x).list)) whole ∙ not_below (length (plan x).list)
 
-pub ends : (r : Rules) (g : Geometry) (P Q : Content → Type 0) (u : Content) → Keeps g P (plan r g u).list u Q → (z : Content) × Ends r g Q u z
+pub ends : (r : Rules) (g : Geometry) (P Q : Content → Type 0) (u : Content) → Keeps g P (plan (power_on r g u)).list u Q → (z : Content) × Ends r g Q u z
 ends r g P Q u keeps =
     let whole = keeps_boot r g P Q u keeps in
-    let end = keeps_end g P Q (plan r g u).list u keeps in
-    (end.0, record { end = left_whole r g u end.0 whole end.1; whole = not_faulted r g u whole; so = end.2 })
+    let end = keeps_end g P Q (plan (power_on r g u)).list u keeps in
+    (end.0, record { end = left_whole (power_on r g u) end.0 whole end.1; whole = not_faulted (power_on r g u) whole; so = end.2 })

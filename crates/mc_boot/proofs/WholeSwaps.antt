@@ -25,11 +25,12 @@ use Rattle.mc_flash.specs.Geometry.{Geometry, IsLayout, greatest_sectors}
 use Rattle.mc_flash.specs.Pieces.{in_pieces}
 use Rattle.mc_flash.specs.declared.flash.Grain.{Grain}
 use Rattle.mc_flash.specs.declared.op.Op.{Op}
-use Rattle.mc_trailer.specs.FieldFacts.{FieldsAre}
+use Rattle.mc_trailer.specs.facts.Fields.{FieldsAre}
 use Rattle.mc_trailer.specs.declared.tables.Rules.{Rules}
 use Rattle.mc_trailer.specs.declared.tables.SwapType.TheVariants as kinds
 use Rattle.mc_flash.specs.declared.flash.Grain.TheVariants as grains
 use Rattle.mc_flash.specs.declared.op.Slot.TheVariants.{Secondary}
+use Rattle.mc_boot.specs.PowerOn.{PowerOn, power_on}
 
 -- no more happens than a list has
 first_few : (g : Geometry) (op : Op) (ops : List Op) → ((t : Content) → length (happening g ops t) ≤ length ops)
@@ -42,9 +43,9 @@ happens_few g [] s = omega arith
 happens_few g (op ∷ ops) s = first_few g op ops (λ t. happens_few g ops t) (apply g op s)
 
 -- and all of it where none is refused
-length-ops_of : (r : Rules) (g : Geometry) (s : Content) → is_faulted r g s ≡ false → length (ops_of r g s) ≡ length (plan r g s).list
+length-ops_of : (x : PowerOn) → is_faulted x ≡ false → length (ops_of x) ≡ length (plan x).list
 unfolding is_faulted ops_of
-length-ops_of r g s whole = let few = happens_few g (plan r g s).list s in grind (arith, nat_tests)
+length-ops_of x whole = let few = happens_few x.geometry (plan x).list x.content in grind (arith, nat_tests)
 
 -- A start for a test of the images that a and b begin with.
 module _ (laws : ImageLaws) (r : Rules) (g : Geometry) (a b : List ℕ) (s : Content) (ok : IsLayout g) where
@@ -57,10 +58,10 @@ module _ (laws : ImageLaws) (r : Rules) (g : Geometry) (a b : List ℕ) (s : Con
         ap (λ n. max n (image_size s.secondary)) (primary_image g a b s laws ok at_a holds.0).size
         ∙ ap (λ n. max (image_size a) n) (secondary_image g a b s laws ok at_b holds.0).size
 
-    test_plan : plan r g s ≡ starting r.grain g kinds.Test (larger_size s) (count_of g s)
+    test_plan : plan (power_on r g s) ≡ starting r.grain g kinds.Test (larger_size s) (count_of g s)
     test_plan =
         let valid = (secondary_image g a b s laws ok at_b holds.0).valid in
-        plan_asked r g s (larger_size s) (count_of g s) true s (swap_held g a b s laws ok at_a at_b holds.0)
+        plan_asked (power_on r g s) (larger_size s) (count_of g s) true s (swap_held g a b s laws ok at_a at_b holds.0)
         (sees_images s (larger_size s) valid refl)
         (asked_pieces grains.Call g s (count_of g s) true holds.0.sized holds.1)
 
@@ -72,7 +73,7 @@ makes_swap laws c g n ok long r a b s of most start =
     let start_is = same_content (test_flash g (image_bytes a) (image_bytes b)) s start in
     let end = restart_law laws r g starts.Test a b s s [] ok most.first most.second (λ e. absurd (cc)) start refl in
     let count : count_of g s ≡ greatest_sectors g = ap (λ m. div_ceil m g.sector) (larger_is laws r g a b s ok most.first most.second start_is) ∙ most.most in
-    length-ops_of r g s end.1.whole
+    length-ops_of (power_on r g s) end.1.whole
     ∙ ap (λ (p : Plan). length p.list) (test_plan laws r g a b s ok most.first most.second start_is)
     ∙ ap (λ m. length (new_list r.grain (in_pieces r.grain g) kinds.Test (larger_size s) m)) count
     ∙ ap (λ (e : Grain). length (new_list e (in_pieces e g) kinds.Test (larger_size s) (greatest_sectors g))) of

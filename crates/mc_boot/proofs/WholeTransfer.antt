@@ -11,7 +11,7 @@ use Rattle.mc_flash.specs.Changes.{Changed, program_changes, sized_is}
 use Rattle.mc_flash.specs.Content.{Content, IsSized, byte}
 use Rattle.mc_flash.specs.Geometry.{Geometry, IsLayout}
 use Rattle.mc_trailer.specs.Fields.{one_unit}
-use Rattle.mc_trailer.specs.PlaceFacts.{entry_ends, one_unit_len}
+use Rattle.mc_trailer.specs.facts.Places.{entry_ends, one_unit_len}
 use Rattle.mc_trailer.specs.Places.{entry_place}
 use Rattle.mc_flash.specs.declared.op.Slot.TheVariants.{Primary}
 

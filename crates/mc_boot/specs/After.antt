@@ -3,7 +3,6 @@ use Rattle.std.specs.Prelude.{◌≡◌, ℕ, ◌<◌, ◌==◌, if◌then◌els
 use Rattle.mc_flash.specs.Geometry.{Geometry}
 use Rattle.mc_flash.specs.Content.{Content, IsSized}
 use Rattle.mc_image.specs.Bytes.{IsBytes}
-use Rattle.mc_trailer.specs.declared.tables.Rules.{Rules}
 use Rattle.mc_boot.specs.declared.boot.Boot.{Boot}
 use Rattle.mc_boot.specs.declared.course.Course.{Course}
 use Rattle.mc_boot.specs.Boot.{all_of, progress, IsBootOf}
@@ -12,16 +11,17 @@ use Rattle.mc_boot.specs.Outcome.{Report, outcome_of}
 use Rattle.mc_boot.specs.Plan.{plan}
 use Rattle.mc_boot.specs.Run.{HasCome}
 use Rattle.mc_boot.specs.Runs.{ops_of}
+use Rattle.mc_boot.specs.PowerOn.{PowerOn, power_on}
 
 -- A boot of s has come to where its flash holds u, and not yet to its end; uncut it would end with that outcome. Of s no more
 -- is known than the length of its slots.
-pub record IsCut (r : Rules) (g : Geometry) (s u : Content) (b : Boot) (whole : Report) : Type 0 where
-  pub sized : IsSized g s
-  pub layout : IsBootOf g b
-  pub list : all_of b ≡ (plan r g s).list
-  pub come : HasCome r g s (progress b) u
-  pub early : b.done < length (ops_of r g s)
-  pub outcome : outcome_of r g s ≡ Some whole
+pub record IsCut (x : PowerOn) (u : Content) (b : Boot) (whole : Report) : Type 0 where
+  pub sized : IsSized x.geometry x.content
+  pub layout : IsBootOf x.geometry b
+  pub list : all_of b ≡ (plan x).list
+  pub come : HasCome x (progress b) u
+  pub early : b.done < length (ops_of x)
+  pub outcome : outcome_of x ≡ Some whole
 
 -- A boot from s has come to where its flash holds u, at its end or before. Of s no more is known than the length of its
 -- slots, and that bytes stand in the secondary.
@@ -29,8 +29,8 @@ pub record IsStopped (g : Geometry) (s u : Content) (b : Boot) : Type 0 where
   pub sized : IsSized g s
   pub bytes : IsBytes s.secondary
   pub layout : IsBootOf g b
-  pub list : all_of b ≡ (plan b.rules g s).list
-  pub come : HasCome b.rules g s (progress b) u
+  pub list : all_of b ≡ (plan (power_on b.rules g s)).list
+  pub come : HasCome (power_on b.rules g s) (progress b) u
 
 -- How many operations of a course that was cut after so many the next one does not make again. Before the first operation
 -- the next boot is the same boot, and makes all again.

@@ -1,8 +1,8 @@
 pub mod Image
-pub mod SizeFacts
 pub mod Transfers
 pub mod Writes
 pub mod Course
+pub mod PowerOn
 pub mod Plan
 pub mod Runs
 pub mod Inside
@@ -10,11 +10,8 @@ pub mod CourseList
 pub mod Boot
 pub mod Run
 pub mod Goes
-pub mod RunFacts
 pub mod Bounds
 pub mod Cold
-pub mod StepFacts
-pub mod WriteFacts
 pub mod Outcome
 pub mod Joins
 pub mod Idle
@@ -25,5 +22,5 @@ pub mod Start
 pub mod Restart
 pub mod WholeSwap
 pub mod Confirm
-pub mod ConfirmFacts
 pub mod Rounds
+pub mod facts

@@ -12,6 +12,7 @@ use Rattle.mc_boot.specs.declared.outcome.Outcome.{Outcome}
 use Rattle.mc_boot.specs.Image.{identity_of}
 use Rattle.mc_boot.specs.Plan.{plan}
 use Rattle.mc_boot.specs.Runs.{ops_of, is_faulted, left_by}
+use Rattle.mc_boot.specs.PowerOn.{PowerOn, power_on}
 
 -- An outcome as callers see it.
 pub record Report : Type 0 where
@@ -54,10 +55,10 @@ report r g kind count faulted z = record {
   ops = count;
   primary = id_of z.primary;
   secondary = id_of z.secondary;
-  next = (plan r g z).kind;
+  next = (plan (power_on r g z)).kind;
 }
 
 -- The outcome of the uncut boot from s.
-unfoldable pub outcome_of : Rules → Geometry → Content → Option Report
-outcome_of r g s =
-    option_map (λ z. report r g (plan r g s).kind (length (ops_of r g s)) (is_faulted r g s) z) (left_by r g s)
+unfoldable pub outcome_of : PowerOn → Option Report
+outcome_of x =
+    option_map (λ z. report x.rules x.geometry (plan x).kind (length (ops_of x)) (is_faulted x) z) (left_by x)

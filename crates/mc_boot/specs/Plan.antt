@@ -22,6 +22,7 @@ use Rattle.mc_boot.specs.Image.{images_of}
 use Rattle.mc_boot.specs.Transfers.{transfers}
 use Rattle.mc_boot.specs.Writes.{is_test}
 use Rattle.mc_boot.specs.Course.{new_list, resumed_list}
+use Rattle.mc_boot.specs.PowerOn.{PowerOn}
 
 -- The type of a boot, how many sectors it swaps (0 where it has no operations), and its operations in order.
 pub record Plan : Type 0 where
@@ -88,8 +89,8 @@ plan_with r g images s =
     else new_plan r.grain g images (table_of r.profile g s)
 
 -- The plan of a boot from a flash.
-unfoldable pub plan : Rules → Geometry → Content → Plan
-plan r g s = plan_with r g (images_of s) s
+unfoldable pub plan : PowerOn → Plan
+plan x = plan_with x.rules x.geometry (images_of x.content) x.content
 
 -- Whole calls, by the first profile.
 abbrev pub plain : Rules

@@ -21,6 +21,7 @@ use Rattle.mc_boot.specs.Runs.{after, is_faulted, left_by}
 use Rattle.mc_boot.specs.Start.{start_flash, image_bytes, named, other}
 use Rattle.mc_boot.specs.declared.kind.Kind.{Kind}
 use Rattle.mc_boot.specs.declared.kind.Kind.TheVariants as starts
+use Rattle.mc_boot.specs.PowerOn.{PowerOn, again, power_on}
 
 -- Bytes that begin with a valid image which fits.
 pub record BeginsImage (g : Geometry) (b : List ℕ) : Type 0 where
@@ -39,36 +40,36 @@ pub record AreExchanged (g : Geometry) (n : ℕ) (s z : Content) : Type 0 where
   pub secondary : take (n * g.sector) z.secondary ≡ take (n * g.sector) s.primary
 
 -- A finished test: it is not confirmed, and the next boot reverts it.
-pub record IsTested (r : Rules) (g : Geometry) (z : Content) : Type 0 where
-  pub image_ok : (trailer_of g z Primary).image_ok ≡ flags.Unset
-  pub copy_done : (trailer_of g z Primary).copy_done ≡ flags.Set
-  pub next : (plan r g z).kind ≡ kinds.Revert
+pub record IsTested (x : PowerOn) : Type 0 where
+  pub image_ok : (trailer_of x.geometry x.content Primary).image_ok ≡ flags.Unset
+  pub copy_done : (trailer_of x.geometry x.content Primary).copy_done ≡ flags.Set
+  pub next : (plan x).kind ≡ kinds.Revert
 
 -- A finished swap that stays: it is confirmed, and the next boot does nothing.
-pub record IsSettled (r : Rules) (g : Geometry) (z : Content) : Type 0 where
-  pub image_ok : (trailer_of g z Primary).image_ok ≡ flags.Set
-  pub copy_done : (trailer_of g z Primary).copy_done ≡ flags.Set
-  pub next : (plan r g z).kind ≡ kinds.None
-  pub idle : (plan r g z).list ≡ []
+pub record IsSettled (x : PowerOn) : Type 0 where
+  pub image_ok : (trailer_of x.geometry x.content Primary).image_ok ≡ flags.Set
+  pub copy_done : (trailer_of x.geometry x.content Primary).copy_done ≡ flags.Set
+  pub next : (plan x).kind ≡ kinds.None
+  pub idle : (plan x).list ≡ []
 
--- What the kind of start asks for is done, where the start was s, the last boot began at u and left z.
-abbrev pub IsSwapped : Rules → Geometry → Kind → Content → Content → Content → Type 0
-IsSwapped r g starts.None s u z = (plan r g u).list ≡ []
-IsSwapped r g starts.Test s u z = AreExchanged g (plan r g s).sectors s z × IsTested r g z
-IsSwapped r g starts.Perm s u z = AreExchanged g (plan r g s).sectors s z × IsSettled r g z
-IsSwapped r g starts.Revert s u z = AreExchanged g (plan r g s).sectors s z × IsSettled r g z
+-- What the kind of start asks for is done: the last boot began at u and left z.
+abbrev pub IsSwapped : PowerOn → Kind → Content → Content → Type 0
+IsSwapped start starts.None u z = (plan (again start u)).list ≡ []
+IsSwapped start starts.Test u z = AreExchanged start.geometry (plan start).sectors start.content z × IsTested (again start z)
+IsSwapped start starts.Perm u z = AreExchanged start.geometry (plan start).sectors start.content z × IsSettled (again start z)
+IsSwapped start starts.Revert u z = AreExchanged start.geometry (plan start).sectors start.content z × IsSettled (again start z)
 
--- The boot from u is the last, and ends what the start s of the images of a and b asked for: it leaves z, no operation of
+-- The boot from u is the last, and ends what the start of the images of a and b asked for: it leaves z, no operation of
 -- it is refused, its type is no panic and its result is to boot; the images stand in their slots.
-pub record EndsIn (r : Rules) (g : Geometry) (kind : Kind) (a b : List ℕ) (s u z : Content) : Type 0 where
-  pub end : left_by r g u ≡ Some z
-  pub whole : is_faulted r g u ≡ false
-  pub calm : (plan r g u).kind ≢ kinds.Panic
+pub record EndsIn (start : PowerOn) (kind : Kind) (a b : List ℕ) (u z : Content) : Type 0 where
+  pub end : left_by (again start u) ≡ Some z
+  pub whole : is_faulted (again start u) ≡ false
+  pub calm : (plan (again start u)).kind ≢ kinds.Panic
   pub boots : is_valid z.primary ≡ true
-  pub result : option_map (λ o. o.result) (outcome_of r g u) ≡ Some results.Boot
+  pub result : option_map (λ o. o.result) (outcome_of (again start u)) ≡ Some results.Boot
   pub primary : Holds (named kind a b) z.primary
   pub secondary : Holds (other kind a b) z.secondary
-  pub swapped : IsSwapped r g kind s u z
+  pub swapped : IsSwapped start kind u z
 
 -- Where each write unit happens by itself, a cut can leave half of the secondary's magic while a revert is prepared. The
 -- first profile reverts only where that magic is unset, and so forgets the revert then.
@@ -90,5 +91,5 @@ abbrev pub RestartLaw : Rules → Type 0
 RestartLaw r =
     (g : Geometry) (kind : Kind) (a b : List ℕ) (s u : Content) (cuts : List ℕ)
     → IsLayout g → BeginsImage g a → BeginsImage g b → (kind ≡ starts.Revert → forgets_reverts r.grain r.profile ≡ false)
-    → start_flash g kind a b ≡ Some s → after r g s cuts ≡ Some u
-    → (z : Content) × EndsIn r g kind a b s u z
+    → start_flash g kind a b ≡ Some s → after (power_on r g s) cuts ≡ Some u
+    → (z : Content) × EndsIn (power_on r g s) kind a b u z

@@ -11,6 +11,7 @@ use Rattle.mc_boot.specs.Runs.{after, left_by}
 use Rattle.mc_boot.specs.Start.{start_flash}
 use Rattle.mc_boot.specs.declared.kind.Kind.{Kind}
 use Rattle.mc_boot.specs.declared.kind.Kind.TheVariants as starts
+use Rattle.mc_boot.specs.PowerOn.{PowerOn, again, power_on}
 
 -- The first n sectors of the two slots of s stand in z again, byte for byte.
 pub record AreBack (g : Geometry) (n : ℕ) (s z : Content) : Type 0 where
@@ -18,23 +19,26 @@ pub record AreBack (g : Geometry) (n : ℕ) (s z : Content) : Type 0 where
   pub secondary : take (n * g.sector) z.secondary ≡ take (n * g.sector) s.secondary
 
 -- A round from m that has no operation, and so no cut: it is at u, which is m.
-pub record IsIdle (r : Rules) (g : Geometry) (m u : Content) : Type 0 where
-  pub idle : (plan r g m).list ≡ []
-  pub uncut : u ≡ m
+pub record IsIdle (x : PowerOn) (u : Content) : Type 0 where
+  pub idle : (plan x).list ≡ []
+  pub uncut : u ≡ x.content
 
--- What the last boot of the second round, from u, ends in. The start was s of the images of a and b, and the first round left x;
--- the image that it left in the primary has confirmed itself or not.
-abbrev pub EndsAgain : Rules → Geometry → Kind → Bool → List ℕ → List ℕ → Content → Content → Content → Content → Type 0
+-- What the last boot of the second round, from u, ends in, of a start of the images of a and b. The first round left x; the image that
+-- it left in the primary has confirmed itself or not.
+abbrev pub EndsAgain : PowerOn → Kind → Bool → List ℕ → List ℕ → Content → Content → Content → Type 0
 -- A test that was left alone is taken back: it ends as a revert of the exchanged images does, and all is where it was.
-EndsAgain r g starts.Test false a b s x u z = EndsIn r g starts.Revert b a x u z × AreBack g (plan r g s).sectors s z
+EndsAgain start starts.Test false a b x u z =
+    EndsIn (again start x) starts.Revert b a u z × AreBack start.geometry (plan start).sectors start.content z
 -- A test that was confirmed stays, as an upgrade does.
-EndsAgain r g starts.Test true a b s x u z = EndsIn r g starts.Perm a b s u z × IsIdle r g (confirmed_if true g x) u
+EndsAgain start starts.Test true a b x u z =
+    EndsIn start starts.Perm a b u z × IsIdle (again start (confirmed_if true start.geometry x)) u
 -- Of the others nothing is confirmed, and the first round's end stays.
-EndsAgain r g starts.None confirms a b s x u z =
-    EndsIn r g starts.None a b s u z × IsIdle r g x u × (confirmed_if confirms g x ≡ x)
-EndsAgain r g starts.Perm confirms a b s x u z = EndsIn r g starts.Perm a b s u z × IsIdle r g x u × (confirmed_if confirms g x ≡ x)
-EndsAgain r g starts.Revert confirms a b s x u z =
-    EndsIn r g starts.Revert a b s u z × IsIdle r g x u × (confirmed_if confirms g x ≡ x)
+EndsAgain start starts.None confirms a b x u z =
+    EndsIn start starts.None a b u z × IsIdle (again start x) u × (confirmed_if confirms start.geometry x ≡ x)
+EndsAgain start starts.Perm confirms a b x u z =
+    EndsIn start starts.Perm a b u z × IsIdle (again start x) u × (confirmed_if confirms start.geometry x ≡ x)
+EndsAgain start starts.Revert confirms a b x u z =
+    EndsIn start starts.Revert a b u z × IsIdle (again start x) u × (confirmed_if confirms start.geometry x ≡ x)
 
 -- One of the two rounds makes a revert.
 abbrev pub has_revert : Kind → Bool → Bool
@@ -51,6 +55,6 @@ RoundsLaw r =
     (g : Geometry) (kind : Kind) (confirms : Bool) (a b : List ℕ) (s t x u : Content) (first second : List ℕ)
     → IsLayout g → BeginsImage g a → BeginsImage g b
     → (has_revert kind confirms ≡ true → forgets_reverts r.grain r.profile ≡ false)
-    → start_flash g kind a b ≡ Some s → after r g s first ≡ Some t → left_by r g t ≡ Some x
-    → after r g (confirmed_if confirms g x) second ≡ Some u
-    → (z : Content) × EndsAgain r g kind confirms a b s x u z
+    → start_flash g kind a b ≡ Some s → after (power_on r g s) first ≡ Some t → left_by (power_on r g t) ≡ Some x
+    → after (power_on r g (confirmed_if confirms g x)) second ≡ Some u
+    → (z : Content) × EndsAgain (power_on r g s) kind confirms a b x u z

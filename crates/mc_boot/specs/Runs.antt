@@ -4,8 +4,8 @@ use Rattle.mc_flash.specs.Geometry.{Geometry}
 use Rattle.mc_flash.specs.Content.{Content}
 use Rattle.mc_flash.specs.Apply.{apply}
 use Rattle.mc_flash.specs.declared.op.Op.{Op}
-use Rattle.mc_trailer.specs.declared.tables.Rules.{Rules}
 use Rattle.mc_boot.specs.Plan.{plan}
+use Rattle.mc_boot.specs.PowerOn.{PowerOn, again}
 
 -- Where a list of operations leads, if each can be applied.
 abbrev pub applied : Geometry → List Op → Content → Option Content
@@ -23,26 +23,26 @@ happening g [] s = []
 happening g (op ∷ ops) s = first_then op (λ t. happening g ops t) (apply g op s)
 
 -- The operations of an uncut boot that happen.
-unfoldable pub ops_of : Rules → Geometry → Content → List Op
-ops_of r g s = happening g (plan r g s).list s
+unfoldable pub ops_of : PowerOn → List Op
+ops_of x = happening x.geometry (plan x).list x.content
 
 -- The flash after the first c of them.
-unfoldable pub at : Rules → Geometry → Content → ℕ → Option Content
-at r g s c = applied g (take c (ops_of r g s)) s
+unfoldable pub at : PowerOn → ℕ → Option Content
+at x c = applied x.geometry (take c (ops_of x)) x.content
 
 -- An operation is refused.
-unfoldable pub is_faulted : Rules → Geometry → Content → Bool
-is_faulted r g s = nat_lt (length (ops_of r g s)) (length (plan r g s).list)
+unfoldable pub is_faulted : PowerOn → Bool
+is_faulted x = nat_lt (length (ops_of x)) (length (plan x).list)
 
 -- What an uncut boot leaves.
-unfoldable pub left_by : Rules → Geometry → Content → Option Content
-left_by r g s = at r g s (length (ops_of r g s))
+unfoldable pub left_by : PowerOn → Option Content
+left_by x = at x (length (ops_of x))
 
 -- The flash that a boot leaves whose power is lost after c operations, where the uncut boot makes more than that.
-abbrev pub cut_at : Rules → Geometry → Content → ℕ → Option Content
-cut_at r g s c = if nat_lt c (length (ops_of r g s)) then at r g s c else None
+abbrev pub cut_at : PowerOn → ℕ → Option Content
+cut_at x c = if nat_lt c (length (ops_of x)) then at x c else None
 
 -- The flash after a list of cuts, each of a boot from what the earlier ones left, where all of them can occur.
-abbrev pub after : Rules → Geometry → Content → List ℕ → Option Content
-after r g s [] = Some s
-after r g s (c ∷ cuts) = option_and_then (λ t. after r g t cuts) (cut_at r g s c)
+abbrev pub after : PowerOn → List ℕ → Option Content
+after x [] = Some x.content
+after x (c ∷ cuts) = option_and_then (λ t. after (again x t) cuts) (cut_at x c)

@@ -11,6 +11,7 @@ use Rattle.mc_boot.specs.Plan.{plain}
 use Rattle.mc_boot.specs.Runs.{left_by}
 use Rattle.mc_boot.specs.declared.kind.Kind.{Kind}
 use Rattle.mc_boot.specs.declared.kind.Kind.TheVariants as starts
+use Rattle.mc_boot.specs.PowerOn.{power_on}
 
 -- The image that the bytes begin with, without what follows it.
 abbrev pub image_bytes : List ℕ → List ℕ
@@ -44,7 +45,7 @@ unfoldable pub start_flash : Geometry → Kind → List ℕ → List ℕ → Opt
 start_flash g starts.None a b = Some (placed g (image_bytes a) (image_bytes b))
 start_flash g starts.Test a b = Some (test_flash g (image_bytes a) (image_bytes b))
 start_flash g starts.Perm a b = Some (perm_flash g (image_bytes a) (image_bytes b))
-start_flash g starts.Revert a b = left_by plain g (test_flash g (image_bytes b) (image_bytes a))
+start_flash g starts.Revert a b = left_by (power_on plain g (test_flash g (image_bytes b) (image_bytes a)))
 
 -- The image that the primary is to hold at the end, and the secondary's.
 abbrev pub named : Kind → List ℕ → List ℕ → List ℕ

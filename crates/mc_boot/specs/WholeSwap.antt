@@ -15,6 +15,7 @@ use Rattle.mc_boot.specs.Restart.{BeginsImage}
 use Rattle.mc_boot.specs.Runs.{ops_of}
 use Rattle.mc_boot.specs.Start.{start_flash}
 use Rattle.mc_boot.specs.declared.kind.Kind.TheVariants as starts
+use Rattle.mc_boot.specs.PowerOn.{power_on}
 
 -- Its operations.
 abbrev pub largest_swap : Grain → Geometry → List Op
@@ -33,4 +34,4 @@ pub record TakeMost (g : Geometry) (a b : List ℕ) : Type 0 where
 abbrev pub MakesSwap : Grain → Geometry → ℕ → Type 0
 MakesSwap c g n =
     (r : Rules) (a b : List ℕ) (s : Content) → r.grain ≡ c → TakeMost g a b → start_flash g starts.Test a b ≡ Some s
-    → length (ops_of r g s) ≡ n
+    → length (ops_of (power_on r g s)) ≡ n

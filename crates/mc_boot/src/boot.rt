@@ -12,6 +12,7 @@ ghost use Rattle.mc_boot.specs.Boot.{progress, IsBootOf, begun};
 ghost use Rattle.mc_boot.specs.Outcome.{shown, outcome_of};
 ghost use Rattle.mc_boot.specs.Image.{images_of};
 ghost use Rattle.mc_boot.specs.Plan.{confirms, nothing, new_swap, new_plan, resumed_swap, resumed_plan, plan};
+ghost use Rattle.mc_boot.specs.PowerOn.{PowerOn, again, power_on, powered};
 ghost use Rattle.mc_boot.specs.Runs.{left_by};
 
 use crate::course::{Course, Opening};
@@ -187,8 +188,7 @@ impl Boot {
     // A boot at power-on. Images are read where it begins a swap alone, unless they are known.
     pub(crate) fn begin<F: Flash>(flash: &F, rules: Rules, known: Option<Images>) -> Boot
         requires { IfSome known (λ images. images ≡ images_of (F.seen flash.now).content) }
-        ensures progress { progress result
-            ≡ begun rules (plan rules (F.seen flash.now).geometry (F.seen flash.now).content) }
+        ensures progress { progress result ≡ begun rules (plan (powered rules (F.seen flash.now))) }
         ensures layout { IsBootOf (F.seen flash.now).geometry result }
     {
         let primary = Trailer::read(flash, Slot::Primary);
@@ -202,11 +202,11 @@ impl Boot {
     }
 
     /// A boot at power-on. It reads and hashes images only where it begins a swap.
-    #[tactic(auto, using(crate::specs::Bounds::plan_few, crate::specs::Bounds::plan_saves, crate::proofs::AfterCut::begun_list))]
+    #[tactic(auto, using(crate::proofs::AfterCut::is_cold))]
     pub fn cold<F: Flash>(flash: &F, rules: Rules) -> Boot
         ensures cold { IsCold rules (F.seen flash.now) result }
-        ensures come { HasCome rules (F.seen flash.now).geometry (F.seen flash.now).content
-            (progress result) (F.seen flash.now).content }
+        ensures come { HasCome (powered rules (F.seen flash.now)) (progress result)
+            (F.seen flash.now).content }
     {
         // Each number of a layout tells that it is one, and each slot how long it is.
         let _sector = flash.layout().sector();
@@ -218,7 +218,7 @@ impl Boot {
     /// The boot at power-on after a power cut, by the rules of the boot that was cut: the flash stands where that one left it. It
     /// hashes nothing where that one was a swap from its start and had not come to its transfers. The secondary's image was
     /// valid then, and still is: only trailers have changed.
-    #[tactic(auto, using(crate::specs::Bounds::plan_few, crate::specs::Bounds::plan_saves, crate::proofs::AfterCut::begun_list))]
+    #[tactic(auto, using(crate::proofs::AfterCut::is_cold))]
     pub fn after_cut<F: Flash>(flash: &F, cut: &Boot) -> Boot
         requires { (s : Content) × IsStopped (F.seen flash.now).geometry s
             (F.seen flash.now).content cut.now }
@@ -279,10 +279,9 @@ impl Boot {
         ensures step { Steps (progress self.old) (F.seen flash.old) result (progress self.new)
             (F.seen flash.new) }
         // It stays on its way from the flash at power-on.
-        ensures come { (r : Rules) (s : Content)
-            → HasCome r (F.seen flash.old).geometry s (progress self.old) (F.seen flash.old).content
-            → HasCome r (F.seen flash.old).geometry s (progress self.new)
-            (F.seen flash.new).content }
+        ensures come { (r : Rules) (s : Content) → let x = power_on r (F.seen flash.old).geometry s
+            in HasCome x (progress self.old) (F.seen flash.old).content
+            → HasCome x (progress self.new) (F.seen flash.new).content }
         ensures whole { all_of self.new ≡ all_of self.old }
         ensures layout { IsBootOf (F.seen flash.new).geometry self.new }
         // The layout and the marks stay.
@@ -359,10 +358,9 @@ impl Boot {
             ≡ report p.rules (F.seen flash.now).geometry p.kind p.count p.faulted
             (F.seen flash.now).content }
         // At the end it is the outcome of the uncut boot from the flash at power-on.
-        ensures end { (r : Rules) (s : Content)
-            → HasCome r (F.seen flash.now).geometry s (progress self.now) (F.seen flash.now).content
-            → to_come self.now ≡ [] → outcome_of r (F.seen flash.now).geometry s
-            ≡ Some (shown result) }
+        ensures end { (r : Rules) (s : Content) → let x = power_on r (F.seen flash.now).geometry s
+            in HasCome x (progress self.now) (F.seen flash.now).content → to_come self.now ≡ []
+            → outcome_of x ≡ Some (shown result) }
     {
         self.outcome_among(flash, &[])
     }
@@ -374,10 +372,9 @@ impl Boot {
             ≡ report p.rules (F.seen flash.now).geometry p.kind p.count p.faulted
             (F.seen flash.now).content }
         // At the end it is the outcome of the uncut boot from the flash at power-on.
-        ensures end { (r : Rules) (s : Content)
-            → HasCome r (F.seen flash.now).geometry s (progress self.now) (F.seen flash.now).content
-            → to_come self.now ≡ [] → outcome_of r (F.seen flash.now).geometry s
-            ≡ Some (shown result) }
+        ensures end { (r : Rules) (s : Content) → let x = power_on r (F.seen flash.now).geometry s
+            in HasCome x (progress self.now) (F.seen flash.now).content → to_come self.now ≡ []
+            → outcome_of x ≡ Some (shown result) }
     {
         Outcome::read(flash, self.rules, self.kind, self.done, self.faulted, known)
     }
@@ -391,15 +388,13 @@ impl Boot {
 /// Elsewhere there is none, and the boot has to be run. The two boots are compared in constant time, and no flash is read.
 pub fn outcome_after(cut: &Boot, whole: &Outcome, next: &Boot) -> Option<Outcome>
     ensures found { IsSome result ↔ IsSome (operations_kept cut.now next.now) }
-    ensures outcome { (r : Rules) (g : Geometry) (s u : Content)
-        → IsCut r g s u cut.now (shown whole.now)
-        → IsBootOf g next.now → progress next.now ≡ begun r (plan r g u)
-        → IfSome result (λ outcome. outcome_of r g u ≡ Some (shown outcome)) }
+    ensures outcome { (x : PowerOn) (u : Content) → IsCut x u cut.now (shown whole.now)
+        → IsBootOf x.geometry next.now → progress next.now ≡ begun x.rules (plan (again x u))
+        → IfSome result (λ outcome. outcome_of (again x u) ≡ Some (shown outcome)) }
     // And both leave the same flash.
-    ensures left { (r : Rules) (g : Geometry) (s u : Content)
-        → IsCut r g s u cut.now (shown whole.now)
-        → IsBootOf g next.now → progress next.now ≡ begun r (plan r g u)
-        → IfSome result (λ _. left_by r g u ≡ left_by r g s) }
+    ensures left { (x : PowerOn) (u : Content) → IsCut x u cut.now (shown whole.now)
+        → IsBootOf x.geometry next.now → progress next.now ≡ begun x.rules (plan (again x u))
+        → IfSome result (λ _. left_by (again x u) ≡ left_by x) }
 {
     let Some(course) = &cut.course else {
         return None;

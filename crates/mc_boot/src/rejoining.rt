@@ -10,6 +10,7 @@ ghost use Rattle.mc_boot.specs.Idle.{AllIdleBut, changes_nothing};
 ghost use Rattle.mc_boot.specs.Joins.{erases_of};
 ghost use Rattle.mc_boot.specs.Outcome.{Report};
 ghost use Rattle.mc_boot.specs.Plan.{plan};
+ghost use Rattle.mc_boot.specs.PowerOn.{power_on, powered};
 
 use crate::boot::Boot;
 use crate::course::{Course, Opening};
@@ -37,11 +38,10 @@ impl Rejoin {
     /// that does not follow from the courses of the two, or from which sectors are erased.
     pub fn find<F: Flash>(flash: &F, cut: &Boot, next: &Boot) -> Option<Rejoin>
         requires { IsBootOf (F.seen flash.now).geometry next.now }
-        ensures { (r : Rules) (s : Content) (whole : Report)
-            → IsCut r (F.seen flash.now).geometry s (F.seen flash.now).content cut.now whole
-            → progress next.now
-            ≡ begun r (plan r (F.seen flash.now).geometry (F.seen flash.now).content)
-            → IfSome result (IsRejoined r (F.seen flash.now).geometry s (F.seen flash.now).content) }
+        ensures { (r : Rules) (s : Content) (whole : Report) → let f = F.seen flash.now in
+            let x = power_on r f.geometry s in IsCut x f.content cut.now whole
+            → progress next.now ≡ begun r (plan (powered r f))
+            → IfSome result (IsRejoined x f.content) }
     {
         let done = cut.count();
         let Some(course) = cut.course() else {

@@ -23,6 +23,7 @@ use Rattle.mc_campaign.specs.declared.rounds.Both.{Both}
 use Rattle.mc_campaign.specs.facts.Pairs.{pairs_length}
 use Rattle.mc_campaign.specs.facts.Paths.{first_allowed, second_allowed}
 use Rattle.mc_campaign.proofs.Steps.{few_ops}
+use Rattle.mc_boot.specs.PowerOn.{power_on}
 
 module _ (r : Rules) (g : Geometry) (confirms : Bool) (s : Content) (bound : ℕ) (c : Places) where
   abbrev IsPath : List ℕ → Type 0
@@ -36,20 +37,20 @@ module _ (r : Rules) (g : Geometry) (confirms : Bool) (s : Content) (bound : ℕ
   cut = landed (boots r g) s c.first
 
   -- The whole path of a campaign that can be gone.
-  whole : IsMember r g confirms s bound c → IsPath (in_both (boots r g) next s c.first c.second)
+  whole : IsMember (power_on r g s) confirms bound c → IsPath (in_both (boots r g) next s c.first c.second)
   whole m =
       let a = first_allowed r g confirms s c m.1 in
       (omega (arith, m.0, both_length (boots r g) next s c.first c.second, pairs_length c.first c.second), both_allowed (boots r g) next s c.first c.second a (second_allowed r g confirms s c m.1))
 
   -- And each front of it.
-  front : (l more : List ℕ) → in_both (boots r g) next s c.first c.second ≡ l ++ more → IsMember r g confirms s bound c → IsPath l
+  front : (l more : List ℕ) → in_both (boots r g) next s c.first c.second ≡ l ++ more → IsMember (power_on r g s) confirms bound c → IsPath l
   front l more is m =
       let w = subst IsPath is (whole m) in
       let begins : take (length l) (l ++ more) ≡ l = take_at l more (length l) refl in
       (omega (arith, w.0, length-append l more), subst (Allowed (rounds r g confirms) (first s)) begins (allowed_front (rounds r g confirms) (first s) (l ++ more) (length l) w.1))
 
   -- In the first round it stops nowhere.
-  pub not_in_first : (steps : ℕ) → steps < length c.first → (IsPath (take (steps + 1) c.first) → ⊥) → IsMember r g confirms s bound c → ⊥
+  pub not_in_first : (steps : ℕ) → steps < length c.first → (IsPath (take (steps + 1) c.first) → ⊥) → IsMember (power_on r g s) confirms bound c → ⊥
   not_in_first steps inside none m =
       let a = first_only (boots r g) next s c.first (first_allowed r g confirms s c m.1) in
       none (
@@ -58,7 +59,7 @@ module _ (r : Rules) (g : Geometry) (confirms : Bool) (s : Content) (bound : ℕ
       )
 
   -- Nor is it in the second round there.
-  pub not_yet_second : (told : Both) → AreTold r g confirms (landed (rounds r g confirms) (first s) c.first) told → told.round ≡ rounds_of.Second → IsMember r g confirms s bound c → ⊥
+  pub not_yet_second : (told : Both) → AreTold r g confirms (landed (rounds r g confirms) (first s) c.first) told → told.round ≡ rounds_of.Second → IsMember (power_on r g s) confirms bound c → ⊥
   not_yet_second told t is m =
       let lands = (first_only (boots r g) next s c.first (first_allowed r g confirms s c m.1)).1 in
       let no : rounds_of.Second ≡ rounds_of.First = sym is ∙ t.round_is ∙ ap round_at lands in
@@ -73,13 +74,14 @@ module _ (r : Rules) (g : Geometry) (confirms : Bool) (s : Content) (bound : ℕ
   allowed_first told p t is =
       stays_first (boots r g) next s c.first p.1 (is_first (landed (rounds r g confirms) (first s) c.first) (sym t.round_is ∙ is))
 
-  pub ops_there : (told : Both) → Allowed (boots r g) s c.first → AreTold r g confirms (landed (rounds r g confirms) (first s) c.first) told → told.first.outcome.ops ≡ length (ops_of r g cut)
+  pub ops_there : (told : Both) → Allowed (boots r g) s c.first → AreTold r g confirms (landed (rounds r g confirms) (first s) c.first) told
+      → told.first.outcome.ops ≡ length (ops_of (power_on r g cut))
   ops_there told a t =
       let here = subst (λ p. AreTold r g confirms p told) (first_only (boots r g) next s c.first a).1 t in
       width_is r g told.first cut here.first_is
 
   -- The campaign has no cut in the second round.
-  pub whole_first : IsPath c.first → Allowed (boots r g) s c.first → c.second ≡ [] → IsPathOf r g confirms s bound c.first c
+  pub whole_first : IsPath c.first → Allowed (boots r g) s c.first → c.second ≡ [] → IsPathOf (power_on r g s) confirms bound c.first c
   whole_first p a none = record {
     member = p;
     pairs_are = ap (λ l. pairs_along r g confirms s l) (sym (both_none (boots r g) next s c.first))
@@ -87,7 +89,7 @@ module _ (r : Rules) (g : Geometry) (confirms : Bool) (s : Content) (bound : ℕ
   }
 
   -- Or it has some.
-  module _ (j : ℕ) (rest : List ℕ) (is : c.second ≡ j ∷ rest) (ops : ℕ) (ops_is : ops ≡ length (ops_of r g cut)) where
+  module _ (j : ℕ) (rest : List ℕ) (is : c.second ≡ j ∷ rest) (ops : ℕ) (ops_is : ops ≡ length (ops_of (power_on r g cut))) where
     path_is : in_both (boots r g) next s c.first c.second ≡ (c.first ++ (ops + j) ∷ []) ++ rest
     path_is =
         ap (in_both (boots r g) next s c.first) is
@@ -95,21 +97,21 @@ module _ (r : Rules) (g : Geometry) (confirms : Bool) (s : Content) (bound : ℕ
         ∙ ap (λ n. c.first ++ (n + j) ∷ rest) (sym ops_is)
         ∙ sym (append_assoc c.first ((ops + j) ∷ []) rest)
 
-    pub sum_is_small : IsLayout g → 2 ^ 32 ≤ ops + j → IsMember r g confirms s bound c → ⊥
+    pub sum_is_small : IsLayout g → 2 ^ 32 ≤ ops + j → IsMember (power_on r g s) confirms bound c → ⊥
     sum_is_small valid big m =
         let later = subst (λ l. Allowed (boots r g) (next cut) l) is (second_allowed r g confirms s c m.1) in
         omega (arith, big, ops_is, later.0, few_ops r g confirms cut valid, few_ops r g confirms (next cut) valid)
 
-    pub not_that_child : (IsPath (c.first ++ (ops + j) ∷ []) → ⊥) → IsMember r g confirms s bound c → ⊥
+    pub not_that_child : (IsPath (c.first ++ (ops + j) ∷ []) → ⊥) → IsMember (power_on r g s) confirms bound c → ⊥
     not_that_child none m = none (front (c.first ++ (ops + j) ∷ []) rest path_is m)
 
-    pub not_in_second : (steps : ℕ) → (IsPath ((c.first ++ (ops + j) ∷ []) ++ take (steps + 1) rest) → ⊥) → IsMember r g confirms s bound c → ⊥
+    pub not_in_second : (steps : ℕ) → (IsPath ((c.first ++ (ops + j) ∷ []) ++ take (steps + 1) rest) → ⊥) → IsMember (power_on r g s) confirms bound c → ⊥
     not_in_second steps none m =
         let parted : (c.first ++ (ops + j) ∷ []) ++ rest ≡ ((c.first ++ (ops + j) ∷ []) ++ take (steps + 1) rest) ++ drop (steps + 1) rest =
         ap (λ l. (c.first ++ (ops + j) ∷ []) ++ l) (sym (take-append-drop (steps + 1) rest)) ∙ sym (append_assoc (c.first ++ (ops + j) ∷ []) (take (steps + 1) rest) (drop (steps + 1) rest)) in
         none (front ((c.first ++ (ops + j) ∷ []) ++ take (steps + 1) rest) (drop (steps + 1) rest) (path_is ∙ parted) m)
 
-    pub whole_path : Allowed (boots r g) s c.first → IsPath ((c.first ++ (ops + j) ∷ []) ++ rest) → IsPathOf r g confirms s bound ((c.first ++ (ops + j) ∷ []) ++ rest) c
+    pub whole_path : Allowed (boots r g) s c.first → IsPath ((c.first ++ (ops + j) ∷ []) ++ rest) → IsPathOf (power_on r g s) confirms bound ((c.first ++ (ops + j) ∷ []) ++ rest) c
     whole_path a p = record {
       member = p;
       pairs_are = ap (λ l. pairs_along r g confirms s l) (sym path_is) ∙ both_labels (boots r g) next s c.first c.second a;

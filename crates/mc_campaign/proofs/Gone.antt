@@ -19,6 +19,7 @@ use Rattle.mc_campaign.specs.declared.rounds.Both.{Both}
 use Rattle.mc_campaign.specs.declared.rounds.Twice.{Twice}
 use Rattle.mc_campaign.proofs.Followed.{allowed_first, cut, not_in_first, not_in_second, not_that_child, not_yet_second, ops_there, sum_is_small, whole_first, whole_path}
 use Rattle.mc_campaign.proofs.Telling.{kind_of}
+use Rattle.mc_boot.specs.PowerOn.{power_on}
 
 same_both : (old mid new : Walked Twice) → IsSame old mid → IsSame mid new → IsSame old new
 same_both old mid new p q = record { branches = q.branches ∙ p.branches; bound = q.bound ∙ p.bound; start = q.start ∙ p.start }
@@ -43,7 +44,7 @@ later_end old mid new ops cut number rest true false is e d f =
 
 module _ (old mid : Walked Twice) (c : Places) (root : old.path ≡ []) where
   abbrev IsListed : Type 0
-  IsListed = IsMember old.branches.once.rules old.branches.once.layout old.branches.confirms (start_of old.seen) old.bound c
+  IsListed = IsMember (power_on old.branches.once.rules old.branches.once.layout (start_of old.seen)) old.branches.confirms old.bound c
 
   -- It stops in the first round.
   pub stops_early : (went : Bool) → went ≡ false → Follows (kind_of old.branches) c.first old went mid → IsListed → ⊥
@@ -85,14 +86,14 @@ module _ (old mid : Walked Twice) (c : Places) (root : old.path ≡ []) where
         a : Allowed (boots old.branches.once.rules old.branches.once.layout) (start_of old.seen) c.first
         a = allowed_first old.branches.once.rules old.branches.once.layout old.branches.confirms (start_of old.seen) old.bound c told (subst (IsPathIn old) x.0 x.1) told_there early
 
-        ops : told.first.outcome.ops ≡ length (ops_of old.branches.once.rules old.branches.once.layout
-            (cut old.branches.once.rules old.branches.once.layout old.branches.confirms (start_of old.seen) old.bound c))
+        ops : told.first.outcome.ops ≡ length
+            (ops_of (power_on old.branches.once.rules old.branches.once.layout (cut old.branches.once.rules old.branches.once.layout old.branches.confirms (start_of old.seen) old.bound c)))
         ops = ops_there old.branches.once.rules old.branches.once.layout old.branches.confirms (start_of old.seen) old.bound c told a told_there
 
         by : (l : List ℕ) (w : Bool) → c.second ≡ l → FollowsLater mid told.first.outcome.ops l w new → FollowsCampaign old c w new
         by [] true e y = (
-          subst (λ (z : Walked Twice). IsPathOf old.branches.once.rules old.branches.once.layout old.branches.confirms (start_of old.seen) old.bound z.path c) (sym y.1)
-              (subst (λ p. IsPathOf old.branches.once.rules old.branches.once.layout old.branches.confirms (start_of old.seen) old.bound p c) (sym x.0)
+          subst (λ (z : Walked Twice). IsPathOf (power_on old.branches.once.rules old.branches.once.layout (start_of old.seen)) old.branches.confirms old.bound z.path c) (sym y.1)
+              (subst (λ p. IsPathOf (power_on old.branches.once.rules old.branches.once.layout (start_of old.seen)) old.branches.confirms old.bound p c) (sym x.0)
               (whole_first old.branches.once.rules old.branches.once.layout old.branches.confirms (start_of old.seen) old.bound c (subst (IsPathIn old) x.0 x.1) a e)),
           subst (IsSame old) (sym y.1) x.2,
           ap (λ (z : Walked Twice). z.stands) y.1 ∙ x.3,
@@ -101,7 +102,7 @@ module _ (old mid : Walked Twice) (c : Places) (root : old.path ≡ []) where
         by (j ∷ rest) true e y =
             let path : new.path ≡ (c.first ++ (told.first.outcome.ops + j) ∷ []) ++ rest = y.0 ∙ ap (λ l. (l ++ (told.first.outcome.ops + j) ∷ []) ++ rest) x.0 in
             let at = subst (IsPathIn old) path (path_back kind_of old mid new.path x.2 y.1) in (
-              subst (λ p. IsPathOf old.branches.once.rules old.branches.once.layout old.branches.confirms (start_of old.seen) old.bound p c) (sym path)
+              subst (λ p. IsPathOf (power_on old.branches.once.rules old.branches.once.layout (start_of old.seen)) old.branches.confirms old.bound p c) (sym path)
                   (whole_path old.branches.once.rules old.branches.once.layout old.branches.confirms (start_of old.seen) old.bound c j rest e told.first.outcome.ops ops a at),
               same_both old mid new x.2 y.2,
               y.3,

@@ -10,7 +10,7 @@ use Rattle.mc_flash.specs.declared.flash.Grain.{Grain}
 use Rattle.mc_flash.specs.declared.flash.Grain.TheVariants as grains
 use Rattle.mc_trailer.specs.declared.tables.Rules.{Rules}
 use Rattle.mc_walk.specs.Walks.{IsClear, IsFresh, IsOf, Walked, start_of}
-use Rattle.mc_explore.specs.Start.{Begun}
+use Rattle.mc_boot.specs.PowerOn.{PowerOn}
 use Rattle.mc_explore.specs.facts.Room.{limits_are}
 use Rattle.mc_campaign.specs.Places.{Places, no_places, pairs_of}
 use Rattle.mc_campaign.specs.Twice.{twice_kind}
@@ -47,7 +47,7 @@ module _ (counted : Bool) (g : Geometry) (primary secondary : List ℕ) (f : See
       three n m = omega arith
 
 -- A walk from there.
-pub loaded : (counted : Bool) (start : Begun) (confirms : Bool) (primary secondary : List ℕ) (bound many : ℕ) (f : Seen) (b : Twice) (w : Walked Twice)
+pub loaded : (counted : Bool) (start : PowerOn) (confirms : Bool) (primary secondary : List ℕ) (bound many : ℕ) (f : Seen) (b : Twice) (w : Walked Twice)
     → Loads counted start.geometry primary secondary start.rules.grain many f
     → b ≡ record { once = record { rules = start.rules; layout = start.geometry }; confirms = confirms } → start.content ≡ record { primary = primary; secondary = secondary }
     → IsOf b bound f w → IsFresh (twice_kind b.once.rules b.once.layout b.confirms) w → Spent 0 f w.seen → IsLayout start.geometry
@@ -68,7 +68,7 @@ loaded counted start confirms primary secondary bound many f b w l is content of
     }
 
 -- An explorer at its start.
-pub started : (counted : Bool) (start : Begun) (confirms : Bool) (bound : ℕ) (last : Places) (w : Walked Twice) → IsLoaded counted start confirms bound w → last ≡ no_places → bound ≤ 16
+pub started : (counted : Bool) (start : PowerOn) (confirms : Bool) (bound : ℕ) (last : Places) (w : Walked Twice) → IsLoaded counted start confirms bound w → last ≡ no_places → bound ≤ 16
     → IsSound counted start confirms bound (record { walk = w; phase = phases.Fresh }) last
 started counted start confirms bound last w l none few = λ _. (
   record { start_is = l.start_is; choice_is = l.choice_is; bound_is = l.bound_is; few = few; counted_is = l.counted_is },

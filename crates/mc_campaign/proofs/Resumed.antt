@@ -7,7 +7,7 @@ use Rattle.mc_flash.specs.Ledger.{Limits}
 use Rattle.mc_flash.specs.Spends.{Spent}
 use Rattle.mc_walk.specs.Walks.{Walked, Begins, start_of}
 use Rattle.mc_walk.specs.declared.tour.Phase.TheVariants as phases
-use Rattle.mc_explore.specs.Start.{Begun}
+use Rattle.mc_boot.specs.PowerOn.{PowerOn, power_on}
 use Rattle.mc_campaign.specs.Campaigns.{IsMember}
 use Rattle.mc_campaign.specs.Places.{Places}
 use Rattle.mc_campaign.specs.Resume.{behind}
@@ -18,7 +18,7 @@ use Rattle.mc_campaign.specs.declared.rounds.Twice.{Twice}
 use Rattle.mc_campaign.specs.facts.Paths.{member_of}
 use Rattle.mc_campaign.proofs.Telling.{path_there, same_begun, same_state}
 
-module _ (counted : Bool) (start : Begun) (confirms : Bool) (bound n : ℕ) (last : Places) (zero_walk one two : Walked Twice) (told : Both)
+module _ (counted : Bool) (start : PowerOn) (confirms : Bool) (bound n : ℕ) (last : Places) (zero_walk one two : Walked Twice) (told : Both)
     (l : IsLoaded counted start confirms bound zero_walk)
     (b : Begins (twice_kind zero_walk.branches.once.rules zero_walk.branches.once.layout zero_walk.branches.confirms) zero_walk told one) (spent : Spent n zero_walk.seen one.seen) where
   one_start : begun_of one ≡ start
@@ -31,16 +31,16 @@ module _ (counted : Bool) (start : Begun) (confirms : Bool) (bound n : ℕ) (las
   one_bound = b.same.bound ∙ l.bound_is
 
   pub valid_there : IsLayout one.branches.once.layout
-  valid_there = subst (λ (s : Begun). IsLayout s.geometry) (sym one_start) l.valid
+  valid_there = subst (λ (s : PowerOn). IsLayout s.geometry) (sym one_start) l.valid
 
-  listed_there : (IsMember one.branches.once.rules one.branches.once.layout one.branches.confirms (start_of one.seen) one.bound last)
-      ≡ (IsMember start.rules start.geometry confirms start.content bound last)
+  listed_there : (IsMember (power_on one.branches.once.rules one.branches.once.layout (start_of one.seen)) one.branches.confirms one.bound last)
+      ≡ (IsMember start confirms bound last)
   listed_there =
-      ap (λ (s : Begun). IsMember s.rules s.geometry one.branches.confirms s.content one.bound last) one_start
-      ∙ ap (λ x. IsMember start.rules start.geometry x start.content one.bound last) one_choice
-      ∙ ap (λ m. IsMember start.rules start.geometry confirms start.content m last) one_bound
+      ap (λ (s : PowerOn). IsMember s one.branches.confirms one.bound last) one_start
+      ∙ ap (λ x. IsMember start x one.bound last) one_choice
+      ∙ ap (λ m. IsMember start confirms m last) one_bound
 
-  pub not_listed : (went : Bool) → went ≡ false → FollowsCampaign one last went two → IsMember start.rules start.geometry confirms start.content bound last → ⊥
+  pub not_listed : (went : Bool) → went ≡ false → FollowsCampaign one last went two → IsMember start confirms bound last → ⊥
   not_listed true is f m = absurd cc
   not_listed false is f m = f (subst (λ (T : Type 0). T) (sym listed_there) m)
 
@@ -49,7 +49,7 @@ module _ (counted : Bool) (start : Begun) (confirms : Bool) (bound n : ℕ) (las
     there true e x = x
     there false e x = absurd cc
 
-    pub listed : IsMember start.rules start.geometry confirms start.content bound last
+    pub listed : IsMember start confirms bound last
     listed =
         let x = there went is f in
         subst (λ (T : Type 0). T) listed_there (member_of one.branches.once.rules one.branches.once.layout one.branches.confirms (start_of one.seen) one.bound last two.path x.0)
@@ -58,7 +58,7 @@ module _ (counted : Bool) (start : Begun) (confirms : Bool) (bound n : ℕ) (las
     behind_it =
         let x = there went is f in
         same_state one two (After last) x.1 calm.failed
-        ∙ ap (λ (s : Begun). record { start = s; confirms = one.branches.confirms; bound = one.bound; position = After last; failed = one.seen.ledger.failed }) one_start
+        ∙ ap (λ (s : PowerOn). record { start = s; confirms = one.branches.confirms; bound = one.bound; position = After last; failed = one.seen.ledger.failed }) one_start
         ∙ ap (λ k. record { start = start; confirms = k; bound = one.bound; position = After last; failed = one.seen.ledger.failed }) one_choice
         ∙ ap (λ m. record { start = start; confirms = confirms; bound = m; position = After last; failed = one.seen.ledger.failed }) one_bound
         ∙ ap (λ k. record { start = start; confirms = confirms; bound = bound; position = After last; failed = k }) (spent.failed ∙ l.calm)

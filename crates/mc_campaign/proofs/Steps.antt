@@ -6,13 +6,14 @@ use Rattle.mc_tree.specs.Twice.{Place, first, second}
 use Rattle.mc_flash.specs.Content.{Content}
 use Rattle.mc_flash.specs.Geometry.{Geometry, IsLayout}
 use Rattle.mc_flash.specs.Ledger.{Counts, Limits, no_counts}
-use Rattle.mc_flash.specs.LedgerFacts.{few_operations}
+use Rattle.mc_flash.specs.facts.Ledger.{few_operations}
 use Rattle.mc_flash.specs.Seen.{Seen}
 use Rattle.mc_flash.specs.Spends.{Allows, LeaveRoom, plus, room_of}
 use Rattle.mc_flash.specs.declared.op.Op.{Op}
 use Rattle.mc_trailer.specs.declared.tables.Rules.{Rules}
 use Rattle.mc_boot.specs.Boot.{progress}
-use Rattle.mc_boot.specs.Bounds.{left_of, ops_few}
+use Rattle.mc_boot.specs.Bounds.{left_of}
+use Rattle.mc_boot.specs.facts.Bounds.{ops_few}
 use Rattle.mc_boot.specs.Confirm.{confirmed_if, one_write}
 use Rattle.mc_boot.specs.Runs.{left_by, ops_of}
 use Rattle.mc_boot.specs.declared.boot.Boot.{Boot}
@@ -29,14 +30,15 @@ use Rattle.mc_campaign.specs.declared.rounds.Both.{Both}
 use Rattle.mc_campaign.specs.declared.rounds.OnWay.{OnWay}
 use Rattle.mc_campaign.specs.declared.rounds.OnWay.TheVariants as ways
 use Rattle.mc_campaign.proofs.Ways.{at_begin, at_first, at_next, between, between_left, child, first_at, first_child, later_at, later_child, later_early, same_start, width}
+use Rattle.mc_boot.specs.PowerOn.{power_on}
 
 module _ (r : Rules) (g : Geometry) (confirms : Bool) where
   -- ---- how many children
 
-  pub few_ops : (s : Content) → IsLayout g → length (ops_of r g s) ≤ 204000000
+  pub few_ops : (s : Content) → IsLayout g → length (ops_of (power_on r g s)) ≤ 204000000
   few_ops s valid =
-      let few = ops_few r g s (length (ops_of r g s)) valid in
-      omega (arith, few, few_operations r.grain g valid, ap (λ (ops : List Op). length ops) (take_all (length (ops_of r g s)) (ops_of r g s) (omega arith)))
+      let few = ops_few (power_on r g s) (length (ops_of (power_on r g s))) valid in
+      omega (arith, few, few_operations r.grain g valid, ap (λ (ops : List Op). length ops) (take_all (length (ops_of (power_on r g s))) (ops_of (power_on r g s)) (omega arith)))
 
   -- ---- the first
 
@@ -46,7 +48,7 @@ module _ (r : Rules) (g : Geometry) (confirms : Bool) where
   begins_first (first s) told seen round some t content layout =
       let ops = width_is r g told.first s t.first_is in
       at_first r g confirms s 0 told.first.boot told.first.outcome.ops told.second seen
-      (record { on_is = first_on r g s told.first t.first_is; content_is = content ∙ at_zero r g s; layout_is = layout }) (omega (arith, some, ops)) ops t.second_is
+      (record { on_is = first_on r g s told.first t.first_is; content_is = content ∙ at_zero (power_on r g s); layout_is = layout }) (omega (arith, some, ops)) ops t.second_is
   begins_first (second began s) told seen round some t content layout = let not_so : rounds_of.First ≡ rounds_of.Second = sym round ∙ t.round_is in absurd cc
 
   -- Where the first round has no operation its boot is over.
@@ -55,9 +57,9 @@ module _ (r : Rules) (g : Geometry) (confirms : Bool) where
       → new.content ≡ confirmed_if confirms old.geometry old.content → new.geometry ≡ old.geometry → IsAt (twice_kind r g confirms) p 0 (ways.Second told.second.boot) new
   begins_behind (first s) told old new round none t content layout is same =
       let ops = width_is r g told.first s t.first_is in
-      let zero : 0 ≡ length (ops_of r g s) = omega (arith, none, ops) in
+      let zero : 0 ≡ length (ops_of (power_on r g s)) = omega (arith, none, ops) in
       at_begin r g confirms (first s) 0 told.second new (omega (arith, zero)) (omega (arith, zero))
-      (between r g confirms s new.content old layout (content ∙ at_zero r g s ∙ ap (at_cut r g s) zero) is)
+      (between r g confirms s new.content old layout (content ∙ at_zero (power_on r g s) ∙ ap (at_cut (power_on r g s)) zero) is)
       (same ∙ layout) t.second_is
   begins_behind (second began s) told old new round none t content layout is same = let not_so : rounds_of.First ≡ rounds_of.Second = sym round ∙ t.round_is in absurd cc
 
@@ -100,7 +102,7 @@ module _ (r : Rules) (g : Geometry) (confirms : Bool) where
       (later_from r g confirms p, later_number r g confirms p i, later_at r g confirms p i boot seen at, later_early r g confirms p i at.on_is.0 early, room)
 
   pub next_first : (p : Place Content) (i : ℕ) (boot boot' : Boot) (ops : ℕ) (later : Told) (old new : Seen) → IsAt (twice_kind r g confirms) p i (ways.First boot ops later) old
-      → ((s : Content) (j : ℕ) → IsAt (once r g) s j boot old → j < length (ops_of r g s) → IsAt (once r g) s (j + 1) boot' new) → boot'.done < ops
+      → ((s : Content) (j : ℕ) → IsAt (once r g) s j boot old → j < length (ops_of (power_on r g s)) → IsAt (once r g) s (j + 1) boot' new) → boot'.done < ops
       → IsAt (twice_kind r g confirms) p (i + 1) (ways.First boot' ops later) new
   next_first (first s) i boot boot' ops later old new at passes more =
       let there = passes s i (first_at r g confirms s i boot ops later old at) at.on_is.early in
@@ -108,17 +110,18 @@ module _ (r : Rules) (g : Geometry) (confirms : Bool) where
   next_first (second began s) i boot boot' ops later old new at passes more = absurd at.on_is
 
   pub next_between : (p : Place Content) (i : ℕ) (boot boot' : Boot) (ops : ℕ) (later : Told) (old mid new : Seen) → IsAt (twice_kind r g confirms) p i (ways.First boot ops later) old
-      → ((s : Content) (j : ℕ) → IsAt (once r g) s j boot old → j < length (ops_of r g s) → IsAt (once r g) s (j + 1) boot' mid) → ops ≤ boot'.done
+      → ((s : Content) (j : ℕ) → IsAt (once r g) s j boot old → j < length (ops_of (power_on r g s)) → IsAt (once r g) s (j + 1) boot' mid) → ops ≤ boot'.done
       → new.content ≡ confirmed_if confirms mid.geometry mid.content → new.geometry ≡ mid.geometry → IsAt (twice_kind r g confirms) p (i + 1) (ways.Second later.boot) new
   next_between (first s) i boot boot' ops later old mid new at passes over is same =
       let there = passes s i (first_at r g confirms s i boot ops later old at) at.on_is.early in
-      let all : i + 1 ≡ length (ops_of r g s) = omega (arith, over, there.on_is.count_is, at.on_is.ops_is, at.on_is.early) in
-      at_begin r g confirms (first s) (i + 1) later new (omega (arith, all)) (omega (arith, all)) (between r g confirms s new.content mid there.layout_is (there.content_is ∙ ap (at_cut r g s) all) is)
+      let all : i + 1 ≡ length (ops_of (power_on r g s)) = omega (arith, over, there.on_is.count_is, at.on_is.ops_is, at.on_is.early) in
+      at_begin r g confirms (first s) (i + 1) later new (omega (arith, all)) (omega (arith, all))
+      (between r g confirms s new.content mid there.layout_is (there.content_is ∙ ap (at_cut (power_on r g s)) all) is)
       (same ∙ there.layout_is) at.on_is.later_is
   next_between (second began s) i boot boot' ops later old mid new at passes over is same = absurd at.on_is
 
   pub next_second : (p : Place Content) (i : ℕ) (boot boot' : Boot) (old new : Seen) → IsAt (twice_kind r g confirms) p i (ways.Second boot) old
-      → ((s : Content) (j : ℕ) → IsAt (once r g) s j boot old → j < length (ops_of r g s) → IsAt (once r g) s (j + 1) boot' new) → i < width r g confirms p
+      → ((s : Content) (j : ℕ) → IsAt (once r g) s j boot old → j < length (ops_of (power_on r g s)) → IsAt (once r g) s (j + 1) boot' new) → i < width r g confirms p
       → IsAt (twice_kind r g confirms) p (i + 1) (ways.Second boot') new
   next_second p i boot boot' old new at passes early =
       at_next r g confirms p i boot' new at.on_is.0
@@ -152,23 +155,18 @@ module _ (r : Rules) (g : Geometry) (confirms : Bool) where
   parent_first (first s) i boot ops later parent seen at t = (s, i, first_at r g confirms s i boot ops later seen at, at.on_is.early, t.first_is)
   parent_first (second began s) i boot ops later parent seen at t = absurd at.on_is
 
-  pub parent_second : (p : Place Content) (i : ℕ) (boot : Boot) (parent : Both) (seen : Seen) → IsAt (twice_kind r g confirms) p i (ways.Second boot) seen → i < width r g confirms p
-      → AreTold r g confirms p parent → IsChild (once r g) boot parent.second seen
-  parent_second p i boot parent seen at early t =
-      (later_from r g confirms p, later_number r g confirms p i, later_at r g confirms p i boot seen at, later_early r g confirms p i at.on_is.0 early, t.second_is)
-
   -- Where the outcome of the first round follows from that of the boot that was cut, so does that of the second.
   pub told_alike : (p : Place Content) (i : ℕ) (boot : Boot) (ops : ℕ) (later one : Told) (parent : Both) (seen : Seen) → IsAt (twice_kind r g confirms) p i (ways.First boot ops later) seen
       → AreTold r g confirms p parent → TellsChild (once r g) boot parent.first seen one → LeavesAlike r g boot parent.first seen
       → AreTold r g confirms (child r g confirms p i) (record { round = rounds_of.First; first = one; second = parent.second })
   told_alike (first s) i boot ops later one parent seen at t tells alike =
       let here = first_at r g confirms s i boot ops later seen at in
-      let same = same_start r g confirms s (at_cut r g s i) (alike s i here at.on_is.early t.first_is) in
+      let same = same_start r g confirms s (at_cut (power_on r g s) i) (alike s i here at.on_is.early t.first_is) in
       subst (λ q. AreTold r g confirms q (record { round = rounds_of.First; first = one; second = parent.second })) (sym (first_child r g confirms s i at.on_is.early))
       (record {
         round_is = refl;
         first_is = tells s i here at.on_is.early t.first_is;
-        second_is = subst (λ x. IsTold r g x parent.second) (sym same) t.second_is;
+        second_is = subst (λ x. IsTold (power_on r g x) parent.second) (sym same) t.second_is;
       })
   told_alike (second began s) i boot ops later one parent seen at t tells alike = absurd at.on_is
 
@@ -197,13 +195,13 @@ module _ (r : Rules) (g : Geometry) (confirms : Bool) where
       })
 
   -- Two boots that were run, one behind the other.
-  pub both_told : (old mid new : Seen) (one two : Told) → old.geometry ≡ g → mid.geometry ≡ old.geometry → IsTold r g old.content one → left_by r g old.content ≡ Some mid.content
-      → new.content ≡ confirmed_if confirms mid.geometry mid.content → IsTold r g new.content two
+  pub both_told : (old mid new : Seen) (one two : Told) → old.geometry ≡ g → mid.geometry ≡ old.geometry → IsTold (power_on r g old.content) one → left_by (power_on r g old.content) ≡ Some mid.content
+      → new.content ≡ confirmed_if confirms mid.geometry mid.content → IsTold (power_on r g new.content) two
       → AreTold r g confirms (first old.content) (record { round = rounds_of.First; first = one; second = two })
   both_told old mid new one two layout same a left is b = record {
     round_is = refl;
     first_is = a;
-    second_is = subst (λ x. IsTold r g x two) (between_left r g confirms old.content new.content mid (same ∙ layout) left is) b;
+    second_is = subst (λ x. IsTold (power_on r g x) two) (between_left r g confirms old.content new.content mid (same ∙ layout) left is) b;
   }
 
   -- ---- how many children there are

@@ -2,7 +2,7 @@
 use Rattle.std.specs.Prelude.{◌≡◌, ◌≢◌, ◌≤◌, ℕ, Bool, true, false, List, [], length, Some, refl}
 use Rattle.std.proofs.Common.{arith, sym, ap, subst, ◌∙◌}
 use Rattle.mc_tree.specs.Tree as tree
-use Rattle.mc_tree.specs.Tree.{Allowed, landed}
+use Rattle.mc_tree.specs.Tree.{landed}
 use Rattle.mc_tree.specs.Twice.{Place, first, second, in_both}
 use Rattle.mc_tree.specs.Paths as paths
 use Rattle.mc_tree.specs.Paths.{After, IsNextIn, IsOverIn, IsPastIn, Position}
@@ -21,13 +21,13 @@ use Rattle.mc_walk.specs.declared.tour.Phase.{Phase}
 use Rattle.mc_walk.specs.declared.tour.Phase.TheVariants as phases
 use Rattle.mc_explore.specs.Boots.{boots}
 use Rattle.mc_explore.specs.Once.{IsTold}
-use Rattle.mc_explore.specs.Start.{Begun}
+use Rattle.mc_boot.specs.PowerOn.{PowerOn, power_on}
 use Rattle.mc_campaign.specs.Boots.{IsPathOf, pairs_along, rounds, second_start}
 use Rattle.mc_campaign.specs.Campaigns.{IsMember, Precedes}
 use Rattle.mc_campaign.specs.Places.{Places, placed}
 use Rattle.mc_campaign.specs.Replay.{AreReplayed}
 use Rattle.mc_campaign.specs.State as states
-use Rattle.mc_campaign.specs.State.{State, Finds, HasOutcomes, moved_to}
+use Rattle.mc_campaign.specs.State.{Finds, moved_to}
 use Rattle.mc_campaign.specs.Twice.{AreTold, began_at, later_from, twice_kind}
 use Rattle.mc_campaign.specs.View.{IsOurs, IsSound, StandsBehind, begun_of, state_of}
 use Rattle.mc_campaign.specs.declared.rounds.Both.{Both}
@@ -44,22 +44,22 @@ kind_of b = twice_kind b.once.rules b.once.layout b.confirms
 -- ---- the campaigns in their order
 
 module _ (r : Rules) (g : Geometry) (confirms : Bool) (s : Content) (bound : ℕ) where
-  module _ (path : List ℕ) (c : Places) (p : IsPathOf r g confirms s bound path c) where
-    past_there : (phase : Phase) (l : List ℕ) (d : Places) → IsPathOf r g confirms s bound l d → IsPastIn Precedes (position_of phase c) d → paths.IsPast (position_of phase path) l
+  module _ (path : List ℕ) (c : Places) (p : IsPathOf (power_on r g s) confirms bound path c) where
+    past_there : (phase : Phase) (l : List ℕ) (d : Places) → IsPathOf (power_on r g s) confirms bound l d → IsPastIn Precedes (position_of phase c) d → paths.IsPast (position_of phase path) l
     past_there phases.Fresh l d q past = tt
     past_there phases.Going l d q past = (same_order r g confirms s bound path l c d p q).0 past
     past_there phases.Done l d q past = (same_order r g confirms s bound path l c d p q).0 past
     past_there phases.Broken l d q past = absurd past
 
-    past_here : (phase : Phase) (l : List ℕ) (d : Places) → IsPathOf r g confirms s bound l d → paths.IsPast (position_of phase path) l → IsPastIn Precedes (position_of phase c) d
+    past_here : (phase : Phase) (l : List ℕ) (d : Places) → IsPathOf (power_on r g s) confirms bound l d → paths.IsPast (position_of phase path) l → IsPastIn Precedes (position_of phase c) d
     past_here phases.Fresh l d q past = tt
     past_here phases.Going l d q past = (same_order r g confirms s bound path l c d p q).1 past
     past_here phases.Done l d q past = (same_order r g confirms s bound path l c d p q).1 past
     past_here phases.Broken l d q past = absurd past
 
     -- The next path is that of the next campaign.
-    pub next_campaign : (phase : Phase) (l : List ℕ) (d : Places) → IsPathOf r g confirms s bound l d
-        → paths.IsNext (tree.IsMember (rounds r g confirms) (first s) bound) (position_of phase path) l → IsNextIn Precedes (IsMember r g confirms s bound) (position_of phase c) d
+    pub next_campaign : (phase : Phase) (l : List ℕ) (d : Places) → IsPathOf (power_on r g s) confirms bound l d
+        → paths.IsNext (tree.IsMember (rounds r g confirms) (first s) bound) (position_of phase path) l → IsNextIn Precedes (IsMember (power_on r g s) confirms bound) (position_of phase c) d
     next_campaign phase l d q n = record {
       listed = member_of r g confirms s bound d l q;
       past = past_here phase l d q n.past;
@@ -69,7 +69,7 @@ module _ (r : Rules) (g : Geometry) (confirms : Bool) (s : Content) (bound : ℕ
     }
 
     pub over_campaign : (phase : Phase) → paths.IsOver (tree.IsMember (rounds r g confirms) (first s) bound) (position_of phase path)
-        → IsOverIn Precedes (IsMember r g confirms s bound) (position_of phase c)
+        → IsOverIn Precedes (IsMember (power_on r g s) confirms bound) (position_of phase c)
     over_campaign phase over = λ m listed past.
         let there = path_of r g confirms s bound m listed in
         over there.0 there.1.member (past_there phase there.0 m there.1 past)
@@ -80,16 +80,17 @@ module _ (r : Rules) (g : Geometry) (confirms : Bool) (s : Content) (bound : ℕ
   ended (first s) = (refl, refl)
   ended (second began s) = (refl, refl)
 
-  pub outcomes_told : (path : List ℕ) (c : Places) (told : Both) → IsPathOf r g confirms s bound path c → AreTold r g confirms (landed (rounds r g confirms) (first s) path) told
-      → (z : Content) × AreReplayed r g confirms s c (shown told.first.outcome) (shown told.second.outcome) z
+  pub outcomes_told : (path : List ℕ) (c : Places) (told : Both) → IsPathOf (power_on r g s) confirms bound path c → AreTold r g confirms (landed (rounds r g confirms) (first s) path) told
+      → (z : Content) × AreReplayed (power_on r g s) confirms c (shown told.first.outcome) (shown told.second.outcome) z
   outcomes_told path c told p t =
       let along = campaign_along r g confirms s bound path p.member in
       let same : along.0 ≡ c = sym (placed_pairs along.0) ∙ ap placed (sym along.2.pairs_are ∙ p.pairs_are) ∙ placed_pairs c in
-      subst (λ d. (z : Content) × AreReplayed r g confirms s d (shown told.first.outcome) (shown told.second.outcome) z) same
+      subst (λ d. (z : Content) × AreReplayed (power_on r g s) confirms d (shown told.first.outcome) (shown told.second.outcome) z) same
       (here along.0 along.1 (subst (λ l. AreTold r g confirms (landed (rounds r g confirms) (first s) l) told) along.3 t))
     where
-      here : (d : Places) → IsMember r g confirms s bound d → AreTold r g confirms (landed (rounds r g confirms) (first s) (in_both (boots r g) (second_start r g confirms) s d.first d.second)) told
-          → (z : Content) × AreReplayed r g confirms s d (shown told.first.outcome) (shown told.second.outcome) z
+      here : (d : Places) → IsMember (power_on r g s) confirms bound d
+          → AreTold r g confirms (landed (rounds r g confirms) (first s) (in_both (boots r g) (second_start r g confirms) s d.first d.second)) told
+          → (z : Content) × AreReplayed (power_on r g s) confirms d (shown told.first.outcome) (shown told.second.outcome) z
       here d m at =
           let one = first_allowed r g confirms s d m.1 in
           let u : Content = landed (boots r g) s d.first in
@@ -97,8 +98,8 @@ module _ (r : Rules) (g : Geometry) (confirms : Bool) (s : Content) (bound : ℕ
           let end : Place Content = landed (rounds r g confirms) (first s) (in_both (boots r g) (second_start r g confirms) s d.first d.second) in
           let at_u : began_at end ≡ u = (ended end).0 ∙ both_first (boots r g) (second_start r g confirms) s d.first d.second one in
           let at_v : later_from r g confirms end ≡ v = (ended end).1 ∙ both_second (boots r g) (second_start r g confirms) s d.first d.second one in
-          let first_told = subst (λ x. IsTold r g x told.first) at_u at.first_is in
-          let second_told = subst (λ x. IsTold r g x told.second) at_v at.second_is in
+          let first_told = subst (λ x. IsTold (power_on r g x) told.first) at_u at.first_is in
+          let second_told = subst (λ x. IsTold (power_on r g x) told.second) at_v at.second_is in
           are_replayed r g confirms s d m.1 (shown told.first.outcome) (shown told.second.outcome) first_told.outcome_is second_told.outcome_is
 
 -- ---- the same start
@@ -110,20 +111,20 @@ same_begun old new s =
 
 pub same_state : (old new : Walked Twice) (position : Position Places) → IsSame old new → new.seen.ledger.failed ≡ old.seen.ledger.failed → state_of new position ≡ state_of old position
 same_state old new position s calm =
-    ap (λ (b : Begun). record { start = b; confirms = new.branches.confirms; bound = new.bound; position = position; failed = new.seen.ledger.failed }) (same_begun old new s)
+    ap (λ (b : PowerOn). record { start = b; confirms = new.branches.confirms; bound = new.bound; position = position; failed = new.seen.ledger.failed }) (same_begun old new s)
     ∙ ap (λ (b : Twice). record { start = begun_of old; confirms = b.confirms; bound = new.bound; position = position; failed = new.seen.ledger.failed }) s.branches
     ∙ ap (λ (n : ℕ). record { start = begun_of old; confirms = old.branches.confirms; bound = n; position = position; failed = new.seen.ledger.failed }) s.bound
     ∙ ap (λ (f : Bool). record { start = begun_of old; confirms = old.branches.confirms; bound = old.bound; position = position; failed = f }) calm
 
 -- A path is that of the same campaign.
 abbrev pub IsPathFor : Walked Twice → List ℕ → Places → Type 0
-IsPathFor w path c = IsPathOf w.branches.once.rules w.branches.once.layout w.branches.confirms (start_of w.seen) w.bound path c
+IsPathFor w path c = IsPathOf (power_on w.branches.once.rules w.branches.once.layout (start_of w.seen)) w.branches.confirms w.bound path c
 
 pub path_there : (old new : Walked Twice) (path : List ℕ) (c : Places) → IsSame old new → IsPathFor old path c → IsPathFor new path c
 path_there old new path c s p =
-    let at_branches = subst (λ (b : Twice). IsPathOf b.once.rules b.once.layout b.confirms (start_of old.seen) old.bound path c) (sym s.branches) p in
-    let at_start = subst (λ x. IsPathOf new.branches.once.rules new.branches.once.layout new.branches.confirms x old.bound path c) (sym s.start) at_branches in
-    subst (λ n. IsPathOf new.branches.once.rules new.branches.once.layout new.branches.confirms (start_of new.seen) n path c) (sym s.bound) at_start
+    let at_branches = subst (λ (b : Twice). IsPathOf (power_on b.once.rules b.once.layout (start_of old.seen)) b.confirms old.bound path c) (sym s.branches) p in
+    let at_start = subst (λ x. IsPathOf (power_on new.branches.once.rules new.branches.once.layout x) new.branches.confirms old.bound path c) (sym s.start) at_branches in
+    subst (λ n. IsPathOf (power_on new.branches.once.rules new.branches.once.layout (start_of new.seen)) new.branches.confirms n path c) (sym s.bound) at_start
 
 pub pairs_there : (old new : Walked Twice) (path : List ℕ) → IsSame old new
     → pairs_along new.branches.once.rules new.branches.once.layout new.branches.confirms (start_of new.seen) path
@@ -135,14 +136,14 @@ pairs_there old new path s =
 -- ---- what a visit finds
 
 -- A tour of a sound explorer came behind its last row and went to the next node, or there is none; and what it counts then.
-pub record Visited (counted : Bool) (start : Begun) (confirms : Bool) (bound : ℕ) (old new : Toured Twice) (last : Places) (went : Bool) : Type 0 where
+pub record Visited (counted : Bool) (start : PowerOn) (confirms : Bool) (bound : ℕ) (old new : Toured Twice) (last : Places) (went : Bool) : Type 0 where
   pub works : old.phase ≢ phases.Broken
   pub sound : IsSound counted start confirms bound old last
   pub visits : Visits (kind_of old.walk.branches) old (position_of old.phase (sound works).1.path) went new
   pub limits : new.walk.seen.ledger.limits ≡ old.walk.seen.ledger.limits
   pub failed : new.walk.seen.ledger.failed ≡ old.walk.seen.ledger.failed
 
-module _ (counted : Bool) (start : Begun) (confirms : Bool) (bound : ℕ) (old new : Toured Twice) (last : Places) where
+module _ (counted : Bool) (start : PowerOn) (confirms : Bool) (bound : ℕ) (old new : Toured Twice) (last : Places) where
   abbrev w : Walked Twice
   w = old.walk
 
@@ -197,10 +198,10 @@ module _ (counted : Bool) (start : Begun) (confirms : Bool) (bound : ℕ) (old n
         let g = w.branches.once.layout in
         let k = w.branches.confirms in
         let outcomes = outcomes_told r g k (start_of w.seen) w.bound new.walk.path (placed cuts) told path_is (told_next told there) in
-        let P : Places → Type 0 = λ d. (z : Content) × AreReplayed r g k (start_of w.seen) d (shown told.first.outcome) (shown told.second.outcome) z in
-        let Q : Outcome → Type 0 = λ o. (z : Content) × AreReplayed r g k (start_of w.seen) row.campaign (shown o) (shown told.second.outcome) z in
-        let R : Outcome → Type 0 = λ o. (z : Content) × AreReplayed r g k (start_of w.seen) row.campaign (shown row.first) (shown o) z in (
-          subst (IsNextIn Precedes (IsMember r g k (start_of w.seen) w.bound) here) (sym is)
+        let P : Places → Type 0 = λ d. (z : Content) × AreReplayed (power_on r g (start_of w.seen)) k d (shown told.first.outcome) (shown told.second.outcome) z in
+        let Q : Outcome → Type 0 = λ o. (z : Content) × AreReplayed (power_on r g (start_of w.seen)) k row.campaign (shown o) (shown told.second.outcome) z in
+        let R : Outcome → Type 0 = λ o. (z : Content) × AreReplayed (power_on r g (start_of w.seen)) k row.campaign (shown row.first) (shown o) z in (
+          subst (IsNextIn Precedes (IsMember (power_on r g (start_of w.seen)) k w.bound) here) (sym is)
               (next_campaign r g k (start_of w.seen) w.bound behind.path last behind.path_is old.phase new.walk.path (placed cuts) path_is v.visits.0),
           subst R (sym two) (subst Q (sym one) (subst P (sym is) outcomes)),
         )

@@ -8,7 +8,7 @@ use Rattle.mc_flash.specs.Geometry.{Geometry}
 use Rattle.mc_flash.specs.Seen.{Seen}
 use Rattle.mc_trailer.specs.declared.tables.Rules.{Rules}
 use Rattle.mc_boot.specs.Confirm.{confirmed_if}
-use Rattle.mc_boot.specs.RunFacts.{left_defined}
+use Rattle.mc_boot.specs.facts.Run.{left_defined}
 use Rattle.mc_boot.specs.Runs.{left_by, ops_of}
 use Rattle.mc_boot.specs.declared.boot.Boot.{Boot}
 use Rattle.mc_walk.specs.Kind.{IsAt}
@@ -20,6 +20,7 @@ use Rattle.mc_explore.specs.declared.once.Told.{Told}
 use Rattle.mc_campaign.specs.Boots.{second_start}
 use Rattle.mc_campaign.specs.Twice.{began_at, content_at, IsLater, later_from, later_number, twice_kind}
 use Rattle.mc_campaign.specs.declared.rounds.OnWay.TheVariants as ways
+use Rattle.mc_boot.specs.PowerOn.{power_on}
 
 module _ (r : Rules) (g : Geometry) (confirms : Bool) where
   abbrev pub child : Place Content → ℕ → Place Content
@@ -30,7 +31,7 @@ module _ (r : Rules) (g : Geometry) (confirms : Bool) where
 
   -- ---- a child in the first round
 
-  pub first_child : (s : Content) (i : ℕ) → i < length (ops_of r g s) → child (first s) i ≡ first (at_cut r g s i)
+  pub first_child : (s : Content) (i : ℕ) → i < length (ops_of (power_on r g s)) → child (first s) i ≡ first (at_cut (power_on r g s) i)
   first_child s i lt = child_first (boots r g) (second_start r g confirms) s i lt
 
   pub first_at : (s : Content) (i : ℕ) (boot : Boot) (ops : ℕ) (later : Told) (seen : Seen) → IsAt (twice_kind r g confirms) (first s) i (ways.First boot ops later) seen
@@ -41,8 +42,9 @@ module _ (r : Rules) (g : Geometry) (confirms : Bool) where
     layout_is = at.layout_is;
   }
 
-  pub at_first : (s : Content) (i : ℕ) (boot : Boot) (ops : ℕ) (later : Told) (seen : Seen) → IsAt (once r g) s i boot seen → i < length (ops_of r g s) → ops ≡ length (ops_of r g s)
-      → IsTold r g (second_start r g confirms s) later → IsAt (twice_kind r g confirms) (first s) i (ways.First boot ops later) seen
+  pub at_first : (s : Content) (i : ℕ) (boot : Boot) (ops : ℕ) (later : Told) (seen : Seen) → IsAt (once r g) s i boot seen → i < length (ops_of (power_on r g s))
+      → ops ≡ length (ops_of (power_on r g s))
+      → IsTold (power_on r g (second_start r g confirms s)) later → IsAt (twice_kind r g confirms) (first s) i (ways.First boot ops later) seen
   at_first s i boot ops later seen at early same told = record {
     on_is = record { early = early; made = at.on_is; ops_is = same; later_is = told };
     content_is = at.content_is ∙ sym (ap content_at (first_child s i early));
@@ -51,7 +53,7 @@ module _ (r : Rules) (g : Geometry) (confirms : Bool) where
 
   -- ---- a child in the second
 
-  pub later_child : (p : Place Content) (i : ℕ) → IsLater r g confirms p i → child p i ≡ second (began_at p) (at_cut r g (later_from r g confirms p) (later_number r g confirms p i))
+  pub later_child : (p : Place Content) (i : ℕ) → IsLater r g confirms p i → child p i ≡ second (began_at p) (at_cut (power_on r g (later_from r g confirms p)) (later_number r g confirms p i))
   later_child (first s) i le = child_second (boots r g) (second_start r g confirms) s i le
   later_child (second began s) i le = refl
 
@@ -71,7 +73,7 @@ module _ (r : Rules) (g : Geometry) (confirms : Bool) where
     layout_is = at.layout_is;
   }
 
-  pub later_early : (p : Place Content) (i : ℕ) → IsLater r g confirms p i → i < width p → later_number r g confirms p i < length (ops_of r g (later_from r g confirms p))
+  pub later_early : (p : Place Content) (i : ℕ) → IsLater r g confirms p i → i < width p → later_number r g confirms p i < length (ops_of (power_on r g (later_from r g confirms p)))
   later_early (first s) i le lt = omega (arith, le, lt)
   later_early (second began s) i le lt = lt
 
@@ -90,36 +92,37 @@ module _ (r : Rules) (g : Geometry) (confirms : Bool) where
 
   -- ---- between the rounds
 
-  ended : (s : Content) → at_cut r g s (length (ops_of r g s)) ≡ content_or s (left_by r g s)
+  ended : (s : Content) → at_cut (power_on r g s) (length (ops_of (power_on r g s))) ≡ content_or s (left_by (power_on r g s))
   unfolding at_cut left_by
   ended s = refl
 
   -- The first round is over, and the image has confirmed itself or not.
-  pub between : (s new : Content) (old : Seen) → old.geometry ≡ g → old.content ≡ at_cut r g s (length (ops_of r g s)) → new ≡ confirmed_if confirms old.geometry old.content
+  pub between : (s new : Content) (old : Seen) → old.geometry ≡ g → old.content ≡ at_cut (power_on r g s) (length (ops_of (power_on r g s))) → new ≡ confirmed_if confirms old.geometry old.content
       → new ≡ second_start r g confirms s
   unfolding second_start
   between s new old layout content is = is ∙ ap (λ x. confirmed_if confirms x old.content) layout ∙ ap (confirmed_if confirms g) (content ∙ ended s)
 
   -- The same, by what the boot left.
-  pub between_left : (s new : Content) (old : Seen) → old.geometry ≡ g → left_by r g s ≡ Some old.content → new ≡ confirmed_if confirms old.geometry old.content → new ≡ second_start r g confirms s
+  pub between_left : (s new : Content) (old : Seen) → old.geometry ≡ g → left_by (power_on r g s) ≡ Some old.content → new ≡ confirmed_if confirms old.geometry old.content
+      → new ≡ second_start r g confirms s
   unfolding second_start
   between_left s new old layout left is =
       is ∙ ap (λ x. confirmed_if confirms x old.content) layout ∙ ap (λ (o : Option Content). confirmed_if confirms g (content_or s o)) (sym left)
 
   -- Where the second round begins its boot is at its first operation.
   pub at_begin : (p : Place Content) (i : ℕ) (told : Told) (seen : Seen) → IsLater r g confirms p i → later_number r g confirms p i ≡ 0 → seen.content ≡ later_from r g confirms p → seen.geometry ≡ g
-      → IsTold r g (later_from r g confirms p) told → IsAt (twice_kind r g confirms) p i (ways.Second told.boot) seen
+      → IsTold (power_on r g (later_from r g confirms p)) told → IsAt (twice_kind r g confirms) p i (ways.Second told.boot) seen
   at_begin p i told seen later zero content layout is =
       let here : IsAt (once r g) (later_from r g confirms p) 0 told.boot seen = record {
         on_is = first_on r g (later_from r g confirms p) told is;
-        content_is = content ∙ at_zero r g (later_from r g confirms p);
+        content_is = content ∙ at_zero (power_on r g (later_from r g confirms p));
         layout_is = layout;
       } in
       at_later p i told.boot seen later (subst (λ n. IsAt (once r g) (later_from r g confirms p) n told.boot seen) (sym zero) here)
 
   -- Where the uncut boots leave the same flash the second round begins there.
-  pub same_start : (s u : Content) → left_by r g u ≡ left_by r g s → second_start r g confirms u ≡ second_start r g confirms s
+  pub same_start : (s u : Content) → left_by (power_on r g u) ≡ left_by (power_on r g s) → second_start r g confirms u ≡ second_start r g confirms s
   unfolding second_start
   same_start s u same =
-      let left = left_defined r g s in
+      let left = left_defined (power_on r g s) in
       ap (λ (o : Option Content). confirmed_if confirms g (content_or u o)) (same ∙ left.1) ∙ ap (λ (o : Option Content). confirmed_if confirms g (content_or s o)) (sym left.1)

@@ -10,10 +10,11 @@ use Rattle.mc_boot.specs.Confirm.{confirmed_if}
 use Rattle.mc_boot.specs.Runs.{left_by}
 use Rattle.mc_explore.specs.Boots.{boots, content_or}
 use Rattle.mc_campaign.specs.Places.{Places, pairs_of}
+use Rattle.mc_boot.specs.PowerOn.{PowerOn, power_on}
 
 -- Where the second round begins if the uncut boot from s ends the first.
 unfoldable pub second_start : Rules → Geometry → Bool → Content → Content
-second_start r g confirms s = confirmed_if confirms g (content_or s (left_by r g s))
+second_start r g confirms s = confirmed_if confirms g (content_or s (left_by (power_on r g s)))
 
 -- A boot of the first round can be cut before each operation that it makes uncut, and so can then the one that begins the
 -- second round behind it.
@@ -25,6 +26,6 @@ abbrev pub pairs_along : Rules → Geometry → Bool → Content → List ℕ �
 pairs_along r g confirms s path = labels (boots r g) (second_start r g confirms) (first s) path
 
 -- A path of at most so many steps, and the campaign of the cuts along it.
-pub record IsPathOf (r : Rules) (g : Geometry) (confirms : Bool) (s : Content) (bound : ℕ) (path : List ℕ) (c : Places) : Type 0 where
-  pub member : tree.IsMember (rounds r g confirms) (first s) bound path
-  pub pairs_are : pairs_along r g confirms s path ≡ pairs_of c
+pub record IsPathOf (x : PowerOn) (confirms : Bool) (bound : ℕ) (path : List ℕ) (c : Places) : Type 0 where
+  pub member : tree.IsMember (rounds x.rules x.geometry confirms) (first x.content) bound path
+  pub pairs_are : pairs_along x.rules x.geometry confirms x.content path ≡ pairs_of c

@@ -1,8 +1,6 @@
 -- One campaign, round by round.
 use Rattle.std.specs.Prelude.{◌≡◌, ◌⊎◌, ℕ, ◌+◌, Bool, length, ⊤}
-use Rattle.mc_flash.specs.Geometry.{Geometry}
 use Rattle.mc_flash.specs.Content.{Content}
-use Rattle.mc_trailer.specs.declared.tables.Rules.{Rules}
 use Rattle.mc_boot.specs.Confirm.{confirmed_if}
 use Rattle.mc_boot.specs.Outcome.{Report}
 use Rattle.mc_explore.specs.Replay.{CannotOccurAt}
@@ -10,25 +8,25 @@ use Rattle.mc_explore.specs.Replay as replays
 use Rattle.mc_explore.specs.declared.replaying.ReplayError.{ReplayError}
 use Rattle.mc_explore.specs.declared.replaying.ReplayError.TheVariants as errors
 use Rattle.mc_campaign.specs.Places.{Places}
+use Rattle.mc_boot.specs.PowerOn.{PowerOn, again}
 
--- The cuts of the first round can occur from s, and the uncut boot after them has the outcome `one` and leaves `middle`. So it is
+-- The cuts of the first round can occur, and the uncut boot after them has the outcome `one` and leaves `middle`. So it is
 -- with those of the second round, from what `middle` is once the image has confirmed itself, where it does.
-pub record AreReplayed (r : Rules) (g : Geometry) (confirms : Bool) (s : Content) (c : Places) (one two : Report) (z : Content) : Type 0 where
+pub record AreReplayed (x : PowerOn) (confirms : Bool) (c : Places) (one two : Report) (z : Content) : Type 0 where
   pub middle : Content
-  pub first : replays.IsReplayed r g s c.first one middle
-  pub second : replays.IsReplayed r g (confirmed_if confirms g middle) c.second two z
+  pub first : replays.IsReplayed x c.first one middle
+  pub second : replays.IsReplayed (again x (confirmed_if confirms x.geometry middle)) c.second two z
 
 -- The first round ends, and the first cut that can't occur is of the second.
-pub record CannotOccurLater (r : Rules) (g : Geometry) (confirms : Bool) (s : Content) (c : Places) (place : ℕ) : Type 0 where
+pub record CannotOccurLater (x : PowerOn) (confirms : Bool) (c : Places) (place : ℕ) : Type 0 where
   pub one : Report
   pub middle : Content
-  pub first : replays.IsReplayed r g s c.first one middle
+  pub first : replays.IsReplayed x c.first one middle
   pub later : ℕ
-  pub second : CannotOccurAt r g (confirmed_if confirms g middle) c.second later
+  pub second : CannotOccurAt (again x (confirmed_if confirms x.geometry middle)) c.second later
   pub place_is : place ≡ length c.first + later
 
 -- What is refused: the first cut that can't occur, by its place among those of both rounds, unless memory ran out.
-abbrev pub Refuses : Rules → Geometry → Bool → Content → Places → ReplayError → Type 0
-Refuses r g confirms s c (errors.CannotOccur place) =
-    CannotOccurAt r g s c.first place ⊎ CannotOccurLater r g confirms s c place
-Refuses r g confirms s c errors.Memory = ⊤
+abbrev pub Refuses : PowerOn → Bool → Places → ReplayError → Type 0
+Refuses x confirms c (errors.CannotOccur place) = CannotOccurAt x c.first place ⊎ CannotOccurLater x confirms c place
+Refuses x confirms c errors.Memory = ⊤

@@ -2,7 +2,7 @@
 use Rattle.std.specs.Prelude.{ℕ, Bool, List}
 use Rattle.mc_explore.specs.Listing as listings
 use Rattle.mc_explore.specs.Listing.{Listing}
-use Rattle.mc_explore.specs.Start.{Begun}
+use Rattle.mc_boot.specs.PowerOn.{PowerOn}
 use Rattle.mc_campaign.specs.Campaigns.{IsMember, Precedes}
 use Rattle.mc_campaign.specs.Cursor.{cursor_of}
 use Rattle.mc_campaign.specs.CursorText.{cursor_text}
@@ -12,8 +12,8 @@ use Rattle.mc_campaign.specs.State.{State, Told, HasOutcomes, moved_to}
 use Rattle.mc_campaign.specs.declared.cursor.CampaignCursor.{CampaignCursor}
 
 -- A row of the whole list: one of the campaigns to go through, with its outcomes.
-pub record IsRow (start : Begun) (confirms : Bool) (bound : ℕ) (row : Told) : Type 0 where
-  pub listed : IsMember start.rules start.geometry confirms start.content bound row.campaign
+pub record IsRow (start : PowerOn) (confirms : Bool) (bound : ℕ) (row : Told) : Type 0 where
+  pub listed : IsMember start confirms bound row.campaign
   pub outcomes : HasOutcomes start confirms row
 
 abbrev pub campaigns : Listing State Places Told CampaignCursor

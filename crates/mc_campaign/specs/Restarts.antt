@@ -1,9 +1,8 @@
 -- What the restart theorem says of a campaign.
 use Rattle.std.specs.Prelude.{◌≡◌, ◌≢◌, ℕ, Bool, true, false, List, [], Some}
 use Rattle.mc_flash.specs.Content.{Content}
-use Rattle.mc_flash.specs.Geometry.{Geometry, IsLayout}
+use Rattle.mc_flash.specs.Geometry.{IsLayout}
 use Rattle.mc_image.specs.Valid.{id_of}
-use Rattle.mc_trailer.specs.declared.tables.Rules.{Rules}
 use Rattle.mc_trailer.specs.declared.tables.SwapType.TheVariants as kinds
 use Rattle.mc_boot.specs.Confirm.{confirmed_if}
 use Rattle.mc_boot.specs.Outcome.{Report}
@@ -15,7 +14,7 @@ use Rattle.mc_boot.specs.declared.kind.Kind.{Kind}
 use Rattle.mc_boot.specs.declared.kind.Kind.TheVariants as starts
 use Rattle.mc_boot.specs.declared.outcome.BootResult.TheVariants as results
 use Rattle.mc_explore.specs.Replay.{IsSwapOutcome}
-use Rattle.mc_explore.specs.Start.{Begun}
+use Rattle.mc_boot.specs.PowerOn.{PowerOn, again}
 use Rattle.mc_campaign.specs.Places.{Places}
 use Rattle.mc_campaign.specs.State.{Told}
 
@@ -38,27 +37,27 @@ pub record IsLastOutcome (kind : Kind) (confirms : Bool) (a b cuts : List ℕ) (
 
 -- The first round leaves x, as the restart theorem says of its cuts; the second begins there, where the image has confirmed itself
 -- or not, and leaves z, as the theorem says of a second round. What is told of both is so.
-pub record BothEnd (r : Rules) (g : Geometry) (kind : Kind) (confirms : Bool) (a b : List ℕ) (s : Content) (c : Places) (one two : Report) (z : Content) : Type 0 where
+pub record BothEnd (start : PowerOn) (kind : Kind) (confirms : Bool) (a b : List ℕ) (c : Places) (one two : Report) (z : Content) : Type 0 where
   pub t : Content
   pub x : Content
   pub u : Content
-  pub first_cut : after r g s c.first ≡ Some t
-  pub first_ends : EndsIn r g kind a b s t x
+  pub first_cut : after start c.first ≡ Some t
+  pub first_ends : EndsIn start kind a b t x
   pub first_told : IsSwapOutcome kind a b c.first one
-  pub second_cut : after r g (confirmed_if confirms g x) c.second ≡ Some u
-  pub second_ends : EndsAgain r g kind confirms a b s x u z
+  pub second_cut : after (again start (confirmed_if confirms start.geometry x)) c.second ≡ Some u
+  pub second_ends : EndsAgain start kind confirms a b x u z
   pub second_told : IsLastOutcome kind confirms a b c.second two
 
 -- From the start of two valid images that fit, under rules that do not forget a revert that one of the rounds makes, both rounds
 -- of the campaign end so.
-abbrev pub Restarts : Rules → Geometry → Bool → Content → Places → Report → Report → Content → Type 0
-Restarts r g confirms s c one two z =
-    (kind : Kind) (a b : List ℕ) → BeginsImage g a → BeginsImage g b
-    → (has_revert kind confirms ≡ true → forgets_reverts r.grain r.profile ≡ false)
-    → start_flash g kind a b ≡ Some s → BothEnd r g kind confirms a b s c one two z
+abbrev pub Restarts : PowerOn → Bool → Places → Report → Report → Content → Type 0
+Restarts start confirms c one two z =
+    (kind : Kind) (a b : List ℕ) → BeginsImage start.geometry a → BeginsImage start.geometry b
+    → (has_revert kind confirms ≡ true → forgets_reverts start.rules.grain start.rules.profile ≡ false)
+    → start_flash start.geometry kind a b ≡ Some start.content → BothEnd start kind confirms a b c one two z
 
 -- So it is of a row's campaign and its outcomes.
-abbrev pub RowRestarts : Begun → Bool → Told → Type 0
+abbrev pub RowRestarts : PowerOn → Bool → Told → Type 0
 RowRestarts start confirms row =
     IsLayout start.geometry → (z : Content)
-    × Restarts start.rules start.geometry confirms start.content row.campaign row.first row.second z
+    × Restarts start confirms row.campaign row.first row.second z

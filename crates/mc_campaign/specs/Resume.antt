@@ -1,7 +1,7 @@
 -- An explorer of campaigns that goes on behind a cursor, or the first reason why there is none.
 use Rattle.std.specs.Prelude.{◌≡◌, ℕ, Bool, false, Result, Ok, Err}
 use Rattle.mc_tree.specs.Paths.{After}
-use Rattle.mc_explore.specs.Start.{Begun}
+use Rattle.mc_boot.specs.PowerOn.{PowerOn}
 use Rattle.mc_explore.specs.declared.error.ExploreError.{ExploreError}
 use Rattle.mc_campaign.specs.Campaigns.{IsMember}
 use Rattle.mc_campaign.specs.Cursor.{Names, Refuses}
@@ -10,12 +10,12 @@ use Rattle.mc_campaign.specs.State.{Explored, State}
 use Rattle.mc_campaign.specs.declared.cursor.CampaignCursor.{CampaignCursor}
 
 -- The state behind a campaign.
-abbrev pub behind : Begun → Bool → ℕ → Places → State
+abbrev pub behind : PowerOn → Bool → ℕ → Places → State
 behind start confirms bound c =
     record { start = start; confirms = confirms; bound = bound; position = After c; failed = false }
 
-abbrev pub Resumes : Begun → Bool → ℕ → CampaignCursor → Result Explored ExploreError → Type 0
+abbrev pub Resumes : PowerOn → Bool → ℕ → CampaignCursor → Result Explored ExploreError → Type 0
 Resumes start confirms bound c (Ok explorer) =
-    Names start confirms bound c × IsMember start.rules start.geometry confirms start.content bound c.campaign
+    Names start confirms bound c × IsMember start confirms bound c.campaign
     × (explorer.state ≡ behind start confirms bound c.campaign)
 Resumes start confirms bound c (Err e) = Refuses start confirms bound c e

@@ -4,7 +4,7 @@ use Rattle.mc_tree.specs.Paths.{Position, AtStart, After, Lost, IsNextIn, IsOver
 use Rattle.mc_flash.specs.Content.{Content}
 use Rattle.mc_flash.specs.Ledger.{Ledger}
 use Rattle.mc_boot.specs.Outcome.{Report, shown}
-use Rattle.mc_explore.specs.Start.{Begun}
+use Rattle.mc_boot.specs.PowerOn.{PowerOn}
 use Rattle.mc_campaign.specs.Campaigns.{IsMember, Precedes}
 use Rattle.mc_campaign.specs.Places.{Places}
 use Rattle.mc_campaign.specs.Replay.{AreReplayed}
@@ -13,7 +13,7 @@ use Rattle.mc_campaign.specs.declared.row.CampaignRow.{CampaignRow}
 -- The start, and whether the image confirms itself between the rounds; the most cuts of a campaign; where the explorer has come to:
 -- it gave no row yet, or last that of a campaign, or it failed; and whether its flash was refused memory at some time.
 pub record State : Type 0 where
-  pub start : Begun
+  pub start : PowerOn
   pub confirms : Bool
   pub bound : ℕ
   pub position : Position Places
@@ -21,7 +21,7 @@ pub record State : Type 0 where
 
 -- One of the campaigns to go through.
 abbrev pub IsListed : State → Places → Type 0
-IsListed state c = IsMember state.start.rules state.start.geometry state.confirms state.start.content state.bound c
+IsListed state c = IsMember state.start state.confirms state.bound c
 
 -- The first campaign past the position.
 abbrev pub IsNext : State → Places → Type 0
@@ -41,9 +41,9 @@ abbrev pub told : CampaignRow → Told
 told row = record { campaign = row.campaign; first = shown row.first; second = shown row.second }
 
 -- The outcomes of a row are those of its campaign, round by round.
-abbrev pub HasOutcomes : Begun → Bool → Told → Type 0
+abbrev pub HasOutcomes : PowerOn → Bool → Told → Type 0
 HasOutcomes start confirms row =
-    (z : Content) × AreReplayed start.rules start.geometry confirms start.content row.campaign row.first row.second z
+    (z : Content) × AreReplayed start confirms row.campaign row.first row.second z
 
 -- The state after the row of a campaign.
 abbrev pub moved_to : State → Places → State
@@ -66,7 +66,7 @@ lost_at state =
     record { start = state.start; confirms = state.confirms; bound = state.bound; position = Lost; failed = state.failed }
 
 -- The state at the start.
-abbrev pub at_start : Begun → Bool → ℕ → State
+abbrev pub at_start : PowerOn → Bool → ℕ → State
 at_start start confirms bound =
     record { start = start; confirms = confirms; bound = bound; position = AtStart; failed = false }
 

@@ -25,6 +25,7 @@ use Rattle.mc_campaign.specs.declared.campaign.Round.TheVariants as rounds_of
 use Rattle.mc_campaign.specs.declared.rounds.Both.{Both}
 use Rattle.mc_campaign.specs.declared.rounds.OnWay.{OnWay}
 use Rattle.mc_campaign.specs.declared.rounds.OnWay.TheVariants as ways
+use Rattle.mc_boot.specs.PowerOn.{power_on}
 
 abbrev pub content_at : Place Content → Content
 content_at (first s) = s
@@ -38,11 +39,6 @@ round_at (second began s) = rounds_of.Second
 abbrev pub began_at : Place Content → Content
 began_at (first s) = s
 began_at (second began s) = began
-
--- A boot at power-on from where a flash of that layout stands.
-pub record BeginsOn (r : Rules) (g : Geometry) (seen : Seen) (boot : Boot) : Type 0 where
-  pub layout_is : seen.geometry ≡ g
-  pub begun : IsBegun r seen boot
 
 -- What both rounds count at most, with the write between them.
 abbrev pub most_of_both : Rules → Geometry → Counts
@@ -70,32 +66,32 @@ module _ (r : Rules) (g : Geometry) (confirms : Bool) where
 
   -- The child of that number is one in the second round, and its number among those.
   abbrev pub IsLater : Place Content → ℕ → Type 0
-  IsLater (first s) i = length (ops_of r g s) ≤ i
+  IsLater (first s) i = length (ops_of (power_on r g s)) ≤ i
   IsLater (second began s) i = Unit {0}
 
   abbrev pub later_number : Place Content → ℕ → ℕ
-  later_number (first s) i = i - length (ops_of r g s)
+  later_number (first s) i = i - length (ops_of (power_on r g s))
   later_number (second began s) i = i
 
   -- A child in the first round is on its way: how many operations its boot makes uncut is known, and what is told of where the
   -- second round begins behind it.
   pub record IsOnFirst (s : Content) (i : ℕ) (boot : Boot) (ops : ℕ) (later : Told) : Type 0 where
-    pub early : i < length (ops_of r g s)
-    pub made : HasMade r g s i boot
-    pub ops_is : ops ≡ length (ops_of r g s)
-    pub later_is : IsTold r g (second_start r g confirms s) later
+    pub early : i < length (ops_of (power_on r g s))
+    pub made : HasMade (power_on r g s) i boot
+    pub ops_is : ops ≡ length (ops_of (power_on r g s))
+    pub later_is : IsTold (power_on r g (second_start r g confirms s)) later
 
   -- A child of that number is on that way.
   abbrev pub IsOnWay : OnWay → Place Content → ℕ → Type 0
   IsOnWay (ways.First boot ops later) (first s) i = IsOnFirst s i boot ops later
   IsOnWay (ways.First boot ops later) (second began s) i = ⊥
-  IsOnWay (ways.Second boot) p i = IsLater p i × HasMade r g (later_from p) (later_number p i) boot
+  IsOnWay (ways.Second boot) p i = IsLater p i × HasMade (power_on r g (later_from p)) (later_number p i) boot
 
   -- What is told of a place: its round, the last boot of the first round, and the boot of the second.
   pub record AreTold (p : Place Content) (both : Both) : Type 0 where
     pub round_is : both.round ≡ round_at p
-    pub first_is : IsTold r g (began_at p) both.first
-    pub second_is : IsTold r g (later_from p) both.second
+    pub first_is : IsTold (power_on r g (began_at p)) both.first
+    pub second_is : IsTold (power_on r g (later_from p)) both.second
 
   pub owed_more : (p : Place Content) (i : ℕ) (way : OnWay) → IsOnWay way p i
       → LeaveRoom no_counts (owed_at r g (trees.twice_child (boots r g) (second_start r g confirms) p i)) (plus (left_of_way r g way) (most_of r g))

@@ -6,17 +6,18 @@ use Rattle.mc_flash.specs.Geometry.{IsLayout}
 use Rattle.mc_flash.specs.Seen.{Seen}
 use Rattle.mc_walk.specs.Walks.{Walked, IsFresh, IsPath, IsSame, start_of}
 use Rattle.mc_walk.specs.declared.tour.Phase.TheVariants.{Broken}
-use Rattle.mc_explore.specs.Start.{Begun}
+use Rattle.mc_boot.specs.PowerOn.{PowerOn}
 use Rattle.mc_campaign.specs.Boots.{IsPathOf}
 use Rattle.mc_campaign.specs.Campaigns.{IsMember}
 use Rattle.mc_campaign.specs.Places.{Places}
 use Rattle.mc_campaign.specs.State.{State, Explored}
 use Rattle.mc_campaign.specs.Twice.{twice_kind}
+use Rattle.mc_explore.specs.Once.{begins}
 use Rattle.mc_campaign.specs.declared.rounds.Twice.{Twice}
 
 -- The start of a walk.
-abbrev pub begun_of : Walked Twice → Begun
-begun_of w = record { geometry = w.branches.once.layout; rules = w.branches.once.rules; content = start_of w.seen }
+abbrev pub begun_of : Walked Twice → PowerOn
+begun_of w = begins w.branches.once (start_of w.seen)
 
 -- The state of an explorer on that walk.
 abbrev pub state_of : Walked Twice → Position Places → State
@@ -37,7 +38,7 @@ explored w position = record {
 }
 
 -- The walk is one from that start with that choice and so many cuts, and the flash counts where its kind does.
-pub record IsOurs (counted : Bool) (start : Begun) (confirms : Bool) (bound : ℕ) (w : Walked Twice) : Type 0 where
+pub record IsOurs (counted : Bool) (start : PowerOn) (confirms : Bool) (bound : ℕ) (w : Walked Twice) : Type 0 where
   pub start_is : begun_of w ≡ start
   pub choice_is : w.branches.confirms ≡ confirms
   pub bound_is : w.bound ≡ bound
@@ -47,16 +48,16 @@ pub record IsOurs (counted : Bool) (start : Begun) (confirms : Bool) (bound : �
 -- The tour stands where the last row says: at the end of the path of its campaign.
 pub record StandsBehind (t : Toured Twice) (c : Places) : Type 0 where
   pub path : List ℕ
-  pub path_is : IsPathOf t.walk.branches.once.rules t.walk.branches.once.layout t.walk.branches.confirms (start_of t.walk.seen) t.walk.bound path c
+  pub path_is : IsPathOf (begun_of t.walk) t.walk.branches.confirms t.walk.bound path c
   pub stands : StandsAt (twice_kind t.walk.branches.once.rules t.walk.branches.once.layout t.walk.branches.confirms) t (position_of t.phase path)
 
 -- What holds of an explorer's fields until it fails.
-abbrev pub IsSound : Bool → Begun → Bool → ℕ → Toured Twice → Places → Type 0
+abbrev pub IsSound : Bool → PowerOn → Bool → ℕ → Toured Twice → Places → Type 0
 IsSound counted start confirms bound t last =
     t.phase ≢ Broken → IsOurs counted start confirms bound t.walk × StandsBehind t last
 
 -- A walk that was just loaded for a start.
-pub record IsLoaded (counted : Bool) (start : Begun) (confirms : Bool) (bound : ℕ) (w : Walked Twice) : Type 0 where
+pub record IsLoaded (counted : Bool) (start : PowerOn) (confirms : Bool) (bound : ℕ) (w : Walked Twice) : Type 0 where
   pub start_is : begun_of w ≡ start
   pub choice_is : w.branches.confirms ≡ confirms
   pub bound_is : w.bound ≡ bound
@@ -84,10 +85,10 @@ FollowsLater old ops (cut ∷ rest) false new =
 -- From its root a walk went along the path of a campaign; or that is none of those to go through.
 abbrev pub FollowsCampaign : Walked Twice → Places → Bool → Walked Twice → Type 0
 FollowsCampaign old c true new =
-    IsPathOf old.branches.once.rules old.branches.once.layout old.branches.confirms (start_of old.seen) old.bound new.path c
+    IsPathOf (begun_of old) old.branches.confirms old.bound new.path c
     × IsSame old new × (new.stands ≡ true)
 FollowsCampaign old c false new =
-    IsMember old.branches.once.rules old.branches.once.layout old.branches.confirms (start_of old.seen) old.bound c → ⊥
+    IsMember (begun_of old) old.branches.confirms old.bound c → ⊥
 
 -- The limits of a flash stay, and it was refused no memory.
 pub record IsCalm (old new : Seen) : Type 0 where

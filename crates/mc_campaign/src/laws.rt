@@ -4,29 +4,26 @@ ghost use Rattle.mc_tree.specs.Chain.{JoinUp};
 ghost use Rattle.mc_tree.specs.Tree as tree;
 ghost use Rattle.mc_tree.specs.Twice.{first};
 ghost use Rattle.mc_tree.specs.Paths as paths;
-ghost use Rattle.mc_flash.specs.Geometry.{Geometry};
-ghost use Rattle.mc_flash.specs.Content.{Content};
-ghost use Rattle.mc_trailer.specs.declared.tables.Rules.{Rules};
 ghost use Rattle.mc_campaign.specs.Page.{Chain, last_campaign, state_past};
 ghost use Rattle.mc_campaign.specs.Places.{Places, no_places};
 ghost use Rattle.mc_campaign.specs.Rest.{IsRest};
 ghost use Rattle.mc_campaign.specs.Resume.{behind};
 ghost use Rattle.mc_campaign.specs.State.{State, Told, moved_to};
 ghost use Rattle.mc_campaign.specs.Campaigns.{IsMember, Precedes};
+ghost use Rattle.mc_boot.specs.PowerOn.{PowerOn};
 ghost use Rattle.mc_campaign.specs.Boots.{IsPathOf, rounds};
 
 /// The campaigns that can occur are the paths of the tree of two rounds: each of at most so many cuts is that of a path of at
 /// most so many steps, and each such path is that of such a campaign. The order of campaigns is that of their paths.
 pub fn campaigns_are_paths()
-    ensures paths { (r : Rules) (g : Geometry) (confirms : Bool) (s : Content) (bound : ℕ)
-        (c : Places) → IsMember r g confirms s bound c
-        ↔ ((path : List ℕ) × IsPathOf r g confirms s bound path c) }
-    ensures all { (r : Rules) (g : Geometry) (confirms : Bool) (s : Content) (bound : ℕ)
-        (path : List ℕ) → tree.IsMember (rounds r g confirms) (first s) bound path
-        → (c : Places) × IsPathOf r g confirms s bound path c }
-    ensures order { (r : Rules) (g : Geometry) (confirms : Bool) (s : Content) (bound : ℕ)
-        (path other : List ℕ) (c d : Places) → IsPathOf r g confirms s bound path c
-        → IsPathOf r g confirms s bound other d → Precedes c d ↔ paths.Precedes path other }
+    ensures paths { (x : PowerOn) (confirms : Bool) (bound : ℕ) (c : Places)
+        → IsMember x confirms bound c ↔ ((path : List ℕ) × IsPathOf x confirms bound path c) }
+    ensures all { (x : PowerOn) (confirms : Bool) (bound : ℕ) (path : List ℕ)
+        → tree.IsMember (rounds x.rules x.geometry confirms) (first x.content) bound path
+        → (c : Places) × IsPathOf x confirms bound path c }
+    ensures order { (x : PowerOn) (confirms : Bool) (bound : ℕ) (path other : List ℕ)
+        (c d : Places) → IsPathOf x confirms bound path c → IsPathOf x confirms bound other d
+        → Precedes c d ↔ paths.Precedes path other }
 {}
 
 /// Past each position there is one ascending list of rows of campaigns, and no other. After its first row the others are to

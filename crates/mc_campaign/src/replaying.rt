@@ -5,6 +5,7 @@ ghost use Rattle.mc_flash.specs.Ledger.{limits_for};
 ghost use Rattle.mc_flash.specs.declared.op.Slot.TheVariants.{Primary, Secondary};
 ghost use Rattle.mc_boot.specs.Outcome.{shown};
 ghost use Rattle.mc_explore.specs.Replay as replays;
+ghost use Rattle.mc_explore.specs.Start.{begun};
 ghost use Rattle.mc_explore.specs.View.{begun_with};
 ghost use Rattle.mc_campaign.specs.Places.{pairs_of};
 ghost use Rattle.mc_campaign.specs.Replay.{AreReplayed, Refuses};
@@ -31,9 +32,8 @@ fn replay_round<F: Flash>(
     requires secondary { length secondary.now ≡ size_of once.now.layout Secondary }
     requires few { (length cuts.now ≤ 16) × (length cuts.now + 1 ≤ boots) × (boots ≤ 32) }
     ensures replayed { let s = begun_with once.now primary.now secondary.now in MatchResult result
-        (λ done. replays.IsReplayed s.rules s.geometry s.content cuts.now (shown done.0)
-        (F.seen done.1).content)
-        (λ e. replays.Refuses s.rules s.geometry s.content cuts.now e) }
+        (λ done. replays.IsReplayed s cuts.now (shown done.0) (F.seen done.1).content)
+        (λ e. replays.Refuses s cuts.now e) }
     ensures geometry { IfOk result (λ done. (F.seen done.1).geometry ≡ once.now.layout) }
     ensures exact { IfOk result (λ done. F.counted ≡ true → (F.seen done.1).ledger.limits
         ≡ limits_for once.now.rules.grain once.now.layout boots) }
@@ -56,18 +56,18 @@ pub fn replay_campaign<F: Flash>(
     campaign: &Campaign,
     confirms: bool,
 ) -> Result<(Outcome, Outcome, F), ReplayError>
-    ensures replayed { let s = start.now in MatchResult result
-        (λ done. AreReplayed s.rules s.geometry confirms s.content campaign.now (shown done.0)
-        (shown done.1) (F.seen done.2).content)
-        (λ e. Refuses s.rules s.geometry confirms s.content campaign.now e) }
+    ensures replayed { let s = begun start.now in MatchResult result
+        (λ done. AreReplayed s confirms campaign.now (shown done.0) (shown done.1)
+        (F.seen done.2).content)
+        (λ e. Refuses s confirms campaign.now e) }
     ensures geometry { IfOk result (λ done. (F.seen done.2).geometry ≡ start.now.geometry) }
     // A flash that counts has room for exactly so many boots.
     ensures exact { IfOk result (λ done. F.counted ≡ true → (F.seen done.2).ledger.limits
         ≡ limits_for start.now.rules.grain start.now.geometry
         (length (pairs_of campaign.now) + 3)) }
     // The restart theorem, for both rounds of the campaign that was replayed.
-    ensures restarts { let s = start.now in IfOk result (λ done. Restarts s.rules s.geometry
-        confirms s.content campaign.now (shown done.0) (shown done.1) (F.seen done.2).content) }
+    ensures restarts { IfOk result (λ done. Restarts (begun start.now) confirms campaign.now
+        (shown done.0) (shown done.1) (F.seen done.2).content) }
 {
     restart_law();
     let once = Once {

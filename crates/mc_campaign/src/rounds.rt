@@ -59,7 +59,8 @@ pub(crate) fn go_between<F: Flash>(confirms: bool, flash: &mut F) -> Result<(), 
 }
 
 impl Twice {
-    ghost use Rattle.mc_campaign.specs.Twice.{AreTold, BeginsOn, most_of_both};
+    ghost use Rattle.mc_explore.specs.Once.{BeginsOn};
+    ghost use Rattle.mc_campaign.specs.Twice.{AreTold, most_of_both};
 
     // Runs the boot at power-on to its end, and then that of the second round.
     fn run<F: Flash>(&self, flash: &mut F, boot: Boot, start: &Start) -> Result<Both, FlashError>

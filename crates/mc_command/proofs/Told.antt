@@ -20,12 +20,6 @@ use Rattle.mc_command.specs.declared.refusal.Refusal.TheVariants as refusals
 pub not_ok : false ≡ true → ⊥
 not_ok e = cc
 
--- An option tells one number.
-pub one_number : (found : Found) (option : NumberOption) (m n : ℕ) → TellsNumber found option m → TellsNumber found option n → m ≡ n
-one_number found option m n (a, at_a, says_a, taken_a) (b, at_b, says_b, taken_b) =
-    let same : a ≡ b = let both = sym at_a ∙ at_b in cc in
-    sym says_a.1 ∙ rw same says_b.1
-
 -- And six options one layout.
 abbrev numbers : ℕ → ℕ → ℕ → ℕ → ℕ → ℕ → Geometry
 numbers sector unit max_sectors chunk primary secondary =
@@ -33,12 +27,6 @@ numbers sector unit max_sectors chunk primary secondary =
 
 layout_is : (a b c d e f a' b' c' d' e' f' : ℕ) → a ≡ a' → b ≡ b' → c ≡ c' → d ≡ d' → e ≡ e' → f ≡ f' → numbers a b c d e f ≡ numbers a' b' c' d' e' f'
 layout_is a b c d e f a' b' c' d' e' f' p q r s t u = cc
-
-pub one_layout : (found : Found) (g h : Geometry) → TellsLayout found g → TellsLayout found h → g ≡ h
-one_layout found g h a b = layout_is _ _ _ _ _ _ _ _ _ _ _ _
-    (one_number found options.Sector _ _ a.sector b.sector) (one_number found options.Unit _ _ a.unit b.unit)
-    (one_number found options.MaxSectors _ _ a.max_sectors b.max_sectors) (one_number found options.Chunk _ _ a.chunk b.chunk)
-    (one_number found options.Primary _ _ a.primary b.primary) (one_number found options.Secondary _ _ a.secondary b.secondary)
 
 -- A text that says no number which the option takes tells none, and the option is not left out.
 pub none_told : (found : Found) (option : NumberOption) (text : List ℕ) → first_value found (option_name option) ≡ Some text

@@ -18,7 +18,7 @@ use Rattle.mc_flash.specs.Geometry.{Geometry}
 use Rattle.mc_flash.specs.Ledger.{Counts, Limits}
 use Rattle.mc_flash.specs.Seen.{Keeps, Seen, marked, spot_of, went_back}
 use Rattle.mc_flash.specs.Spends.{Allows, HasRoom, LeaveRoom, Stays, plus}
-use Rattle.mc_flash.specs.SpendsFacts.{keeps_both, keeps_none, spent_back, stays_back}
+use Rattle.mc_flash.specs.facts.Spends.{keeps_both, keeps_none, spent_back, stays_back}
 use Rattle.mc_trailer.specs.declared.tables.Rules.{Rules}
 use Rattle.mc_walk.specs.Kind.{IsAt, TellsChild}
 use Rattle.mc_explore.specs.Boots.{at_cut}
@@ -32,6 +32,7 @@ use Rattle.mc_explore.specs.facts.Occurring.{at_zero}
 use Rattle.mc_explore.specs.facts.Telling.{first_left, first_on, width_is}
 use Rattle.mc_explore.proofs.Onwards.{cut_here}
 use Rattle.mc_explore.proofs.Tables.{get_before, get_last}
+use Rattle.mc_boot.specs.PowerOn.{power_on, powered}
 
 one_more : (b n : ℕ) → (b + 1) * n ≡ b * n + n
 one_more b n = omega arith
@@ -49,7 +50,7 @@ went_so old mid end new place at m keeps limits is =
     subst (StaysSo old) (sym back) (record { stays = stays_back old mid end m keeps; limits = (spent_back (length old.marks) end).limits ∙ limits })
 
 module _ (r : Rules) (g : Geometry) where
-  pub own_told : (s : Content) (told : Told) → IsTold r g s told → report_totals (shown told.outcome) ≡ own_totals r g s
+  pub own_told : (s : Content) (told : Told) → IsTold (power_on r g s) told → report_totals (shown told.outcome) ≡ own_totals r g s
   own_told s told t = sym (ap told_totals t.outcome_is)
 
   pub still_at : (s : Content) (i : ℕ) (b : Boot) (old new : Seen) → IsAt (once r g) s i b old → Stays old new → IsAt (once r g) s i b new
@@ -132,15 +133,15 @@ module _ (r : Rules) (g : Geometry) where
 
   -- The flash stands at a position that occurs, of which that is told.
   pub record Reached (s : Content) (n : ℕ) (b : Boot) (old now : Seen) (child : Told) : Type 0 where
-    pub early : n < length (ops_of r g s)
+    pub early : n < length (ops_of (power_on r g s))
     pub here : IsAt (once r g) s n b now
-    pub told : IsTold r g (at_cut r g s n) child
+    pub told : IsTold (power_on r g (at_cut (power_on r g s) n)) child
     pub under : IsUnder old (left_of g (progress b)) now
 
-  pub reached : (s : Content) (n : ℕ) (b : Boot) (old now new : Seen) (parent child : Told) → IsTold r g s parent → n < parent.outcome.ops → IsAt (once r g) s n b now
+  pub reached : (s : Content) (n : ℕ) (b : Boot) (old now new : Seen) (parent child : Told) → IsTold (power_on r g s) parent → n < parent.outcome.ops → IsAt (once r g) s n b now
       → IsUnder old (left_of g (progress b)) now → TellsChild (once r g) b parent now child → StaysSo now new → Reached s n b old new child
   reached s n b old now new parent child told lt at under tells x =
-      let early : n < length (ops_of r g s) = omega (arith, lt, width_is r g parent s told) in
+      let early : n < length (ops_of (power_on r g s)) = omega (arith, lt, width_is r g parent s told) in
       record { early = early; here = still_at s n b now new at x.stays; told = tells s n at early told; under = stays_under old now new (left_of g (progress b)) under x }
 
   -- And where it stays so.
@@ -153,14 +154,14 @@ module _ (r : Rules) (g : Geometry) where
   }
 
   -- At the first position, where the flash was just marked.
-  pub first_at : (s : Content) (told : Told) (old mid : Seen) → IsTold r g s told → old.content ≡ s → old.geometry ≡ g → mid ≡ marked old → IsAt (once r g) s 0 told.boot mid
+  pub first_at : (s : Content) (told : Told) (old mid : Seen) → IsTold (power_on r g s) told → old.content ≡ s → old.geometry ≡ g → mid ≡ marked old → IsAt (once r g) s 0 told.boot mid
   first_at s told old mid t content layout m = record {
     on_is = first_on r g s told t;
-    content_is = ap (λ (f : Seen). f.content) m ∙ content ∙ at_zero r g s;
+    content_is = ap (λ (f : Seen). f.content) m ∙ content ∙ at_zero (power_on r g s);
     layout_is = ap (λ (f : Seen). f.geometry) m ∙ layout;
   }
 
-  pub first_under : (s : Content) (told : Told) (old mid : Seen) → IsTold r g s told → mid ≡ marked old → IsUnder old (left_of g (progress told.boot)) mid
+  pub first_under : (s : Content) (told : Told) (old mid : Seen) → IsTold (power_on r g s) told → mid ≡ marked old → IsUnder old (left_of g (progress told.boot)) mid
   first_under s told old mid t m = subst (IsUnder old (left_of g (progress told.boot))) (sym m) (record {
     keeps = keeps_none (marked old);
     limits = refl;
@@ -177,12 +178,13 @@ module _ (r : Rules) (g : Geometry) where
   }
 
   -- A child whose boot goes on with that of its parent.
-  pub joined_here : (s : Content) (i : ℕ) (b : Boot) (child parent : Told) (f : Seen) (x : Rejoin) → IsAt (once r g) s i b f → i < length (ops_of r g s) → IsTold r g s parent
-      → IsTold r g (at_cut r g s i) child
-      → ((y : Rules) (v : Content) (whole : Report) → IsCut y f.geometry v f.content b whole → progress child.boot ≡ begun y (plan y f.geometry f.content) → IsRejoined y f.geometry v f.content x)
-      → IsRejoined r g s (at_cut r g s i) x
+  pub joined_here : (s : Content) (i : ℕ) (b : Boot) (child parent : Told) (f : Seen) (x : Rejoin) → IsAt (once r g) s i b f → i < length (ops_of (power_on r g s)) → IsTold (power_on r g s) parent
+      → IsTold (power_on r g (at_cut (power_on r g s) i)) child
+      → ((y : Rules) (v : Content) (whole : Report) → IsCut (power_on y f.geometry v) f.content b whole → progress child.boot ≡ begun y (plan (powered y f))
+      → IsRejoined (power_on y f.geometry v) f.content x)
+      → IsRejoined (power_on r g s) (at_cut (power_on r g s) i) x
   joined_here s i b child parent f x at early told child_told joins =
-      let P : Geometry → Content → Type 0 = λ y u. (whole : Report) → IsCut r y s u b whole → progress child.boot ≡ begun r (plan r y u) → IsRejoined r y s u x in
+      let P : Geometry → Content → Type 0 = λ y u. (whole : Report) → IsCut (power_on r y s) u b whole → progress child.boot ≡ begun r (plan (power_on r y u)) → IsRejoined (power_on r y s) u x in
       let here : P g f.content = subst (λ y. P y f.content) at.layout_is (joins r s) in
       subst (P g) at.content_is here (shown parent.outcome) (cut_here r g s i b f parent at early told) child_told.boot_is
 
@@ -197,12 +199,12 @@ module _ (r : Rules) (g : Geometry) where
     pub no_positions : (ps : List Position) → ps ≡ [] → ArePositions r g s bound ps
     no_positions ps none c p is = absurd (omega (arith, slice_get_within ps c p is, ap length none))
 
-    pub more_positions : (ps : List Position) (p : Position) (n : ℕ) → ArePositions r g s bound ps → length ps ≡ n → IsPosition r g s bound (at_cut r g s n) p
+    pub more_positions : (ps : List Position) (p : Position) (n : ℕ) → ArePositions r g s bound ps → length ps ≡ n → IsPosition r g s bound (at_cut (power_on r g s) n) p
         → ArePositions r g s bound (ps ++ p ∷ [])
     more_positions ps p n are many here c q is = elim (cases_lt c (length ps)) [
       | inl before ↦ are c q (sym (get_before ps (p ∷ []) c before) ∙ is)
       | inr le ↦
           let e : c ≡ length ps = omega (arith, le, slice_get_within (ps ++ p ∷ []) c q is, length-append ps (p ∷ [])) in
           let same : p ≡ q = same_Some p q (sym (get_last ps p c e) ∙ is) in
-          subst (λ m. IsPosition r g s bound (at_cut r g s m) q) (sym (e ∙ many)) (subst (IsPosition r g s bound (at_cut r g s n)) same here)
+          subst (λ m. IsPosition r g s bound (at_cut (power_on r g s) m) q) (sym (e ∙ many)) (subst (IsPosition r g s bound (at_cut (power_on r g s) n)) same here)
     ]

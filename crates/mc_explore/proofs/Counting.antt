@@ -5,7 +5,7 @@ use Rattle.std.specs.List.{find, fold}
 use Rattle.std.proofs.lemmas.List.Recursion.{is_count_by}
 use Rattle.std.specs.Option.{option_or}
 use Rattle.mc_boot.specs.Outcome.{Report}
-use Rattle.mc_boot.specs.RunFacts.{outcome_defined}
+use Rattle.mc_boot.specs.facts.Run.{outcome_defined}
 use Rattle.mc_flash.specs.Content.{Content}
 use Rattle.mc_flash.specs.Geometry.{Geometry}
 use Rattle.mc_trailer.specs.declared.tables.Rules.{Rules}
@@ -15,7 +15,7 @@ use Rattle.mc_tree.specs.facts.Lists as lists
 use Rattle.mc_tree.specs.facts.Weighed.{AreWeighed, rows_weigh}
 use Rattle.mc_explore.specs.Boots.{at_cut, boots}
 use Rattle.mc_explore.specs.Census.{IsCensus, census_of, cut_number, first_not_boot}
-use Rattle.mc_explore.specs.Start.{Begun}
+use Rattle.mc_boot.specs.PowerOn.{PowerOn, power_on}
 use Rattle.mc_explore.specs.State.{Told}
 use Rattle.mc_explore.specs.Survey.{is_boot, is_none, is_panic, is_fault, most_ops_of, rows_with}
 use Rattle.mc_explore.specs.Table.{own_totals, told_totals, weigh}
@@ -123,21 +123,21 @@ row_behind i l o =
     }) (first_behind (is_boot o.result) i l)
 
 module _ (r : Rules) (g : Geometry) where
-  abbrev start_at : Content → Begun
+  abbrev start_at : Content → PowerOn
   start_at s = record { geometry = g; rules = r; content = s }
 
   rows_are_weighed : AreWeighed totals totals_weigh (boots r g) (own_totals r g) row_totals (λ s. row_at (start_at s))
   unfolding row_at
   rows_are_weighed = record {
-    here = λ s. sym (ap told_totals (outcome_defined r g s).1);
-    below = λ s i l. row_behind i l (row_at (start_at (at_cut r g s i)) l).outcome;
+    here = λ s. sym (ap told_totals (outcome_defined (power_on r g s)).1);
+    below = λ s i l. row_behind i l (row_at (start_at (at_cut (power_on r g s) i)) l).outcome;
   }
 
   -- All rows weigh what the tree does.
   all_weigh : (bound : ℕ) (s : Content) → sum_of (map (row_at (start_at s)) (all_from (boots r g) bound s)) ≡ weigh r g bound s
   all_weigh bound s = rows_weigh totals totals_weigh (boots r g) (own_totals r g) row_totals (λ s. row_at (start_at s)) rows_are_weighed bound s
 
-pub is_census : (start : Begun) (bound : ℕ) (census : Census) → bound ≤ 16 → census ≡ cut_off (weigh start.rules start.geometry bound start.content) → IsCensus start bound census
+pub is_census : (start : PowerOn) (bound : ℕ) (census : Census) → bound ≤ 16 → census ≡ cut_off (weigh start.rules start.geometry bound start.content) → IsCensus start bound census
 is_census start bound census few is =
     let rows : List Told = map (row_at start) (all_from (boots start.rules start.geometry) bound start.content) in
     let rest = all_rows start bound in

@@ -17,10 +17,11 @@ use Rattle.mc_trailer.specs.declared.tables.Rules.{Rules}
 use Rattle.mc_walk.specs.Kind.{telling}
 use Rattle.mc_walk.specs.Walks.{Walked, Begins, Follows, IsThere, path_cost, start_of}
 use Rattle.mc_boot.specs.Boot.{Progress, progress}
-use Rattle.mc_boot.specs.Bounds.{left_of, ops_few}
+use Rattle.mc_boot.specs.Bounds.{left_of}
+use Rattle.mc_boot.specs.facts.Bounds.{ops_few}
 use Rattle.mc_boot.specs.Outcome.{shown}
 use Rattle.mc_boot.specs.Run.{HasCome}
-use Rattle.mc_boot.specs.RunFacts.{come_begun, come_left}
+use Rattle.mc_boot.specs.facts.Run.{come_begun, come_left}
 use Rattle.mc_boot.specs.Runs.{after, ops_of}
 use Rattle.mc_explore.specs.Boots.{at_cut, boots}
 use Rattle.mc_explore.specs.Once.{IsTold, most_of, once}
@@ -28,11 +29,13 @@ use Rattle.mc_explore.specs.Replay.{CannotOccurAt, IsReplayed}
 use Rattle.mc_explore.specs.Resume.{behind}
 use Rattle.mc_explore.specs.Rowing.{Rowed, position_in}
 use Rattle.mc_explore.specs.Schedules.{IsMember, CanOccur}
-use Rattle.mc_explore.specs.Start.{Begun, start_digest}
+use Rattle.mc_explore.specs.Start.{start_digest}
+use Rattle.mc_boot.specs.PowerOn.{PowerOn, again, power_on}
 use Rattle.mc_explore.specs.State.{State}
 use Rattle.mc_walk.specs.Tours.{position_of}
 use Rattle.mc_walk.specs.declared.tour.Phase.TheVariants as phases
-use Rattle.mc_explore.specs.View.{Followed, IsLoaded, IsSound, begun_of, state_of}
+use Rattle.mc_explore.specs.View.{Followed, IsLoaded, IsSound, state_of}
+use Rattle.mc_explore.specs.Once.{begun_of}
 use Rattle.mc_explore.specs.declared.once.Once.{Once}
 use Rattle.mc_explore.specs.declared.once.Told.{Told}
 use Rattle.mc_explore.proofs.Moving.{same_begun}
@@ -40,22 +43,24 @@ use Rattle.mc_explore.specs.facts.Occurring.{allowed_after, occurs_allowed, memb
 
 -- ---- what a path costs
 
-pub few_ops : (r : Rules) (g : Geometry) (s : Content) → IsLayout g → length (ops_of r g s) ≤ most_operations r.grain g
-few_ops r g s valid =
-    let few = ops_few r g s (length (ops_of r g s)) valid in
-    omega (arith, few, ap (λ (ops : List Op). length ops) (take_all (length (ops_of r g s)) (ops_of r g s) (omega arith)))
+pub few_ops : (x : PowerOn) → IsLayout x.geometry → length (ops_of x) ≤ most_operations x.rules.grain x.geometry
+few_ops x valid =
+    let few = ops_few x (length (ops_of x)) valid in
+    omega (arith, few, ap (λ (ops : List Op). length ops) (take_all (length (ops_of x)) (ops_of x) (omega arith)))
 
-cost_few : (r : Rules) (g : Geometry) (s : Content) (l : List ℕ) → IsLayout g → Allowed (boots r g) s l → path_cost (once r g) l ≤ length l * (2 * most_operations r.grain g)
-cost_few r g s [] valid a = omega arith
-cost_few r g s (c ∷ cs) valid a =
-    let rest = cost_few r g (at_cut r g s c) cs valid a.1 in
-    let first = few_ops r g s valid in
-    let more : suc (length cs) * (2 * most_operations r.grain g) ≡ 2 * most_operations r.grain g + length cs * (2 * most_operations r.grain g) = omega arith in
+cost_few : (x : PowerOn) (l : List ℕ) → IsLayout x.geometry → Allowed (boots x.rules x.geometry) x.content l
+    → path_cost (once x.rules x.geometry) l ≤ length l * (2 * most_operations x.rules.grain x.geometry)
+cost_few x [] valid a = omega arith
+cost_few x (c ∷ cs) valid a =
+    let g = x.geometry in
+    let rest = cost_few (again x (at_cut x c)) cs valid a.1 in
+    let first = few_ops x valid in
+    let more : suc (length cs) * (2 * most_operations x.rules.grain g) ≡ 2 * most_operations x.rules.grain g + length cs * (2 * most_operations x.rules.grain g) = omega arith in
     omega (arith, rest, first, a.0, more)
 
 -- ---- the same start
 
-module _ (counted : Bool) (start : Begun) (bound : ℕ) (path : List ℕ) (zero_walk one two : Walked Once) (told : Told) (l : IsLoaded counted start bound zero_walk)
+module _ (counted : Bool) (start : PowerOn) (bound : ℕ) (path : List ℕ) (zero_walk one two : Walked Once) (told : Told) (l : IsLoaded counted start bound zero_walk)
     (b : Begins (once zero_walk.branches.rules zero_walk.branches.layout) zero_walk told one) where
   one_start : begun_of one ≡ start
   one_start = same_begun zero_walk one b.same ∙ l.start_is
@@ -69,14 +74,14 @@ module _ (counted : Bool) (start : Begun) (bound : ℕ) (path : List ℕ) (zero_
 
   at_start : (l : List ℕ) → tree.IsMember (boots one.branches.rules one.branches.layout) (start_of one.seen) one.bound l → tree.IsMember (boots start.rules start.geometry) start.content bound l
   at_start l m =
-      let P : Begun → Type 0 = λ s. tree.IsMember (boots s.rules s.geometry) s.content one.bound l in
+      let P : PowerOn → Type 0 = λ s. tree.IsMember (boots s.rules s.geometry) s.content one.bound l in
       subst (λ n. tree.IsMember (boots start.rules start.geometry) start.content n l) one_bound (subst P one_start m)
 
   -- And those of its start are its own.
   at_one : (l : List ℕ) → tree.IsMember (boots start.rules start.geometry) start.content bound l
       → tree.IsMember (boots one.branches.rules one.branches.layout) (start_of one.seen) one.bound (one.path ++ l)
   at_one l m =
-      let P : Begun → Type 0 = λ s. tree.IsMember (boots s.rules s.geometry) s.content one.bound l in
+      let P : PowerOn → Type 0 = λ s. tree.IsMember (boots s.rules s.geometry) s.content one.bound l in
       let here = subst P (sym one_start) (subst (λ n. tree.IsMember (boots start.rules start.geometry) start.content n l) (sym one_bound) m) in
       subst (tree.IsMember (boots one.branches.rules one.branches.layout) (start_of one.seen) one.bound) (sym (from_root l)) here
 
@@ -88,11 +93,11 @@ module _ (counted : Bool) (start : Begun) (bound : ℕ) (path : List ℕ) (zero_
   followed true is f s t =
       let path_is : two.path ≡ path = f.0 ∙ from_root path in
       let allowed = at_start path (subst (tree.IsMember (boots one.branches.rules one.branches.layout) (start_of one.seen) one.bound) path_is f.1) in
-      let P : Begun → Type 0 = λ x. Spent (telling (once x.rules x.geometry)) zero_walk.seen one.seen in
-      let Q : Begun → Type 0 = λ x. Spent (path_cost (once x.rules x.geometry) path) one.seen two.seen in
+      let P : PowerOn → Type 0 = λ x. Spent (telling (once x.rules x.geometry)) zero_walk.seen one.seen in
+      let Q : PowerOn → Type 0 = λ x. Spent (path_cost (once x.rules x.geometry) path) one.seen two.seen in
       let first : Spent (telling (once start.rules start.geometry)) zero_walk.seen one.seen = subst P l.start_is s in
       let along : Spent (path_cost (once start.rules start.geometry) path) one.seen two.seen = subst Q one_start t in
-      let cost = cost_few start.rules start.geometry start.content path l.valid allowed.1 in
+      let cost = cost_few start path l.valid allowed.1 in
       let few : length path * (2 * most_operations start.rules.grain start.geometry) ≤ bound * (2 * most_operations start.rules.grain start.geometry) =
       mul-le-mul_right (2 * most_operations start.rules.grain start.geometry) allowed.0 in
       record {
@@ -111,117 +116,118 @@ module _ (counted : Bool) (start : Begun) (bound : ℕ) (path : List ℕ) (zero_
       sum most n cost many a b c z first along few all = let e : 2 * (n + 1) * most ≡ n * (2 * most) + 2 * most = omega arith in omega (arith, z, first, along, few, all, e)
 
   -- Or the schedule is none of those.
-  pub not_listed : (went : Bool) → went ≡ false → Follows (once one.branches.rules one.branches.layout) path one went two → IsMember start.rules start.geometry start.content bound path → ⊥
+  pub not_listed : (went : Bool) → went ≡ false → Follows (once one.branches.rules one.branches.layout) path one went two → IsMember start bound path → ⊥
   not_listed true is f m = absurd cc
   not_listed false is f m =
-      let here = path_of start.rules start.geometry start.content bound path m in
+      let here = path_of start bound path m in
       let n : ℕ = f.steps + 1 in
       let len : length (take n path) ≤ bound = omega (arith, length-take-le n path (omega (arith, f.inside)), f.inside, here.0) in
       f.no_child (at_one (take n path) (len, allowed_front (boots start.rules start.geometry) start.content path n here.1))
 
   -- And the cut where it stops is the first that can't occur.
   pub stops : (went : Bool) → went ≡ false → Follows (once one.branches.rules one.branches.layout) path one went two → bound ≡ length path → (place : ℕ) → place ≡ length two.path
-      → CannotOccurAt start.rules start.geometry start.content path place
+      → CannotOccurAt start path place
   stops true is f whole place at = absurd cc
   stops false is f whole place at =
       let front : two.path ≡ take f.steps path = f.front ∙ from_root (take f.steps path) in
       let here : place ≡ f.steps = at ∙ ap length front ∙ length-take-le f.steps path (omega (arith, f.inside)) in
       let member = at_start two.path f.member in
-      subst (CannotOccurAt start.rules start.geometry start.content path) (sym here) (record {
+      subst (CannotOccurAt start path) (sym here) (record {
         inside = f.inside;
         cut = landed (boots start.rules start.geometry) start.content two.path;
-        before = ap (after start.rules start.geometry start.content) (sym front) ∙ allowed_after start.rules start.geometry start.content two.path member.1;
-        not_there = none (after start.rules start.geometry start.content (take (f.steps + 1) path)) refl;
+        before = ap (after start) (sym front) ∙ allowed_after start two.path member.1;
+        not_there = none (after start (take (f.steps + 1) path)) refl;
       })
     where
-      none : (o : Option Content) → after start.rules start.geometry start.content (take (f.steps + 1) path) ≡ o → after start.rules start.geometry start.content (take (f.steps + 1) path) ≡ None
+      none : (o : Option Content) → after start (take (f.steps + 1) path) ≡ o → after start (take (f.steps + 1) path) ≡ None
       none None e = e
       none (Some u) e =
           let n : ℕ = f.steps + 1 in
-          let occurs : CanOccur start.rules start.geometry start.content (take n path) = ap (λ (o : Option Content). is_some o) e in
+          let occurs : CanOccur start (take n path) = ap (λ (o : Option Content). is_some o) e in
           let len : length (take n path) ≤ bound = omega (arith, length-take-le n path (omega (arith, f.inside)), f.inside, whole) in
-          absurd (f.no_child (at_one (take n path) (len, occurs_allowed start.rules start.geometry start.content (take n path) occurs)))
+          absurd (f.no_child (at_one (take n path) (len, occurs_allowed start (take n path) occurs)))
 
 -- ---- an explorer behind a schedule
 
-pub resumed : (counted : Bool) (start : Begun) (bound : ℕ) (path : List ℕ) (w : Walked Once) → Followed counted start bound path w → bound ≤ 16
+pub resumed : (counted : Bool) (start : PowerOn) (bound : ℕ) (path : List ℕ) (w : Walked Once) → Followed counted start bound path w → bound ≤ 16
     → IsSound counted start bound (record { walk = w; phase = phases.Going; last = path })
 resumed counted start bound path w f few = λ _. record { start_is = f.start_is; bound_is = f.bound_is; few = few; counted_is = f.counted_is }
 
-pub started : (counted : Bool) (start : Begun) (bound : ℕ) (w : Walked Once) → IsLoaded counted start bound w → bound ≤ 16
+pub started : (counted : Bool) (start : PowerOn) (bound : ℕ) (w : Walked Once) → IsLoaded counted start bound w → bound ≤ 16
     → IsSound counted start bound (record { walk = w; phase = phases.Fresh; last = [] })
 started counted start bound w l few = λ _. record { start_is = l.start_is; bound_is = l.bound_is; few = few; counted_is = l.counted_is }
 
-pub behind_it : (counted : Bool) (start : Begun) (bound : ℕ) (path : List ℕ) (w : Walked Once) → Followed counted start bound path w → state_of w (After path) ≡ behind start bound path
+pub behind_it : (counted : Bool) (start : PowerOn) (bound : ℕ) (path : List ℕ) (w : Walked Once) → Followed counted start bound path w → state_of w (After path) ≡ behind start bound path
 behind_it counted start bound path w f =
-    ap (λ (s : Begun). record { start = s; bound = w.bound; position = After path; failed = w.seen.ledger.failed }) f.start_is
+    ap (λ (s : PowerOn). record { start = s; bound = w.bound; position = After path; failed = w.seen.ledger.failed }) f.start_is
     ∙ ap (λ (n : ℕ). record { start = start; bound = n; position = After path; failed = w.seen.ledger.failed }) f.bound_is
     ∙ ap (λ (b : Bool). record { start = start; bound = bound; position = After path; failed = b }) f.calm
 
 -- The start of an explorer behind a schedule is the one that it tells.
-pub same_digest : (counted : Bool) (start : Begun) (bound : ℕ) (rows : Rowed) (told : Begun) (many : ℕ) (path d : List ℕ) → IsSound counted start bound rows
+pub same_digest : (counted : Bool) (start : PowerOn) (bound : ℕ) (rows : Rowed) (told : PowerOn) (many : ℕ) (path d : List ℕ) → IsSound counted start bound rows
     → state_of rows.walk (position_in rows) ≡ behind told many path → d ≡ start_digest told → d ≡ start_digest start
 same_digest counted start bound rows told many path d sound is at =
     let ours = sound (λ broken. let q : Lost ≡ After path = ap (λ p. position_of p rows.last) (sym broken) ∙ ap (λ (s : State). s.position) is in absurd cc) in
     at ∙ ap start_digest (sym (ap (λ (s : State). s.start) is) ∙ ours.start_is)
 
-pub listed : (counted : Bool) (start : Begun) (bound : ℕ) (path : List ℕ) (w : Walked Once) → Followed counted start bound path w → IsMember start.rules start.geometry start.content bound path
-listed counted start bound path w f = member_of start.rules start.geometry start.content bound path f.allowed
+pub listed : (counted : Bool) (start : PowerOn) (bound : ℕ) (path : List ℕ) (w : Walked Once) → Followed counted start bound path w → IsMember start bound path
+listed counted start bound path w f = member_of start bound path f.allowed
 
 -- ---- a replay
 
-module _ (counted : Bool) (start : Begun) (bound : ℕ) (path : List ℕ) (w : Walked Once) (told : Told) (f : Followed counted start bound path w)
+module _ (counted : Bool) (start : PowerOn) (bound : ℕ) (path : List ℕ) (w : Walked Once) (told : Told) (f : Followed counted start bound path w)
     (there : IsThere (once w.branches.rules w.branches.layout) w told) where
   abbrev cut : Content
   cut = landed (boots start.rules start.geometry) start.content path
 
   node_is : landed (boots w.branches.rules w.branches.layout) (start_of w.seen) w.path ≡ cut
   node_is =
-      ap (λ (s : Begun). landed (boots s.rules s.geometry) s.content w.path) f.start_is ∙ ap (landed (boots start.rules start.geometry) start.content) f.path_is
+      ap (λ (s : PowerOn). landed (boots s.rules s.geometry) s.content w.path) f.start_is ∙ ap (landed (boots start.rules start.geometry) start.content) f.path_is
 
-  pub told_here : IsTold start.rules start.geometry cut told
+  pub told_here : IsTold (again start cut) told
   told_here =
-      let P : Begun → Type 0 = λ s. IsTold s.rules s.geometry (landed (boots w.branches.rules w.branches.layout) (start_of w.seen) w.path) told in
-      subst (λ s. IsTold start.rules start.geometry s told) node_is (subst P f.start_is there.told_is)
+      let P : PowerOn → Type 0 = λ s. IsTold (again s (landed (boots w.branches.rules w.branches.layout) (start_of w.seen) w.path)) told in
+      subst (λ s. IsTold (again start s) told) node_is (subst P f.start_is there.told_is)
 
   pub layout_here : w.seen.geometry ≡ start.geometry
-  layout_here = there.layout_is ∙ ap (λ (s : Begun). s.geometry) f.start_is
+  layout_here = there.layout_is ∙ ap (λ (s : PowerOn). s.geometry) f.start_is
 
   -- The flash is as it was when the last cut fell.
-  pub cut_here : after start.rules start.geometry start.content path ≡ Some w.seen.content
-  cut_here = allowed_after start.rules start.geometry start.content path f.allowed.1 ∙ ap (λ (c : Content). Some c) (sym (there.content_is ∙ node_is))
+  pub cut_here : after start path ≡ Some w.seen.content
+  cut_here = allowed_after start path f.allowed.1 ∙ ap (λ (c : Content). Some c) (sym (there.content_is ∙ node_is))
 
   -- There is room for the boot.
   pub room_here : Allows (left_of w.seen.geometry (progress told.boot)) w.seen
   room_here =
       let t = told_here in
       let few : LeaveRoom w.seen.ledger.counts (left_of start.geometry (progress told.boot)) (room_of w.seen.ledger.limits) = record {
-        entries = omega (arith, there.room.allows.entries, t.few.few, ap (λ (p : Progress). length p.to_come) t.boot_is, ap (λ (s : Begun). most_operations s.rules.grain s.geometry) f.start_is);
+        entries = omega (arith, there.room.allows.entries, t.few.few, ap (λ (p : Progress). length p.to_come) t.boot_is, ap (λ (s : PowerOn). most_operations s.rules.grain s.geometry) f.start_is);
         saved = omega (
           arith,
           there.room.allows.saved,
           t.few.saves,
           ap (λ (p : Progress). (left_of start.geometry p).saved) t.boot_is,
-          ap (λ (s : Begun). (most_of s.rules s.geometry).saved) f.start_is,
+          ap (λ (s : PowerOn). (most_of s.rules s.geometry).saved) f.start_is,
         );
       } in
       subst (λ (x : Geometry). LeaveRoom w.seen.ledger.counts (left_of x (progress told.boot)) (room_of w.seen.ledger.limits)) (sym layout_here) few
 
   -- What it leaves is what the replay leaves.
-  pub replayed : (q : Progress) (new : Seen) → ((r : Rules) (s : Content) → HasCome r w.seen.geometry s (progress told.boot) w.seen.content → HasCome r w.seen.geometry s q new.content)
+  pub replayed : (q : Progress) (new : Seen)
+      → ((r : Rules) (s : Content) → HasCome (power_on r w.seen.geometry s) (progress told.boot) w.seen.content → HasCome (power_on r w.seen.geometry s) q new.content)
       → q.to_come ≡ []
-      → IsReplayed start.rules start.geometry start.content path (shown told.outcome) new.content
+      → IsReplayed start path (shown told.outcome) new.content
   replayed q new come end =
       let t = told_here in
-      let P : Progress → Type 0 = λ p. HasCome start.rules start.geometry cut p cut in
+      let P : Progress → Type 0 = λ p. HasCome (again start cut) p cut in
       let at : w.seen.content ≡ cut = there.content_is ∙ node_is in
-      let begins : HasCome start.rules start.geometry cut (progress told.boot) cut = subst P (sym t.boot_is) (come_begun start.rules start.geometry cut) in
-      let Q : Geometry → Type 0 = λ x. HasCome start.rules x cut (progress told.boot) w.seen.content in
-      let R : Geometry → Type 0 = λ x. HasCome start.rules x cut q new.content in
-      let ends = subst R layout_here (come start.rules cut (subst Q (sym layout_here) (subst (HasCome start.rules start.geometry cut (progress told.boot)) (sym at) begins))) in
+      let begins : HasCome (again start cut) (progress told.boot) cut = subst P (sym t.boot_is) (come_begun (again start cut)) in
+      let Q : Geometry → Type 0 = λ x. HasCome (power_on start.rules x cut) (progress told.boot) w.seen.content in
+      let R : Geometry → Type 0 = λ x. HasCome (power_on start.rules x cut) q new.content in
+      let ends = subst R layout_here (come start.rules cut (subst Q (sym layout_here) (subst (HasCome (again start cut) (progress told.boot)) (sym at) begins))) in
       record {
         cut = cut;
-        occurs = allowed_after start.rules start.geometry start.content path f.allowed.1;
+        occurs = allowed_after start path f.allowed.1;
         outcome_is = t.outcome_is;
-        left = come_left start.rules start.geometry cut q new.content ends end;
+        left = come_left (again start cut) q new.content ends end;
       }

@@ -6,9 +6,9 @@ use Rattle.mc_image.specs.Faults.{◌<+>◌, first_fault}
 use Rattle.mc_image.specs.Image.{Image, Begins, image_in, image_text}
 use Rattle.mc_image.specs.Valid.{Identity, id_of, image_fault}
 use Rattle.mc_image.specs.declared.error.ImageError.{ImageError}
-use Rattle.mc_image.specs.ValidFacts.{front_within}
+use Rattle.mc_image.specs.facts.Valid.{front_within}
 use Rattle.mc_boot.specs.Image.{image_size, identity_of}
-use Rattle.mc_boot.specs.SizeFacts.{size_read}
+use Rattle.mc_boot.specs.facts.Sizes.{size_read}
 use Rattle.mc_boot.specs.declared.image.ImageId.{ImageId}
 use Rattle.mc_explore.specs.Start.{in_order, named_ids}
 use Rattle.mc_boot.specs.declared.kind.Kind.{Kind}

@@ -29,37 +29,39 @@ use Rattle.mc_explore.proofs.Columns.{joined_here}
 use Rattle.mc_explore.specs.LastCuts.{AreAtCuts, AreLastCuts, flash_at}
 use Rattle.mc_explore.specs.facts.Occurring.{at_zero}
 use Rattle.mc_explore.proofs.Tables.{get_before, get_last}
+use Rattle.mc_boot.specs.PowerOn.{PowerOn, again, power_on, powered}
 
-module _ (r : Rules) (g : Geometry) (start : Content) where
+module _ (from : PowerOn) where
   -- A cut before the first operation leaves the flash as it is.
-  flash_twice : (of : List ℕ) (last : ℕ) → flash_at r g start ((of ++ 0 ∷ []) ++ last ∷ []) ≡ at_cut r g (flash_at r g start of) last
+  flash_twice : (of : List ℕ) (last : ℕ) → flash_at from ((of ++ 0 ∷ []) ++ last ∷ []) ≡ at_cut (again from (flash_at from of)) last
   flash_twice of last =
-      landed-push (boots r g) start (of ++ 0 ∷ []) last
-      ∙ ap (λ s. at_cut r g s last) (landed-push (boots r g) start of 0 ∙ sym (at_zero r g (flash_at r g start of)))
+      landed-push (boots from.rules from.geometry) from.content (of ++ 0 ∷ []) last
+      ∙ ap (λ s. at_cut (again from s) last) (landed-push (boots from.rules from.geometry) from.content of 0 ∙ sym (at_zero (again from (flash_at from of))))
 
-  pub none_kept : (of : List ℕ) (outcomes : List Outcome) → outcomes ≡ [] → AreAtCuts r g start of outcomes
+  pub none_kept : (of : List ℕ) (outcomes : List Outcome) → outcomes ≡ [] → AreAtCuts from of outcomes
   none_kept of outcomes none i o is = absurd (omega (arith, slice_get_within outcomes i o is, ap length none))
 
-  one_kept : (of : List ℕ) (outcomes : List Outcome) (o : Outcome) → AreAtCuts r g start of outcomes
-      → outcome_of r g (at_cut r g (flash_at r g start of) (length outcomes)) ≡ Some (shown o) → AreAtCuts r g start of (outcomes ++ o ∷ [])
+  one_kept : (of : List ℕ) (outcomes : List Outcome) (o : Outcome) → AreAtCuts from of outcomes
+      → outcome_of (again from (at_cut (again from (flash_at from of)) (length outcomes))) ≡ Some (shown o) → AreAtCuts from of (outcomes ++ o ∷ [])
   one_kept of outcomes o are told i p is = elim (cases_lt i (length outcomes)) [
     | inl before ↦ are i p (sym (get_before outcomes (o ∷ []) i before) ∙ is)
     | inr le ↦
         let e : i ≡ length outcomes = omega (arith, le, slice_get_within (outcomes ++ o ∷ []) i p is, length-append outcomes (o ∷ [])) in
         let same : o ≡ p = same_Some o p (sym (get_last outcomes o i e) ∙ is) in
-        ap (λ n. outcome_of r g (at_cut r g (flash_at r g start of) n)) e ∙ told ∙ ap (λ x. Some (shown x)) same
+        ap (λ n. outcome_of (again from (at_cut (again from (flash_at from of)) n))) e ∙ told ∙ ap (λ x. Some (shown x)) same
   ]
 
   -- One outcome more, where there is room for it.
-  pub kept_more : (of schedule before : List ℕ) (outcomes new : List Outcome) (o : Outcome) (last first : ℕ) (fits : Bool) → AreAtCuts r g start of outcomes
-      → outcome_of r g (flash_at r g start schedule) ≡ Some (shown o) → schedule ≡ before ++ last ∷ [] → before ≡ of ++ first ∷ [] → first ≡ 0 → length outcomes ≡ last
-      → new ≡ (if fits then outcomes ++ o ∷ [] else outcomes) → AreAtCuts r g start of new
-  kept_more of schedule before outcomes new o last first false are told s b f count is = subst (AreAtCuts r g start of) (sym is) are
+  pub kept_more : (of schedule before : List ℕ) (outcomes new : List Outcome) (o : Outcome) (last first : ℕ) (fits : Bool) → AreAtCuts from of outcomes
+      → outcome_of (again from (flash_at from schedule)) ≡ Some (shown o) → schedule ≡ before ++ last ∷ [] → before ≡ of ++ first ∷ [] → first ≡ 0 → length outcomes ≡ last
+      → new ≡ (if fits then outcomes ++ o ∷ [] else outcomes) → AreAtCuts from of new
+  kept_more of schedule before outcomes new o last first false are told s b f count is = subst (AreAtCuts from of) (sym is) are
   kept_more of schedule before outcomes new o last first true are told s b f count is =
       let path : schedule ≡ (of ++ 0 ∷ []) ++ last ∷ [] = s ∙ ap (λ l. l ++ last ∷ []) (b ∙ ap (λ n. of ++ n ∷ []) f) in
-      let here : outcome_of r g (at_cut r g (flash_at r g start of) (length outcomes)) ≡ Some (shown o) =
-      ap (λ n. outcome_of r g (at_cut r g (flash_at r g start of) n)) count ∙ sym (ap (λ l. outcome_of r g (flash_at r g start l)) path ∙ ap (outcome_of r g) (flash_twice of last)) ∙ told in
-      subst (AreAtCuts r g start of) (sym is) (one_kept of outcomes o are here)
+      let here : outcome_of (again from (at_cut (again from (flash_at from of)) (length outcomes))) ≡ Some (shown o) =
+      ap (λ n. outcome_of (again from (at_cut (again from (flash_at from of)) n))) count
+      ∙ sym (ap (λ l. outcome_of (again from (flash_at from l))) path ∙ ap (λ s. outcome_of (again from s)) (flash_twice of last)) ∙ told in
+      subst (AreAtCuts from of) (sym is) (one_kept of outcomes o are here)
 
 -- The last element of a list, and those before it.
 last_alike : (xs ys : List ℕ) (x y : ℕ) → xs ++ x ∷ [] ≡ ys ++ y ∷ [] → xs ≡ ys
@@ -83,35 +85,33 @@ module _ (w : Walked Once) (f : Frame Boot Told) (told : Told) (of path : List �
   g = w.branches.layout
 
   abbrev before : Content
-  before = flash_at r g (start_of w.seen) of
+  before = flash_at (power_on r g (start_of w.seen)) of
 
-  before_is : flash_at r g (start_of w.seen) step.before ≡ before
-  before_is = ap (flash_at r g (start_of w.seen)) (last_alike step.before of f.number last (sym step.path_is ∙ sym path_is ∙ split))
+  before_is : flash_at (power_on r g (start_of w.seen)) step.before ≡ before
+  before_is = ap (flash_at (power_on r g (start_of w.seen))) (last_alike step.before of f.number last (sym step.path_is ∙ sym path_is ∙ split))
 
-  pub boot_there : IsBootOf w.seen.geometry told.boot
-  boot_there = subst (λ x. IsBootOf x told.boot) (sym there.layout_is) there.told_is.layout_is
-
-  here_is : flash_at r g (start_of w.seen) path ≡ at_cut r g before f.number
+  here_is : flash_at (power_on r g (start_of w.seen)) path ≡ at_cut (power_on r g before) f.number
   here_is =
-      ap (flash_at r g (start_of w.seen)) (path_is ∙ step.path_is) ∙ landed-push (boots r g) (start_of w.seen) step.before f.number
-      ∙ ap (λ s. at_cut r g s f.number) before_is
+      ap (flash_at (power_on r g (start_of w.seen))) (path_is ∙ step.path_is) ∙ landed-push (boots r g) (start_of w.seen) step.before f.number
+      ∙ ap (λ s. at_cut (power_on r g s) f.number) before_is
 
   pub last_cuts_there : (outcomes : List Outcome) (x : Rejoin)
-      → ((y : Rules) (v : Content) (whole : Report) → IsCut y w.seen.geometry v w.seen.content f.at whole → progress told.boot ≡ begun y (plan y w.seen.geometry w.seen.content)
-      → IsRejoined y w.seen.geometry v w.seen.content x)
+      → ((y : Rules) (v : Content) (whole : Report) → IsCut (power_on y w.seen.geometry v) w.seen.content f.at whole → progress told.boot ≡ begun y (plan (powered y w.seen))
+      → IsRejoined (power_on y w.seen.geometry v) w.seen.content x)
       → length outcomes ≡ f.parent.outcome.ops → 1 ≤ told.outcome.ops → told.outcome.ops ≤ 2 ^ 31
-      → AreLastCuts r g (start_of w.seen) of path outcomes (record { rejoin = x; count = told.outcome.ops; next = 0 })
+      → AreLastCuts (power_on r g (start_of w.seen)) of path outcomes (record { rejoin = x; count = told.outcome.ops; next = 0 })
   last_cuts_there outcomes x joins whole some small =
       let at = subst (λ s. IsAt (once r g) s f.number f.at w.seen) before_is step.at_is in
-      let early = subst (λ s. f.number < length (ops_of r g s)) before_is step.some in
-      let parent = subst (λ s. IsTold r g s f.parent) before_is step.parent_is in
-      let child : IsTold r g (flash_at r g (start_of w.seen) path) told = subst (λ l. IsTold r g (flash_at r g (start_of w.seen) l) told) (sym path_is) there.told_is in
-      let rejoined = joined_here r g before f.number f.at told f.parent w.seen x at early parent (subst (λ s. IsTold r g s told) here_is child) joins in
+      let early = subst (λ s. f.number < length (ops_of (power_on r g s))) before_is step.some in
+      let parent = subst (λ s. IsTold (power_on r g s) f.parent) before_is step.parent_is in
+      let child : IsTold (power_on r g (flash_at (power_on r g (start_of w.seen)) path)) told = subst (λ l. IsTold (power_on r g (flash_at (power_on r g (start_of w.seen)) l)) told)
+      (sym path_is) there.told_is in
+      let rejoined = joined_here r g before f.number f.at told f.parent w.seen x at early parent (subst (λ s. IsTold (power_on r g s) told) here_is child) joins in
       record {
         number = last;
         path_is = split;
-        rejoined = subst (λ u. IsRejoined r g before u x) (sym here_is) rejoined;
-        count_is = width_is r g told (flash_at r g (start_of w.seen) path) child;
+        rejoined = subst (λ u. IsRejoined (power_on r g before) u x) (sym here_is) rejoined;
+        count_is = width_is r g told (flash_at (power_on r g (start_of w.seen)) path) child;
         whole = whole ∙ width_is r g f.parent before parent;
         some = some;
         small = small;

@@ -12,12 +12,13 @@ use Rattle.mc_boot.specs.Boot.{Progress}
 use Rattle.mc_boot.specs.Bounds.{left_of}
 use Rattle.mc_boot.specs.Plan.{plain}
 use Rattle.mc_boot.specs.Run.{HasCome}
-use Rattle.mc_boot.specs.RunFacts.{come_left}
+use Rattle.mc_boot.specs.facts.Run.{come_left}
 use Rattle.mc_boot.specs.Runs.{left_by}
 use Rattle.mc_walk.specs.Walks.{IsClear, IsFresh, IsOf, Walked, start_of}
 use Rattle.mc_explore.specs.Once.{once}
 use Rattle.mc_explore.specs.facts.Room.{limits_are}
-use Rattle.mc_explore.specs.Start.{Begun, Started, begun}
+use Rattle.mc_explore.specs.Start.{Started, begun}
+use Rattle.mc_boot.specs.PowerOn.{PowerOn, power_on, powered}
 use Rattle.mc_explore.specs.Table.{HasRoomFor}
 use Rattle.mc_explore.specs.View.{IsLoaded, begun_with}
 use Rattle.mc_explore.specs.declared.once.Once.{Once}
@@ -53,11 +54,11 @@ module _ (counted : Bool) (g : Geometry) (primary secondary : List ℕ) (f : See
       }
 
   -- What the uncut boot leaves.
-  pub left_here : (p : Progress) (new : Seen) (v : Content) → Loads counted g primary secondary plain.grain 1 f → HasCome plain f.geometry f.content p new.content → p.to_come ≡ [] → v ≡ new.content
-      → left_by plain g (record { primary = primary; secondary = secondary }) ≡ Some v
+  pub left_here : (p : Progress) (new : Seen) (v : Content) → Loads counted g primary secondary plain.grain 1 f → HasCome (powered plain f) p new.content → p.to_come ≡ [] → v ≡ new.content
+      → left_by (power_on plain g (record { primary = primary; secondary = secondary })) ≡ Some v
   left_here p new v l come end same =
-      ap (λ (x : Geometry). left_by plain x (record { primary = primary; secondary = secondary })) (sym l.geometry_is) ∙ ap (left_by plain f.geometry) (sym l.content_is)
-      ∙ come_left plain f.geometry f.content p new.content come end ∙ ap (λ (x : Content). Some x) (sym same)
+      ap (λ (x : Geometry). left_by (power_on plain x (record { primary = primary; secondary = secondary }))) (sym l.geometry_is) ∙ ap (λ s. left_by (power_on plain f.geometry s)) (sym l.content_is)
+      ∙ come_left (powered plain f) p new.content come end ∙ ap (λ (x : Content). Some x) (sym same)
 
 -- It has room for so many boots, and their marks.
 pub room_for : (counted : Bool) (g : Geometry) (primary secondary : List ℕ) (f : Seen) (r : Rules) (boots : ℕ) → Loads counted g primary secondary r.grain boots f → HasRoomFor r g boots f
@@ -81,7 +82,7 @@ same_start start once primary secondary rules layout one two =
     ∙ ap (λ (x : List ℕ). record { geometry = start.geometry; rules = start.rules; content = record { primary = start.content.primary; secondary = x } }) two
 
 -- A walk from there.
-pub loaded : (counted : Bool) (start : Begun) (primary secondary : List ℕ) (bound many : ℕ) (f : Seen) (b : Once) (w : Walked Once)
+pub loaded : (counted : Bool) (start : PowerOn) (primary secondary : List ℕ) (bound many : ℕ) (f : Seen) (b : Once) (w : Walked Once)
     → Loads counted start.geometry primary secondary start.rules.grain many f
     → b ≡ record { rules = start.rules; layout = start.geometry } → start.content ≡ record { primary = primary; secondary = secondary } → IsOf b bound f w → IsFresh (once b.rules b.layout) w
     → Spent 0 f w.seen → IsLayout start.geometry

@@ -20,10 +20,11 @@ use Rattle.mc_explore.specs.Bounds.{row_cost}
 use Rattle.mc_explore.specs.Restarts.{RowRestarts}
 use Rattle.mc_explore.specs.Rowing.{FindsRow, Rowed, kind_of, position_in}
 use Rattle.mc_explore.specs.Schedules.{IsMember}
-use Rattle.mc_explore.specs.Start.{Begun}
+use Rattle.mc_boot.specs.PowerOn.{PowerOn}
 use Rattle.mc_explore.specs.State as states
-use Rattle.mc_explore.specs.State.{State, Finds, moved_to, state_after, told}
-use Rattle.mc_explore.specs.View.{IsOurs, IsSound, begun_of, state_of}
+use Rattle.mc_explore.specs.State.{State, Finds, state_after, told}
+use Rattle.mc_explore.specs.View.{IsOurs, IsSound, state_of}
+use Rattle.mc_explore.specs.Once.{begun_of}
 use Rattle.mc_explore.specs.declared.once.Once.{Once}
 use Rattle.mc_explore.specs.declared.row.Row.{Row}
 use Rattle.mc_explore.specs.facts.Listed.{lands_told}
@@ -34,13 +35,13 @@ use Rattle.mc_explore.proofs.Restarts.{row_restarts}
 module _ (w : Walked Once) (position : Position (List ℕ)) where
   pub next_listed : (l : List ℕ) → paths.IsNext (IsPath (kind_of w.branches) w) position l → states.IsNext (state_of w position) l
   next_listed =
-      same_next (tree.IsMember (boots w.branches.rules w.branches.layout) (start_of w.seen) w.bound) (IsMember w.branches.rules w.branches.layout (start_of w.seen) w.bound)
-      (member_of w.branches.rules w.branches.layout (start_of w.seen) w.bound) (path_of w.branches.rules w.branches.layout (start_of w.seen) w.bound) position
+      same_next (tree.IsMember (boots w.branches.rules w.branches.layout) (start_of w.seen) w.bound) (IsMember (begun_of w) w.bound)
+      (member_of (begun_of w) w.bound) (path_of (begun_of w) w.bound) position
 
   pub over_listed : paths.IsOver (IsPath (kind_of w.branches) w) position → states.IsOver (state_of w position)
   over_listed =
-      same_over (tree.IsMember (boots w.branches.rules w.branches.layout) (start_of w.seen) w.bound) (IsMember w.branches.rules w.branches.layout (start_of w.seen) w.bound)
-      (member_of w.branches.rules w.branches.layout (start_of w.seen) w.bound) (path_of w.branches.rules w.branches.layout (start_of w.seen) w.bound) position
+      same_over (tree.IsMember (boots w.branches.rules w.branches.layout) (start_of w.seen) w.bound) (IsMember (begun_of w) w.bound)
+      (member_of (begun_of w) w.bound) (path_of (begun_of w) w.bound) position
 
 -- ---- the same start
 
@@ -51,21 +52,21 @@ same_begun old new s =
 
 same_state : (old new : Walked Once) (position : Position (List ℕ)) → IsSame old new → new.seen.ledger.failed ≡ old.seen.ledger.failed → state_of new position ≡ state_of old position
 same_state old new position s calm =
-    ap (λ (b : Begun). record { start = b; bound = new.bound; position = position; failed = new.seen.ledger.failed }) (same_begun old new s)
+    ap (λ (b : PowerOn). record { start = b; bound = new.bound; position = position; failed = new.seen.ledger.failed }) (same_begun old new s)
     ∙ ap (λ (n : ℕ). record { start = begun_of old; bound = n; position = position; failed = new.seen.ledger.failed }) s.bound
     ∙ ap (λ (f : Bool). record { start = begun_of old; bound = old.bound; position = position; failed = f }) calm
 
 -- ---- what is found
 
 -- The rows of a sound explorer found the next one, or there is none; and what they count then.
-pub record Found (counted : Bool) (start : Begun) (bound : ℕ) (old new : Rowed) (found : Option Row) : Type 0 where
+pub record Found (counted : Bool) (start : PowerOn) (bound : ℕ) (old new : Rowed) (found : Option Row) : Type 0 where
   pub works : old.phase ≢ phases.Broken
   pub sound : IsSound counted start bound old
   pub finds : FindsRow old found new
   pub limits : new.walk.seen.ledger.limits ≡ old.walk.seen.ledger.limits
   pub failed : new.walk.seen.ledger.failed ≡ old.walk.seen.ledger.failed
 
-module _ (counted : Bool) (start : Begun) (bound : ℕ) (old new : Rowed) where
+module _ (counted : Bool) (start : PowerOn) (bound : ℕ) (old new : Rowed) where
   abbrev here : State
   here = state_of old.walk (position_in old)
 

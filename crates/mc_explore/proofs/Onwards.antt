@@ -17,9 +17,9 @@ use Rattle.mc_boot.specs.Bounds.{IsBounded, left_of}
 use Rattle.mc_boot.specs.Outcome.{outcome_of, shown}
 use Rattle.mc_boot.specs.Plan.{plan}
 use Rattle.mc_boot.specs.Run.{HasCome}
-use Rattle.mc_boot.specs.RunFacts.{come_begun, come_left, come_ops}
+use Rattle.mc_boot.specs.facts.Run.{come_begun, come_left, come_ops}
 use Rattle.mc_boot.specs.Runs.{left_by, ops_of}
-use Rattle.mc_boot.specs.StepFacts.{refused_here, step_counts, step_ran_out, step_spends, stepped_here}
+use Rattle.mc_boot.specs.facts.Steps.{refused_here, step_counts, step_ran_out, step_spends, stepped_here}
 use Rattle.mc_boot.specs.declared.boot.Boot.{Boot}
 use Rattle.mc_boot.specs.declared.outcome.Outcome.{Outcome}
 use Rattle.mc_walk.specs.Kind.{IsAt, HasNext, GoesOn}
@@ -28,6 +28,7 @@ use Rattle.mc_explore.specs.Once.{CanPass, IsBegun, IsTold, Passes, most_of, onc
 use Rattle.mc_explore.specs.Replay.{EndsWith}
 use Rattle.mc_explore.specs.declared.once.Told.{Told}
 use Rattle.mc_explore.specs.facts.Occurring.{at_zero, come_lands}
+use Rattle.mc_boot.specs.PowerOn.{PowerOn, again, power_on, powered}
 
 -- At most one operation is done.
 step_once : (p q : Progress) (old new : Seen) (result : Result (Unit {0}) FlashError) → (result ≡ Err errors.Memory → ⊥) → Steps p old result q new → length p.to_come ≤ length q.to_come + 1
@@ -44,54 +45,54 @@ others_left p q old new v steps = at p.to_come refl steps
 
 -- What is asked of a boot that was run to its end.
 pub ends_with : (f new : Seen) (p q : Progress) (outcome : Outcome) → Keeps f new
-    → ((x : Rules) (s : Content) → HasCome x f.geometry s p f.content → HasCome x f.geometry s q new.content) → q.to_come ≡ []
-    → ((x : Rules) (s : Content) → HasCome x new.geometry s q new.content → q.to_come ≡ [] → outcome_of x new.geometry s ≡ Some (shown outcome)) → EndsWith f p outcome
+    → ((x : Rules) (s : Content) → HasCome (power_on x f.geometry s) p f.content → HasCome (power_on x f.geometry s) q new.content) → q.to_come ≡ []
+    → ((x : Rules) (s : Content) → HasCome (power_on x new.geometry s) q new.content → q.to_come ≡ [] → outcome_of (power_on x new.geometry s) ≡ Some (shown outcome)) → EndsWith f p outcome
 ends_with f new p q outcome keeps come end told = λ x s here.
-    let P : Geometry → Type 0 = λ y. HasCome x y s q new.content in
-    ap (λ (y : Geometry). outcome_of x y s) (sym keeps.geometry) ∙ told x s (subst P (sym keeps.geometry) (come x s here)) end
+    let P : Geometry → Type 0 = λ y. HasCome (power_on x y s) q new.content in
+    ap (λ (y : Geometry). outcome_of (power_on x y s)) (sym keeps.geometry) ∙ told x s (subst P (sym keeps.geometry) (come x s here)) end
 
 module _ (r : Rules) (g : Geometry) where
   -- Something is to come of a boot that has not made all its operations.
-  some_to_come : (s : Content) (p : Progress) (t : Content) → HasCome r g s p t → p.count < length (ops_of r g s) → 0 < length p.to_come
+  some_to_come : (s : Content) (p : Progress) (t : Content) → HasCome (power_on r g s) p t → p.count < length (ops_of (power_on r g s)) → 0 < length p.to_come
   some_to_come s p t come early = at p.to_come refl
     where
       at : (ops : List Op) → p.to_come ≡ ops → 0 < length p.to_come
-      at [] is = absurd (omega (arith, early, come_ops r g s p t come is))
+      at [] is = absurd (omega (arith, early, come_ops (power_on r g s) p t come is))
       at (op ∷ rest) is = omega (arith, ap (λ (ops : List Op). length ops) is)
 
   -- ---- the next cut
 
-  module _ (s : Content) (i : ℕ) (b b' : Boot) (old new : Seen) (at : IsAt (once r g) s i b old) (early : i < length (ops_of r g s)) where
-    come_here : HasCome r old.geometry s (progress b) old.content
+  module _ (s : Content) (i : ℕ) (b b' : Boot) (old new : Seen) (at : IsAt (once r g) s i b old) (early : i < length (ops_of (power_on r g s))) where
+    come_here : HasCome (power_on r old.geometry s) (progress b) old.content
     come_here =
-        let P : Geometry → Type 0 = λ x. HasCome r x s (progress b) old.content in
-        subst P (sym at.layout_is) (subst (HasCome r g s (progress b)) (sym at.content_is) at.on_is.come)
+        let P : Geometry → Type 0 = λ x. HasCome (power_on r x s) (progress b) old.content in
+        subst P (sym at.layout_is) (subst (HasCome (power_on r g s) (progress b)) (sym at.content_is) at.on_is.come)
 
-    early_here : (progress b).count < length (ops_of r old.geometry s)
-    early_here = omega (arith, early, at.on_is.count_is, ap (λ (x : Geometry). length (ops_of r x s)) at.layout_is)
+    early_here : (progress b).count < length (ops_of (power_on r old.geometry s))
+    early_here = omega (arith, early, at.on_is.count_is, ap (λ (x : Geometry). length (ops_of (power_on r x s))) at.layout_is)
 
     -- The operation is not refused.
-    pub not_refused : (result : Result (Unit {0}) FlashError) → Steps (progress b) old result (progress b') new → HasCome r old.geometry s (progress b') new.content
+    pub not_refused : (result : Result (Unit {0}) FlashError) → Steps (progress b) old result (progress b') new → HasCome (power_on r old.geometry s) (progress b') new.content
         → result ≡ Err errors.NotErased → ⊥
     not_refused result steps come refused =
         let h = refused_here (progress b) (progress b') old new result refused steps in
-        omega (arith, early_here, h.1, come_ops r old.geometry s (progress b') new.content come h.0)
+        omega (arith, early_here, h.1, come_ops (power_on r old.geometry s) (progress b') new.content come h.0)
 
     -- It happens, and the boot has made one more.
-    pub went_on : (v : Unit {0}) → Steps (progress b) old (Ok v) (progress b') new → HasCome r old.geometry s (progress b') new.content → all_of b' ≡ all_of b → IsBootOf new.geometry b'
+    pub went_on : (v : Unit {0}) → Steps (progress b) old (Ok v) (progress b') new → HasCome (power_on r old.geometry s) (progress b') new.content → all_of b' ≡ all_of b → IsBootOf new.geometry b'
         → Keeps old new → IsAt (once r g) s (i + 1) b' new
     went_on v steps come whole layout keeps =
         let some = some_to_come_at in
         let count : b'.done ≡ i + 1 = stepped_here (progress b) (progress b') old new (Ok v) v refl some steps ∙ ap (λ n. n + 1) at.on_is.count_is in
-        let P : Geometry → Type 0 = λ x. HasCome r x s (progress b') new.content in
-        let come' : HasCome r g s (progress b') new.content = subst P at.layout_is come in
-        let there : new.content ≡ at_cut r g s (i + 1) = come_lands r g s (progress b') new.content come' ∙ ap (at_cut r g s) count in
+        let P : Geometry → Type 0 = λ x. HasCome (power_on r x s) (progress b') new.content in
+        let come' : HasCome (power_on r g s) (progress b') new.content = subst P at.layout_is come in
+        let there : new.content ≡ at_cut (power_on r g s) (i + 1) = come_lands (power_on r g s) (progress b') new.content come' ∙ ap (at_cut (power_on r g s)) count in
         let same : new.geometry ≡ g = keeps.geometry ∙ at.layout_is in
         record {
           on_is = record {
             layout_is = subst (λ (x : Geometry). IsBootOf x b') same layout;
             list_is = whole ∙ at.on_is.list_is;
-            come = subst (HasCome r g s (progress b')) there come';
+            come = subst (HasCome (power_on r g s) (progress b')) there come';
             count_is = count;
           };
           content_is = there;
@@ -99,13 +100,13 @@ module _ (r : Rules) (g : Geometry) where
         }
       where
         some_to_come_at : 0 < length (progress b).to_come
-        some_to_come_at = let Q : Geometry → Type 0 = λ x. HasCome r x s (progress b) old.content in
+        some_to_come_at = let Q : Geometry → Type 0 = λ x. HasCome (power_on r x s) (progress b) old.content in
             some_to_come s (progress b) old.content (subst Q at.layout_is come_here) (omega (arith, early, at.on_is.count_is))
 
   -- What a step leaves on the way to the next cut.
   pub passes : (b b' : Boot) (old new : Seen) (result : Result (Unit {0}) FlashError) → CanPass r g b old
       → Steps (progress b) old result (progress b') new
-      → ((x : Rules) (s : Content) → HasCome x old.geometry s (progress b) old.content → HasCome x old.geometry s (progress b') new.content)
+      → ((x : Rules) (s : Content) → HasCome (power_on x old.geometry s) (progress b) old.content → HasCome (power_on x old.geometry s) (progress b') new.content)
       → all_of b' ≡ all_of b → IsBootOf new.geometry b' → Keeps old new → Passes r g b old result b' new
   passes b b' old new (Err e) has steps come whole layout keeps = tt
   passes b b' old new (Ok v) has steps come whole layout keeps =
@@ -116,7 +117,7 @@ module _ (r : Rules) (g : Geometry) where
 
   -- And what it spends.
   pub pass_spends : (b b' : Boot) (old new : Seen) (result : Result (Unit {0}) FlashError) → CanPass r g b old → Steps (progress b) old result (progress b') new
-      → ((x : Rules) (s : Content) → HasCome x old.geometry s (progress b) old.content → HasCome x old.geometry s (progress b') new.content)
+      → ((x : Rules) (s : Content) → HasCome (power_on x old.geometry s) (progress b) old.content → HasCome (power_on x old.geometry s) (progress b') new.content)
       → Spends 1 old result new
   pass_spends b b' old new (Ok v) has steps come =
       let other : Ok v ≡ Err errors.Memory → ⊥ = λ e. absurd cc in
@@ -135,7 +136,7 @@ module _ (r : Rules) (g : Geometry) where
 
   -- A step that fails has wanted memory.
   pub pass_wants : (b b' : Boot) (old new : Seen) (result : Result (Unit {0}) FlashError) → CanPass r g b old → Steps (progress b) old result (progress b') new
-      → ((x : Rules) (s : Content) → HasCome x old.geometry s (progress b) old.content → HasCome x old.geometry s (progress b') new.content)
+      → ((x : Rules) (s : Content) → HasCome (power_on x old.geometry s) (progress b) old.content → HasCome (power_on x old.geometry s) (progress b') new.content)
       → IfErr result (λ e. e ≡ errors.Memory)
   pass_wants b b' old new (Ok v) has steps come = tt
   pass_wants b b' old new (Err errors.Memory) has steps come = refl
@@ -154,10 +155,10 @@ module _ (r : Rules) (g : Geometry) where
   -- ---- what is told of a flash
 
   -- And that it was run.
-  told_of : (s : Content) (f : Seen) (b : Boot) (outcome : Outcome) → f.geometry ≡ g → f.content ≡ s → IsBegun r f b → outcome_of r g s ≡ Some (shown outcome)
-      → IsTold r g s (record { boot = b; outcome = outcome })
+  told_of : (s : Content) (f : Seen) (b : Boot) (outcome : Outcome) → f.geometry ≡ g → f.content ≡ s → IsBegun r f b → outcome_of (power_on r g s) ≡ Some (shown outcome)
+      → IsTold (power_on r g s) (record { boot = b; outcome = outcome })
   told_of s f b outcome layout content begins is =
-      let plans : plan r f.geometry f.content ≡ plan r g s = ap (λ (x : Geometry). plan r x f.content) layout ∙ ap (plan r g) content in
+      let plans : plan (powered r f) ≡ plan (power_on r g s) = ap (λ (x : Geometry). plan (power_on r x f.content)) layout ∙ ap (λ s. plan (power_on r g s)) content in
       let P : List Op → Type 0 = λ ops. IsBounded g ops (most_of r g).entries (most_of r g).saved in
       let Q : Geometry → Type 0 = λ x. IsSized x f.content in
       let R : Geometry → Type 0 = λ x. IsBounded x (progress b).to_come (most_operations r.grain x) (most_saved x) in
@@ -172,8 +173,8 @@ module _ (r : Rules) (g : Geometry) where
       }
 
   -- A boot that was cut, where that was told before it.
-  pub cut_here : (s : Content) (i : ℕ) (b : Boot) (f : Seen) (told : Told) → IsAt (once r g) s i b f → i < length (ops_of r g s) → IsTold r g s told
-      → IsCut r g s (at_cut r g s i) b (shown told.outcome)
+  pub cut_here : (s : Content) (i : ℕ) (b : Boot) (f : Seen) (told : Told) → IsAt (once r g) s i b f → i < length (ops_of (power_on r g s)) → IsTold (power_on r g s) told
+      → IsCut (power_on r g s) (at_cut (power_on r g s) i) b (shown told.outcome)
   cut_here s i b f told at early t = record {
     sized = t.sized;
     layout = at.on_is.layout_is;
@@ -183,54 +184,56 @@ module _ (r : Rules) (g : Geometry) where
     outcome = t.outcome_is;
   }
 
-  pub stopped_here : (s : Content) (i : ℕ) (b : Boot) (f : Seen) (told : Told) → IsAt (once r g) s i b f → IsTold r g s told → IsStopped f.geometry s f.content b
+  pub stopped_here : (s : Content) (i : ℕ) (b : Boot) (f : Seen) (told : Told) → IsAt (once r g) s i b f → IsTold (power_on r g s) told → IsStopped f.geometry s f.content b
   stopped_here s i b f told at t =
       let P : Geometry → Type 0 = λ x. IsStopped x s f.content b in
-      let Q : Rules → Type 0 = λ x. HasCome x g s (progress b) f.content in
-      let here : HasCome r g s (progress b) f.content = subst (HasCome r g s (progress b)) (sym at.content_is) at.on_is.come in
+      let Q : Rules → Type 0 = λ x. HasCome (power_on x g s) (progress b) f.content in
+      let here : HasCome (power_on r g s) (progress b) f.content = subst (HasCome (power_on r g s) (progress b)) (sym at.content_is) at.on_is.come in
       subst P (sym at.layout_is) (record {
         sized = t.sized;
         bytes = t.bytes;
         layout = at.on_is.layout_is;
-        list = at.on_is.list_is ∙ ap (λ (x : Rules). (plan x g s).list) (sym here.rules);
+        list = at.on_is.list_is ∙ ap (λ (x : Rules). (plan (power_on x g s)).list) (sym here.rules);
         come = subst Q (sym here.rules) here;
       })
 
   -- Before the first operation.
-  pub told_still : (s : Content) (i : ℕ) (told : Told) → i ≡ 0 → IsTold r g s told → IsTold r g (at_cut r g s i) told
+  pub told_still : (s : Content) (i : ℕ) (told : Told) → i ≡ 0 → IsTold (power_on r g s) told → IsTold (power_on r g (at_cut (power_on r g s) i)) told
   told_still s i told none t =
-      subst (λ n. IsTold r g (at_cut r g s n) told) (sym none) (subst (λ x. IsTold r g x told) (at_zero r g s) t)
+      subst (λ n. IsTold (power_on r g (at_cut (power_on r g s) n)) told) (sym none) (subst (λ x. IsTold (power_on r g x) told) (at_zero (power_on r g s)) t)
 
-  pub left_still : (s : Content) (i : ℕ) → i ≡ 0 → left_by r g (at_cut r g s i) ≡ left_by r g s
-  left_still s i none = ap (λ n. left_by r g (at_cut r g s n)) none ∙ ap (left_by r g) (sym (at_zero r g s))
+  pub left_still : (s : Content) (i : ℕ) → i ≡ 0 → left_by (power_on r g (at_cut (power_on r g s) i)) ≡ left_by (power_on r g s)
+  left_still s i none = ap (λ n. left_by (power_on r g (at_cut (power_on r g s) n))) none ∙ ap (λ s. left_by (power_on r g s)) (sym (at_zero (power_on r g s)))
 
   -- What runs a boot, and a boot that was cut.
   module _ (f : Seen) (b : Boot) (layout : f.geometry ≡ g) (begins : IsBegun r f b) where
-    comes : HasCome r f.geometry f.content (progress b) f.content
-    comes = let P : Progress → Type 0 = λ p. HasCome r f.geometry f.content p f.content in subst P (sym begins.cold.boot) (come_begun r f.geometry f.content)
+    comes : HasCome (powered r f) (progress b) f.content
+    comes = let P : Progress → Type 0 = λ p. HasCome (powered r f) p f.content in subst P (sym begins.cold.boot) (come_begun (powered r f))
 
-    pub told_run : (outcome : Outcome) → EndsWith f (progress b) outcome → IsTold r g f.content (record { boot = b; outcome = outcome })
+    pub told_run : (outcome : Outcome) → EndsWith f (progress b) outcome → IsTold (power_on r g f.content) (record { boot = b; outcome = outcome })
     told_run outcome ends =
-        let is : outcome_of r g f.content ≡ Some (shown outcome) = ap (λ (x : Geometry). outcome_of r x f.content) (sym layout) ∙ ends r f.content comes in
+        let is : outcome_of (power_on r g f.content) ≡ Some (shown outcome) = ap (λ (x : Geometry). outcome_of (power_on r x f.content)) (sym layout) ∙ ends r f.content comes in
         told_of f.content f b outcome layout refl begins is
 
-    pub left_run : (q : Progress) (new : Seen) → ((x : Rules) (s : Content) → HasCome x f.geometry s (progress b) f.content → HasCome x f.geometry s q new.content) → q.to_come ≡ []
-        → left_by r g f.content ≡ Some new.content
-    left_run q new come end = ap (λ (x : Geometry). left_by r x f.content) (sym layout) ∙ come_left r f.geometry f.content q new.content (come r f.content comes) end
+    pub left_run : (q : Progress) (new : Seen) → ((x : Rules) (s : Content) → HasCome (power_on x f.geometry s) (progress b) f.content → HasCome (power_on x f.geometry s) q new.content)
+        → q.to_come ≡ []
+        → left_by (power_on r g f.content) ≡ Some new.content
+    left_run q new come end = ap (λ (x : Geometry). left_by (power_on r x f.content)) (sym layout) ∙ come_left (powered r f) q new.content (come r f.content comes) end
 
-    plans : (s : Content) (i : ℕ) (at : Boot) → IsAt (once r g) s i at f → plan r f.geometry f.content ≡ plan r g (at_cut r g s i)
-    plans s i at here = ap (λ (x : Geometry). plan r x f.content) layout ∙ ap (plan r g) here.content_is
+    plans : (s : Content) (i : ℕ) (at : Boot) → IsAt (once r g) s i at f → plan (powered r f) ≡ plan (power_on r g (at_cut (power_on r g s) i))
+    plans s i at here = ap (λ (x : Geometry). plan (power_on r x f.content)) layout ∙ ap (λ s. plan (power_on r g s)) here.content_is
 
-    pub told_derived : (s : Content) (i : ℕ) (at : Boot) (parent : Told) (outcome : Outcome) → IsAt (once r g) s i at f → i < length (ops_of r g s) → IsTold r g s parent
-        → ((x : Rules) (y : Geometry) (v u : Content) → IsCut x y v u at (shown parent.outcome) → IsBootOf y b → progress b ≡ begun x (plan x y u) → outcome_of x y u ≡ Some (shown outcome))
-        → IsTold r g (at_cut r g s i) (record { boot = b; outcome = outcome })
+    pub told_derived : (s : Content) (i : ℕ) (at : Boot) (parent : Told) (outcome : Outcome) → IsAt (once r g) s i at f → i < length (ops_of (power_on r g s)) → IsTold (power_on r g s) parent
+        → ((x : PowerOn) (u : Content) → IsCut x u at (shown parent.outcome) → IsBootOf x.geometry b → progress b ≡ begun x.rules (plan (again x u)) → outcome_of (again x u) ≡ Some (shown outcome))
+        → IsTold (power_on r g (at_cut (power_on r g s) i)) (record { boot = b; outcome = outcome })
     told_derived s i at parent outcome here early told after =
-        let is = after r g s (at_cut r g s i) (cut_here s i at f parent here early told) (subst (λ (x : Geometry). IsBootOf x b) layout begins.cold.layout)
+        let is = after (power_on r g s) (at_cut (power_on r g s) i) (cut_here s i at f parent here early told) (subst (λ (x : Geometry). IsBootOf x b) layout begins.cold.layout)
         (begins.cold.boot ∙ ap (begun r) (plans s i at here)) in
-        told_of (at_cut r g s i) f b outcome layout here.content_is begins is
+        told_of (at_cut (power_on r g s) i) f b outcome layout here.content_is begins is
 
-    pub left_derived : (s : Content) (i : ℕ) (at : Boot) (parent : Told) → IsAt (once r g) s i at f → i < length (ops_of r g s) → IsTold r g s parent
-        → ((x : Rules) (y : Geometry) (v u : Content) → IsCut x y v u at (shown parent.outcome) → IsBootOf y b → progress b ≡ begun x (plan x y u) → left_by x y u ≡ left_by x y v)
-        → left_by r g (at_cut r g s i) ≡ left_by r g s
+    pub left_derived : (s : Content) (i : ℕ) (at : Boot) (parent : Told) → IsAt (once r g) s i at f → i < length (ops_of (power_on r g s)) → IsTold (power_on r g s) parent
+        → ((x : PowerOn) (u : Content) → IsCut x u at (shown parent.outcome) → IsBootOf x.geometry b → progress b ≡ begun x.rules (plan (again x u)) → left_by (again x u) ≡ left_by x)
+        → left_by (power_on r g (at_cut (power_on r g s) i)) ≡ left_by (power_on r g s)
     left_derived s i at parent here early told after =
-        after r g s (at_cut r g s i) (cut_here s i at f parent here early told) (subst (λ (x : Geometry). IsBootOf x b) layout begins.cold.layout) (begins.cold.boot ∙ ap (begun r) (plans s i at here))
+        after (power_on r g s) (at_cut (power_on r g s) i) (cut_here s i at f parent here early told) (subst (λ (x : Geometry). IsBootOf x b) layout begins.cold.layout) (begins.cold.boot
+        ∙ ap (begun r) (plans s i at here))

@@ -24,6 +24,8 @@ use Rattle.mc_explore.specs.declared.last_cuts.LastCuts.{LastCuts}
 use Rattle.mc_explore.specs.declared.once.Once.{Once}
 use Rattle.mc_explore.specs.declared.once.Told.{Told}
 use Rattle.mc_explore.proofs.Weighing.{placed_at}
+use Rattle.mc_boot.specs.PowerOn.{again, power_on}
+use Rattle.mc_explore.specs.Once.{begun_of}
 
 last_more : (path : List ℕ) (n : ℕ) → with_last path (n + 1) ≡ path ++ n ∷ []
 last_more path n = ap (with_last path) (add-one n)
@@ -57,13 +59,13 @@ module _ (t : Toured Once) (of : List ℕ) (outcomes : List Outcome) (path : Lis
   abbrev start : Content
   start = start_of t.walk.seen
 
-  some : x.next < length (ops_of r g (flash_at r g start path))
+  some : x.next < length (ops_of (power_on r g (flash_at (power_on r g start) path)))
   some = omega (arith, lt, there.1.are.count_is)
 
   next_is : IsNext (IsMember (boots r g) start t.walk.bound) (After (with_last path x.next)) (path ++ x.next ∷ [])
   next_is = by x.next some
     where
-      by : (n : ℕ) → n < length (ops_of r g (flash_at r g start path)) → IsNext (IsMember (boots r g) start t.walk.bound) (After (with_last path n)) (path ++ n ∷ [])
+      by : (n : ℕ) → n < length (ops_of (power_on r g (flash_at (power_on r g start) path))) → IsNext (IsMember (boots r g) start t.walk.bound) (After (with_last path n)) (path ++ n ∷ [])
       by zero lt =
           let deep = there.1.deep in
           next_below (boots r g) start t.walk.bound path (omega (arith, deep, length-append path (0 ∷ [])), allowed-push (boots r g) start path 0 there.1.listed.1 lt)
@@ -71,54 +73,18 @@ module _ (t : Toured Once) (of : List ℕ) (outcomes : List Outcome) (path : Lis
           let P : ℕ → Type 0 = λ m. IsNext (IsMember (boots r g) start t.walk.bound) (After (path ++ n ∷ [])) (path ++ m ∷ []) in
           subst P (add-one n) (next_after (boots r g) start t.walk.bound path n there.1.deep (allowed-push (boots r g) start path n there.1.listed.1 (omega (arith, lt))) (omega (arith, lt)))
 
-  pub place_within : place_of x.rejoin x.next < length outcomes
-  place_within = omega (arith, there.1.are.rejoined.within x.next some, there.1.are.whole)
-
-  pub small_next : x.next < 2 ^ 31
-  small_next = omega (arith, lt, there.1.are.small)
-
   pub finds_last : (schedule : List ℕ) (o : Outcome) → schedule ≡ path ++ x.next ∷ [] → slice_get outcomes (place_of x.rejoin x.next) ≡ Some o
       → FindsRow (record { walk = t.walk; phase = t.phase; last = with_last path x.next }) (Some (record { schedule = schedule; outcome = o }))
       (record { walk = t.walk; phase = t.phase; last = with_last path (x.next + 1) })
   finds_last schedule o s told =
       let P : Phase → List ℕ → Type 0 = λ p l. IsNext (IsMember (boots r g) start t.walk.bound) (position_of p (with_last path x.next)) l in
-      let flash = landed-push (boots r g) start path x.next ∙ placed_at r g (flash_at r g start of) (flash_at r g start path) x.rejoin there.1.are.rejoined x.next some in (
+      let flash = landed-push (boots r g) start path x.next ∙ placed_at r g (flash_at (power_on r g start) of) (flash_at (power_on r g start) path) x.rejoin there.1.are.rejoined x.next some in (
         subst (λ p. P p schedule) (sym going) (subst (P Going) (sym s) next_is),
-        ap (λ l. outcome_of r g (flash_at r g start l)) s ∙ ap (outcome_of r g) flash ∙ step.at_cuts (place_of x.rejoin x.next) o told,
+        ap (λ l. outcome_of (power_on r g (flash_at (power_on r g start) l))) s ∙ ap (λ s. outcome_of (power_on r g s)) flash ∙ step.at_cuts (place_of x.rejoin x.next) o told,
         record { branches = refl; bound = refl; start = refl },
         going,
         last_more path x.next ∙ sym s,
       )
-
-  pub in_step_on : IsRowing t of outcomes path (Some (record { rejoin = x.rejoin; count = x.count; next = x.next + 1 }))
-  in_step_on =
-      let y : LastCuts = record { rejoin = x.rejoin; count = x.count; next = x.next + 1 } in
-      let a = there.1.are in
-      record {
-        short = inv.short;
-        spent = λ is. absurd (works is);
-        sound = λ w. record {
-          few = step.few;
-          at_cuts = step.at_cuts;
-          stands = subst (IsAtPhase t.walk of outcomes path (Some y)) (sym going) (
-            there.0,
-            record {
-              deep = there.1.deep;
-              listed = there.1.listed;
-              are = record {
-                number = a.number;
-                path_is = a.path_is;
-                rejoined = a.rejoined;
-                count_is = a.count_is;
-                whole = a.whole;
-                some = a.some;
-                small = a.small;
-                within = omega (arith, lt);
-              };
-            },
-          );
-        };
-      }
 
 -- No last cut is to come.
 module _ (t : Toured Once) (of : List ℕ) (outcomes : List Outcome) (path : List ℕ) (cuts : Option LastCuts) (inv : IsRowing t of outcomes path cuts) (spent : IfSome cuts IsSpent)
@@ -140,7 +106,7 @@ module _ (t : Toured Once) (of : List ℕ) (outcomes : List Outcome) (path : Lis
       by : (n : ℕ) → x.count ≤ n → StandsFor true (record { walk = t.walk; phase = Going }) (After (with_last path n))
       by zero le = absurd (omega (arith, le, at.1.are.some))
       by (suc n) le =
-          let width = ap (λ l. length (ops_of t.walk.branches.rules t.walk.branches.layout (flash_at t.walk.branches.rules t.walk.branches.layout (start_of t.walk.seen) l))) at.0 in
+          let width = ap (λ l. length (ops_of (again (begun_of t.walk) (flash_at (begun_of t.walk) l)))) at.0 in
           record {
             number = n;
             position_is = ap (λ l. After (l ++ n ∷ [])) at.0;
@@ -160,23 +126,23 @@ module _ (t : Toured Once) (of : List ℕ) (outcomes : List Outcome) (path : Lis
     few_next = omega (arith, (inv.sound works).few, v.1.bound)
 
     told_next : (told : Told) → IsThere (kind_of new.walk.branches) new.walk told
-        → IsTold t.walk.branches.rules t.walk.branches.layout (flash_at t.walk.branches.rules t.walk.branches.layout (start_of t.walk.seen) new.walk.path) told
+        → IsTold (again (begun_of t.walk) (flash_at (begun_of t.walk) new.walk.path)) told
     told_next told there =
         let b : Once = t.walk.branches in
-        let P : Once → Type 0 = λ x. IsTold x.rules x.layout (flash_at x.rules x.layout (start_of new.walk.seen) new.walk.path) told in
-        let Q : Content → Type 0 = λ x. IsTold b.rules b.layout (flash_at b.rules b.layout x new.walk.path) told in
+        let P : Once → Type 0 = λ x. IsTold (power_on x.rules x.layout (flash_at (power_on x.rules x.layout (start_of new.walk.seen)) new.walk.path)) told in
+        let Q : Content → Type 0 = λ x. IsTold (power_on b.rules b.layout (flash_at (power_on b.rules b.layout x) new.walk.path)) told in
         subst Q v.1.start (subst P v.1.branches there.told_is)
 
     pub told_there : (told : Told) (schedule : List ℕ) → IsThere (kind_of new.walk.branches) new.walk told → schedule ≡ new.walk.path
-        → outcome_of new.walk.branches.rules new.walk.branches.layout (flash_at new.walk.branches.rules new.walk.branches.layout (start_of new.walk.seen) schedule) ≡ Some (shown told.outcome)
+        → outcome_of (again (begun_of new.walk) (flash_at (begun_of new.walk) schedule)) ≡ Some (shown told.outcome)
     told_there told schedule there s =
-        ap (λ l. outcome_of new.walk.branches.rules new.walk.branches.layout (flash_at new.walk.branches.rules new.walk.branches.layout (start_of new.walk.seen) l)) s ∙ there.told_is.outcome_is
+        ap (λ l. outcome_of (again (begun_of new.walk) (flash_at (begun_of new.walk) l))) s ∙ there.told_is.outcome_is
 
     -- What was kept serves there.
-    pub kept_there : AreAtCuts new.walk.branches.rules new.walk.branches.layout (start_of new.walk.seen) of outcomes
+    pub kept_there : AreAtCuts (begun_of new.walk) of outcomes
     kept_there =
-        let P : Once → Type 0 = λ b. AreAtCuts b.rules b.layout (start_of new.walk.seen) of outcomes in
-        let Q : Content → Type 0 = λ s. AreAtCuts t.walk.branches.rules t.walk.branches.layout s of outcomes in
+        let P : Once → Type 0 = λ b. AreAtCuts (power_on b.rules b.layout (start_of new.walk.seen)) of outcomes in
+        let Q : Content → Type 0 = λ s. AreAtCuts (power_on t.walk.branches.rules t.walk.branches.layout s) of outcomes in
         subst P (sym v.1.branches) (subst Q (sym v.1.start) (inv.sound works).at_cuts)
 
     listed_there : IsPath (kind_of new.walk.branches) new.walk new.walk.path
@@ -184,10 +150,10 @@ module _ (t : Toured Once) (of : List ℕ) (outcomes : List Outcome) (path : Lis
 
     -- The last cuts that are told behind that node.
     module _ (of' : List ℕ) (outcomes' : List Outcome) (path' : List ℕ) (cuts' : Option LastCuts) (path_is : path' ≡ new.walk.path)
-        (at_cuts : AreAtCuts new.walk.branches.rules new.walk.branches.layout (start_of new.walk.seen) of' outcomes')
-        (are : IfSome cuts' (AreLastCuts new.walk.branches.rules new.walk.branches.layout (start_of new.walk.seen) of' path' outcomes')) (deep : IfSome cuts' (λ x. length path' + 1 ≡ new.walk.bound))
+        (at_cuts : AreAtCuts (begun_of new.walk) of' outcomes')
+        (are : IfSome cuts' (AreLastCuts (begun_of new.walk) of' path' outcomes')) (deep : IfSome cuts' (λ x. length path' + 1 ≡ new.walk.bound))
         (fresh : IfSome cuts' (λ x. x.next ≡ 0)) where
-      behind : (o : Option LastCuts) → IfSome o (AreLastCuts new.walk.branches.rules new.walk.branches.layout (start_of new.walk.seen) of' path' outcomes')
+      behind : (o : Option LastCuts) → IfSome o (AreLastCuts (begun_of new.walk) of' path' outcomes')
           → IfSome o (λ x. length path' + 1 ≡ new.walk.bound) → IfSome o (AreBehind new.walk of' outcomes' path' cuts')
       behind None a d = tt
       behind (Some x) a d = record { deep = d; listed = subst (IsPath (kind_of new.walk.branches) new.walk) (sym path_is) listed_there; are = a }
@@ -218,7 +184,7 @@ module _ (t : Toured Once) (of : List ℕ) (outcomes : List Outcome) (path : Lis
           let r : Rules = t.walk.branches.rules in
           let g : Geometry = t.walk.branches.layout in (
             subst (IsNext (IsPath (kind_of t.walk.branches) t.walk) here) (sym path_is) v.0,
-            ap (λ l. outcome_of r g (flash_at r g (start_of t.walk.seen) l)) path_is ∙ (told_next told there).outcome_is,
+            ap (λ l. outcome_of (power_on r g (flash_at (power_on r g (start_of t.walk.seen)) l))) path_is ∙ (told_next told there).outcome_is,
             v.1,
             v.2,
             none_taken cuts' fresh,
@@ -239,8 +205,8 @@ module _ (t : Toured Once) (of : List ℕ) (outcomes : List Outcome) (path : Lis
 
     pub in_step_over : IsRowing new of outcomes path cuts
     in_step_over =
-        let P : Once → Type 0 = λ b. AreAtCuts b.rules b.layout (start_of new.walk.seen) of outcomes in
-        let Q : Content → Type 0 = λ s. AreAtCuts t.walk.branches.rules t.walk.branches.layout s of outcomes in
+        let P : Once → Type 0 = λ b. AreAtCuts (power_on b.rules b.layout (start_of new.walk.seen)) of outcomes in
+        let Q : Content → Type 0 = λ s. AreAtCuts (power_on t.walk.branches.rules t.walk.branches.layout s) of outcomes in
         record {
           short = inv.short;
           spent = λ is. spent;

@@ -6,14 +6,12 @@ use Rattle.std.proofs.lemmas.List.{length-append}
 use Rattle.mc_tree.specs.Weights.{from}
 use Rattle.mc_tree.specs.facts.Weighed.{from_more}
 use Rattle.mc_boot.specs.Runs.{ops_of}
-use Rattle.mc_flash.specs.Content.{Content}
-use Rattle.mc_flash.specs.Geometry.{Geometry}
-use Rattle.mc_trailer.specs.declared.tables.Rules.{Rules}
 use Rattle.mc_explore.specs.Boots.{at_cut}
 use Rattle.mc_explore.specs.Table.{AreCutOff, AreSums, IsLevel, own_totals, weigh, weigh_fewer}
 use Rattle.mc_explore.specs.Totals.{Totals, both, cut_off, totals}
 use Rattle.mc_explore.specs.declared.census.Census.{Census}
 use Rattle.mc_explore.proofs.Weighing.{totals_weigh, weigh_is}
+use Rattle.mc_boot.specs.PowerOn.{PowerOn}
 
 module _ {X : Type 0} where
   pub get_before : (xs ys : List X) (i : ℕ) → i < length xs → slice_get (xs ++ ys) i ≡ slice_get xs i
@@ -55,21 +53,23 @@ module _ (under : ℕ → Totals) where
       sym (ap (λ k. from totals under k 0) one ∙ from_more totals totals_weigh under n 0 ∙ ap (λ i. both (from totals under n 0) (totals.behind i (under i))) at)
 
 -- All schedules of at most d cuts, by the positions of the boot, of which there are n.
-pub one_weighed : (r : Rules) (g : Geometry) (s : Content) (d n : ℕ) → n ≡ length (ops_of r g s)
-    → both (own_totals r g s) (from totals (λ c. weigh_fewer r g d (at_cut r g s c)) n (n - n)) ≡ weigh r g d s
-one_weighed r g s d n e =
-    let under : ℕ → Totals = λ c. weigh_fewer r g d (at_cut r g s c) in
+pub one_weighed : (x : PowerOn) (d n : ℕ) → n ≡ length (ops_of x)
+    → both (own_totals x.rules x.geometry x.content) (from totals (λ c. weigh_fewer x.rules x.geometry d (at_cut x c)) n (n - n)) ≡ weigh x.rules x.geometry d x.content
+one_weighed x d n e =
+    let g = x.geometry in
+    let s = x.content in
+    let under : ℕ → Totals = λ c. weigh_fewer x.rules g d (at_cut x c) in
     let at : n - n ≡ 0 = omega arith in
-    ap (λ i. both (own_totals r g s) (from totals under n i)) at ∙ ap (λ k. both (own_totals r g s) (from totals under k 0)) e ∙ sym (weigh_is r g d s)
+    ap (λ i. both (own_totals x.rules g s) (from totals under n i)) at ∙ ap (λ k. both (own_totals x.rules g s) (from totals under k 0)) e ∙ sym (weigh_is x.rules g d s)
 
 -- The census of a content for one bound more, by the sums of all positions for that bound.
-pub entry_is : (r : Rules) (g : Geometry) (s : Content) (own sum one : Census) (d count : ℕ) (level sums : List Census)
+pub entry_is : (x : PowerOn) (own sum one : Census) (d count : ℕ) (level sums : List Census)
     → ((under : ℕ → Totals) → AreCutOff under level → count ≡ length level → AreSums under count sums)
     → ((under : ℕ → Totals) → AreCutOff under sums → count < length sums → sum ≡ cut_off (under count))
     → ((a b : Totals) → own ≡ cut_off a → sum ≡ cut_off b → one ≡ cut_off (both a b))
-    → own ≡ cut_off (own_totals r g s) → count ≡ length (ops_of r g s) → IsLevel r g s d level → one ≡ cut_off (weigh r g d s)
-entry_is r g s own sum one d count level sums summed last together own_is all is_level =
-    let under : ℕ → Totals = λ c. weigh_fewer r g d (at_cut r g s c) in
+    → own ≡ cut_off (own_totals x.rules x.geometry x.content) → count ≡ length (ops_of x) → IsLevel x.rules x.geometry x.content d level → one ≡ cut_off (weigh x.rules x.geometry d x.content)
+entry_is x own sum one d count level sums summed last together own_is all is_level =
+    let under : ℕ → Totals = λ c. weigh_fewer x.rules x.geometry d (at_cut x c) in
     let are = summed under is_level.1 (all ∙ sym is_level.0) in
     let sum_is = last (λ k. from totals under k (count - k)) are.1 (omega (arith, are.0)) in
-    together (own_totals r g s) (from totals under count (count - count)) own_is sum_is ∙ ap cut_off (one_weighed r g s d count all)
+    together (own_totals x.rules x.geometry x.content) (from totals under count (count - count)) own_is sum_is ∙ ap cut_off (one_weighed x d count all)

@@ -9,11 +9,9 @@ use Rattle.std.proofs.lemmas.List.{length-take, take-append-le}
 use Rattle.std.proofs.lemmas.List.Elements.{All-nil, All-cons, All-head, All-tail, All-same, Contains-append_left, Contains-append_right}
 use Rattle.std.proofs.Math.Seq.{take-append-add}
 use Rattle.std.proofs.lemmas.Fmt.{decimal_injective}
-use Rattle.mc_flash.specs.Content.{Content}
-use Rattle.mc_flash.specs.Geometry.{Geometry, IsLayout}
-use Rattle.mc_flash.specs.LedgerFacts.{few_operations}
+use Rattle.mc_flash.specs.Geometry.{IsLayout}
+use Rattle.mc_flash.specs.facts.Ledger.{few_operations}
 use Rattle.mc_trailer.specs.Texts.{type_text}
-use Rattle.mc_trailer.specs.declared.tables.Rules.{Rules}
 use Rattle.mc_tree.specs.Tree.{Allowed}
 use Rattle.mc_tree.specs.facts.Lists.{at_front, behind}
 use Rattle.mc_boot.specs.Runs.{ops_of}
@@ -36,6 +34,7 @@ use Rattle.mc_explore.specs.facts.Occurring.{path_of}
 use Rattle.mc_output.specs.facts.Parting.{Lacks, lacks_each, one_part, no_part, lacks_decimal}
 use Rattle.mc_output.specs.facts.Reading.{dash}
 use Rattle.mc_explore.proofs.Reading.{point_no_digit, points, spelling}
+use Rattle.mc_boot.specs.PowerOn.{PowerOn, again}
 
 lacks : (byte : ℕ) (xs : List ℕ) → LacksByte byte xs → Lacks byte xs
 lacks byte xs none = lacks_each byte xs none
@@ -175,11 +174,11 @@ all_read text rest last feedless so_far = (
 
 -- ---- a page that is torn
 
-small_cuts : (r : Rules) (g : Geometry) (s : Content) (l : List ℕ) → IsLayout g → Allowed (boots r g) s l → Small l
-small_cuts r g s [] valid a = All-nil (λ c. c < 2 ^ 32)
-small_cuts r g s (c ∷ cs) valid a =
-    let first : c < length (ops_of r g s) = a.0 in
-    All-cons (λ d. d < 2 ^ 32) c cs (omega (arith, first, few_ops r g s valid, few_operations r.grain g valid)) (small_cuts r g (at_cut r g s c) cs valid a.1)
+small_cuts : (x : PowerOn) (l : List ℕ) → IsLayout x.geometry → Allowed (boots x.rules x.geometry) x.content l → Small l
+small_cuts x [] valid a = All-nil (λ c. c < 2 ^ 32)
+small_cuts x (c ∷ cs) valid a =
+    let first : c < length (ops_of x) = a.0 in
+    All-cons (λ d. d < 2 ^ 32) c cs (omega (arith, first, few_ops x valid, few_operations x.rules.grain x.geometry valid)) (small_cuts (again x (at_cut x c)) cs valid a.1)
 
 -- The schedules of rows can be told.
 abbrev pub AreTold : List Told → Type 0
@@ -188,8 +187,8 @@ AreTold rows = (row : Told) → Contains rows row → IsSchedule row.schedule
 pub rest_told : (state : State) (rows : List Told) → IsLayout state.start.geometry → state.bound ≤ 16 → IsRest state rows → AreTold rows
 rest_told state rows valid few rest row is =
     let start = state.start in
-    let path = path_of start.rules start.geometry start.content state.bound row.schedule (rest.only row is).0.listed in
-    record { few = omega (arith, path.0, few); small = small_cuts start.rules start.geometry start.content row.schedule valid path.1 }
+    let path = path_of start state.bound row.schedule (rest.only row is).0.listed in
+    record { few = omega (arith, path.0, few); small = small_cuts start row.schedule valid path.1 }
 
 -- A line is torn within it, or behind it.
 torn_line : (line more : List ℕ) (n : ℕ) → (take n (line ++ 10 ∷ more) ≡ take n line) ⊎ ((m : ℕ) × (take n (line ++ 10 ∷ more) ≡ line ++ 10 ∷ take m more))

@@ -14,6 +14,7 @@ use Rattle.mc_explore.specs.Boots.{at_cut, boots}
 use Rattle.mc_explore.specs.Table.{IsInside, own_totals, weigh, weigh_fewer}
 use Rattle.mc_explore.specs.Totals.{Totals, both, lowered, no_totals, totals}
 use Rattle.mc_explore.specs.facts.Occurring.{at_is, lands_at}
+use Rattle.mc_boot.specs.PowerOn.{power_on}
 
 same_totals : (x y : Totals) → x.schedules ≡ y.schedules → x.boot ≡ y.boot → x.none ≡ y.none → x.panic ≡ y.panic → x.fault ≡ y.fault → x.most ≡ y.most → x.first ≡ y.first → x ≡ y
 same_totals x y a b c d e f h =
@@ -61,12 +62,12 @@ from_none (suc n) i = ap (both no_totals) (from_none n (i + 1))
 
 module _ (r : Rules) (g : Geometry) where
   -- All schedules from a content: the one of no cuts, and those behind each first cut.
-  pub weigh_is : (d : ℕ) (s : Content) → weigh r g d s ≡ both (own_totals r g s) (from totals (λ c. weigh_fewer r g d (at_cut r g s c)) (length (ops_of r g s)) 0)
-  weigh_is zero s = sym (ap (both (own_totals r g s)) (from_none (length (ops_of r g s)) 0) ∙ totals_weigh.right (own_totals r g s))
+  pub weigh_is : (d : ℕ) (s : Content) → weigh r g d s ≡ both (own_totals r g s) (from totals (λ c. weigh_fewer r g d (at_cut (power_on r g s) c)) (length (ops_of (power_on r g s))) 0)
+  weigh_is zero s = sym (ap (both (own_totals r g s)) (from_none (length (ops_of (power_on r g s))) 0) ∙ totals_weigh.right (own_totals r g s))
   weigh_is (suc d) s = refl
 
-  module _ (s u : Content) (x : Rejoin) (joined : IsRejoined r g s u x) where
-    pub inside : IsInside x (length (ops_of r g s))
+  module _ (s u : Content) (x : Rejoin) (joined : IsRejoined (power_on r g s) u x) where
+    pub inside : IsInside x (length (ops_of (power_on r g s)))
     inside = record {
       late = omega (arith, joined.width, joined.few);
       early = λ i lt. joined.within i (omega (arith, lt, joined.few));
@@ -77,23 +78,23 @@ module _ (r : Rules) (g : Geometry) where
         let test : nat_le x.erases i ≡ true = grind (arith, nat_tests) in
         ap (λ b. if b then x.kept + i else (if nat_le x.done (x.kept + x.erases) then max x.done (x.kept + i) else if nat_le i x.only then x.done else x.kept + x.erases)) test
 
-    pub placed_at : (i : ℕ) → i < length (ops_of r g u) → at_cut r g u i ≡ at_cut r g s (place_of x i)
-    placed_at i lt = lands_at r g s (at_cut r g u i) (place_of x i) (sym (joined.same i lt) ∙ at_is r g u i)
+    pub placed_at : (i : ℕ) → i < length (ops_of (power_on r g u)) → at_cut (power_on r g u) i ≡ at_cut (power_on r g s) (place_of x i)
+    placed_at i lt = lands_at (power_on r g s) (at_cut (power_on r g u) i) (place_of x i) (sym (joined.same i lt) ∙ at_is (power_on r g u) i)
 
     placed : IsPlaced (boots r g) s u x.kept x.erases (place_of x)
     placed = record {
       width = joined.width;
       few = joined.few;
       early = λ i lt. placed_at i (omega (arith, lt, joined.few));
-      late = λ i le lt. placed_at i lt ∙ ap (at_cut r g s) (late_place i le);
+      late = λ i le lt. placed_at i lt ∙ ap (at_cut (power_on r g s)) (late_place i le);
     }
 
     -- All schedules from a content whose boot goes on with that of another.
     pub rejoined_weigh : (d : ℕ) → weigh r g d u ≡ both (own_totals r g u)
-        (placed_below totals (λ c. weigh_fewer r g d (at_cut r g s c)) (length (ops_of r g s)) x.kept x.erases (place_of x))
+        (placed_below totals (λ c. weigh_fewer r g d (at_cut (power_on r g s) c)) (length (ops_of (power_on r g s))) x.kept x.erases (place_of x))
     rejoined_weigh (suc d) = placed_weight totals totals_weigh (boots r g) (own_totals r g) s u x.kept x.erases (place_of x) d placed
     rejoined_weigh zero =
-        let rest : ℕ = length (ops_of r g s) - (x.kept + x.erases) in
+        let rest : ℕ = length (ops_of (power_on r g s)) - (x.kept + x.erases) in
         let early = from_none x.erases 0 in
         let late = ap (totals.back x.kept) (from_none rest (x.kept + x.erases)) in
         sym (ap (λ a. both (own_totals r g u) (both a (totals.back x.kept (from totals (λ c. no_totals) rest (x.kept + x.erases))))) early

@@ -5,20 +5,21 @@ use Rattle.mc_flash.specs.Geometry.{Geometry}
 use Rattle.mc_flash.specs.Content.{Content}
 use Rattle.mc_trailer.specs.declared.tables.Rules.{Rules}
 use Rattle.mc_boot.specs.Runs.{ops_of, at}
+use Rattle.mc_boot.specs.PowerOn.{PowerOn, again, power_on}
 
 abbrev pub content_or : Content → Option Content → Content
 content_or s None = s
 content_or s (Some t) = t
 
 -- The flash after the first c operations of the uncut boot.
-unfoldable pub at_cut : Rules → Geometry → Content → ℕ → Content
-at_cut r g s c = content_or s (at r g s c)
+unfoldable pub at_cut : PowerOn → ℕ → Content
+at_cut x c = content_or x.content (at x c)
 
 -- The boot from a content can be cut before each operation that it makes uncut.
 abbrev pub boots : Rules → Geometry → Tree Content
-boots r g = record { width = λ s. length (ops_of r g s); child = at_cut r g }
+boots r g = record { width = λ s. length (ops_of (power_on r g s)); child = λ s. at_cut (power_on r g s) }
 
 -- The contents at the cuts of a schedule.
-abbrev pub cuts : Rules → Geometry → Content → List ℕ → List Content
-cuts r g start [] = []
-cuts r g start (cut ∷ rest) = at_cut r g start cut ∷ cuts r g (at_cut r g start cut) rest
+abbrev pub cuts : PowerOn → List ℕ → List Content
+cuts x [] = []
+cuts x (cut ∷ rest) = at_cut x cut ∷ cuts (again x (at_cut x cut)) rest

@@ -2,7 +2,7 @@
 use Rattle.std.specs.Prelude.{◌≡◌, ℕ, ◌-◌, ◌^◌, min, not, List, length, Option, option_map}
 use Rattle.std.specs.List.{find}
 use Rattle.mc_explore.specs.Rest.{IsRest}
-use Rattle.mc_explore.specs.Start.{Begun}
+use Rattle.mc_boot.specs.PowerOn.{PowerOn}
 use Rattle.mc_explore.specs.State.{Told, at_start}
 use Rattle.mc_explore.specs.Survey.{is_boot, is_none, is_panic, is_fault, rows_with, most_ops_of}
 use Rattle.mc_explore.specs.declared.census.Census.{Census}
@@ -29,7 +29,7 @@ census_of rows = record {
 }
 
 -- That is what the one list of the rows of a start comes to, for at most so many cuts.
-pub record IsCensus (start : Begun) (bound : ℕ) (census : Census) : Type 0 where
+pub record IsCensus (start : PowerOn) (bound : ℕ) (census : Census) : Type 0 where
   pub rows : List Told
   pub rest : IsRest (at_start start bound) rows
   pub census_is : census ≡ census_of rows

@@ -5,11 +5,10 @@ use Rattle.mc_boot.specs.Rejoin.{IsRejoined}
 use Rattle.mc_boot.specs.Runs.{ops_of}
 use Rattle.mc_boot.specs.declared.outcome.Outcome.{Outcome}
 use Rattle.mc_flash.specs.Content.{Content}
-use Rattle.mc_flash.specs.Geometry.{Geometry}
-use Rattle.mc_trailer.specs.declared.tables.Rules.{Rules}
 use Rattle.mc_tree.specs.Tree.{landed}
 use Rattle.mc_explore.specs.Boots.{at_cut, boots}
 use Rattle.mc_explore.specs.declared.last_cuts.LastCuts.{LastCuts}
+use Rattle.mc_boot.specs.PowerOn.{PowerOn, again}
 
 -- The schedule of the last row, where so many of the last cuts behind a path were taken.
 abbrev pub with_last : List ℕ → ℕ → List ℕ
@@ -24,24 +23,24 @@ last_of path (Some x) = with_last path x.next
 abbrev pub IsSpent : LastCuts → Type 0
 IsSpent x = x.count ≤ x.next
 
-module _ (r : Rules) (g : Geometry) (start : Content) where
+module _ (from : PowerOn) where
   -- The flash behind a schedule.
   abbrev pub flash_at : List ℕ → Content
-  flash_at = landed (boots r g) start
+  flash_at = landed (boots from.rules from.geometry) from.content
 
   -- The outcomes of the boots after the first cuts of the boot there.
   abbrev pub AreAtCuts : List ℕ → List Outcome → Type 0
   AreAtCuts of outcomes =
-      (i : ℕ) (o : Outcome) → slice_get outcomes i ≡ Some o → outcome_of r g (at_cut r g (flash_at of) i) ≡ Some (shown o)
+      (i : ℕ) (o : Outcome) → slice_get outcomes i ≡ Some o → outcome_of (again from (at_cut (again from (flash_at of)) i)) ≡ Some (shown o)
 
   -- The last cuts behind a path, of a boot that goes on with the one behind the path without its last cut; all outcomes of that
   -- one are there.
   pub record AreLastCuts (of path : List ℕ) (outcomes : List Outcome) (x : LastCuts) : Type 0 where
     pub number : ℕ
     pub path_is : path ≡ of ++ number ∷ []
-    pub rejoined : IsRejoined r g (flash_at of) (flash_at path) x.rejoin
-    pub count_is : x.count ≡ length (ops_of r g (flash_at path))
-    pub whole : length outcomes ≡ length (ops_of r g (flash_at of))
+    pub rejoined : IsRejoined (again from (flash_at of)) (flash_at path) x.rejoin
+    pub count_is : x.count ≡ length (ops_of (again from (flash_at path)))
+    pub whole : length outcomes ≡ length (ops_of (again from (flash_at of)))
     pub some : 1 ≤ x.count
     pub small : x.count ≤ 2 ^ 31
     pub within : x.next ≤ x.count

@@ -6,17 +6,18 @@ use Rattle.mc_explore.specs.Listing as listings
 use Rattle.mc_explore.specs.Listing.{Listing}
 use Rattle.mc_explore.specs.RowText.{row_text}
 use Rattle.mc_explore.specs.Schedules.{IsMember}
-use Rattle.mc_explore.specs.Start.{Begun, start_digest}
+use Rattle.mc_explore.specs.Start.{start_digest}
+use Rattle.mc_boot.specs.PowerOn.{PowerOn}
 use Rattle.mc_explore.specs.State.{State, Told, HasOutcome, moved_to}
 use Rattle.mc_explore.specs.declared.cursor.Cursor.{Cursor}
 
 -- The cursor that goes on behind a schedule.
-abbrev pub cursor_of : Begun → ℕ → List ℕ → Cursor
+abbrev pub cursor_of : PowerOn → ℕ → List ℕ → Cursor
 cursor_of start bound l = record { rules = start.rules; digest = start_digest start; bound = bound; schedule = l }
 
 -- A row of the whole list: one of the schedules to go through, with its outcome.
-pub record IsRow (start : Begun) (bound : ℕ) (row : Told) : Type 0 where
-  pub listed : IsMember start.rules start.geometry start.content bound row.schedule
+pub record IsRow (start : PowerOn) (bound : ℕ) (row : Told) : Type 0 where
+  pub listed : IsMember start bound row.schedule
   pub outcome : HasOutcome start row
 
 abbrev pub schedules : Listing State (List ℕ) Told Cursor

@@ -8,7 +8,7 @@ use Rattle.mc_flash.specs.Spends.{RanOut, Spent}
 use Rattle.mc_tree.specs.Paths.{Position, After, IsNext, IsOver}
 use Rattle.mc_walk.specs.Kind.{Kind}
 use Rattle.mc_walk.specs.Tours.{Toured, StandsAt, StandsBehind, position_of}
-use Rattle.mc_walk.specs.Walks.{Walked, IsPath, IsSame, child_cost, start_of}
+use Rattle.mc_walk.specs.Walks.{Walked, IsPath, IsSame, child_cost}
 use Rattle.mc_walk.specs.declared.tour.Phase.{Phase}
 use Rattle.mc_walk.specs.declared.tour.Phase.TheVariants.{Fresh, Going, Done, Broken}
 use Rattle.mc_walk.specs.declared.tour.TourError.{TourError}
@@ -19,6 +19,8 @@ use Rattle.mc_explore.specs.declared.last_cuts.LastCuts.{LastCuts}
 use Rattle.mc_explore.specs.declared.once.Once.{Once}
 use Rattle.mc_explore.specs.declared.once.Told.{Told}
 use Rattle.mc_explore.specs.declared.row.Row.{Row}
+use Rattle.mc_boot.specs.PowerOn.{again}
+use Rattle.mc_explore.specs.Once.{begun_of}
 
 -- The kind of tree that a walk goes through.
 abbrev pub kind_of : Once → Kind Content Boot Told
@@ -37,8 +39,7 @@ position_in rows = position_of rows.phase rows.last
 abbrev pub FindsRow : Rowed → Option Row → Rowed → Type 0
 FindsRow old (Some row) new =
     IsNext (IsPath (kind_of old.walk.branches) old.walk) (position_in old) row.schedule
-    × (outcome_of old.walk.branches.rules old.walk.branches.layout
-    (flash_at old.walk.branches.rules old.walk.branches.layout (start_of old.walk.seen) row.schedule) ≡ Some (shown row.outcome))
+    × (outcome_of (again (begun_of old.walk) (flash_at (begun_of old.walk) row.schedule)) ≡ Some (shown row.outcome))
     × IsSame old.walk new.walk × (new.phase ≡ Going) × (new.last ≡ row.schedule)
 FindsRow old None new =
     IsOver (IsPath (kind_of old.walk.branches) old.walk) (position_in old) × (new.walk.seen ≡ old.walk.seen) × IsSame old.walk new.walk
@@ -62,7 +63,7 @@ module _ (walk : Walked Once) (of : List ℕ) (outcomes : List Outcome) (path : 
   pub record AreBehind (x : LastCuts) : Type 0 where
     pub deep : length path + 1 ≡ walk.bound
     pub listed : IsPath (kind_of walk.branches) walk path
-    pub are : AreLastCuts walk.branches.rules walk.branches.layout (start_of walk.seen) of path outcomes x
+    pub are : AreLastCuts (begun_of walk) of path outcomes x
 
   abbrev pub IsAtPhase : Phase → Type 0
   IsAtPhase Fresh = cuts ≡ None
@@ -73,7 +74,7 @@ module _ (walk : Walked Once) (of : List ℕ) (outcomes : List Outcome) (path : 
 -- What holds of the fields of rows.
 pub record IsInStep (t : Toured Once) (of : List ℕ) (outcomes : List Outcome) (path : List ℕ) (cuts : Option LastCuts) : Type 0 where
   pub few : t.walk.bound ≤ 16
-  pub at_cuts : AreAtCuts t.walk.branches.rules t.walk.branches.layout (start_of t.walk.seen) of outcomes
+  pub at_cuts : AreAtCuts (begun_of t.walk) of outcomes
   pub stands : IsAtPhase t.walk of outcomes path cuts t.phase
 
 pub record IsRowing (t : Toured Once) (of : List ℕ) (outcomes : List Outcome) (path : List ℕ) (cuts : Option LastCuts) : Type 0 where

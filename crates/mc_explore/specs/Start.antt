@@ -9,6 +9,7 @@ use Rattle.mc_flash.specs.declared.op.Slot.TheVariants.{Primary, Secondary}
 use Rattle.mc_trailer.specs.declared.tables.Rules.{Rules}
 use Rattle.mc_boot.specs.Image.{image_size}
 use Rattle.mc_boot.specs.Plan.{plain}
+use Rattle.mc_boot.specs.PowerOn.{PowerOn, power_on}
 use Rattle.mc_boot.specs.Start.{start_flash, named, other}
 use Rattle.mc_boot.specs.declared.kind.Kind.{Kind}
 use Rattle.mc_boot.specs.declared.kind.Kind.TheVariants as starts
@@ -29,22 +30,17 @@ refusal_of g a b = in_first (image_fault a)
     in_first (Some e) = Some (errors.ImageA e)
     in_first None = in_second (image_fault b)
 
--- Where an exploration begins: the layout, the rules of the boots from there on, and the flash.
-pub record Begun : Type 0 where
-  pub geometry : Geometry
-  pub rules : Rules
-  pub content : Content
-
--- And the start itself, which also knows its two images where it was made of them: what tells the named one apart, and the
--- other one.
+-- A start: the layout, the rules of the boots from there on, and the flash; also its two images where it was made of them, that is
+-- what tells the named one apart, and the other one.
 pub record Started : Type 0 where
   pub geometry : Geometry
   pub rules : Rules
   pub content : Content
   pub named : Option (Identity × Identity)
 
-abbrev pub begun : Started → Begun
-begun s = record { geometry = s.geometry; rules = s.rules; content = s.content }
+-- What its first boot begins with.
+abbrev pub begun : Started → PowerOn
+begun s = power_on s.rules s.geometry s.content
 
 -- The named one first.
 abbrev pub in_order : {A : Type 0} → Kind → A → A → A × A
@@ -84,5 +80,5 @@ Gives g (Err errors.Memory) wanted = IsOk wanted
 Gives g (Err e) wanted = wanted ≡ Err e
 
 -- What tells starts apart in a cursor: the digest of the layout's line with its line feed, and then the bytes of both slots.
-abbrev pub start_digest : Begun → List ℕ
+abbrev pub start_digest : PowerOn → List ℕ
 start_digest s = sha256 (((layout_line s.geometry ++ 10 ∷ []) ++ s.content.primary) ++ s.content.secondary)

@@ -7,20 +7,20 @@ use Rattle.mc_boot.specs.Outcome.{Report, shown, outcome_of}
 use Rattle.mc_tree.specs.Paths as paths
 use Rattle.mc_tree.specs.Paths.{Position, AtStart, After, Lost}
 use Rattle.mc_explore.specs.Schedules.{IsMember}
-use Rattle.mc_explore.specs.Start.{Begun}
+use Rattle.mc_boot.specs.PowerOn.{PowerOn, again}
 use Rattle.mc_explore.specs.declared.row.Row.{Row}
 
 -- The start and the most cuts of a schedule; where the explorer has come to: it gave no row yet, or last that of a schedule, or
 -- it failed; and whether its flash was refused memory at some time.
 pub record State : Type 0 where
-  pub start : Begun
+  pub start : PowerOn
   pub bound : ℕ
   pub position : Position (List ℕ)
   pub failed : Bool
 
 -- One of the schedules to go through.
 abbrev pub IsListed : State → List ℕ → Type 0
-IsListed state l = IsMember state.start.rules state.start.geometry state.start.content state.bound l
+IsListed state l = IsMember state.start state.bound l
 
 -- The first schedule past the position.
 abbrev pub IsNext : State → List ℕ → Type 0
@@ -39,12 +39,12 @@ abbrev pub told : Row → Told
 told row = record { schedule = row.schedule; outcome = shown row.outcome }
 
 -- The outcome of the uncut boot from the flash that a schedule leaves.
-unfoldable pub outcome_after : Begun → List ℕ → Option Report
+unfoldable pub outcome_after : PowerOn → List ℕ → Option Report
 outcome_after start l =
-    option_and_then (λ u. outcome_of start.rules start.geometry u) (after start.rules start.geometry start.content l)
+    option_and_then (λ u. outcome_of (again start u)) (after start l)
 
 -- The outcome of a row is the one of its schedule.
-abbrev pub HasOutcome : Begun → Told → Type 0
+abbrev pub HasOutcome : PowerOn → Told → Type 0
 HasOutcome start row = outcome_after start row.schedule ≡ Some row.outcome
 
 -- The state after the row of a schedule.
@@ -66,7 +66,7 @@ abbrev pub lost_at : State → State
 lost_at state = record { start = state.start; bound = state.bound; position = Lost; failed = state.failed }
 
 -- The state at the start.
-abbrev pub at_start : Begun → ℕ → State
+abbrev pub at_start : PowerOn → ℕ → State
 at_start start bound = record { start = start; bound = bound; position = AtStart; failed = false }
 
 -- What callers see of an explorer: its state; the content of its flash and the ledger; and how many contents are marked there.

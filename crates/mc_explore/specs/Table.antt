@@ -19,6 +19,7 @@ use Rattle.mc_explore.specs.declared.once.Told.{Told}
 use Rattle.mc_explore.specs.declared.table.Below.{Below}
 use Rattle.mc_explore.specs.declared.table.Below.TheVariants.{Joined, Apart}
 use Rattle.mc_explore.specs.declared.table.Position.{Position}
+use Rattle.mc_boot.specs.PowerOn.{power_on}
 
 -- Totals by their number, each cut off.
 abbrev pub AreCutOff : (ℕ → Totals) → List Census → Type 0
@@ -41,7 +42,7 @@ told_totals (Some report) = report_totals report
 module _ (r : Rules) (g : Geometry) where
   -- The totals of the schedule of no cuts from a content, and of all schedules of at most so many cuts.
   abbrev pub own_totals : Content → Totals
-  own_totals s = told_totals (outcome_of r g s)
+  own_totals s = told_totals (outcome_of (power_on r g s))
 
   abbrev pub weigh : ℕ → Content → Totals
   weigh bound s = weight totals (boots r g) own_totals bound s
@@ -58,7 +59,7 @@ module _ (r : Rules) (g : Geometry) where
   module _ (s : Content) where
     -- The schedules from u, on the way of the boot from s: it goes on with that boot, or there is a column.
     abbrev pub IsBelow : ℕ → Content → Below → Type 0
-    IsBelow bound u (Joined x) = IsRejoined r g s u x
+    IsBelow bound u (Joined x) = IsRejoined (power_on r g s) u x
     IsBelow bound u (Apart column) = IsColumn u bound column.items
 
     pub record IsPosition (bound : ℕ) (u : Content) (position : Position) : Type 0 where
@@ -67,16 +68,16 @@ module _ (r : Rules) (g : Geometry) where
 
     abbrev pub ArePositions : ℕ → List Position → Type 0
     ArePositions bound positions =
-        (c : ℕ) (position : Position) → slice_get positions c ≡ Some position → IsPosition bound (at_cut r g s c) position
+        (c : ℕ) (position : Position) → slice_get positions c ≡ Some position → IsPosition bound (at_cut (power_on r g s) c) position
 
     -- The totals of each position for fewer cuts.
     abbrev pub IsLevel : ℕ → List Census → Type 0
-    IsLevel bound level = (length level ≡ length (ops_of r g s)) × AreCutOff (λ c. weigh_fewer bound (at_cut r g s c)) level
+    IsLevel bound level = (length level ≡ length (ops_of (power_on r g s))) × AreCutOff (λ c. weigh_fewer bound (at_cut (power_on r g s) c)) level
 
 -- That is told of where a flash of that layout stands.
 pub record IsToldHere (r : Rules) (g : Geometry) (seen : Seen) (told : Told) : Type 0 where
   pub layout_is : seen.geometry ≡ g
-  pub told_is : IsTold r g seen.content told
+  pub told_is : IsTold (power_on r g seen.content) told
 
 -- Room for so many boots on one another, and their marks.
 pub record HasRoomFor (r : Rules) (g : Geometry) (boots : ℕ) (seen : Seen) : Type 0 where

@@ -4,26 +4,19 @@ use Rattle.mc_tree.specs.Tree as tree
 use Rattle.mc_tree.specs.Paths.{Position}
 use Rattle.mc_flash.specs.Geometry.{IsLayout}
 use Rattle.mc_flash.specs.Ledger.{most_operations}
-use Rattle.mc_walk.specs.Walks.{Walked, IsFresh, start_of}
+use Rattle.mc_walk.specs.Walks.{Walked, IsFresh}
 use Rattle.mc_explore.specs.Boots.{boots}
-use Rattle.mc_explore.specs.Once.{once}
-use Rattle.mc_explore.specs.Start.{Begun, start_digest}
+use Rattle.mc_explore.specs.Once.{begins, begun_of, once}
+use Rattle.mc_explore.specs.Start.{start_digest}
+use Rattle.mc_boot.specs.PowerOn.{PowerOn}
 use Rattle.mc_explore.specs.State.{State, Explored}
 use Rattle.mc_explore.specs.declared.once.Once.{Once}
 use Rattle.mc_walk.specs.declared.tour.Phase.TheVariants.{Broken}
 use Rattle.mc_explore.specs.Rowing.{Rowed}
 
--- The start of a walk.
-abbrev pub begun_of : Walked Once → Begun
-begun_of w = record { geometry = w.branches.layout; rules = w.branches.rules; content = start_of w.seen }
-
 -- The start of a walk from a flash of these bytes.
-abbrev pub begun_with : Once → List ℕ → List ℕ → Begun
-begun_with once primary secondary = record {
-  geometry = once.layout;
-  rules = once.rules;
-  content = record { primary = primary; secondary = secondary };
-}
+abbrev pub begun_with : Once → List ℕ → List ℕ → PowerOn
+begun_with once primary secondary = begins once (record { primary = primary; secondary = secondary })
 
 -- The state of an explorer on that walk, whose last row is that of a schedule.
 abbrev pub state_of : Walked Once → Position (List ℕ) → State
@@ -38,22 +31,22 @@ explored w position = record {
 }
 
 -- The walk is one from that start with so many cuts, and the flash counts where its kind does.
-pub record IsOurs (counted : Bool) (start : Begun) (bound : ℕ) (w : Walked Once) : Type 0 where
+pub record IsOurs (counted : Bool) (start : PowerOn) (bound : ℕ) (w : Walked Once) : Type 0 where
   pub start_is : begun_of w ≡ start
   pub bound_is : w.bound ≡ bound
   pub few : bound ≤ 16
   pub counted_is : w.seen.ledger.limits.counted ≡ counted
 
 -- What holds of an explorer's rows until they fail.
-abbrev pub IsSound : Bool → Begun → ℕ → Rowed → Type 0
+abbrev pub IsSound : Bool → PowerOn → ℕ → Rowed → Type 0
 IsSound counted start bound rows = rows.phase ≢ Broken → IsOurs counted start bound rows.walk
 
 -- It is the digest of that start, where there is one.
-abbrev pub IsDigestOf : Begun → Option (List ℕ) → Type 0
+abbrev pub IsDigestOf : PowerOn → Option (List ℕ) → Type 0
 IsDigestOf start digest = IfSome digest (λ d. d ≡ start_digest start)
 
 -- A walk that was just loaded for a start.
-pub record IsLoaded (counted : Bool) (start : Begun) (bound : ℕ) (w : Walked Once) : Type 0 where
+pub record IsLoaded (counted : Bool) (start : PowerOn) (bound : ℕ) (w : Walked Once) : Type 0 where
   pub start_is : begun_of w ≡ start
   pub bound_is : w.bound ≡ bound
   pub fresh : IsFresh (once w.branches.rules w.branches.layout) w
@@ -63,7 +56,7 @@ pub record IsLoaded (counted : Bool) (start : Begun) (bound : ℕ) (w : Walked O
   pub valid : IsLayout start.geometry
 
 -- A walk that has come along a schedule, from a start.
-pub record Followed (counted : Bool) (start : Begun) (bound : ℕ) (path : List ℕ) (w : Walked Once) : Type 0 where
+pub record Followed (counted : Bool) (start : PowerOn) (bound : ℕ) (path : List ℕ) (w : Walked Once) : Type 0 where
   pub start_is : begun_of w ≡ start
   pub bound_is : w.bound ≡ bound
   pub path_is : w.path ≡ path

@@ -1,14 +1,10 @@
 //! The schedules of the most cuts: the outcomes behind their last cuts are found among those at the cuts of another boot.
 ghost use Rattle.std.specs.Prelude.{◌≡◌, ℕ, List, ◌+◌, ◌∷◌, ◌++◌, [], ◌<◌, ◌≤◌, ◌^◌, length, slice_get, Some, IfOk, IfSome, MatchOption, true};
 ghost use Rattle.mc_boot.specs.Outcome.{outcome_of, shown};
+ghost use Rattle.mc_boot.specs.PowerOn.{PowerOn, again};
 ghost use Rattle.mc_boot.specs.Rejoin.{place_of};
-ghost use Rattle.mc_flash.specs.Content.{Content};
-ghost use Rattle.mc_flash.specs.Geometry.{Geometry};
-ghost use Rattle.mc_trailer.specs.declared.tables.Rules.{Rules};
-ghost use Rattle.mc_tree.specs.Tree.{landed};
-ghost use Rattle.mc_explore.specs.Boots.{boots};
-ghost use Rattle.mc_explore.specs.LastCuts.{AreAtCuts, AreLastCuts, IsSpent};
-ghost use Rattle.mc_walk.specs.Walks.{start_of};
+ghost use Rattle.mc_explore.specs.LastCuts.{flash_at, AreAtCuts, AreLastCuts, IsSpent};
+ghost use Rattle.mc_explore.specs.Once.{begun_of};
 
 use crate::Schedule;
 use crate::once::Once;
@@ -84,8 +80,8 @@ impl AtCuts {
     pub fn behind<F: Flash>(&self, walk: &Walk<F, Once>, path: &[u32]) -> Option<LastCuts>
         requires stands { walk.now.stands ≡ true }
         requires path { path.now ≡ walk.now.path }
-        ensures cuts { let w = walk.now in IfSome result (AreLastCuts w.branches.rules
-            w.branches.layout (start_of w.seen) self.now.of path.now self.now.outcomes.items) }
+        ensures cuts { IfSome result (AreLastCuts (begun_of walk.now) self.now.of path.now
+            self.now.outcomes.items) }
         ensures fresh { IfSome result (λ cuts. cuts.next ≡ 0) }
     {
         let step = walk.last_step()?;
@@ -112,10 +108,9 @@ impl AtCuts {
     /// what the boot before it began with.
     pub fn keep(&mut self, schedule: &[u32], outcome: Outcome)
         requires few { length schedule.now ≤ 16 }
-        ensures { (r : Rules) (g : Geometry) (start : Content)
-            → AreAtCuts r g start self.old.of self.old.outcomes.items
-            → outcome_of r g (landed (boots r g) start schedule.now) ≡ Some (shown outcome)
-            → AreAtCuts r g start self.new.of self.new.outcomes.items }
+        ensures { (x : PowerOn) → AreAtCuts x self.old.of self.old.outcomes.items
+            → outcome_of (again x (flash_at x schedule.now)) ≡ Some (shown outcome)
+            → AreAtCuts x self.new.of self.new.outcomes.items }
     {
         let Some((last, before)) = schedule.split_last() else {
             return;

@@ -29,12 +29,11 @@ fn bytes_stand(bytes: &[u8])
 
 impl Once {
     ghost use Rattle.std.specs.Prelude.{◌≡◌, Some, IfOk, IfErr, OnOk};
-    ghost use Rattle.mc_flash.specs.Ledger.{most_operations, no_counts};
+    ghost use Rattle.mc_flash.specs.Ledger.{most_operations};
     ghost use Rattle.mc_flash.specs.Seen.{Keeps};
-    ghost use Rattle.mc_flash.specs.Spends.{Allows, LeaveRoom, Spends, Stays, plus};
-    ghost use Rattle.mc_boot.specs.Runs.{left_by};
+    ghost use Rattle.mc_flash.specs.Spends.{Allows, HasRoom, Spends, Stays};
     ghost use Rattle.mc_walk.specs.Kind.{IsChild, TellsChild};
-    ghost use Rattle.mc_explore.specs.Once.{once, most_of, CanPass, CanTell, IsBegun, IsTold, LeavesAlike, Passes};
+    ghost use Rattle.mc_explore.specs.Once.{begins, once, most_of, BeginsOn, CanPass, CountsAtMost, HasRun, IsBegun, IsTold, LeavesAlike, Passes};
 
     /// The boot at power-on from a flash.
     pub fn boot<F: Flash>(&self, flash: &F) -> Boot
@@ -56,16 +55,12 @@ impl Once {
         boot: Boot,
         start: &Start,
     ) -> Result<Told, FlashError>
-        requires begun { IsBegun self.now.rules (F.seen flash.old) boot }
-        requires layout { (F.seen flash.old).geometry ≡ self.now.layout }
+        requires begun { BeginsOn self.now.rules self.now.layout (F.seen flash.old) boot }
         requires room { Allows (most_of self.now.rules self.now.layout) (F.seen flash.old) }
-        ensures told { IfOk result (IsTold self.now.rules self.now.layout
-            (F.seen flash.old).content) }
-        ensures left { OnOk result (left_by self.now.rules self.now.layout
-            (F.seen flash.old).content ≡ Some (F.seen flash.new).content) }
-        ensures counts { LeaveRoom (F.seen flash.new).ledger.counts no_counts
-            (plus (F.seen flash.old).ledger.counts (most_of self.now.rules self.now.layout)) }
-        ensures keeps { Keeps (F.seen flash.old) (F.seen flash.new) }
+        ensures ran { IfOk result (λ told. HasRun (begins self.now (F.seen flash.old).content) told
+            (F.seen flash.new).content) }
+        ensures counts { CountsAtMost (most_of self.now.rules self.now.layout) (F.seen flash.old)
+            (F.seen flash.new) }
         ensures spends { Spends (most_operations self.now.rules.grain self.now.layout)
             (F.seen flash.old) result (F.seen flash.new) }
         ensures err { IfErr result (λ e. e ≡ FlashError.Memory) }
@@ -78,9 +73,9 @@ impl Once {
 
     // The same, and goes back.
     fn tell<F: Flash>(&self, flash: &mut F, boot: Boot, start: &Start) -> Result<Told, FlashError>
-        requires { CanTell self.now.rules self.now.layout (F.seen flash.old) boot }
-        ensures told { IfOk result (IsTold self.now.rules self.now.layout
-            (F.seen flash.old).content) }
+        requires begun { BeginsOn self.now.rules self.now.layout (F.seen flash.old) boot }
+        requires room { HasRoom (most_of self.now.rules self.now.layout) (F.seen flash.old) }
+        ensures told { IfOk result (IsTold (begins self.now (F.seen flash.old).content)) }
         ensures stays { OnOk result (Stays (F.seen flash.old) (F.seen flash.new)) }
         ensures spends { Spends (most_operations self.now.rules.grain self.now.layout)
             (F.seen flash.old) result (F.seen flash.new) }

@@ -33,8 +33,8 @@ fn write_lines<S: RowSource, W: Write>(
         + limit * S.most_for_row (S.state source.old)) }
     ensures goes { GoesOn S.ledger (λ e. S.listing.position (S.state e) ≡ Lost) S.counted
         source.old result source.new }
-    ensures unwritten { IsErrOf result ExploreError.Failed → writer.new ≡ writer.old }
-    ensures err { IfErr result (λ e. (e ≡ ExploreError.Memory) ⊎ (e ≡ ExploreError.Failed)
+    ensures failed { (IsErrOf result ExploreError.Failed → writer.new ≡ writer.old)
+        × IfErr result (λ e. (e ≡ ExploreError.Memory) ⊎ (e ≡ ExploreError.Failed)
         ⊎ (e ≡ ExploreError.Write)) }
 {
     let mut room = limit;

@@ -6,7 +6,9 @@ ghost use Rattle.mc_boot.specs.Runs.{after};
 ghost use Rattle.mc_walk.specs.Walks.{IsThere};
 ghost use Rattle.mc_explore.specs.Once.{once};
 ghost use Rattle.mc_explore.specs.Replay.{IsReplayed, Refuses, Restarts};
-ghost use Rattle.mc_explore.specs.View.{Followed, IsLoaded, begun_of};
+ghost use Rattle.mc_explore.specs.Start.{begun};
+ghost use Rattle.mc_explore.specs.View.{Followed, IsLoaded};
+ghost use Rattle.mc_explore.specs.Once.{begun_of};
 
 use crate::loading::load;
 use crate::once::{Once, Told};
@@ -53,8 +55,7 @@ fn follow<F: Flash>(
         (once at.0.branches.rules at.0.branches.layout) at.0 at.1) }
     ensures limits { IfOk result
         (λ at. at.0.seen.ledger.limits ≡ walk.seen.ledger.limits) }
-    ensures refused { let s = begun_of walk in IfErr result
-        (Refuses s.rules s.geometry s.content cuts.now) }
+    ensures refused { IfErr result (Refuses (begun_of walk) cuts.now) }
 {
     walk.begin(start)?;
     if !walk.follow(cuts, start)? {
@@ -77,9 +78,8 @@ pub fn replay_on<F: Flash>(
     requires loaded { IsLoaded F.counted (begun_of walk) (length cuts.now) walk }
     requires few { length cuts.now ≤ 16 }
     ensures replayed { let s = begun_of walk in MatchResult result
-        (λ done. IsReplayed s.rules s.geometry s.content cuts.now (shown done.0)
-        (F.seen done.1).content)
-        (λ e. Refuses s.rules s.geometry s.content cuts.now e) }
+        (λ done. IsReplayed s cuts.now (shown done.0) (F.seen done.1).content)
+        (λ e. Refuses s cuts.now e) }
     ensures geometry { IfOk result
         (λ done. (F.seen done.1).geometry ≡ (begun_of walk).geometry) }
     ensures limits { IfOk result
@@ -104,16 +104,15 @@ pub fn replay<F: Flash>(
     schedule: &Schedule,
 ) -> Result<(Outcome, F), ReplayError>
     ensures replayed { MatchResult result
-        (λ done. IsReplayed start.now.rules start.now.geometry start.now.content
-        schedule.now (shown done.0) (F.seen done.1).content)
-        (λ e. Refuses start.now.rules start.now.geometry start.now.content schedule.now e) }
+        (λ done. IsReplayed (begun start.now) schedule.now (shown done.0) (F.seen done.1).content)
+        (λ e. Refuses (begun start.now) schedule.now e) }
     ensures geometry { IfOk result (λ done. (F.seen done.1).geometry ≡ start.now.geometry) }
     // A flash that counts has room for exactly so many boots.
     ensures exact { IfOk result (λ done. F.counted ≡ true → (F.seen done.1).ledger.limits
         ≡ limits_for start.now.rules.grain start.now.geometry (length schedule.now + 1)) }
     // The restart theorem, for the schedule that was replayed.
-    ensures restarts { IfOk result (λ done. Restarts start.now.rules start.now.geometry
-        start.now.content schedule.now (shown done.0) (F.seen done.1).content) }
+    ensures restarts { IfOk result (λ done. Restarts (begun start.now) schedule.now
+        (shown done.0) (F.seen done.1).content) }
 {
     restart_law();
     let cuts = schedule.cuts();
@@ -134,9 +133,8 @@ pub fn flash_at_cut<F: Flash>(
     schedule: &Schedule,
 ) -> Result<F, ReplayError>
     ensures cut { MatchResult result
-        (λ flash. after start.now.rules start.now.geometry start.now.content schedule.now
-        ≡ Some (F.seen flash).content)
-        (λ e. Refuses start.now.rules start.now.geometry start.now.content schedule.now e) }
+        (λ flash. after (begun start.now) schedule.now ≡ Some (F.seen flash).content)
+        (λ e. Refuses (begun start.now) schedule.now e) }
     ensures geometry { IfOk result (λ flash. (F.seen flash).geometry ≡ start.now.geometry) }
     // A flash that counts has room for exactly so many boots.
     ensures exact { IfOk result (λ flash. F.counted ≡ true → (F.seen flash).ledger.limits

@@ -1,6 +1,7 @@
 //! The rows of an exploration, one after another.
 ghost use Rattle.std.specs.Prelude.{◌≡◌, ℕ, List, ◌+◌, ◌≤◌, [], true, length, IfOk, IfSome};
-ghost use Rattle.mc_walk.specs.Walks.{IsFresh, start_of};
+ghost use Rattle.mc_walk.specs.Walks.{IsFresh};
+ghost use Rattle.mc_explore.specs.Once.{begun_of};
 ghost use Rattle.mc_explore.specs.LastCuts.{AreAtCuts, AreLastCuts};
 ghost use Rattle.mc_explore.specs.Once.{once};
 ghost use Rattle.mc_explore.specs.Rowing.{CostsRow, FindsRow, StandsFor, kind_of};
@@ -64,13 +65,11 @@ fn go_on<F: Flash>(
 // Keeps what is told where a walk came to, and says which last cuts are told without the flash.
 fn arrive<F: Flash>(walk: &Walk<F, Once>, path: &[u32], at_cuts: &mut AtCuts) -> Option<LastCuts>
     requires stands { walk.now.stands ≡ true }
-    requires path { path.now ≡ walk.now.path }
-    requires few { length path.now ≤ 16 }
-    ensures kept { let w = walk.now in AreAtCuts w.branches.rules w.branches.layout
-        (start_of w.seen) at_cuts.old.of at_cuts.old.outcomes.items → AreAtCuts w.branches.rules
-        w.branches.layout (start_of w.seen) at_cuts.new.of at_cuts.new.outcomes.items }
-    ensures cuts { let w = walk.now in IfSome result (AreLastCuts w.branches.rules
-        w.branches.layout (start_of w.seen) at_cuts.new.of path.now at_cuts.new.outcomes.items) }
+    requires path { (path.now ≡ walk.now.path) × (length path.now ≤ 16) }
+    ensures kept { let x = begun_of walk.now in AreAtCuts x at_cuts.old.of
+        at_cuts.old.outcomes.items → AreAtCuts x at_cuts.new.of at_cuts.new.outcomes.items }
+    ensures cuts { IfSome result (AreLastCuts (begun_of walk.now) at_cuts.new.of path.now
+        at_cuts.new.outcomes.items) }
     ensures deep { IfSome result (λ _. length path.now + 1 ≡ walk.now.bound) }
     ensures fresh { IfSome result (λ cuts. cuts.next ≡ 0) }
 {

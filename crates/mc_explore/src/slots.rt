@@ -4,6 +4,7 @@ ghost use Rattle.mc_flash.specs.Content.{size_of, put, IsSized};
 ghost use Rattle.mc_flash.specs.declared.op.Slot.TheVariants.{Primary, Secondary};
 ghost use Rattle.mc_trailer.specs.Places.{place, magic_bytes};
 ghost use Rattle.mc_boot.specs.Plan.{plain};
+ghost use Rattle.mc_boot.specs.PowerOn.{power_on};
 ghost use Rattle.mc_boot.specs.Runs.{left_by};
 ghost use Rattle.mc_boot.specs.Start.{image_bytes, filled, placed, test_flash, perm_flash, start_flash};
 
@@ -108,8 +109,8 @@ fn booted<F: Flash>(
 ) -> Result<Content, FlashError>
     requires primary { length primary.now ≡ size_of layout.now Primary }
     requires secondary { length secondary.now ≡ size_of layout.now Secondary }
-    ensures content { IfOk result (λ s. left_by plain layout.now
-        (record { primary = primary.now; secondary = secondary.now }) ≡ Some s) }
+    ensures content { IfOk result (λ s. left_by (power_on plain layout.now
+        (record { primary = primary.now; secondary = secondary.now })) ≡ Some s) }
     ensures sized { IfOk result (λ s. IsSized layout.now s) }
     ensures err { IfErr result (λ e. e ≡ FlashError.Memory) }
 {
@@ -128,8 +129,8 @@ fn revert_slots(
 ) -> Result<Content, FlashError>
     requires first { length first.now ≤ size_of layout.now Secondary }
     requires second { length second.now ≤ size_of layout.now Primary }
-    ensures content { IfOk result (λ s. left_by plain layout.now
-        (test_flash layout.now second.now first.now) ≡ Some s) }
+    ensures content { IfOk result (λ s. left_by (power_on plain layout.now
+        (test_flash layout.now second.now first.now)) ≡ Some s) }
     ensures sized { IfOk result (λ s. IsSized layout.now s) }
     ensures err { IfErr result (λ e. e ≡ FlashError.Memory) }
 {

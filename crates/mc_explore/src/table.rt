@@ -3,6 +3,7 @@ ghost use Rattle.std.specs.Prelude.{◌≡◌, ℕ, ◌+◌, ◌<◌, ◌≤◌,
 ghost use Rattle.mc_flash.specs.Content.{Content};
 ghost use Rattle.mc_flash.specs.Geometry.{Geometry};
 ghost use Rattle.mc_trailer.specs.declared.tables.Rules.{Rules};
+ghost use Rattle.mc_boot.specs.PowerOn.{power_on};
 ghost use Rattle.mc_boot.specs.Rejoin.{IsRejoined, place_of};
 ghost use Rattle.mc_boot.specs.Runs.{ops_of};
 ghost use Rattle.mc_tree.specs.Weights.{from, placed_below};
@@ -86,7 +87,7 @@ impl Position {
     fn census(&self, level: &[Census], sums: &[Census], bound: u32) -> Census
         ensures { (r : Rules) (g : Geometry) (s u : Content) (most : ℕ)
             → IsPosition r g s most u self.now → IsLevel r g s bound level.now
-            → AreSums (λ c. weigh_fewer r g bound (at_cut r g s c)) (length level.now) sums.now
+            → AreSums (λ c. weigh_fewer r g bound (at_cut (power_on r g s) c)) (length level.now) sums.now
             → bound < most → result ≡ cut_off (weigh r g bound u) }
     {
         match &self.below {
@@ -105,9 +106,10 @@ fn next_level(
     bound: u32,
 ) -> Result<Vec<Census>, AllocError>
     ensures { IfOk result (λ next. (r : Rules) (g : Geometry) (s : Content) (most : ℕ)
-        → ArePositions r g s most positions.now → length positions.now ≡ length (ops_of r g s)
+        → ArePositions r g s most positions.now
+        → length positions.now ≡ length (ops_of (power_on r g s))
         → IsLevel r g s bound level.now
-        → AreSums (λ c. weigh_fewer r g bound (at_cut r g s c)) (length level.now) sums.now
+        → AreSums (λ c. weigh_fewer r g bound (at_cut (power_on r g s) c)) (length level.now) sums.now
         → bound < most → IsLevel r g s (bound + 1) next.items) }
 {
     let mut next = Vec::new(alloc);
@@ -128,7 +130,7 @@ pub(crate) fn column_of(
 ) -> Result<Vec<Census>, AllocError>
     ensures { IfOk result (λ column. (r : Rules) (g : Geometry) (s : Content)
         → own ≡ cut_off (own_totals r g s) → ArePositions r g s bound positions.now
-        → count ≡ length positions.now → count ≡ length (ops_of r g s)
+        → count ≡ length positions.now → count ≡ length (ops_of (power_on r g s))
         → IsColumn r g s (bound + 1) column.items) }
 {
     let mut column = Vec::new(alloc);

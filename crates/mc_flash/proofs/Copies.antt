@@ -8,7 +8,7 @@ use Rattle.mc_flash.specs.Geometry.{Geometry}
 use Rattle.mc_flash.specs.Ledger.{Counts, Spot}
 use Rattle.mc_flash.specs.Seen.{Seen, Does, GivesUp, Loads, Marks, no_spot, went_back}
 use Rattle.mc_flash.specs.Snap.{ample, copies_seen, copy_seen}
-use Rattle.mc_flash.specs.DoneFacts.{done_as, done_not}
+use Rattle.mc_flash.specs.facts.Done.{done_as, done_not}
 use Rattle.mc_flash.specs.declared.flash.FlashError.{FlashError}
 use Rattle.mc_flash.specs.declared.flash.FlashError.TheVariants as errors
 use Rattle.mc_flash.specs.declared.flash.Grain.{Grain}

@@ -11,7 +11,7 @@ use Rattle.mc_flash.specs.Content.{Content, IsSized, bytes_of, with_bytes, put, 
 use Rattle.mc_flash.specs.Apply.{apply, in_slot, erased}
 use Rattle.mc_flash.specs.Ledger.{Ledger, Limits, Spot, IsFull, noted, saves}
 use Rattle.mc_flash.specs.Seen.{Seen, Does, no_spot, went_back}
-use Rattle.mc_flash.specs.DoneFacts.{done_as, done_not}
+use Rattle.mc_flash.specs.facts.Done.{done_as, done_not}
 use Rattle.mc_flash.specs.declared.flash.FlashError.TheVariants as errors
 use Rattle.mc_flash.specs.Journal.{Change, changes, taken_back, all_saved, spot_after, journal_of, IsInside, Ascend, IsSound}
 use Rattle.mc_flash.specs.declared.op.Slot.{Slot}

@@ -10,7 +10,7 @@ use Rattle.mc_flash.specs.Geometry.{Geometry}
 use Rattle.mc_flash.specs.Blank.{is_blank}
 use Rattle.mc_flash.specs.Content.{Content, bytes_of, byte, with_bytes, put, size_of, IsSized}
 use Rattle.mc_flash.specs.Apply.{programmed, in_slot, apply, CanTry}
-use Rattle.mc_flash.specs.Facts.{sector_inside}
+use Rattle.mc_flash.specs.facts.Layouts.{sector_inside}
 use Rattle.mc_flash.specs.declared.op.Op.{Op}
 use Rattle.mc_flash.specs.declared.op.Op.TheVariants as ops
 use Rattle.mc_flash.specs.declared.op.Slot.{Slot}
@@ -142,30 +142,7 @@ copied s from at len = between at (at + len) (bytes_of s from)
 pub length-copied : (s : Content) (from : Slot) (at len : ℕ) → at + len ≤ length (bytes_of s from) → length (copied s from at len) ≡ len
 length-copied s from at len fits = omega (arith, length-between (bytes_of s from) at (at + len) fits)
 
-pub copied_at : (s : Content) (from : Slot) (at len i : ℕ) → i < len → slice_index (copied s from at len) i ≡ byte s from (at + i)
-copied_at s from at len i short = get_or-between (bytes_of s from) at (at + len) i 0 (omega (arith, short))
-
 -- A copy is the program of the bytes that its source holds.
 pub copy_is_program : (g : Geometry) (s : Content) (from to : Slot) (at offset len : ℕ) → apply g (ops.Copy from at to offset len) s ≡ apply g (ops.Program to offset (copied s from at len)) s
 unfolding apply
 copy_is_program g s from to at offset len = refl
-
--- What an operation leaves has the slots' lengths.
-pub apply_sized : (g : Geometry) (op : Op) (s t : Content) → CanTry g op → IsSized g s → apply g op s ≡ Some t → IsSized g t
-apply_sized g (ops.Erase slot sector) s t can sized is =
-    let made = erase_changes g s slot sector (omega (arith, sector_inside g slot sector can, sized_is g s slot sized)) in
-    let same : made.0 ≡ t = same_content made.0 t (sym made.1 ∙ is) in
-    subst (IsSized g) same (changed_sized g s made.0 slot (sector * g.sector) (replicate g.sector 255) made.2 sized)
-apply_sized g (ops.Program slot at new) s t can sized is =
-    let fits : at + length new ≤ length (bytes_of s slot) = omega (arith, can.inside, sized_is g s slot sized) in
-    let made = program_changes g s slot at new fits (program_was_blank g s t slot at new fits is) in
-    let same : made.0 ≡ t = same_content made.0 t (sym made.1 ∙ is) in
-    subst (IsSized g) same (changed_sized g s made.0 slot at new made.2 sized)
-apply_sized g (ops.Copy from at to offset len) s t can sized is =
-    let whole = length-copied s from at len (omega (arith, can.0.inside, sized_is g s from sized)) in
-    let new : List ℕ = copied s from at len in
-    let done : apply g (ops.Program to offset (copied s from at len)) s ≡ Some t = sym (copy_is_program g s from to at offset len) ∙ is in
-    let fits : offset + length (copied s from at len) ≤ length (bytes_of s to) = omega (arith, whole, can.1.inside, sized_is g s to sized) in
-    let made = program_changes g s to offset (copied s from at len) fits (program_was_blank g s t to offset (copied s from at len) fits done) in
-    let same : made.0 ≡ t = same_content made.0 t (sym made.1 ∙ done) in
-    subst (IsSized g) same (changed_sized g s made.0 to offset (copied s from at len) made.2 sized)

@@ -6,7 +6,7 @@ use Rattle.std.proofs.lemmas.Bool.{cases_lt}
 use Rattle.std.proofs.lemmas.Bool.Decides.{nat_tests}
 use Rattle.std.proofs.lemmas.Grind.{div_ceil_times}
 use Rattle.std.proofs.Math.Nat.{mul-le-mul_right}
-use Rattle.mc_flash.specs.Facts.{fits_few, greatest_is}
+use Rattle.mc_flash.specs.facts.Layouts.{fits_few, greatest_is}
 use Rattle.mc_flash.specs.Geometry.{Geometry, IsLayout, fits, greatest_sectors}
 
 -- The bytes of the sectors that an image may have at most.

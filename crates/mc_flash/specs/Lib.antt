@@ -8,13 +8,10 @@ pub mod Seen
 pub mod Reserve
 pub mod Journal
 pub mod Snap
-pub mod Facts
 pub mod Largest
-pub mod LedgerFacts
 pub mod Changes
 pub mod Pieces
 pub mod Worked
 pub mod Texts
-pub mod DoneFacts
 pub mod Spends
-pub mod SpendsFacts
+pub mod facts

@@ -2,7 +2,7 @@
 use Rattle.std.specs.Prelude.{◌<◌, ℕ, length}
 use Rattle.std.proofs.Math.Nat.{mod_self}
 use Rattle.mc_flash.specs.Geometry.{Geometry, IsLayout}
-use Rattle.mc_flash.specs.Facts.{whole_sector, small_unit}
+use Rattle.mc_flash.specs.facts.Layouts.{whole_sector, small_unit}
 use Rattle.mc_flash.specs.Apply.{CanTry, IsRange}
 use Rattle.mc_flash.specs.Content.{sectors_of}
 use Rattle.mc_flash.specs.declared.op.Slot.{Slot}

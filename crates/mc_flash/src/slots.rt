@@ -107,7 +107,7 @@ impl Slots {
     }
 
     /// The bytes of a sector.
-    #[tactic(auto, using(crate::specs::Facts::sector_inside))]
+    #[tactic(auto, using(crate::specs::facts::Layouts::sector_inside))]
     pub fn sector(&self, slot: Slot, sector: u32) -> &[u8]
         requires { sector < sectors_of self.now.layout slot }
         ensures value { let at = sector * self.now.layout.sector in result.now

@@ -18,11 +18,6 @@ use Rattle.mc_image.proofs.WalkSteps.{take_again}
 -- a piece more of an area
 module _ (a : ProtectedArea) (head : Gather 4) (walk : Walk) (piece entries : List ℕ) (is_head : held head ≡ take 4 (held a.head ++ piece))
     (is_entries : entries ≡ drop (4 - length (held a.head)) piece) where
-  pub entries_fit : (bytes : List ℕ) → Follows a bytes → length bytes + length piece ≤ 65535 → length (drop 4 bytes) + length entries ≤ 65535
-  entries_fit bytes f le =
-      let l = ap length is_entries ∙ length-drop (4 - length (held a.head)) piece in
-      omega (arith, l, length-drop 4 bytes, le)
-
   pub follows_more : ((bytes : List ℕ) → Walks a.walk bytes → Walks walk (bytes ++ entries)) → (bytes : List ℕ) → Follows a bytes → Follows (record { head = head; walk = walk }) (bytes ++ piece)
   follows_more goes bytes f =
       let l = ap length f.head ∙ length-take 4 bytes in

@@ -7,7 +7,7 @@ use Rattle.mc_image.specs.Faults.{fault_if, first_fault}
 use Rattle.mc_image.specs.Valid.{Identity, identity, is_good, is_valid, id_of, image_fault}
 use Rattle.mc_image.specs.declared.error.ImageError.{ImageError}
 use Rattle.mc_image.specs.declared.error.ImageError.TheVariants.{WrongDigest}
-use Rattle.mc_image.specs.ValidFacts.{good_false, good_true}
+use Rattle.mc_image.specs.facts.Valid.{good_false, good_true}
 
 pub fault_read : (b : List ℕ) (e : ImageError) → first_fault b ≡ Some e → image_fault b ≡ Some e
 unfolding image_fault

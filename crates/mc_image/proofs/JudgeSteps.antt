@@ -79,10 +79,6 @@ behind_more s bytes taken b goes = record {
   stands = goes b.rest b.stands;
 }
 
--- a protected area is not longer than its field tells
-pub protected_small : (h : Header) (front rest : List ℕ) → HasHeader h front → IsBytes front → h.protected < 2 ^ 16
-protected_small h front rest has are = let e = has.fields.protected in let l = u16_at-lt 10 front are in omega (arith, e, l)
-
 -- the front of a piece
 pub split_bytes : (t : ℕ) (piece inside rest : List ℕ) → inside ≡ take t piece → rest ≡ drop t piece → IsBytes piece → (piece ≡ inside ++ rest) × IsBytes inside
 split_bytes t piece inside rest e f are =

@@ -12,7 +12,7 @@ use Rattle.mc_image.specs.Faults.{fault_if, ◌<+>◌, first_fault}
 use Rattle.mc_image.specs.Valid.{IsValid, Identity, identity, is_good, is_valid, id_of, image_fault}
 use Rattle.mc_image.specs.declared.error.ImageError.{ImageError}
 use Rattle.mc_image.specs.declared.error.ImageError.TheVariants.{WrongDigest}
-use Rattle.mc_image.specs.ValidFacts.{test_good, good_true}
+use Rattle.mc_image.specs.facts.Valid.{test_good, good_true}
 use Rattle.mc_image.proofs.Sound.{none_both, both_none}
 use Rattle.mc_image.proofs.ImageLaws.{begins_is, begins_none, begins_one}
 

@@ -23,7 +23,7 @@ use Rattle.mc_image.proofs.Checked.{from_parts}
 use Rattle.mc_image.proofs.FrontLaws.{fault_verdict, fault_behind, after_is, body_whole, version_more, header_ends, protected_end_more}
 use Rattle.mc_image.proofs.ImageLaws.{cut_is, reading, size_is}
 use Rattle.mc_image.proofs.PlainLaws.{plain_entries, plain_short, digest_good}
-use Rattle.mc_image.specs.ValidFacts.{good_false, good_true}
+use Rattle.mc_image.specs.facts.Valid.{good_false, good_true}
 use Rattle.mc_image.proofs.WalkLaws.{u16_more}
 
 -- a head stays without a fault, whatever follows

@@ -74,9 +74,6 @@ capped_version : (ns : List ℕ) → AreInRange ns → version_from (capped_numb
 capped_version ns h = same_version (below_is _ (2 ^ 8) (omega arith) h.major) (below_is _ (2 ^ 8) (omega arith) h.minor) (below_is _ (2 ^ 16) (omega arith) h.revision)
     (below_is _ (2 ^ 32) (omega arith) h.build)
 
-ok_version : Version → Result Version VersionError
-ok_version v = Ok v
-
 pub fitted_in : (ns : List ℕ) → AreInRange ns → fitted (four ns) ≡ Ok (version_of ns)
 unfolding fitted
 fitted_in ns h =

@@ -163,9 +163,6 @@ in_front c s o y e =
       | false ↦ λ t f. absurd cc
     ] refl e
 
-some_list : (xs ys : List ℕ) → Some xs ≡ Some ys → xs ≡ ys
-some_list xs ys e = cc
-
 -- what is read behind a number
 pub record Takes (ss rest xs : List ℕ) : Type 0 where
   pub numbers : List ℕ

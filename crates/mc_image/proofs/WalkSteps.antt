@@ -293,9 +293,6 @@ stepped g settles = record { taken = g.taken; split = g.split; some = g.some; ho
 pub gone_on : {old new : List ℕ → Type 0} (piece rest : List ℕ) → Goes old new piece rest → (all seen : List ℕ) → seen ++ piece ≡ all → old seen → (more : List ℕ) × (more ++ rest ≡ all) × new more
 gone_on piece rest g all seen e h = (seen ++ g.taken, append_assoc seen g.taken rest ∙ ap (λ (x : List ℕ). seen ++ x) (sym g.split) ∙ e, g.holds seen h)
 
-pub gone_less : {old new : List ℕ → Type 0} (piece rest : List ℕ) → Goes old new piece rest → length rest < length piece
-gone_less piece rest g = let l = ap length g.split ∙ length-append g.taken rest in let s = g.some in omega (arith, l, s)
-
 pub gone_all : (p : List ℕ → Type 0) (all rest seen : List ℕ) → length rest ≡ 0 → seen ++ rest ≡ all → p seen → p all
 gone_all p all rest seen none e h = subst p (sym (append-nil seen) ∙ ap (λ (x : List ℕ). seen ++ x) (sym (nothing_is rest none)) ∙ e) h
 

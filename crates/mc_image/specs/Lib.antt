@@ -5,10 +5,10 @@ pub mod Headers
 pub mod Faults
 pub mod Gathered
 pub mod Valid
-pub mod ValidFacts
 pub mod Judging
 pub mod Listing
 pub mod Walking
 pub mod Writing
 pub mod VersionText
 pub mod VersionReading
+pub mod facts

@@ -57,12 +57,6 @@ at_write : (wanted : List ℕ → Result (List ℕ) ToolError) (known old new : 
     → IfSome known (λ xs. (text : List ℕ) × (wanted xs ≡ Ok text) × AppendsFront old new text) → Refuses wanted known old new e
 at_write wanted known old new e h front = let P : ToolError → Type 0 = λ x. Refuses wanted known old new x in subst P (sym h) front
 
-pub answered_writing : {A : Type 0} (wanted : List ℕ → Result (List ℕ) ToolError) (known old new : Option (List ℕ)) (xs text : List ℕ) (r : Result A ToolError) → IfSome known (λ ys. xs ≡ ys)
-    → wanted xs ≡ Ok text
-    → OnOk r (Appends old new text) → IfErr r (λ e. (e ≡ Write) × AppendsFront old new text) → Answers wanted known old new r
-answered_writing wanted known old new xs text (Ok x) same h whole front = known_text wanted known xs text (Appends old new) same h whole
-answered_writing wanted known old new xs text (Err e) same h whole front = at_write wanted known old new e front.0 (known_text wanted known xs text (AppendsFront old new) same h front.1)
-
 known_all : (wanted : List ℕ → Result (List ℕ) ToolError) (known : Option (List ℕ)) (e : ToolError) → ((xs : List ℕ) → wanted xs ≡ Err e) → IfSome known (λ xs. wanted xs ≡ Err e)
 known_all wanted None e h = tt
 known_all wanted (Some xs) e h = h xs

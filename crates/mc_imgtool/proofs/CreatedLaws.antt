@@ -64,10 +64,6 @@ pub made_valid : {A : Type 0} (view : A → List ℕ) (o : CreateOptions) (image
 made_valid view o image (Err e) h gives = tt
 made_valid view o image (Ok x) h gives = let P : Result (List ℕ) ToolError → Type 0 = λ w. IfOk w IsValid in subst P gives (slotted_valid o image h)
 
--- the wanted bytes are valid where they are made
-pub wanted_valid : {A : Type 0} (view : A → List ℕ) (wanted : Result (List ℕ) ToolError) (x : A) → wanted ≡ Ok (view x) → IsValid (view x) → IfOk wanted IsValid
-wanted_valid view wanted x e h = let P : Result (List ℕ) ToolError → Type 0 = λ w. IfOk w IsValid in subst P (sym e) h
-
 -- no image error is wanted
 slot_no_image : (b : Bool) (text : List ℕ) (e : ImageError) → cond b (Err SlotTooSmall) (Ok text) ≡ Err (image_error e) → ⊥
 slot_no_image true text e h = cc

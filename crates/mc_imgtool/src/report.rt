@@ -74,7 +74,7 @@ fn entry_line(alloc: Global, tlv: &Tlv<'_>) -> Result<String, AllocError>
 }
 
 /// Whether the digest of an image is right.
-#[tactic(auto, using(mc_image::specs::ValidFacts::good_true, mc_image::specs::ValidFacts::good_false))]
+#[tactic(auto, using(mc_image::specs::facts::Valid::good_true, mc_image::specs::facts::Valid::good_false))]
 fn is_good(image: &ImageView<'_>) -> bool
     ensures { result ≡ is_good image.now }
 {

@@ -1,5 +1,3 @@
 pub mod Fronts
-pub mod FrontFacts
-pub mod ResultFacts
 pub mod Joined
 pub mod facts

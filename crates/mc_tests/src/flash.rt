@@ -177,7 +177,7 @@ fn loaded<F: Flash>(alloc: Global) -> Result<F, Fail>
 }
 
 /// Whether a unit is programmed, and refused where it stands.
-#[tactic(auto, using(mc_flash::specs::DoneFacts::does_keep))]
+#[tactic(auto, using(mc_flash::specs::facts::Done::does_keep))]
 fn is_programmed<F: Flash>(flash: &mut F) -> Result<bool, FlashError>
     requires { (F.seen flash.old).geometry ≡ worked }
 {
@@ -189,7 +189,7 @@ fn is_programmed<F: Flash>(flash: &mut F) -> Result<bool, FlashError>
 }
 
 /// Whether bytes are copied, and refused where others stand.
-#[tactic(auto, using(mc_flash::specs::DoneFacts::does_keep))]
+#[tactic(auto, using(mc_flash::specs::facts::Done::does_keep))]
 fn is_copied<F: Flash>(flash: &mut F) -> Result<bool, FlashError>
     requires { (F.seen flash.old).geometry ≡ worked }
 {
@@ -208,7 +208,7 @@ fn is_copied<F: Flash>(flash: &mut F) -> Result<bool, FlashError>
 
 /// Whether a sector that was erased behind a mark is given back. The places of the marks before it, behind it, and behind
 /// the way back.
-#[tactic(auto, using(mc_flash::specs::DoneFacts::does_keep), unfolding(mc_flash::specs::Seen::went_back))]
+#[tactic(auto, using(mc_flash::specs::facts::Done::does_keep), unfolding(mc_flash::specs::Seen::went_back))]
 fn is_given_back<F: Flash>(flash: &mut F) -> Result<(bool, [usize; 3]), FlashError>
     requires geometry { (F.seen flash.old).geometry ≡ worked }
     requires marks { (F.seen flash.old).marks ≡ [] }

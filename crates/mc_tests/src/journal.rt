@@ -37,7 +37,7 @@ fn counts(flash: &JournalFlash) -> [u64; 4] {
 
 /// Marks and erases a sector; marks, writes a unit, copies it to that sector, and is refused to write it again. The places
 /// of the marks, the counts before and after each part, and the refusal.
-#[tactic(auto, using(mc_flash::specs::DoneFacts::does_keep))]
+#[tactic(auto, using(mc_flash::specs::facts::Done::does_keep))]
 fn operated(
     flash: &mut JournalFlash,
 ) -> Result<([usize; 2], [[u64; 4]; 3], Result<(), FlashError>), FlashError>
@@ -94,7 +94,7 @@ fn operations_are_counted_and_taken_back(rt: HostRuntime) -> Result<(), Fail> {
 
 /// Takes the marks, erases and entries that there is room for. The places of the marks, the counts after the erases and at
 /// the end, and what is refused on the way.
-#[tactic(auto, using(mc_flash::specs::DoneFacts::does_keep))]
+#[tactic(auto, using(mc_flash::specs::facts::Done::does_keep))]
 fn filled(
     flash: &mut JournalFlash,
 ) -> Result<([usize; 2], [[u64; 4]; 2], [Option<FlashError>; 4]), FlashError>

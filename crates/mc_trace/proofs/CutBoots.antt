@@ -5,17 +5,17 @@ use Rattle.std.proofs.Common.{arith, inl, inr, sym, ap, subst, append-nil, ◌�
 use Rattle.mc_flash.specs.Content.{Content}
 use Rattle.mc_flash.specs.Geometry.{Geometry}
 use Rattle.mc_flash.specs.declared.op.Op.{Op}
-use Rattle.mc_output.specs.FrontFacts.{IsOut, out_all, out_begun, out_front, out_more}
+use Rattle.mc_output.specs.facts.Fronts.{IsOut, out_all, out_begun, out_front, out_more}
 use Rattle.mc_output.specs.Fronts.{AppendsFront}
-use Rattle.mc_trailer.specs.declared.tables.Rules.{Rules}
 use Rattle.mc_trailer.specs.declared.tables.SwapType.{SwapType}
 use Rattle.mc_boot.specs.Boot.{Progress, begun}
 use Rattle.mc_boot.specs.Plan.{plan}
 use Rattle.mc_boot.specs.Run.{HasCome}
-use Rattle.mc_boot.specs.RunFacts.{come_at, come_count, come_front, come_ops}
+use Rattle.mc_boot.specs.facts.Run.{come_at, come_count, come_front, come_ops}
 use Rattle.mc_boot.specs.Runs.{happening, ops_of}
 use Rattle.mc_explore.specs.Boots.{at_cut, content_or}
 use Rattle.mc_trace.specs.Trace.{told, up_to, head_line, cut_line, cut_text, last_text}
+use Rattle.mc_boot.specs.PowerOn.{PowerOn}
 
 get_dropped : (ops : List Op) (n : ℕ) → slice_get (drop n ops) 0 ≡ slice_get ops n
 get_dropped [] zero = refl
@@ -23,27 +23,27 @@ get_dropped [] (suc n) = refl
 get_dropped (op ∷ ops) zero = refl
 get_dropped (op ∷ ops) (suc n) = get_dropped ops n
 
-module _ (r : Rules) (g : Geometry) (s : Content) where
+module _ (from : PowerOn) where
   abbrev list : List Op
-  list = (plan r g s).list
+  list = (plan from).list
 
   -- What is told up to a cut, and in all.
-  module _ (p : Progress) (is : p ≡ begun r (plan r g s)) where
-    pub told_cut : (cut : ℕ) → told g p.count (up_to (Some cut) p.count p.to_come) s ≡ told g 0 (take cut list) s
+  module _ (p : Progress) (is : p ≡ begun from.rules (plan from)) where
+    pub told_cut : (cut : ℕ) → told from.geometry p.count (up_to (Some cut) p.count p.to_come) from.content ≡ told from.geometry 0 (take cut list) from.content
     told_cut cut =
         let e : cut - 0 ≡ cut = omega arith in
-        ap (λ (x : Progress). told g x.count (up_to (Some cut) x.count x.to_come) s) is ∙ ap (λ n. told g 0 (take n list) s) e
+        ap (λ (x : Progress). told from.geometry x.count (up_to (Some cut) x.count x.to_come) from.content) is ∙ ap (λ n. told from.geometry 0 (take n list) from.content) e
 
-    pub told_all : told g p.count (up_to None p.count p.to_come) s ≡ told g 0 list s
-    told_all = ap (λ (x : Progress). told g x.count (up_to None x.count x.to_come) s) is
+    pub told_all : told from.geometry p.count (up_to None p.count p.to_come) from.content ≡ told from.geometry 0 list from.content
+    told_all = ap (λ (x : Progress). told from.geometry x.count (up_to None x.count x.to_come) from.content) is
 
-    pub head_is : (boot : ℕ) → head_line boot p.kind ≡ head_line boot (plan r g s).kind
+    pub head_is : (boot : ℕ) → head_line boot p.kind ≡ head_line boot (plan from).kind
     head_is boot = ap (λ (x : Progress). head_line boot x.kind) is
 
   -- The boot has come to the cut, which can occur.
-  module _ (q : Progress) (t : Content) (cut : ℕ) (come : HasCome r g s q t) (few : q.count ≤ cut) (end : (q.to_come ≡ []) ⊎ (q.count ≡ cut)) (inside : cut < length (ops_of r g s)) where
+  module _ (q : Progress) (t : Content) (cut : ℕ) (come : HasCome from q t) (few : q.count ≤ cut) (end : (q.to_come ≡ []) ⊎ (q.count ≡ cut)) (inside : cut < length (ops_of from)) where
     there : q.count ≡ cut
-    there = elim end [ inl none ↦ absurd (omega (arith, come_ops r g s q t come none, few, inside)) | inr at ↦ at ]
+    there = elim end [ inl none ↦ absurd (omega (arith, come_ops from q t come none, few, inside)) | inr at ↦ at ]
 
     goes_on : q.faulted ≡ false
     goes_on = by q.faulted refl
@@ -51,69 +51,70 @@ module _ (r : Rules) (g : Geometry) (s : Content) where
         by : (b : Bool) → q.faulted ≡ b → q.faulted ≡ false
         by false e = e
         by true e =
-            let none : happening g (drop q.count list) t ≡ [] = (come.refused e).0 in
-            let all : ops_of r g s ≡ take q.count list = come_front r g s q t come ∙ ap (λ os. take q.count list ++ os) none ∙ append-nil (take q.count list) in
-            absurd (omega (arith, ap (λ (os : List Op). length os) all, come_count r g s q t come, few, inside))
+            let none : happening from.geometry (drop q.count list) t ≡ [] = (come.refused e).0 in
+            let all : ops_of from ≡ take q.count list = come_front from q t come ∙ ap (λ os. take q.count list ++ os) none ∙ append-nil (take q.count list) in
+            absurd (omega (arith, ap (λ (os : List Op). length os) all, come_count from q t come, few, inside))
 
     pub next_there : slice_get q.to_come 0 ≡ slice_get list cut
     next_there =
         ap (λ (os : List Op). slice_get os 0) (come.rest ∙ ap (λ b. if b then [] else drop q.count list) goes_on) ∙ get_dropped list q.count ∙ ap (slice_get list) there
 
-    pub left_there : t ≡ at_cut r g s cut
+    pub left_there : t ≡ at_cut from cut
     unfolding at_cut
-    left_there = ap (content_or s) (sym (come_at r g s q t come)) ∙ ap (at_cut r g s) there
+    left_there = ap (content_or from.content) (sym (come_at from q t come)) ∙ ap (at_cut from) there
 
   -- ---- what comes out of a boot that has this type and begins as p
 
-  module _ (p : Progress) (is : p ≡ begun r (plan r g s)) (boot : ℕ) (kind : SwapType) (kind_is : kind ≡ p.kind) (before mid : Option (List ℕ)) where
+  module _ (p : Progress) (is : p ≡ begun from.rules (plan from)) (boot : ℕ) (kind : SwapType) (kind_is : kind ≡ p.kind) (before mid : Option (List ℕ)) where
     abbrev lines : Option ℕ → List ℕ
-    lines until = told g p.count (up_to until p.count p.to_come) s
+    lines until = told from.geometry p.count (up_to until p.count p.to_come) from.content
 
-    head : head_line boot kind ≡ head_line boot (plan r g s).kind
+    head : head_line boot kind ≡ head_line boot (plan from).kind
     head = ap (head_line boot) kind_is ∙ ap (λ (x : Progress). head_line boot x.kind) is
 
-    head_out : (rest : List ℕ) → Appends before mid (head_line boot kind) → IsOut before mid (head_line boot (plan r g s).kind ++ rest) rest
-    head_out rest p = out_more before before mid (head_line boot (plan r g s).kind ++ rest) (head_line boot (plan r g s).kind) rest (out_begun before _) (subst (Appends before mid) head p)
+    head_out : (rest : List ℕ) → Appends before mid (head_line boot kind) → IsOut before mid (head_line boot (plan from).kind ++ rest) rest
+    head_out rest p = out_more before before mid (head_line boot (plan from).kind ++ rest) (head_line boot (plan from).kind) rest (out_begun before _) (subst (Appends before mid) head p)
 
-    pub head_begun : (rest : List ℕ) → AppendsFront before mid (head_line boot kind) → AppendsFront before mid (head_line boot (plan r g s).kind ++ rest)
-    head_begun rest p = out_front before before mid (head_line boot (plan r g s).kind ++ rest) (head_line boot (plan r g s).kind) rest (out_begun before _) (subst (AppendsFront before mid) head p)
+    pub head_begun : (rest : List ℕ) → AppendsFront before mid (head_line boot kind) → AppendsFront before mid (head_line boot (plan from).kind ++ rest)
+    head_begun rest p = out_front before before mid (head_line boot (plan from).kind ++ rest) (head_line boot (plan from).kind) rest (out_begun before _) (subst (AppendsFront before mid) head p)
 
     module _ (first : Appends before mid (head_line boot kind)) (new : Option (List ℕ)) where
-      pub last_out : Appends mid new (lines None) → Appends before new (last_text r g boot s)
+      pub last_out : Appends mid new (lines None) → Appends before new (last_text from.rules from.geometry boot from.content)
       last_out q =
-          let rest = told g 0 list s in
-          let o = subst (IsOut before mid (last_text r g boot s)) (sym (append-nil rest)) (head_out rest first) in
+          let rest = told from.geometry 0 list from.content in
+          let o = subst (IsOut before mid (last_text from.rules from.geometry boot from.content)) (sym (append-nil rest)) (head_out rest first) in
           out_all before new _ (out_more before mid new _ rest [] o (subst (Appends mid new) (told_all p is) q))
 
-      pub last_begun : AppendsFront mid new (lines None) → AppendsFront before new (last_text r g boot s)
+      pub last_begun : AppendsFront mid new (lines None) → AppendsFront before new (last_text from.rules from.geometry boot from.content)
       last_begun q =
-          let rest = told g 0 list s in
-          let o = subst (IsOut before mid (last_text r g boot s)) (sym (append-nil rest)) (head_out rest first) in
+          let rest = told from.geometry 0 list from.content in
+          let o = subst (IsOut before mid (last_text from.rules from.geometry boot from.content)) (sym (append-nil rest)) (head_out rest first) in
           out_front before mid new _ rest [] o (subst (AppendsFront mid new) (told_all p is) q)
 
       -- The lines up to a cut, and what comes at the cut.
       module _ (cut : ℕ) where
         abbrev front : List ℕ
-        front = told g 0 (take cut list) s
+        front = told from.geometry 0 (take cut list) from.content
 
-        pub cut_begun : AppendsFront mid new (lines (Some cut)) → AppendsFront before new (cut_text r g boot s cut)
+        pub cut_begun : AppendsFront mid new (lines (Some cut)) → AppendsFront before new (cut_text from.rules from.geometry boot from.content cut)
         cut_begun q = out_front before mid new _ front _ (head_out _ first) (subst (AppendsFront mid new) (told_cut p is cut) q)
 
         module _ (here : Appends mid new (lines (Some cut))) where
-          come_out : IsOut before new (cut_text r g boot s cut) (cut_line g cut (slice_get list cut))
+          come_out : IsOut before new (cut_text from.rules from.geometry boot from.content cut) (cut_line from.geometry cut (slice_get list cut))
           come_out = out_more before mid new _ front _ (head_out _ first) (subst (Appends mid new) (told_cut p is cut) here)
 
           -- Nothing is there.
-          pub cut_out_none : slice_get list cut ≡ None → Appends before new (cut_text r g boot s cut)
-          cut_out_none none = out_all before new _ (subst (λ o. IsOut before new (cut_text r g boot s cut) (cut_line g cut o)) none come_out)
+          pub cut_out_none : slice_get list cut ≡ None → Appends before new (cut_text from.rules from.geometry boot from.content cut)
+          cut_out_none none = out_all before new _ (subst (λ o. IsOut before new (cut_text from.rules from.geometry boot from.content cut) (cut_line from.geometry cut o)) none come_out)
 
           module _ (op : Op) (next : slice_get list cut ≡ Some op) (last : Option (List ℕ)) where
-            at_op : IsOut before new (cut_text r g boot s cut) (cut_line g cut (Some op) ++ [])
-            at_op = subst (IsOut before new (cut_text r g boot s cut)) (sym (append-nil (cut_line g cut (Some op))))
-                (subst (λ o. IsOut before new (cut_text r g boot s cut) (cut_line g cut o)) next come_out)
+            at_op : IsOut before new (cut_text from.rules from.geometry boot from.content cut) (cut_line from.geometry cut (Some op) ++ [])
+            at_op = subst (IsOut before new (cut_text from.rules from.geometry boot from.content cut)) (sym (append-nil (cut_line from.geometry cut (Some op))))
+                (subst (λ o. IsOut before new (cut_text from.rules from.geometry boot from.content cut) (cut_line from.geometry cut o)) next come_out)
 
-            pub cut_out : (x : Geometry) → x ≡ g → Appends new last (cut_line x cut (Some op)) → Appends before last (cut_text r g boot s cut)
-            cut_out x place q = out_all before last _ (out_more before new last _ (cut_line g cut (Some op)) [] at_op (subst (λ y. Appends new last (cut_line y cut (Some op))) place q))
+            pub cut_out : (x : Geometry) → x ≡ from.geometry → Appends new last (cut_line x cut (Some op)) → Appends before last (cut_text from.rules from.geometry boot from.content cut)
+            cut_out x place q = out_all before last _ (out_more before new last _ (cut_line from.geometry cut (Some op)) [] at_op (subst (λ y. Appends new last (cut_line y cut (Some op))) place q))
 
-            pub cut_line_begun : (x : Geometry) → x ≡ g → AppendsFront new last (cut_line x cut (Some op)) → AppendsFront before last (cut_text r g boot s cut)
-            cut_line_begun x place q = out_front before new last _ (cut_line g cut (Some op)) [] at_op (subst (λ y. AppendsFront new last (cut_line y cut (Some op))) place q)
+            pub cut_line_begun : (x : Geometry) → x ≡ from.geometry → AppendsFront new last (cut_line x cut (Some op))
+                → AppendsFront before last (cut_text from.rules from.geometry boot from.content cut)
+            cut_line_begun x place q = out_front before new last _ (cut_line from.geometry cut (Some op)) [] at_op (subst (λ y. AppendsFront new last (cut_line y cut (Some op))) place q)

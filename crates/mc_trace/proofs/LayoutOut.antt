@@ -4,7 +4,7 @@ use Rattle.std.specs.Io.KnownBytes.{Appends}
 use Rattle.std.proofs.Common.{sym, subst, append-nil}
 use Rattle.mc_flash.specs.Geometry.{Geometry}
 use Rattle.mc_flash.specs.declared.flash.Grain.TheVariants as grains
-use Rattle.mc_output.specs.FrontFacts.{IsOut, out_all, out_begun, out_front, out_more}
+use Rattle.mc_output.specs.facts.Fronts.{IsOut, out_all, out_begun, out_front, out_more}
 use Rattle.mc_output.specs.Fronts.{AppendsFront}
 use Rattle.mc_trace.specs.LayoutText.{layout_text, operations_text, places_text, sizes_text}
 

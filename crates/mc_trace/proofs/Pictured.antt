@@ -23,9 +23,6 @@ module _ (g : Geometry) (slot bytes : List ℕ) (i n : ℕ) where
       ap (first_like g slot bytes i) (one_more i n below)
       ∙ ap (λ (b : Bool). if b then Some i else first_like g slot bytes (i + 1) (n - (i + 1))) other
 
-  pub like_none : n ≤ i → first_like g slot bytes i (n - i) ≡ None
-  like_none over = ap (first_like g slot bytes i) (none_more i n over)
-
 module _ (g : Geometry) (start : Content) (slot : List ℕ) (i n : ℕ) where
   pub words_next : i < n → sector_words g start slot i (n - i) ≡ codes " " ++ (sector_word g start (sector_of g slot i) ++ sector_words g start slot (i + 1) (n - (i + 1)))
   words_next below = ap (sector_words g start slot i) (one_more i n below)

@@ -3,7 +3,7 @@ use Rattle.std.specs.Prelude.{◌≡◌, ℕ, List, [], ◌++◌, Option}
 use Rattle.std.specs.Io.KnownBytes.{Appends}
 use Rattle.std.proofs.Common.{sym, subst, append-nil}
 use Rattle.mc_flash.specs.Content.{Content}
-use Rattle.mc_output.specs.FrontFacts.{IsOut, out_all, out_begun, out_front, out_more}
+use Rattle.mc_output.specs.facts.Fronts.{IsOut, out_all, out_begun, out_front, out_more}
 use Rattle.mc_output.specs.Fronts.{AppendsFront}
 use Rattle.mc_trace.specs.Slots.{slots_bytes}
 

@@ -2,7 +2,7 @@
 use Rattle.std.specs.Prelude.{◌≡◌, ℕ, zero, suc, ◌+◌, ◌-◌, ◌<◌, ◌≤◌, List, [], ◌∷◌, ◌++◌, take, slice_get, codes, Option, Some, None, IfSome, Result, Ok, Err, is_some, true, refl, OnOk, OnErr}
 use Rattle.std.specs.Io.KnownBytes.{Appends}
 use Rattle.std.proofs.Common.{arith, sym, ap, subst, append-nil, ◌∙◌}
-use Rattle.mc_flash.specs.DoneFacts.{did, undefined}
+use Rattle.mc_flash.specs.facts.Done.{did, undefined}
 use Rattle.mc_flash.specs.Geometry.{Geometry}
 use Rattle.mc_flash.specs.Seen.{Seen}
 use Rattle.mc_flash.specs.declared.flash.FlashError.{FlashError}
@@ -11,7 +11,7 @@ use Rattle.mc_flash.specs.declared.op.Op.{Op}
 use Rattle.mc_boot.specs.Boot.{Progress, StepsAlong, Steps, progress}
 use Rattle.mc_boot.specs.Goes.{GoesOn, goes_further}
 use Rattle.mc_boot.specs.declared.boot.Boot.{Boot}
-use Rattle.mc_output.specs.FrontFacts.{IsOut, out_front, out_more}
+use Rattle.mc_output.specs.facts.Fronts.{IsOut, out_front, out_more}
 use Rattle.mc_output.specs.Fronts.{AppendsFront}
 use Rattle.mc_trace.specs.Boots.{GoesUpTo, Tells}
 use Rattle.mc_trace.specs.Operations.{numbered_text}

@@ -4,59 +4,57 @@ use Rattle.std.specs.Io.KnownBytes.{Appends}
 use Rattle.std.proofs.Common.{arith, inl, inr, sym, ap, subst, get_or, drop-cons, drop_of_length-le, append-nil, ◌∙◌}
 use Rattle.std.proofs.lemmas.Bool.Decides.{nat_tests}
 use Rattle.mc_flash.specs.Content.{Content}
-use Rattle.mc_flash.specs.Geometry.{Geometry}
 use Rattle.mc_flash.specs.Seen.{Seen}
-use Rattle.mc_output.specs.FrontFacts.{IsOut, out_all, out_begun, out_front, out_more}
+use Rattle.mc_output.specs.facts.Fronts.{IsOut, out_all, out_begun, out_front, out_more}
 use Rattle.mc_output.specs.Fronts.{AppendsFront}
-use Rattle.mc_trailer.specs.declared.tables.Rules.{Rules}
 use Rattle.mc_boot.specs.Outcome.{Report, outcome_of}
 use Rattle.mc_boot.specs.Texts.{outcome_text}
 use Rattle.mc_boot.specs.Runs.{after, at, ops_of}
 use Rattle.mc_explore.specs.Boots.{at_cut, content_or}
-use Rattle.mc_explore.specs.Start.{Begun}
+use Rattle.mc_boot.specs.PowerOn.{PowerOn, again, power_on, powered}
 use Rattle.mc_trace.specs.Refused.{RefusesTrace}
 use Rattle.mc_trace.specs.Trace.{boots_text, cut_text, last_text, outcome_lines, trace_text}
 use Rattle.mc_trace.specs.declared.error.TraceError.{TraceError}
 use Rattle.mc_trace.specs.declared.error.TraceError.TheVariants as errors
 
 -- So many cuts are told, and the flash stands where they left it.
-pub record AreTold (start : Begun) (cuts : List ℕ) (before now : Option (List ℕ)) (told : ℕ) (boot : ℕ) (f : Seen) : Type 0 where
+pub record AreTold (start : PowerOn) (cuts : List ℕ) (before now : Option (List ℕ)) (told : ℕ) (boot : ℕ) (f : Seen) : Type 0 where
   pub out : IsOut before now (trace_text start cuts) (boots_text start.rules start.geometry boot f.content (drop told cuts))
-  pub path : after start.rules start.geometry f.content (drop told cuts) ≡ after start.rules start.geometry start.content cuts
+  pub path : after (again start f.content) (drop told cuts) ≡ after start cuts
   pub layout : f.geometry ≡ start.geometry
   pub number : boot ≡ told
 
 -- The next cut can occur.
-module _ (r : Rules) (g : Geometry) (s : Content) (cut : ℕ) (cuts : List ℕ) (u : Content) (occurs : after r g s (cut ∷ cuts) ≡ Some u) where
-  here : (b : Bool) → nat_lt cut (length (ops_of r g s)) ≡ b → option_and_then (λ t. after r g t cuts) (if b then at r g s cut else None) ≡ Some u → nat_lt cut (length (ops_of r g s)) ≡ true
+module _ (x : PowerOn) (cut : ℕ) (cuts : List ℕ) (u : Content) (occurs : after x (cut ∷ cuts) ≡ Some u) where
+  here : (b : Bool) → nat_lt cut (length (ops_of x)) ≡ b → option_and_then (λ t. after (again x t) cuts) (if b then at x cut else None) ≡ Some u → nat_lt cut (length (ops_of x)) ≡ true
   here true e is = e
   here false e is = absurd cc
 
-  inside_is : nat_lt cut (length (ops_of r g s)) ≡ true
-  inside_is = here (nat_lt cut (length (ops_of r g s))) refl occurs
+  inside_is : nat_lt cut (length (ops_of x)) ≡ true
+  inside_is = here (nat_lt cut (length (ops_of x))) refl occurs
 
-  pub inside : cut < length (ops_of r g s)
+  pub inside : cut < length (ops_of x)
   inside = grind (arith, nat_tests, inside_is)
 
-  there : (o : Option Content) → at r g s cut ≡ o → option_and_then (λ t. after r g t cuts) o ≡ Some u → after r g (at_cut r g s cut) cuts ≡ Some u
+  there : (o : Option Content) → at x cut ≡ o → option_and_then (λ t. after (again x t) cuts) o ≡ Some u → after (again x (at_cut x cut)) cuts ≡ Some u
   unfolding at_cut
   there None e is = absurd cc
-  there (Some t) e is = ap (λ o. after r g (content_or s o) cuts) e ∙ is
+  there (Some t) e is = ap (λ o. after (again x (content_or x.content o)) cuts) e ∙ is
 
-  pub behind : after r g (at_cut r g s cut) cuts ≡ Some u
-  behind = there (at r g s cut) refl (ap (λ b. option_and_then (λ t. after r g t cuts) (if b then at r g s cut else None)) (sym inside_is) ∙ occurs)
+  pub behind : after (again x (at_cut x cut)) cuts ≡ Some u
+  behind = there (at x cut) refl (ap (λ b. option_and_then (λ t. after (again x t) cuts) (if b then at x cut else None)) (sym inside_is) ∙ occurs)
 
-module _ (start : Begun) (cuts : List ℕ) (before : Option (List ℕ)) where
+module _ (start : PowerOn) (cuts : List ℕ) (before : Option (List ℕ)) where
   pub none_told : (f : Seen) → f.content ≡ start.content → f.geometry ≡ start.geometry → AreTold start cuts before before 0 0 f
   none_told f content layout = record {
     out = subst (λ (c : Content). IsOut before before (trace_text start cuts) (boots_text start.rules start.geometry 0 c cuts)) (sym content) (out_begun before (trace_text start cuts));
-    path = ap (λ (c : Content). after start.rules start.geometry c cuts) content;
+    path = ap (λ (c : Content). after (again start c) cuts) content;
     layout = layout;
     number = refl;
   }
 
   module _ (now new : Option (List ℕ)) (told boot : ℕ) (f : Seen) (are : AreTold start cuts before now told boot f) (more : told < length cuts) (u : Content)
-      (occurs : after start.rules start.geometry start.content cuts ≡ Some u) where
+      (occurs : after start cuts ≡ Some u) where
     abbrev cut : ℕ
     cut = get_or cuts told 0
 
@@ -66,45 +64,42 @@ module _ (start : Begun) (cuts : List ℕ) (before : Option (List ℕ)) where
     next_is : drop told cuts ≡ cut ∷ rest
     next_is = let e : suc told ≡ told + 1 = omega arith in drop-cons cuts told 0 more ∙ ap (λ n. cut ∷ drop n cuts) e
 
-    path_here : after start.rules start.geometry f.content (cut ∷ rest) ≡ Some u
-    path_here = ap (after start.rules start.geometry f.content) (sym next_is) ∙ are.path ∙ occurs
-
-    pub cut_inside : cut < length (ops_of start.rules f.geometry f.content)
-    cut_inside = subst (λ g. cut < length (ops_of start.rules g f.content)) (sym are.layout) (inside start.rules start.geometry f.content cut rest u path_here)
+    path_here : after (again start f.content) (cut ∷ rest) ≡ Some u
+    path_here = ap (after (again start f.content)) (sym next_is) ∙ are.path ∙ occurs
 
     out_here : IsOut before now (trace_text start cuts) (cut_text start.rules start.geometry boot f.content cut ++ boots_text start.rules start.geometry (boot + 1)
-        (at_cut start.rules start.geometry f.content cut) rest)
+        (at_cut (again start f.content) cut) rest)
     out_here = subst (λ cs. IsOut before now (trace_text start cuts) (boots_text start.rules start.geometry boot f.content cs)) next_is are.out
 
     pub one_begun : AppendsFront now new (cut_text start.rules f.geometry boot f.content cut) → AppendsFront before new (trace_text start cuts)
     one_begun p = out_front before now new _ (cut_text start.rules start.geometry boot f.content cut) _ out_here
         (subst (λ g. AppendsFront now new (cut_text start.rules g boot f.content cut)) are.layout p)
 
-    pub one_told : (h : Seen) → Appends now new (cut_text start.rules f.geometry boot f.content cut) → h.content ≡ at_cut start.rules f.geometry f.content cut → h.geometry ≡ f.geometry
+    pub one_told : (h : Seen) → Appends now new (cut_text start.rules f.geometry boot f.content cut) → h.content ≡ at_cut (powered start.rules f) cut → h.geometry ≡ f.geometry
         → AreTold start cuts before new (told + 1) (boot + 1) h
     one_told h p left layout =
-        let content : h.content ≡ at_cut start.rules start.geometry f.content cut = left ∙ ap (λ g. at_cut start.rules g f.content cut) are.layout in
+        let content : h.content ≡ at_cut (again start f.content) cut = left ∙ ap (λ g. at_cut (power_on start.rules g f.content) cut) are.layout in
         let shown = out_more before now new _ (cut_text start.rules start.geometry boot f.content cut) _ out_here
         (subst (λ g. Appends now new (cut_text start.rules g boot f.content cut)) are.layout p) in
         record {
           out = subst (λ (c : Content). IsOut before new (trace_text start cuts) (boots_text start.rules start.geometry (boot + 1) c rest)) (sym content) shown;
-          path = ap (λ (c : Content). after start.rules start.geometry c rest) content ∙ behind start.rules start.geometry f.content cut rest u path_here ∙ sym occurs;
+          path = ap (λ (c : Content). after (again start c) rest) content ∙ behind (again start f.content) cut rest u path_here ∙ sym occurs;
           layout = layout ∙ are.layout;
           number = omega (arith, are.number);
         }
 
   module _ (now : Option (List ℕ)) (told boot : ℕ) (f : Seen) (are : AreTold start cuts before now told boot f) (end : length cuts ≤ told) (u : Content)
-      (occurs : after start.rules start.geometry start.content cuts ≡ Some u) (outcome : Report) (outcome_is : outcome_of start.rules start.geometry u ≡ Some outcome) where
+      (occurs : after start cuts ≡ Some u) (outcome : Report) (outcome_is : outcome_of (again start u) ≡ Some outcome) where
     none_left : drop told cuts ≡ []
     none_left = drop_of_length-le cuts end
 
     at_end : f.content ≡ u
-    at_end = let e : Some f.content ≡ Some u = sym (ap (after start.rules start.geometry f.content) none_left) ∙ are.path ∙ occurs in cc
+    at_end = let e : Some f.content ≡ Some u = sym (ap (after (again start f.content)) none_left) ∙ are.path ∙ occurs in cc
 
     lines_are : boots_text start.rules start.geometry boot f.content (drop told cuts) ≡ last_text start.rules start.geometry boot f.content ++ (outcome_text outcome ++ [])
     lines_are =
         ap (boots_text start.rules start.geometry boot f.content) none_left
-        ∙ ap (λ o. last_text start.rules start.geometry boot f.content ++ outcome_lines o) (ap (outcome_of start.rules start.geometry) at_end ∙ outcome_is)
+        ∙ ap (λ o. last_text start.rules start.geometry boot f.content ++ outcome_lines o) (ap (λ s. outcome_of (again start s)) at_end ∙ outcome_is)
         ∙ ap (λ z. last_text start.rules start.geometry boot f.content ++ z) (sym (append-nil (outcome_text outcome)))
 
     out_end : IsOut before now (trace_text start cuts) (last_text start.rules start.geometry boot f.content ++ (outcome_text outcome ++ []))
@@ -122,11 +117,8 @@ module _ (start : Begun) (cuts : List ℕ) (before : Option (List ℕ)) where
         pub outcome_begun : AppendsFront mid new (outcome_text outcome) → AppendsFront before new (trace_text start cuts)
         outcome_begun p = out_front before mid new _ (outcome_text outcome) [] out_last p
 
-        pub all_told : Appends mid new (outcome_text outcome) → Appends before new (trace_text start cuts)
-        all_told p = out_all before new _ (out_more before mid new _ (outcome_text outcome) [] out_last p)
-
 -- Memory and a failed write are no refusals.
-pub no_refusal : {W : Type 0} (start : Begun) (cuts : List ℕ) (old new : W) (e : TraceError) → (e ≡ errors.Memory) ⊎ (e ≡ errors.Write) → RefusesTrace start cuts old new e
+pub no_refusal : {W : Type 0} (start : PowerOn) (cuts : List ℕ) (old new : W) (e : TraceError) → (e ≡ errors.Memory) ⊎ (e ≡ errors.Write) → RefusesTrace start cuts old new e
 no_refusal start cuts old new (errors.CannotOccur place) is = elim is [ inl m ↦ absurd cc | inr w ↦ absurd cc ]
 no_refusal start cuts old new errors.Memory is = tt
 no_refusal start cuts old new errors.Write is = tt

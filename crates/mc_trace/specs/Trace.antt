@@ -11,7 +11,7 @@ use Rattle.mc_boot.specs.Outcome.{Report, outcome_of}
 use Rattle.mc_boot.specs.Plan.{plan}
 use Rattle.mc_boot.specs.Texts.{outcome_text}
 use Rattle.mc_explore.specs.Boots.{at_cut}
-use Rattle.mc_explore.specs.Start.{Begun}
+use Rattle.mc_boot.specs.PowerOn.{PowerOn, power_on}
 use Rattle.mc_trace.specs.Operations.{numbered_text}
 
 -- An operation that can be applied has its line, and what comes after it. One that can't is refused, and nothing comes after it.
@@ -41,12 +41,12 @@ cut_line g cut (Some op) = (codes "cut before " ++ numbered_text g cut op) ++ 10
 -- A boot that is cut: the operations of its plan before the cut, and the one there.
 abbrev pub cut_text : Rules → Geometry → ℕ → Content → ℕ → List ℕ
 cut_text r g boot s cut =
-    let p = plan r g s in
+    let p = plan (power_on r g s) in
     head_line boot p.kind ++ (told g 0 (take cut p.list) s ++ cut_line g cut (slice_get p.list cut))
 
 -- The last boot: all operations of its plan.
 abbrev pub last_text : Rules → Geometry → ℕ → Content → List ℕ
-last_text r g boot s = let p = plan r g s in head_line boot p.kind ++ told g 0 p.list s
+last_text r g boot s = let p = plan (power_on r g s) in head_line boot p.kind ++ told g 0 p.list s
 
 abbrev pub outcome_lines : Option Report → List ℕ
 outcome_lines None = []
@@ -54,8 +54,8 @@ outcome_lines (Some outcome) = outcome_text outcome
 
 -- The boots of some cuts, each from what the one before it left, then the last boot and its outcome.
 abbrev pub boots_text : Rules → Geometry → ℕ → Content → List ℕ → List ℕ
-boots_text r g boot s [] = last_text r g boot s ++ outcome_lines (outcome_of r g s)
-boots_text r g boot s (cut ∷ cuts) = cut_text r g boot s cut ++ boots_text r g (boot + 1) (at_cut r g s cut) cuts
+boots_text r g boot s [] = last_text r g boot s ++ outcome_lines (outcome_of (power_on r g s))
+boots_text r g boot s (cut ∷ cuts) = cut_text r g boot s cut ++ boots_text r g (boot + 1) (at_cut (power_on r g s) cut) cuts
 
-abbrev pub trace_text : Begun → List ℕ → List ℕ
+abbrev pub trace_text : PowerOn → List ℕ → List ℕ
 trace_text start cuts = boots_text start.rules start.geometry 0 start.content cuts

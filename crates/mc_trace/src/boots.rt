@@ -3,6 +3,7 @@ ghost use Rattle.std.specs.Prelude.{◌≡◌, ◌+◌, ◌<◌, ◌≤◌, ◌�
 ghost use Rattle.std.specs.Io.KnownBytes.{Appends};
 ghost use Rattle.mc_output.specs.Fronts.{AppendsFront};
 ghost use Rattle.mc_boot.specs.Boot.{progress, to_come, IsBootOf};
+ghost use Rattle.mc_boot.specs.PowerOn.{powered};
 ghost use Rattle.mc_boot.specs.Runs.{ops_of};
 ghost use Rattle.mc_explore.specs.Boots.{at_cut};
 ghost use Rattle.mc_trace.specs.Boots.{Tells, GoesUpTo};
@@ -65,15 +66,15 @@ pub fn write_cut_boot<F: Flash, W: Write>(
     cut: u32,
     writer: &mut W,
 ) -> Result<(), TraceError>
-    requires { let f = F.seen flash.old in cut < length (ops_of rules f.geometry f.content) }
+    requires { cut < length (ops_of (powered rules (F.seen flash.old))) }
     ensures whole { let f = F.seen flash.old in OnOk result
         (Appends (W.contents writer.old) (W.contents writer.new)
         (cut_text rules f.geometry boot f.content cut)) }
     ensures front { let f = F.seen flash.old in OnErr result
         (AppendsFront (W.contents writer.old) (W.contents writer.new)
         (cut_text rules f.geometry boot f.content cut)) }
-    ensures left { let f = F.seen flash.old in OnOk result ((F.seen flash.new).content
-        ≡ at_cut rules f.geometry f.content cut) }
+    ensures left { let x = powered rules (F.seen flash.old) in OnOk result
+        ((F.seen flash.new).content ≡ at_cut x cut) }
     ensures layout { (F.seen flash.new).geometry ≡ (F.seen flash.old).geometry }
     ensures err { IfErr result (λ e. (e ≡ TraceError.Memory) ⊎ (e ≡ TraceError.Write)) }
 {

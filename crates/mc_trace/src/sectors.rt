@@ -1,6 +1,7 @@
 //! A picture of a flash: what lies in each sector.
 ghost use Rattle.std.specs.Prelude.{◌≡◌, ◌<◌, ◌++◌, length, IfOk, OnOk, string_bytes};
 ghost use Rattle.mc_flash.specs.Content.{sectors_of, size_of};
+ghost use Rattle.mc_explore.specs.Start.{begun};
 ghost use Rattle.mc_trace.specs.Pictures.{Pictures, PicturesAs};
 ghost use Rattle.mc_trace.specs.Sectors.{first_like, line_of, sector_of, sector_word};
 
@@ -84,8 +85,7 @@ fn picture_of<F: Flash>(
     start: &Start,
     schedule: &Schedule,
 ) -> Result<String, TraceError>
-    ensures { PicturesAs start.now.rules start.now.geometry start.now.content schedule.now
-        string_bytes result }
+    ensures { PicturesAs (begun start.now) schedule.now string_bytes result }
 {
     let flash = match flash_at_cut::<F>(alloc, start, schedule) {
         Ok(flash) => flash,
@@ -124,8 +124,8 @@ pub fn write_sectors<F: Flash, W: Write>(
     schedule: &Schedule,
     writer: &mut W,
 ) -> Result<(), TraceError>
-    ensures { Pictures start.now.rules start.now.geometry start.now.content schedule.now
-        (W.contents writer.old) (W.contents writer.new) result }
+    ensures { Pictures (begun start.now) schedule.now (W.contents writer.old)
+        (W.contents writer.new) result }
 {
     let text = picture_of::<F>(alloc, start, schedule)?;
     match write_text(writer, text.as_bytes()) {

@@ -35,8 +35,7 @@ pub fn write_trace<F: Flash + Drop, W: Write>(
         (trace_text (begun start.now) schedule.now)) }
     ensures refused { IfErr result (RefusesTrace (begun start.now) schedule.now writer.old
         writer.new) }
-    ensures occurs { let s = begun start.now in OnOk result (CanOccur s.rules s.geometry s.content
-        schedule.now) }
+    ensures occurs { OnOk result (CanOccur (begun start.now) schedule.now) }
 {
     // Nothing is written of a schedule that can't occur.
     let (outcome, _) = replay::<F>(alloc, start, schedule)?;

@@ -28,3 +28,11 @@ entry_place g e = size_of g Primary - (48 + 3 * g.max_sectors * g.unit - e * g.u
 -- The magic of a trailer that is meant.
 abbrev pub magic_bytes : List ℕ
 magic_bytes = 0x77 ∷ 0xc2 ∷ 0x95 ∷ 0xf3 ∷ 0x60 ∷ 0xd2 ∷ 0xef ∷ 0x7f ∷ 0x35 ∷ 0x52 ∷ 0x50 ∷ 0x0f ∷ 0x2c ∷ 0xb6 ∷ 0x79 ∷ 0x80 ∷ []
+
+-- How many bytes a field may take, up to the next field or the slot's end.
+abbrev pub room : Field → ℕ
+room field.Magic = 16
+room field.ImageOk = 8
+room field.CopyDone = 8
+room field.SwapInfo = 8
+room field.SwapSize = 8

@@ -16,7 +16,7 @@ fn is_written<F: Flash>(flash: &F, entry: u32) -> bool
 }
 
 // Whether eight status entries are blank together: none of them is written then.
-#[tactic(auto, using(crate::specs::EntryFacts::group_blank, crate::specs::PlaceFacts::group_inside))]
+#[tactic(auto, using(crate::specs::facts::Entries::group_blank, crate::specs::facts::Places::group_inside))]
 fn none_written<F: Flash>(flash: &F, first: u32) -> bool
     requires { first + 8 ≤ 3 * (F.seen flash.now).geometry.max_sectors }
     ensures { result ≡ true → (e : ℕ) → first ≤ e → e < first + 8
@@ -44,7 +44,7 @@ fn without_blank_end<F: Flash>(flash: &F) -> u32
 }
 
 /// The highest status entry of the primary that is written: one whose bytes are not all 0xff. It takes no memory.
-#[tactic(auto, using(crate::specs::EntryFacts::highest_is, crate::specs::EntryFacts::greatest_at, crate::specs::EntryFacts::none_passes))]
+#[tactic(auto, using(crate::specs::facts::Entries::highest_is, crate::specs::facts::Entries::greatest_at, crate::specs::facts::Entries::none_passes))]
 pub fn highest_entry<F: Flash>(flash: &F) -> Option<u32>
     ensures value { result ≡ highest_entry (F.seen flash.now).geometry (F.seen flash.now).content }
     ensures highest { IsHighest (F.seen flash.now).geometry (F.seen flash.now).content result }

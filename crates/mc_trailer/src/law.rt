@@ -4,9 +4,9 @@ ghost use Rattle.mc_flash.specs.Geometry.{Geometry};
 ghost use Rattle.mc_flash.specs.Content.{Content};
 ghost use Rattle.mc_trailer.specs.Places.{magic_bytes};
 ghost use Rattle.mc_trailer.specs.Entries.{IsHighest, highest_entry};
-ghost use Rattle.mc_trailer.specs.FieldFacts.{ReadsBack, WritesKeep};
-ghost use Rattle.mc_trailer.specs.EntryFacts.{WritesHighest};
-ghost use Rattle.mc_trailer.specs.TableFacts.{RowsApart, TypesAreRows};
+ghost use Rattle.mc_trailer.specs.Laws.{ReadsBack, WritesKeep};
+ghost use Rattle.mc_trailer.specs.Laws.{WritesHighest};
+ghost use Rattle.mc_trailer.specs.Laws.{RowsApart, TypesAreRows};
 
 use crate::trailer::MAGIC;
 
@@ -17,7 +17,7 @@ pub fn magic_of_a_trailer()
 
 /// No two rows of the swap tables hold together, and the tables give a type exactly where its row holds, in each
 /// profile; and no swap exactly where no row does.
-#[tactic(auto, using(crate::specs::TableFacts::rows_apart, crate::specs::TableFacts::types_are_rows))]
+#[tactic(auto, using(crate::specs::facts::Tables::rows_apart, crate::specs::facts::Tables::types_are_rows))]
 pub fn one_row()
     ensures apart { RowsApart }
     ensures types { TypesAreRows }
@@ -30,7 +30,7 @@ pub fn fields_read_back()
 {}
 
 /// An entry that is written above all written ones is the highest then, and at most one entry is the highest.
-#[tactic(auto, using(crate::specs::EntryFacts::highest_after, crate::specs::EntryFacts::highest_one))]
+#[tactic(auto, using(crate::specs::facts::Entries::highest_after, crate::specs::facts::Entries::highest_one))]
 pub fn highest_after_a_write()
     ensures after { WritesHighest }
     ensures one { (g : Geometry) (s : Content) (highest : Option ℕ) → IsHighest g s highest

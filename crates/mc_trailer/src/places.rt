@@ -36,7 +36,7 @@ fn before_end(field: Field) -> u32
 }
 
 /// The first byte of a field, from the slot's start. It takes no memory.
-#[tactic(auto, using(crate::specs::PlaceFacts::place_inside, crate::specs::PlaceFacts::place_aligned))]
+#[tactic(auto, using(crate::specs::facts::Places::place_inside, crate::specs::facts::Places::place_aligned))]
 pub fn place(layout: &Layout, slot: Slot, field: Field) -> u32
     ensures place { result ≡ place layout.now slot field }
     ensures inside { result + before_end field ≡ size_of layout.now slot }
@@ -47,7 +47,7 @@ pub fn place(layout: &Layout, slot: Slot, field: Field) -> u32
 }
 
 /// The first byte of a status entry, from the start of the primary. It takes no memory.
-#[tactic(auto, using(mc_flash::specs::Facts::trailer_inside, crate::specs::PlaceFacts::entry_ends, crate::specs::PlaceFacts::entry_aligned))]
+#[tactic(auto, using(mc_flash::specs::facts::Layouts::trailer_inside, crate::specs::facts::Places::entry_ends, crate::specs::facts::Places::entry_aligned))]
 pub fn entry_place(layout: &Layout, entry: u32) -> u32
     requires { entry < 3 * layout.now.max_sectors }
     ensures place { result ≡ entry_place layout.now entry }

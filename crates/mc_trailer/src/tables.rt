@@ -69,7 +69,7 @@ fn is_reverted(profile: Profile, primary: &Trailer, secondary: &Trailer) -> bool
 }
 
 /// The type that the tables give, also where a boot would go on with a swap that was cut. It takes no memory.
-#[tactic(auto, using(crate::specs::TableFacts::asked))]
+#[tactic(auto, using(crate::specs::facts::Tables::asked))]
 pub fn swap_type(profile: Profile, primary: &Trailer, secondary: &Trailer) -> SwapType
     ensures value { result ≡ swap_type profile primary.now secondary.now }
     ensures row { Asks profile primary.now secondary.now result }

@@ -2,7 +2,7 @@
 use Rattle.std.proofs.Common.{◌≡◌, ℕ, zero, suc, ◌+◌, ◌<◌, ◌≤◌, Bool, true, false, List, [], ◌∷◌, ◌++◌, length, take, get_or, sym, ap, subst, ◌∙◌, append_assoc, append-nil, refl, arith}
 use Rattle.std.proofs.lemmas.List.{take_more, take_all}
 use Rattle.mc_flash.specs.Spends.{Spent}
-use Rattle.mc_flash.specs.SpendsFacts.{spent_both, spent_more}
+use Rattle.mc_flash.specs.facts.Spends.{spent_both, spent_more}
 use Rattle.mc_tree.specs.Tree.{IsMember}
 use Rattle.mc_tree.specs.Paths.{After, IsNext}
 use Rattle.mc_tree.specs.facts.Order.{next_below, next_above, none_above, childless}
@@ -101,9 +101,3 @@ module _ {N A T B : Type 0} (kind : B → Kind N A T) where
   along_none_spent path n old mid new false a e d =
       let k : Kind N A T = kind old.branches in
       subst (λ z. Spent (path_cost k path) old.seen z.seen) (sym d.1) (spent_more (path_cost k (take n path)) (path_cost k path) old.seen mid.seen (path_cost-take k path n) a.spent)
-
-  pub along_all : (path : List ℕ) (n : ℕ) (old now : Walked B) → IsAlong path n old now → length path ≤ n → Follows (kind old.branches) path old true now
-      × Spent (path_cost (kind old.branches) path) old.seen now.seen
-  along_all path n old now a le =
-      let all : take n path ≡ path = take_all n path le in
-      ((a.path_is ∙ ap (λ z. old.path ++ z) all, a.member, a.same, a.stands), subst (λ z. Spent (path_cost (kind old.branches) z) old.seen now.seen) all a.spent)

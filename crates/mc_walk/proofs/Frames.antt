@@ -40,9 +40,6 @@ module _ {N A T : Type 0} (k : Kind N A T) where
   popped_off old mid new f None off last m spent = subst (AreOff k old) (m ∙ append-nil new) off
   popped_off old mid new f (Some x) off last m spent = one_off old mid new x off m (subst (IsSpent k) (sym (last_same mid new x f m last)) spent)
 
-  pub all_off : (old mid : List (Frame A T)) → AreOff k old mid → mid ≡ [] → AreSpent k old
-  all_off old mid off m = subst (AreSpent k) (sym (off.split ∙ ap (λ z. z ++ off.more) m)) off.spent
-
   pub last_open : (old mid new : List (Frame A T)) (f : Frame A T) → AreOff k old mid → mid ≡ new ++ f ∷ [] → IsOpen k f → IsLastOpen k f old new
   last_open old mid new f off m open_is = record { open_is = open_is; more = off.more; spent = off.spent; split = off_split old mid new off.more f off.split m }
 

@@ -9,7 +9,7 @@ use Rattle.mc_flash.specs.Content.{Content}
 use Rattle.mc_flash.specs.Ledger.{Counts, Limits, Spot}
 use Rattle.mc_flash.specs.Seen.{Seen, Keeps, no_spot, spot_of, went_back, marked}
 use Rattle.mc_flash.specs.Spends.{Spent, Stays, HasRoom, LeaveRoom, plus, room_of}
-use Rattle.mc_flash.specs.SpendsFacts.{spent_back, spent_both, spent_more}
+use Rattle.mc_flash.specs.facts.Spends.{spent_back, spent_both, spent_more}
 use Rattle.mc_flash.specs.declared.flash.FlashError.{FlashError}
 use Rattle.mc_walk.specs.Kind.{Kind, owed_there, telling, IsAt, IsNode, HasNext, GoesOn, CanReach, Reaches}
 use Rattle.mc_walk.specs.Stack.{path_of, most_at, AreSpent, IsLastOpen, AreFrames, Stacked, node_of, Stands, Comes, CanGoOn, IsLeft, IsOneOn, IsRoomy}
@@ -22,10 +22,6 @@ ok_any (Ok x) p = p
 ok_any (Err e) p = tt
 
 module _ {N A T : Type 0} (k : Kind N A T) where
-  -- A walk that does not stand.
-  pub lost_sound : (bound before capacity : ℕ) (seen : Seen) (fs : List (Frame A T)) → bound ≤ before → before ≤ capacity → IsSound k bound capacity seen fs None
-  lost_sound bound before capacity seen fs le more = record { reserved = omega (arith, le, more); going = tt }
-
   pub roomy_stays : (bound : ℕ) (old new : Seen) → new.ledger.limits ≡ old.ledger.limits → IsRoomy k bound old → IsRoomy k bound new
   roomy_stays bound old new e r = record {
     entries = omega (arith, r.entries, ap (λ (l : Limits). l.entries) e);
@@ -373,9 +369,6 @@ module _ {N A T : Type 0} (k : Kind N A T) where
       let st = a.going.stands.stacked in
       let allowed = subst (λ z. Allowed k.tree (k.root z) (path_of all)) a.start (frames_allowed k (k.root (start_of new)) 0 st.above all st.frames) in
       (path, (omega (arith, a.going.few, length-map all (λ (h : Frame A T). h.number)), allowed), record { branches = refl; bound = refl; start = a.start }, refl)
-
-  pub not_below_bound : (bound number : ℕ) (start : N) (fs : List (Frame A T)) → bound ≤ length fs → IsMember k.tree start bound (path_of fs ++ number ∷ []) → ⊥
-  not_below_bound bound number start fs le m = omega (arith, le, m.0, length-append (path_of fs) (number ∷ []), length-map fs (λ (h : Frame A T). h.number))
 
   pub not_that_child : (bound number width : ℕ) (old : Seen) (fs : List (Frame A T)) (told : T) → IsGoing k bound old fs told → ((n : N) → k.IsTold n told → width ≡ k.tree.width n)
       → width ≤ number → IsMember k.tree (k.root (start_of old)) bound (path_of fs ++ number ∷ []) → ⊥

@@ -201,7 +201,7 @@ impl<F: Flash, B: Branches> Walk<F, B> {
     /// # Errors
     ///
     /// `Memory` where the flash was refused memory; then the walk stands nowhere.
-    #[tactic(auto, using(mc_flash::specs::SpendsFacts::ran_out_later, mc_flash::specs::SpendsFacts::spent_back))]
+    #[tactic(auto, using(mc_flash::specs::facts::Spends::ran_out_later, mc_flash::specs::facts::Spends::spent_back))]
     #[inline]
     pub fn climb(&mut self, known: &B::Known) -> Result<bool, FlashError>
         requires { self.old.stands ≡ true }

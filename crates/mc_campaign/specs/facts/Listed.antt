@@ -7,16 +7,14 @@ use Rattle.mc_tree.specs.facts.Existence as existence
 use Rattle.mc_tree.specs.facts.Existence.{AreRows}
 use Rattle.mc_tree.specs.facts.Precedence.{IsOrder, pairs_in_order}
 use Rattle.mc_flash.specs.Content.{Content}
-use Rattle.mc_flash.specs.Geometry.{Geometry}
-use Rattle.mc_trailer.specs.declared.tables.Rules.{Rules}
 use Rattle.mc_boot.specs.Confirm.{confirmed_if}
 use Rattle.mc_boot.specs.Outcome.{Report, outcome_of}
-use Rattle.mc_boot.specs.RunFacts.{outcome_defined}
+use Rattle.mc_boot.specs.facts.Run.{outcome_defined}
 use Rattle.mc_boot.specs.Runs.{left_by}
 use Rattle.mc_explore.specs.Boots.{boots}
 use Rattle.mc_explore.specs.Listing.{IsLawful}
 use Rattle.mc_explore.specs.Replay.{IsReplayed}
-use Rattle.mc_explore.specs.Start.{Begun}
+use Rattle.mc_boot.specs.PowerOn.{PowerOn, again}
 use Rattle.mc_campaign.specs.Boots.{pairs_along, rounds, second_start}
 use Rattle.mc_campaign.specs.Campaigns.{CanOccur, Precedes}
 use Rattle.mc_campaign.specs.Places.{Places, pairs_of, placed}
@@ -41,15 +39,15 @@ campaigns_in_order = record {
 
 -- ---- a campaign has one row
 
-module _ (r : Rules) (g : Geometry) (s : Content) (cuts : List ℕ) (o p : Report) (y z : Content) (a : IsReplayed r g s cuts o y) (b : IsReplayed r g s cuts p z) where
+module _ (x : PowerOn) (cuts : List ℕ) (o p : Report) (y z : Content) (a : IsReplayed x cuts o y) (b : IsReplayed x cuts p z) where
   same_cut : a.cut ≡ b.cut
   same_cut = some_same a.cut b.cut (sym a.occurs ∙ b.occurs)
 
   same_outcome : o ≡ p
-  same_outcome = some_same o p (sym a.outcome_is ∙ ap (outcome_of r g) same_cut ∙ b.outcome_is)
+  same_outcome = some_same o p (sym a.outcome_is ∙ ap (λ s. outcome_of (again x s)) same_cut ∙ b.outcome_is)
 
   same_left : y ≡ z
-  same_left = some_same y z (sym a.left ∙ ap (left_by r g) same_cut ∙ b.left)
+  same_left = some_same y z (sym a.left ∙ ap (λ s. left_by (again x s)) same_cut ∙ b.left)
 
 told_of : Places → Report → Report → Told
 told_of c one two = record { campaign = c; first = one; second = two }
@@ -57,19 +55,17 @@ told_of c one two = record { campaign = c; first = one; second = two }
 told_is : (c d : Places) (o p x y : Report) → c ≡ d → o ≡ p → x ≡ y → told_of c o x ≡ told_of d p y
 told_is c d o p x y a b e = cc
 
-module _ (start : Begun) (confirms : Bool) where
+module _ (start : PowerOn) (confirms : Bool) where
   same_row : (x y : Told) → HasOutcomes start confirms x → HasOutcomes start confirms y → x.campaign ≡ y.campaign → x ≡ y
   unfolding told_of
   same_row x y (end, a) outcomes e =
-      let r = start.rules in
-      let g = start.geometry in
       let c = x.campaign in
-      let moved = subst (λ d. (z : Content) × AreReplayed r g confirms start.content d y.first y.second z) (sym e) outcomes in
+      let moved = subst (λ d. (z : Content) × AreReplayed start confirms d y.first y.second z) (sym e) outcomes in
       let b = moved.1 in
-      let one = same_outcome r g start.content c.first x.first y.first a.middle b.middle a.first b.first in
-      let middle = same_left r g start.content c.first x.first y.first a.middle b.middle a.first b.first in
-      let second = subst (λ m. IsReplayed r g (confirmed_if confirms g m) c.second y.second moved.0) (sym middle) b.second in
-      let two = same_outcome r g (confirmed_if confirms g a.middle) c.second x.second y.second end moved.0 a.second second in
+      let one = same_outcome start c.first x.first y.first a.middle b.middle a.first b.first in
+      let middle = same_left start c.first x.first y.first a.middle b.middle a.first b.first in
+      let second = subst (λ m. IsReplayed (again start (confirmed_if confirms start.geometry m)) c.second y.second moved.0) (sym middle) b.second in
+      let two = same_outcome (again start (confirmed_if confirms start.geometry a.middle)) c.second x.second y.second end moved.0 a.second second in
       told_is x.campaign y.campaign x.first y.first x.second y.second e one two
 
   first_end : Places → Content
@@ -82,16 +78,16 @@ module _ (start : Begun) (confirms : Bool) where
   row_of : Places → Told
   row_of c = record {
     campaign = c;
-    first = (outcome_defined start.rules start.geometry (first_end c)).0;
-    second = (outcome_defined start.rules start.geometry (second_end c)).0;
+    first = (outcome_defined (again start (first_end c))).0;
+    second = (outcome_defined (again start (second_end c))).0;
   }
 
-  has_outcomes : (c : Places) → CanOccur start.rules start.geometry confirms start.content c → HasOutcomes start confirms (row_of c)
+  has_outcomes : (c : Places) → CanOccur start confirms c → HasOutcomes start confirms (row_of c)
   unfolding row_of first_end second_end
   has_outcomes c o =
       let row = row_of c in
-      are_replayed start.rules start.geometry confirms start.content c o row.first row.second (outcome_defined start.rules start.geometry (first_end c)).1
-      (outcome_defined start.rules start.geometry (second_end c)).1
+      are_replayed start.rules start.geometry confirms start.content c o row.first row.second (outcome_defined (again start (first_end c))).1
+      (outcome_defined (again start (second_end c))).1
 
   along : List ℕ → Places
   along path = placed (pairs_along start.rules start.geometry confirms start.content path)

@@ -1,7 +1,7 @@
 -- The rows of schedules are listed as those of a tree.
 use Rattle.std.proofs.Common.{◌≡◌, ℕ, List, map, Option, Some, option_and_then, refl, ap, ◌∙◌}
 use Rattle.mc_flash.specs.Content.{Content}
-use Rattle.mc_boot.specs.RunFacts.{outcome_defined}
+use Rattle.mc_boot.specs.facts.Run.{outcome_defined}
 use Rattle.mc_boot.specs.Outcome.{Report, outcome_of}
 use Rattle.mc_tree.specs.Tree.{landed, Allowed}
 use Rattle.mc_tree.specs.Paths.{Precedes}
@@ -11,7 +11,7 @@ use Rattle.mc_tree.specs.facts.Precedence.{paths_in_order}
 use Rattle.mc_explore.specs.Boots.{boots}
 use Rattle.mc_explore.specs.Listing.{IsLawful}
 use Rattle.mc_explore.specs.Rest.{IsRow, IsRest, schedules}
-use Rattle.mc_explore.specs.Start.{Begun}
+use Rattle.mc_boot.specs.PowerOn.{PowerOn, again}
 use Rattle.mc_explore.specs.State.{State, Told, HasOutcome, at_start, outcome_after}
 use Rattle.mc_explore.specs.facts.Occurring.{allowed_after, member_of, path_of}
 
@@ -24,7 +24,7 @@ told_of l report = record { schedule = l; outcome = report }
 told_is : (a b : List ℕ) (x y : Report) → a ≡ b → x ≡ y → told_of a x ≡ told_of b y
 told_is a b x y e f = cc
 
-module _ (start : Begun) where
+module _ (start : PowerOn) where
   -- A schedule has one outcome.
   same_row : (x y : Told) → HasOutcome start x → HasOutcome start y → x.schedule ≡ y.schedule → x ≡ y
   unfolding told_of
@@ -33,30 +33,30 @@ module _ (start : Begun) where
 
   -- The row of a schedule.
   unfoldable pub row_at : List ℕ → Told
-  row_at l = record { schedule = l; outcome = (outcome_defined start.rules start.geometry (landed (boots start.rules start.geometry) start.content l)).0 }
+  row_at l = record { schedule = l; outcome = (outcome_defined (again start (landed (boots start.rules start.geometry) start.content l))).0 }
 
   pub lands_told : (l : List ℕ) → Allowed (boots start.rules start.geometry) start.content l
-      → outcome_after start l ≡ outcome_of start.rules start.geometry (landed (boots start.rules start.geometry) start.content l)
+      → outcome_after start l ≡ outcome_of (again start (landed (boots start.rules start.geometry) start.content l))
   unfolding outcome_after
   lands_told l a =
-      ap (λ (o : Option Content). option_and_then (λ u. outcome_of start.rules start.geometry u) o) (allowed_after start.rules start.geometry start.content l a)
+      ap (λ (o : Option Content). option_and_then (λ u. outcome_of (again start u)) o) (allowed_after start l a)
 
   has_outcome : (l : List ℕ) → Allowed (boots start.rules start.geometry) start.content l → HasOutcome start (row_at l)
   unfolding row_at
-  has_outcome l a = lands_told l a ∙ (outcome_defined start.rules start.geometry (landed (boots start.rules start.geometry) start.content l)).1
+  has_outcome l a = lands_told l a ∙ (outcome_defined (again start (landed (boots start.rules start.geometry) start.content l))).1
 
   are_rows : (bound : ℕ) → AreRows Precedes paths_in_order (λ row. row.schedule) (IsRow start bound) (boots start.rules start.geometry) start.content bound row_at
   unfolding row_at
   are_rows bound = record {
     in_order = λ l m i j before. before;
-    is_row = λ l m. record { listed = member_of start.rules start.geometry start.content bound l m; outcome = has_outcome l m.1 };
+    is_row = λ l m. record { listed = member_of start bound l m; outcome = has_outcome l m.1 };
     only = λ row is.
-        let m = path_of start.rules start.geometry start.content bound row.schedule is.listed in
+        let m = path_of start bound row.schedule is.listed in
         (row.schedule, m, same_row row (row_at row.schedule) is.outcome (has_outcome row.schedule m.1) refl);
   }
 
 -- The rows from the start, as those of all paths.
-pub all_rows : (start : Begun) (bound : ℕ) → IsRest (at_start start bound) (map (row_at start) (all_from (boots start.rules start.geometry) bound start.content))
+pub all_rows : (start : PowerOn) (bound : ℕ) → IsRest (at_start start bound) (map (row_at start) (all_from (boots start.rules start.geometry) bound start.content))
 all_rows start bound =
     all_rest Precedes paths_in_order (λ row. row.schedule) (IsRow start bound) (boots start.rules start.geometry) start.content bound (row_at start) (are_rows start bound)
 

@@ -17,49 +17,51 @@ use Rattle.mc_boot.specs.declared.kind.Kind.{Kind}
 use Rattle.mc_boot.specs.declared.kind.Kind.TheVariants as starts
 use Rattle.mc_explore.specs.Replay.{IsSwapOutcome}
 use Rattle.mc_explore.specs.facts.Telling.{outcome_ops}
+use Rattle.mc_boot.specs.PowerOn.{PowerOn, again, power_on}
 
 -- Where the boot from u leaves z, the outcome's slots and next type are those of z.
-pub told_slots : (r : Rules) (g : Geometry) (u z : Content) (o : Report) → outcome_of r g u ≡ Some o → left_by r g u ≡ Some z
-    → (o.primary ≡ id_of z.primary) × (o.secondary ≡ id_of z.secondary) × (o.next ≡ (plan r g z).kind)
+pub told_slots : (x : PowerOn) (z : Content) (o : Report) → outcome_of x ≡ Some o → left_by x ≡ Some z
+    → (o.primary ≡ id_of z.primary) × (o.secondary ≡ id_of z.secondary) × (o.next ≡ (plan (again x z)).kind)
 unfolding outcome_of report
-told_slots r g u z o is left =
-    let same : Some (report r g (plan r g u).kind (length (ops_of r g u)) (is_faulted r g u) z) ≡ Some o =
-    ap (option_map (λ x. report r g (plan r g u).kind (length (ops_of r g u)) (is_faulted r g u) x)) (sym left) ∙ is in
+told_slots from z o is left =
+    let same : Some (report from.rules from.geometry (plan from).kind (length (ops_of from)) (is_faulted from) z) ≡ Some o =
+    ap (option_map (λ x. report from.rules from.geometry (plan from).kind (length (ops_of from)) (is_faulted from) x)) (sym left) ∙ is in
     (cc, cc, cc)
 
 -- The result and the slots of the last boot are those that the law names.
-pub told_end : (r : Rules) (g : Geometry) (kind : Kind) (a b : List ℕ) (s u z : Content) (o : Report) → outcome_of r g u ≡ Some o → EndsIn r g kind a b s u z
+pub told_end : (r : Rules) (g : Geometry) (kind : Kind) (a b : List ℕ) (s u z : Content) (o : Report) → outcome_of (power_on r g u) ≡ Some o → EndsIn (power_on r g s) kind a b u z
     → (o.result ≡ results.Boot) × (o.primary ≡ id_of (named kind a b)) × (o.secondary ≡ id_of (other kind a b))
 told_end r g kind a b s u z o is ends =
-    let slots = told_slots r g u z o is ends.end in
+    let slots = told_slots (power_on r g u) z o is ends.end in
     let result : Some o.result ≡ Some results.Boot = ap (option_map (λ (x : Report). x.result)) (sym is) ∙ ends.result in
     (cc, slots.0 ∙ ends.primary.id, slots.1 ∙ ends.secondary.id)
 
 -- Where nothing is planned, nothing happens.
-pub idle_ops : (r : Rules) (g : Geometry) (u : Content) → (plan r g u).list ≡ [] → length (ops_of r g u) ≡ 0
+pub idle_ops : (x : PowerOn) → (plan x).list ≡ [] → length (ops_of x) ≡ 0
 unfolding ops_of
-idle_ops r g u none = ap (λ (ops : List Op). length (happening g ops u)) none
+idle_ops x none = ap (λ (ops : List Op). length (happening x.geometry ops x.content)) none
 
 -- Where nothing happens nothing can be cut.
-pub uncut : (r : Rules) (g : Geometry) (s u : Content) (cuts : List ℕ) → length (ops_of r g s) ≡ 0 → after r g s cuts ≡ Some u → cuts ≡ []
-uncut r g s u [] none is = refl
-uncut r g s u (cut ∷ cuts) none is =
-    let test : nat_lt cut (length (ops_of r g s)) ≡ false = grind (arith, nat_tests) in
-    let never : after r g s (cut ∷ cuts) ≡ None = ap (λ (b : Bool). option_and_then (λ t. after r g t cuts) (if b then at r g s cut else None)) test in
+pub uncut : (x : PowerOn) (u : Content) (cuts : List ℕ) → length (ops_of x) ≡ 0 → after x cuts ≡ Some u → cuts ≡ []
+uncut x u [] none is = refl
+uncut x u (cut ∷ cuts) none is =
+    let test : nat_lt cut (length (ops_of x)) ≡ false = grind (arith, nat_tests) in
+    let never : after x (cut ∷ cuts) ≡ None = ap (λ (b : Bool). option_and_then (λ t. after (again x t) cuts) (if b then at x cut else None)) test in
     let both : Some u ≡ None = sym is ∙ never in
     absurd cc
 
-idle_start : (r : Rules) (g : Geometry) (kind : Kind) (s u z : Content) → IsSwapped r g kind s u z → kind ≡ starts.None → length (ops_of r g u) ≡ 0
-idle_start r g kind s u z swapped none = let P : Kind → Type 0 = λ k. IsSwapped r g k s u z in idle_ops r g u (subst P none swapped)
+idle_start : (r : Rules) (g : Geometry) (kind : Kind) (s u z : Content) → IsSwapped (power_on r g s) kind u z → kind ≡ starts.None → length (ops_of (power_on r g u)) ≡ 0
+idle_start r g kind s u z swapped none = let P : Kind → Type 0 = λ k. IsSwapped (power_on r g s) k u z in idle_ops (power_on r g u) (subst P none swapped)
 
 -- What the law says of the boot after the cuts, and of the first one, is what is told of them.
-pub swap_outcome : (r : Rules) (g : Geometry) (kind : Kind) (a b : List ℕ) (s u y z : Content) (cuts : List ℕ) (o : Report) → outcome_of r g u ≡ Some o → after r g s cuts ≡ Some u
-    → EndsIn r g kind a b s s y → EndsIn r g kind a b s u z → IsSwapOutcome kind a b cuts o
+pub swap_outcome : (r : Rules) (g : Geometry) (kind : Kind) (a b : List ℕ) (s u y z : Content) (cuts : List ℕ) (o : Report) → outcome_of (power_on r g u) ≡ Some o
+    → after (power_on r g s) cuts ≡ Some u
+    → EndsIn (power_on r g s) kind a b s y → EndsIn (power_on r g s) kind a b u z → IsSwapOutcome kind a b cuts o
 swap_outcome r g kind a b s u y z cuts o is occurs first ends =
     let told = told_end r g kind a b s u z o is ends in
     record {
       result = told.0;
       primary = told.1;
       secondary = told.2;
-      idle = λ none. (outcome_ops r g u o is ∙ idle_start r g kind s u z ends.swapped none, uncut r g s u cuts (idle_start r g kind s s y first.swapped none) occurs);
+      idle = λ none. (outcome_ops (power_on r g u) o is ∙ idle_start r g kind s u z ends.swapped none, uncut (power_on r g s) u cuts (idle_start r g kind s s y first.swapped none) occurs);
     }

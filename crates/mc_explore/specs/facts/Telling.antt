@@ -11,41 +11,42 @@ use Rattle.mc_boot.specs.Bounds.{left_of}
 use Rattle.mc_boot.specs.Outcome.{Report, outcome_of, report, shown}
 use Rattle.mc_boot.specs.Plan.{plan}
 use Rattle.mc_boot.specs.Run.{HasCome}
-use Rattle.mc_boot.specs.RunFacts.{come_begun, left_defined}
+use Rattle.mc_boot.specs.facts.Run.{come_begun, left_defined}
 use Rattle.mc_boot.specs.Runs.{is_faulted, ops_of}
 use Rattle.mc_explore.specs.Once.{HasMade, IsTold, most_of}
 use Rattle.mc_explore.specs.declared.once.Told.{Told}
 use Rattle.mc_explore.specs.facts.Occurring.{at_zero}
+use Rattle.mc_boot.specs.PowerOn.{PowerOn, power_on}
 
 count_in : Option Report → ℕ
 count_in None = 0
 count_in (Some o) = o.ops
 
 -- What an outcome says of the operations.
-pub outcome_ops : (r : Rules) (g : Geometry) (s : Content) (o : Report) → outcome_of r g s ≡ Some o → o.ops ≡ length (ops_of r g s)
+pub outcome_ops : (x : PowerOn) (o : Report) → outcome_of x ≡ Some o → o.ops ≡ length (ops_of x)
 unfolding outcome_of report count_in
-outcome_ops r g s o e =
-    let left = left_defined r g s in
-    let is : Some o ≡ Some (report r g (plan r g s).kind (length (ops_of r g s)) (is_faulted r g s) left.0) =
-    sym e ∙ ap (option_map (λ z. report r g (plan r g s).kind (length (ops_of r g s)) (is_faulted r g s) z)) left.1 in
+outcome_ops x o e =
+    let left = left_defined x in
+    let is : Some o ≡ Some (report x.rules x.geometry (plan x).kind (length (ops_of x)) (is_faulted x) left.0) =
+    sym e ∙ ap (option_map (λ z. report x.rules x.geometry (plan x).kind (length (ops_of x)) (is_faulted x) z)) left.1 in
     ap count_in is
 
 module _ (r : Rules) (g : Geometry) where
-  pub width_is : (told : Told) (s : Content) → IsTold r g s told → told.outcome.ops ≡ length (ops_of r g s)
-  width_is told s t = outcome_ops r g s (shown told.outcome) t.outcome_is
+  pub width_is : (told : Told) (s : Content) → IsTold (power_on r g s) told → told.outcome.ops ≡ length (ops_of (power_on r g s))
+  width_is told s t = outcome_ops (power_on r g s) (shown told.outcome) t.outcome_is
 
-  pub first_on : (s : Content) (told : Told) → IsTold r g s told → HasMade r g s 0 told.boot
+  pub first_on : (s : Content) (told : Told) → IsTold (power_on r g s) told → HasMade (power_on r g s) 0 told.boot
   first_on s told t =
-      let P : Progress → Type 0 = λ p. HasCome r g s p s in
+      let P : Progress → Type 0 = λ p. HasCome (power_on r g s) p s in
       record {
         layout_is = t.layout_is;
         list_is = t.list_is;
-        come = subst (HasCome r g s (progress told.boot)) (at_zero r g s) (subst P (sym t.boot_is) (come_begun r g s));
+        come = subst (HasCome (power_on r g s) (progress told.boot)) (at_zero (power_on r g s)) (subst P (sym t.boot_is) (come_begun (power_on r g s)));
         count_is = ap (λ (p : Progress). p.count) t.boot_is;
       }
 
   -- What it has left is a whole boot at most.
-  pub first_left : (s : Content) (told : Told) → IsTold r g s told → (old : Counts) → LeaveRoom old (left_of g (progress told.boot)) (plus old (most_of r g))
+  pub first_left : (s : Content) (told : Told) → IsTold (power_on r g s) told → (old : Counts) → LeaveRoom old (left_of g (progress told.boot)) (plus old (most_of r g))
   first_left s told t old = record {
     entries = omega (arith, t.few.few, ap (λ (p : Progress). length p.to_come) t.boot_is);
     saved = omega (arith, t.few.saves, ap (λ (p : Progress). (left_of g p).saved) t.boot_is);

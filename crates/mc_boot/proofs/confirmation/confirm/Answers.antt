@@ -6,7 +6,7 @@ use Rattle.mc_flash.specs.Seen.{Does}
 use Rattle.mc_flash.specs.declared.op.Op.{Op}
 use Rattle.mc_flash.specs.declared.op.Slot.TheVariants.{Primary}
 use Rattle.mc_boot.specs.Confirm.{Confirms}
-use Rattle.mc_boot.specs.ConfirmFacts.{confirm_fails, confirms_content, confirms_counts, confirms_err, confirms_keeps, confirms_spends}
+use Rattle.mc_boot.specs.facts.Confirm.{confirm_fails, confirms_content, confirms_counts, confirms_err, confirms_keeps, confirms_spends}
 use Rattle.mc_boot.specs.Writes.{image_ok_write}
 use Rattle.mc_boot.proofs.confirmation.confirm.Given.{Over}
 use Rattle.mc_boot.proofs.confirmation.confirm.Goals.{In_ok-perform}

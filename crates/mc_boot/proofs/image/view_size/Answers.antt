@@ -1,5 +1,5 @@
 use Rattle.std.proofs.Common.{arith}
-use Rattle.mc_image.specs.ValidFacts.{front_within}
+use Rattle.mc_image.specs.facts.Valid.{front_within}
 use Rattle.mc_boot.proofs.image.view_size.Goals as goal
 
 pub overflow_cast-result : goal.overflow_cast-result

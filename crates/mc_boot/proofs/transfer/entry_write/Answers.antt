@@ -1,4 +1,4 @@
-use Rattle.mc_trailer.specs.PlaceFacts.{entry_range}
+use Rattle.mc_trailer.specs.facts.Places.{entry_range}
 use Rattle.mc_boot.proofs.transfer.entry_write.Goals as goal
 
 pub returns-clause-inside : goal.returns-clause-inside

@@ -1,5 +1,5 @@
 use Rattle.mc_flash.specs.declared.op.Slot.TheVariants.{Primary}
-use Rattle.mc_trailer.specs.PlaceFacts.{flag_range}
+use Rattle.mc_trailer.specs.facts.Places.{flag_range}
 use Rattle.mc_trailer.specs.declared.places.Field.TheVariants as field
 use Rattle.mc_boot.proofs.writes.copy_done_write.Goals as goal
 

@@ -1,4 +1,4 @@
-use Rattle.mc_trailer.specs.PlaceFacts.{flag_range}
+use Rattle.mc_trailer.specs.facts.Places.{flag_range}
 use Rattle.mc_trailer.specs.declared.places.Field.TheVariants as field
 use Rattle.mc_boot.proofs.writes.image_ok_write.Goals as goal
 

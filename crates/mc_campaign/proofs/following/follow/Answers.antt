@@ -1,5 +1,5 @@
 use Rattle.std.proofs.Common.{sym}
-use Rattle.mc_output.specs.ResultFacts.{if_ok}
+use Rattle.mc_output.specs.facts.Results.{if_ok}
 use Rattle.mc_campaign.specs.View.{FollowsCampaign, FollowsLater}
 use Rattle.mc_campaign.proofs.Gone.{goes_through, stops_early, too_late}
 use Rattle.mc_campaign.proofs.following.follow.Goals as goal

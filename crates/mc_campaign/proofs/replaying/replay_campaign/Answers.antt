@@ -1,5 +1,6 @@
 use Rattle.std.proofs.Common.{inr}
 use Rattle.mc_boot.specs.Outcome.{shown}
+use Rattle.mc_explore.specs.Start.{begun}
 use Rattle.mc_campaign.proofs.Replays.{refused_later, replayed_both}
 use Rattle.mc_campaign.proofs.Restarts.{campaign_restarts}
 use Rattle.mc_campaign.proofs.replaying.replay_campaign.Goals as goal
@@ -8,7 +9,7 @@ pub returns-in-Err-CannotOccur-clause-replayed : goal.returns-in-Err-CannotOccur
 returns-in-Err-CannotOccur-clause-replayed g c =
     let middle = g.F.Flash.seen c.in_ok-one.middle in
     let left = g.F.Flash.seen c.go_between.new.flash in
-    inr (refused_later c.args.start.now c.args.confirms c.args.campaign.now c.rules.result c.layout.result.now c.rules.ensures c.layout.ensures.value
+    inr (refused_later (begun c.args.start.now) c.args.confirms c.args.campaign.now c.rules.result c.layout.result.now c.rules.ensures c.layout.ensures.value
     c.primary-primary.result.now c.secondary-secondary.result.now c.cuts-first.result.now (shown c.in_ok-one.one) middle.content
     c.primary-primary.ensures.value c.secondary-secondary.ensures.value c.cuts-first.ensures c.in_ok-one.ensures.replayed
     middle.geometry left.content c.in_ok-one.ensures.geometry c.in_ok-go_between.ensures.content c.read-primary.result.now c.read-secondary.result.now
@@ -17,7 +18,7 @@ returns-in-Err-CannotOccur-clause-replayed g c =
 
 pub returns-in-Ok-clause-restarts : goal.returns-in-Ok-clause-restarts
 returns-in-Ok-clause-restarts g c =
-    let start = c.args.start.now in
+    let start = begun c.args.start.now in
     let middle = g.F.Flash.seen c.in_ok-one.middle in
     let left = g.F.Flash.seen c.go_between.new.flash in
     let one = shown c.in_ok-one.one in

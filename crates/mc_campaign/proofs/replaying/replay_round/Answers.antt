@@ -1,9 +1,9 @@
 use Rattle.std.proofs.Common.{length, sym, subst}
-use Rattle.mc_explore.specs.Start.{Begun}
+use Rattle.mc_boot.specs.PowerOn.{PowerOn}
 use Rattle.mc_explore.specs.View.{IsLoaded}
 use Rattle.mc_campaign.proofs.replaying.replay_round.Goals as goal
 
 pub replay_on-requires-clause-loaded : goal.replay_on-requires-clause-loaded
 replay_on-requires-clause-loaded g c =
     let l = c.in_ok-walk.ensures.loaded in
-    subst (λ (s : Begun). IsLoaded g.F.Flash.counted s (length c.args.cuts.now) c.in_ok-walk.walk) (sym l.start_is) l
+    subst (λ (s : PowerOn). IsLoaded g.F.Flash.counted s (length c.args.cuts.now) c.in_ok-walk.walk) (sym l.start_is) l

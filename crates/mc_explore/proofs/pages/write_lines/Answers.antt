@@ -4,7 +4,7 @@ use Rattle.mc_tree.specs.Paths.{Lost, After}
 use Rattle.mc_explore.specs.declared.error.ExploreError.TheVariants as errors
 use Rattle.mc_explore.proofs.PageRows.{row_paid}
 use Rattle.mc_explore.proofs.PageText.{at_end, began_before, began_in_row, last_place, next_line, page_began, page_on, page_out, when_full}
-use Rattle.mc_output.specs.ResultFacts.{on_err, on_ok}
+use Rattle.mc_output.specs.facts.Results.{on_err, on_ok}
 use Rattle.mc_explore.proofs.pages.write_lines.Goals as goal
 
 pub returns-in_err-row-clause-began : goal.returns-in_err-row-clause-began

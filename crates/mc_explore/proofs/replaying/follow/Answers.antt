@@ -1,5 +1,5 @@
 use Rattle.std.proofs.Common.{◌≡◌, length, ap, ◌∙◌, arith}
-use Rattle.mc_explore.specs.View.{begun_of}
+use Rattle.mc_explore.specs.Once.{begun_of}
 use Rattle.mc_explore.proofs.Going.{followed, stops}
 use Rattle.mc_explore.proofs.replaying.follow.Goals as goal
 

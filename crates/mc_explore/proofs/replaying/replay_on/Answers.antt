@@ -1,5 +1,5 @@
 use Rattle.mc_boot.specs.Boot.{progress}
-use Rattle.mc_explore.specs.View.{begun_of}
+use Rattle.mc_explore.specs.Once.{begun_of}
 use Rattle.mc_explore.proofs.Going.{replayed, room_here}
 use Rattle.mc_explore.proofs.replaying.replay_on.Goals as goal
 

@@ -1,5 +1,5 @@
 use Rattle.mc_explore.proofs.Counted.{surveyed_whole}
-use Rattle.mc_output.specs.ResultFacts.{if_ok}
+use Rattle.mc_output.specs.facts.Results.{if_ok}
 use Rattle.mc_explore.proofs.surveying.survey.Goals as goal
 
 pub returns-clause-surveys : goal.returns-clause-surveys

@@ -1,7 +1,7 @@
 use Rattle.std.proofs.Common.{◌≡◌, ◌+◌, ◌-◌, ◌*◌, ◌<◌, ◌≤◌, suc, Ok, Err, refl, sym, ap, subst, ◌∙◌, arith}
 use Rattle.mc_explore.specs.Bounds.{most_for_row}
 use Rattle.mc_tree.specs.Paths.{Lost, After}
-use Rattle.mc_explore.specs.Start.{Begun}
+use Rattle.mc_boot.specs.PowerOn.{PowerOn}
 use Rattle.mc_explore.specs.State.{State, told}
 use Rattle.mc_explore.specs.declared.error.ExploreError.TheVariants as errors
 use Rattle.mc_explore.specs.declared.surveying.Tally.{Tally}
@@ -46,7 +46,7 @@ rows-preserved g c =
     let moved = found.2 in
     let room : c.args.limit - c.rows.tally.rows ≡ suc (c.args.limit - c.add.new.self.rows) = omega (arith, n, c.rows-test.true) in
     let few : c.add.new.self.rows ≤ c.args.limit = omega (arith, n, c.rows-test.true) in
-    let cost = ap (λ (s : Begun). most_for_row s.rules s.geometry) c.rows.invariant.start in
+    let cost = ap (λ (s : PowerOn). most_for_row s.rules s.geometry) c.rows.invariant.start in
     record {
       counted = count_on c.args.until c.args.explorer.now.state c.args.limit c.rows.explorer.state c.rows.tally c.rows.invariant.counted _ (told c.in-Some.row) c.add.new.self room found c.add.ensures
           few;

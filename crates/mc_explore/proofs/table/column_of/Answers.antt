@@ -6,6 +6,7 @@ use Rattle.mc_explore.specs.Totals.{Totals, cut_off}
 use Rattle.mc_explore.specs.declared.census.Census.{Census}
 use Rattle.mc_explore.proofs.Tables.{entry_is, more_cut_off}
 use Rattle.mc_explore.proofs.table.column_of.Goals as goal
+use Rattle.mc_boot.specs.PowerOn.{power_on}
 
 pub loop-fewer-preserved : goal.loop-fewer-preserved
 loop-fewer-preserved c =
@@ -25,10 +26,10 @@ loop-fewer-preserved c =
       many = omega (arith, ap length pushed, length-append old (one ∷ []), i.many);
       column = λ r g s own positions some all.
           let at : ℕ → Totals = λ k. weigh r g k s in
-          let is = entry_is r g s c.args.own c.census_at.result one d count level sums summed last c.both.ensures own all (i.level r g s own positions some all) in
+          let is = entry_is (power_on r g s) c.args.own c.census_at.result one d count level sums summed last c.both.ensures own all (i.level r g s own positions some all) in
           subst (AreCutOff at) (sym pushed) (more_cut_off at old one (i.column r g s own positions some all) (is ∙ ap (λ k. cut_off (at k)) (sym i.many)));
       level = λ r g s own positions some all.
-          let under : ℕ → Totals = λ k. weigh_fewer r g d (at_cut r g s k) in
+          let under : ℕ → Totals = λ k. weigh_fewer r g d (at_cut (power_on r g s) k) in
           let here : IsLevel r g s d level = i.level r g s own positions some all in
           let many : count ≡ length level = all ∙ sym here.0 in
           let xs = c.deref-in-loop-fewer-2 in
@@ -54,7 +55,7 @@ returns c = λ r g s own positions some all.
     subst (λ (xs : List Census). (under : ℕ → Totals) → AreCutOff under xs → count ≡ length xs → AreSums under count sums) c.deref-2.ensures.value c.in_ok-sums-2.ensures in
     let last : (under : ℕ → Totals) → AreCutOff under sums → count < length sums → c.census_at-2.result ≡ cut_off (under count) =
     subst (λ (xs : List Census). (under : ℕ → Totals) → AreCutOff under xs → count < length xs → c.census_at-2.result ≡ cut_off (under count)) c.deref-3.ensures.value c.census_at-2.ensures in
-    let is = entry_is r g s c.args.own c.census_at-2.result one c.loop-fewer.fewer count level sums summed last c.both-2.ensures own all (i.level r g s own positions some all) in (
+    let is = entry_is (power_on r g s) c.args.own c.census_at-2.result one c.loop-fewer.fewer count level sums summed last c.both-2.ensures own all (i.level r g s own positions some all) in (
       omega (arith, ap length pushed, length-append old (one ∷ []), i.many, c.loop-fewer-test.false, c.loop-fewer.auto.fewer-end),
       subst (AreCutOff at) (sym pushed) (more_cut_off at old one (i.column r g s own positions some all) (is ∙ ap (λ k. cut_off (at k)) (sym i.many))),
     )

@@ -6,6 +6,7 @@ use Rattle.mc_trailer.specs.declared.tables.Rules.{Rules}
 use Rattle.mc_explore.specs.Table.{AreCutOff, ArePositions, IsLevel, own_totals, weigh}
 use Rattle.mc_explore.specs.Totals.{cut_off, no_totals}
 use Rattle.mc_explore.proofs.table.column_of.Given as goal
+use Rattle.mc_boot.specs.PowerOn.{power_on}
 
 abbrev pub invariant-loop-position : goal.invariant-loop-position
 invariant-loop-position l = record {
@@ -17,7 +18,7 @@ abbrev pub invariant-loop-fewer : goal.invariant-loop-fewer
 invariant-loop-fewer l = record {
   many : length l.column.items ≡ l.fewer;
   column : (r : Rules) (g : Geometry) (s : Content) → l.own ≡ cut_off (own_totals r g s) → ArePositions r g s l.bound l.positions
-      → l.count ≡ length l.positions → l.count ≡ length (ops_of r g s) → AreCutOff (λ d. weigh r g d s) l.column.items;
+      → l.count ≡ length l.positions → l.count ≡ length (ops_of (power_on r g s)) → AreCutOff (λ d. weigh r g d s) l.column.items;
   level : (r : Rules) (g : Geometry) (s : Content) → l.own ≡ cut_off (own_totals r g s) → ArePositions r g s l.bound l.positions
-      → l.count ≡ length l.positions → l.count ≡ length (ops_of r g s) → IsLevel r g s l.fewer l.level.items;
+      → l.count ≡ length l.positions → l.count ≡ length (ops_of (power_on r g s)) → IsLevel r g s l.fewer l.level.items;
 }

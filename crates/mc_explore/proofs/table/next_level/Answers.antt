@@ -7,6 +7,7 @@ use Rattle.mc_explore.specs.Totals.{Totals, cut_off}
 use Rattle.mc_explore.specs.declared.census.Census.{Census}
 use Rattle.mc_explore.proofs.Tables.{more_cut_off}
 use Rattle.mc_explore.proofs.table.next_level.Goals as goal
+use Rattle.mc_boot.specs.PowerOn.{power_on}
 
 pub loop-position-preserved : goal.loop-position-preserved
 loop-position-preserved c =
@@ -19,8 +20,8 @@ loop-position-preserved c =
     record {
       many = omega (arith, ap length pushed, length-append old (one ∷ []), i.many);
       cut_off = λ r g s most positions all level sums lt.
-          let at : ℕ → Totals = λ k. weigh r g c.args.bound (at_cut r g s k) in
-          let here = c.census.ensures r g s (at_cut r g s index) most (positions index c.position-item.result item) level sums lt in
+          let at : ℕ → Totals = λ k. weigh r g c.args.bound (at_cut (power_on r g s) k) in
+          let here = c.census.ensures r g s (at_cut (power_on r g s) index) most (positions index c.position-item.result item) level sums lt in
           subst (AreCutOff at) (sym pushed) (more_cut_off at old one (i.cut_off r g s most positions all level sums lt) (here ∙ ap (λ k. cut_off (at k)) (sym i.many)));
     }
 
@@ -30,5 +31,5 @@ returns c = λ r g s most positions all level sums lt.
     let next : List Census = c.loop-position.next.items in
     let one : suc c.args.bound ≡ c.args.bound + 1 = omega arith in (
       omega (arith, i.many, all, c.loop-position-test.false, c.loop-position.auto.position-index-end),
-      subst (λ d. AreCutOff (λ k. weigh_fewer r g d (at_cut r g s k)) next) one (i.cut_off r g s most positions all level sums lt),
+      subst (λ d. AreCutOff (λ k. weigh_fewer r g d (at_cut (power_on r g s) k)) next) one (i.cut_off r g s most positions all level sums lt),
     )

@@ -6,12 +6,13 @@ use Rattle.mc_trailer.specs.declared.tables.Rules.{Rules}
 use Rattle.mc_explore.specs.Boots.{at_cut}
 use Rattle.mc_explore.specs.Table.{AreCutOff, ArePositions, AreSums, IsLevel, weigh, weigh_fewer}
 use Rattle.mc_explore.proofs.table.next_level.Given as goal
+use Rattle.mc_boot.specs.PowerOn.{power_on}
 
 abbrev pub invariant-loop-position : goal.invariant-loop-position
 invariant-loop-position l = record {
   many : length l.next.items ≡ l.position-index;
   cut_off : (r : Rules) (g : Geometry) (s : Content) (most : ℕ)
-      → ArePositions r g s most l.positions → length l.positions ≡ length (ops_of r g s) → IsLevel r g s l.bound l.level
-      → AreSums (λ c. weigh_fewer r g l.bound (at_cut r g s c)) (length l.level) l.sums → l.bound < most
-      → AreCutOff (λ c. weigh r g l.bound (at_cut r g s c)) l.next.items;
+      → ArePositions r g s most l.positions → length l.positions ≡ length (ops_of (power_on r g s)) → IsLevel r g s l.bound l.level
+      → AreSums (λ c. weigh_fewer r g l.bound (at_cut (power_on r g s) c)) (length l.level) l.sums → l.bound < most
+      → AreCutOff (λ c. weigh r g l.bound (at_cut (power_on r g s) c)) l.next.items;
 }

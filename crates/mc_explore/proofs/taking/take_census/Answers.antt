@@ -1,6 +1,7 @@
 use Rattle.std.proofs.Common.{◌≡◌, ◌+◌, List, sym, ap, subst, ◌∙◌, arith}
 use Rattle.mc_flash.specs.Content.{Content}
-use Rattle.mc_explore.specs.Start.{Begun, begun}
+use Rattle.mc_explore.specs.Start.{begun}
+use Rattle.mc_boot.specs.PowerOn.{PowerOn}
 use Rattle.mc_explore.specs.Table.{IsColumn, weigh}
 use Rattle.mc_explore.specs.Totals.{cut_off}
 use Rattle.mc_explore.specs.View.{begun_with}
@@ -38,4 +39,4 @@ returns-clause-census g c =
     let is = c.census_at.ensures (λ d. weigh once.rules once.layout d content) seen.1 (omega (arith, seen.0)) in
     let same : begun_with once first second ≡ begun c.args.start.now =
     same_start c.args.start.now once first second c.rules.ensures c.layout.ensures.value c.primary-primary.ensures.value c.secondary-secondary.ensures.value in
-    is_census (begun c.args.start.now) c.args.bound c.census_at.result c.requires (is ∙ ap (λ (s : Begun). cut_off (weigh s.rules s.geometry c.args.bound s.content)) same)
+    is_census (begun c.args.start.now) c.args.bound c.census_at.result c.requires (is ∙ ap (λ (s : PowerOn). cut_off (weigh s.rules s.geometry c.args.bound s.content)) same)

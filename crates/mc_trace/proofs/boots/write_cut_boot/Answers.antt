@@ -3,29 +3,30 @@ use Rattle.std.proofs.lemmas.Result.{err_from_is_err_and}
 use Rattle.mc_boot.specs.Boot.{progress}
 use Rattle.mc_trace.proofs.CutBoots.{head_begun, cut_begun, cut_out, cut_out_none, cut_line_begun, next_there, left_there}
 use Rattle.mc_trace.proofs.boots.write_cut_boot.Goals as goal
+use Rattle.mc_boot.specs.PowerOn.{powered}
 
 pub returns-in_err-write_line-clause-front : goal.returns-in_err-write_line-clause-front
 returns-in_err-write_line-clause-front g c =
     let f = g.F.Flash.seen c.args.flash.now in
     let failed = err_from_is_err_and c.from_residual.result c.from_residual.ensures.1 in
-    rw failed.1 (head_begun c.args.rules f.geometry f.content (progress c.cold-machine.result) c.cold-machine.ensures.cold.boot c.args.boot c.kind-kind.result c.kind-kind.ensures _ _ _
+    rw failed.1 (head_begun (powered c.args.rules f) (progress c.cold-machine.result) c.cold-machine.ensures.cold.boot c.args.boot c.kind-kind.result c.kind-kind.ensures _ _ _
     c.in_err-write_line.ensures.front)
 
 pub returns-in_err-write_operations-clause-front : goal.returns-in_err-write_operations-clause-front
 returns-in_err-write_operations-clause-front g c =
     let f = g.F.Flash.seen c.args.flash.now in
     let failed = err_from_is_err_and c.from_residual-in_err-write_operations.result c.from_residual-in_err-write_operations.ensures.1 in
-    rw failed.1 (cut_begun c.args.rules f.geometry f.content (progress c.cold-machine.result) c.cold-machine.ensures.cold.boot c.args.boot c.kind-kind.result c.kind-kind.ensures _ _
+    rw failed.1 (cut_begun (powered c.args.rules f) (progress c.cold-machine.result) c.cold-machine.ensures.cold.boot c.args.boot c.kind-kind.result c.kind-kind.ensures _ _
     c.in_ok-write_line.ensures.whole _ c.args.cut c.in_err-write_operations.ensures.told)
 
 pub returns-in_err-write_line-2-clause-front : goal.returns-in_err-write_line-2-clause-front
 returns-in_err-write_line-2-clause-front g c =
     let f = g.F.Flash.seen c.args.flash.now in
     let e = c.in_ok-write_operations.ensures in
-    let next = next_there c.args.rules f.geometry f.content (progress c.write_operations.new.boot) (g.F.Flash.seen c.write_operations.new.flash).content c.args.cut
+    let next = next_there (powered c.args.rules f) (progress c.write_operations.new.boot) (g.F.Flash.seen c.write_operations.new.flash).content c.args.cut
     (e.goes.goes.come c.args.rules f.content c.cold-machine.ensures.come) e.goes.below e.end c.requires in
     let failed = err_from_is_err_and c.from_residual-in_err-write_line-2.result c.from_residual-in_err-write_line-2.ensures.1 in
-    rw failed.1 (cut_line_begun c.args.rules f.geometry f.content (progress c.cold-machine.result) c.cold-machine.ensures.cold.boot c.args.boot c.kind-kind.result c.kind-kind.ensures _ _
+    rw failed.1 (cut_line_begun (powered c.args.rules f) (progress c.cold-machine.result) c.cold-machine.ensures.cold.boot c.args.boot c.kind-kind.result c.kind-kind.ensures _ _
     c.in_ok-write_line.ensures.whole _ c.args.cut e.told c.in-Some.op (sym next ∙ sym c.peek.ensures.first ∙ c.in-Some.is) _ c.layout.result.now c.layout.ensures
     c.in_err-write_line-2.ensures.front)
 
@@ -33,30 +34,30 @@ pub returns-in_ok-write_line-2-clause-whole : goal.returns-in_ok-write_line-2-cl
 returns-in_ok-write_line-2-clause-whole g c =
     let f = g.F.Flash.seen c.args.flash.now in
     let e = c.in_ok-write_operations.ensures in
-    let next = next_there c.args.rules f.geometry f.content (progress c.write_operations.new.boot) (g.F.Flash.seen c.write_operations.new.flash).content c.args.cut
+    let next = next_there (powered c.args.rules f) (progress c.write_operations.new.boot) (g.F.Flash.seen c.write_operations.new.flash).content c.args.cut
     (e.goes.goes.come c.args.rules f.content c.cold-machine.ensures.come) e.goes.below e.end c.requires in
-    cut_out c.args.rules f.geometry f.content (progress c.cold-machine.result) c.cold-machine.ensures.cold.boot c.args.boot c.kind-kind.result c.kind-kind.ensures _ _
+    cut_out (powered c.args.rules f) (progress c.cold-machine.result) c.cold-machine.ensures.cold.boot c.args.boot c.kind-kind.result c.kind-kind.ensures _ _
     c.in_ok-write_line.ensures.whole _ c.args.cut e.told c.in-Some.op (sym next ∙ sym c.peek.ensures.first ∙ c.in-Some.is) _ c.layout.result.now c.layout.ensures c.in_ok-write_line-2.ensures.whole
 
 pub returns-in_ok-write_line-2-clause-left : goal.returns-in_ok-write_line-2-clause-left
 returns-in_ok-write_line-2-clause-left g c =
     let f = g.F.Flash.seen c.args.flash.now in
     let e = c.in_ok-write_operations.ensures in
-    left_there c.args.rules f.geometry f.content (progress c.write_operations.new.boot) (g.F.Flash.seen c.write_operations.new.flash).content c.args.cut
+    left_there (powered c.args.rules f) (progress c.write_operations.new.boot) (g.F.Flash.seen c.write_operations.new.flash).content c.args.cut
     (e.goes.goes.come c.args.rules f.content c.cold-machine.ensures.come) e.goes.below e.end c.requires
 
 pub returns-in_default-clause-whole : goal.returns-in_default-clause-whole
 returns-in_default-clause-whole g c =
     let f = g.F.Flash.seen c.args.flash.now in
     let e = c.in_ok-write_operations.ensures in
-    let next = next_there c.args.rules f.geometry f.content (progress c.write_operations.new.boot) (g.F.Flash.seen c.write_operations.new.flash).content c.args.cut
+    let next = next_there (powered c.args.rules f) (progress c.write_operations.new.boot) (g.F.Flash.seen c.write_operations.new.flash).content c.args.cut
     (e.goes.goes.come c.args.rules f.content c.cold-machine.ensures.come) e.goes.below e.end c.requires in
-    cut_out_none c.args.rules f.geometry f.content (progress c.cold-machine.result) c.cold-machine.ensures.cold.boot c.args.boot c.kind-kind.result c.kind-kind.ensures _ _
+    cut_out_none (powered c.args.rules f) (progress c.cold-machine.result) c.cold-machine.ensures.cold.boot c.args.boot c.kind-kind.result c.kind-kind.ensures _ _
     c.in_ok-write_line.ensures.whole _ c.args.cut e.told (sym next ∙ sym c.peek.ensures.first ∙ c.in_default.is)
 
 pub returns-in_default-clause-left : goal.returns-in_default-clause-left
 returns-in_default-clause-left g c =
     let f = g.F.Flash.seen c.args.flash.now in
     let e = c.in_ok-write_operations.ensures in
-    left_there c.args.rules f.geometry f.content (progress c.write_operations.new.boot) (g.F.Flash.seen c.write_operations.new.flash).content c.args.cut
+    left_there (powered c.args.rules f) (progress c.write_operations.new.boot) (g.F.Flash.seen c.write_operations.new.flash).content c.args.cut
     (e.goes.goes.come c.args.rules f.content c.cold-machine.ensures.come) e.goes.below e.end c.requires

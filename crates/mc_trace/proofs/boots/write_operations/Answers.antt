@@ -1,6 +1,6 @@
 use Rattle.std.proofs.Common.{rules, ◌<◌, sym, ◌∙◌, inl, IfSome}
 use Rattle.std.proofs.lemmas.Result.{err_from_is_err_and}
-use Rattle.mc_output.specs.FrontFacts.{out_all, out_stops}
+use Rattle.mc_output.specs.facts.Fronts.{out_all, out_stops}
 use Rattle.mc_boot.specs.Boot.{progress, to_come}
 use Rattle.mc_trace.proofs.Telling.{none_to_come, happened, refused, over, line_out, line_begun, refusal_out, refusal_begun, one_more, none_more, goes_up_to}
 use Rattle.mc_trace.proofs.boots.write_operations.Goals as goal

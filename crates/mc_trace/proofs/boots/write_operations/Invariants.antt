@@ -1,5 +1,5 @@
 use Rattle.std.proofs.Common.{◌≡◌, length}
-use Rattle.mc_output.specs.FrontFacts.{IsOut}
+use Rattle.mc_output.specs.facts.Fronts.{IsOut}
 use Rattle.mc_boot.specs.Boot.{progress, to_come}
 use Rattle.mc_trace.specs.Boots.{GoesUpTo}
 use Rattle.mc_trace.proofs.Telling.{left_to_tell}

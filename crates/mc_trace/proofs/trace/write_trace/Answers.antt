@@ -18,7 +18,7 @@ returns-in_err-write_cut_boot-clause-front g c =
     let start = begun c.args.start.now in
     let r = c.in_ok-outcome.ensures.replayed in
     let same = c.cuts-cuts.ensures.value in
-    let occurs = subst (λ (l : List ℕ). after start.rules start.geometry start.content l ≡ Some r.cut) (sym same) r.occurs in
+    let occurs = subst (λ (l : List ℕ). after start l ≡ Some r.cut) (sym same) r.occurs in
     let failed = err_from_is_err_and c.from_residual-in_err-write_cut_boot.result c.from_residual-in_err-write_cut_boot.ensures.1 in
     let P : List ℕ → Type 0 = λ l. AppendsFront (g.W.Write.contents c.args.writer.now) (g.W.Write.contents c.write_cut_boot.new.writer) (trace_text start l) in
     rw failed.1 (subst P same (one_begun start c.cuts-cuts.result.now (g.W.Write.contents c.args.writer.now) (g.W.Write.contents c.boots.writer) (g.W.Write.contents c.write_cut_boot.new.writer)
@@ -34,7 +34,7 @@ boots-preserved g c =
     let start = begun c.args.start.now in
     let r = c.in_ok-outcome.ensures.replayed in
     let same = c.cuts-cuts.ensures.value in
-    let occurs = subst (λ (l : List ℕ). after start.rules start.geometry start.content l ≡ Some r.cut) (sym same) r.occurs in
+    let occurs = subst (λ (l : List ℕ). after start l ≡ Some r.cut) (sym same) r.occurs in
     let e = c.in_ok-write_cut_boot.ensures in
     one_told start c.cuts-cuts.result.now (g.W.Write.contents c.args.writer.now) (g.W.Write.contents c.boots.writer) (g.W.Write.contents c.write_cut_boot.new.writer) c.boots.cut-index c.boots.boot
     (g.F.Flash.seen c.boots.flash) c.boots.invariant c.boots-test.true r.cut occurs (g.F.Flash.seen c.write_cut_boot.new.flash) (rw c.rules-rules.ensures at e.whole)
@@ -45,7 +45,7 @@ returns-in_err-write_last_boot-clause-front g c =
     let start = begun c.args.start.now in
     let r = c.in_ok-outcome.ensures.replayed in
     let same = c.cuts-cuts.ensures.value in
-    let occurs = subst (λ (l : List ℕ). after start.rules start.geometry start.content l ≡ Some r.cut) (sym same) r.occurs in
+    let occurs = subst (λ (l : List ℕ). after start l ≡ Some r.cut) (sym same) r.occurs in
     let failed = err_from_is_err_and c.from_residual-in_err-write_last_boot.result c.from_residual-in_err-write_last_boot.ensures.1 in
     let P : List ℕ → Type 0 = λ l. AppendsFront (g.W.Write.contents c.args.writer.now) (g.W.Write.contents c.write_last_boot.new.writer) (trace_text start l) in
     rw failed.1 (subst P same (last_begun start c.cuts-cuts.result.now (g.W.Write.contents c.args.writer.now) (g.W.Write.contents c.boots.writer) c.boots.cut-index c.boots.boot
@@ -62,7 +62,7 @@ returns-in_err-write_display-clause-front g c =
     let start = begun c.args.start.now in
     let r = c.in_ok-outcome.ensures.replayed in
     let same = c.cuts-cuts.ensures.value in
-    let occurs = subst (λ (l : List ℕ). after start.rules start.geometry start.content l ≡ Some r.cut) (sym same) r.occurs in
+    let occurs = subst (λ (l : List ℕ). after start l ≡ Some r.cut) (sym same) r.occurs in
     let failed = err_from_is_err_and c.from_residual-in_err-write_display.result c.from_residual-in_err-write_display.ensures.1 in
     let P : List ℕ → Type 0 = λ l. AppendsFront (g.W.Write.contents c.args.writer.now) (g.W.Write.contents c.write_display.new.writer) (trace_text start l) in
     rw failed.1 (subst P same (outcome_begun start c.cuts-cuts.result.now (g.W.Write.contents c.args.writer.now) (g.W.Write.contents c.boots.writer) c.boots.cut-index c.boots.boot

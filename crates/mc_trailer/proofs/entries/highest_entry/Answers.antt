@@ -1,5 +1,5 @@
 use Rattle.std.proofs.Common.{sym, ◌∙◌, arith}
-use Rattle.mc_trailer.specs.EntryFacts.{greatest_at}
+use Rattle.mc_trailer.specs.facts.Entries.{greatest_at}
 use Rattle.mc_trailer.proofs.entries.highest_entry.Goals as goal
 
 pub returns-then-is_written-clause-value : goal.returns-then-is_written-clause-value

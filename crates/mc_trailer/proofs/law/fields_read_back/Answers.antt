@@ -1,4 +1,4 @@
-use Rattle.mc_trailer.specs.FieldFacts.{reads_back, writes_keep}
+use Rattle.mc_trailer.specs.facts.Fields.{reads_back, writes_keep}
 use Rattle.mc_trailer.proofs.law.fields_read_back.Goals as goal
 
 pub returns-clause-reads : goal.returns-clause-reads

@@ -1,7 +1,7 @@
 use Rattle.std.proofs.Common.{◌≡◌, ◌-◌, length, refl, sym, subst, arith}
 use Rattle.std.proofs.lemmas.Result.{err_from_is_err_and}
 use Rattle.mc_flash.specs.Spends.{HasRoom}
-use Rattle.mc_flash.specs.SpendsFacts.{mark_spends, ran_out_later}
+use Rattle.mc_flash.specs.facts.Spends.{mark_spends, ran_out_later}
 use Rattle.mc_walk.specs.Kind.{owed_there}
 use Rattle.mc_walk.specs.Walks.{start_of}
 use Rattle.mc_walk.proofs.Stacks.{entered_told}

@@ -2,10 +2,11 @@ use Rattle.std.proofs.Common.{sym, ap, ◌∙◌}
 use Rattle.std.specs.Prelude.{Some}
 use Rattle.mc_boot.specs.Boot.{progress}
 use Rattle.mc_boot.specs.Outcome.{Report}
-use Rattle.mc_boot.specs.RunFacts.{come_outcome}
+use Rattle.mc_boot.specs.facts.Run.{come_outcome}
 use Rattle.mc_boot.proofs.boot.Boot.outcome_among.Goals as goal
+use Rattle.mc_boot.specs.PowerOn.{power_on}
 
 pub returns-clause-end : goal.returns-clause-end
 returns-clause-end g c r s come end =
-    come_outcome r (g.F.Flash.seen c.args.flash.now).geometry s (progress c.args.self.now) (g.F.Flash.seen c.args.flash.now).content come end
+    come_outcome (power_on r (g.F.Flash.seen c.args.flash.now).geometry s) (progress c.args.self.now) (g.F.Flash.seen c.args.flash.now).content come end
     ∙ ap (λ (x : Report). Some x) (sym c.read.ensures)

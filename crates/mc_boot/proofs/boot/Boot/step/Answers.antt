@@ -1,7 +1,7 @@
 use Rattle.std.proofs.Common.{sym}
 use Rattle.std.specs.Prelude.{Ok}
-use Rattle.mc_flash.specs.DoneFacts.{does_keep}
-use Rattle.mc_boot.specs.RunFacts.{come_steps}
+use Rattle.mc_flash.specs.facts.Done.{does_keep}
+use Rattle.mc_boot.specs.facts.Run.{come_steps}
 use Rattle.mc_boot.proofs.Stepping.{next_step, refused_step}
 use Rattle.mc_boot.proofs.boot.Boot.step.Goals as goal
 

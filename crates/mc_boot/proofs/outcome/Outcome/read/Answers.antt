@@ -3,6 +3,7 @@ use Rattle.mc_boot.specs.Boot.{Progress}
 use Rattle.mc_boot.proofs.ImageFacts.{images_read}
 use Rattle.mc_boot.proofs.Reports.{told}
 use Rattle.mc_boot.proofs.outcome.Outcome.read.Goals as goal
+use Rattle.mc_boot.specs.PowerOn.{powered}
 
 pub begin-requires : goal.begin-requires
 begin-requires g c =
@@ -13,7 +14,7 @@ begin-requires g c =
 
 pub returns : goal.returns
 returns g c =
-    told c.args.rules (g.F.Flash.seen c.args.flash.now).geometry (g.F.Flash.seen c.args.flash.now).content c.args.kind c.kind.result c.args.ops c.args.faulted c.is_some.result c.result_of.result
+    told (powered c.args.rules (g.F.Flash.seen c.args.flash.now)) c.args.kind c.kind.result c.args.ops c.args.faulted c.is_some.result c.result_of.result
     c.read_among-primary.result.id c.read_among-secondary.result.id
     c.result_of.ensures c.is_some.ensures
     (rw c.slot_bytes.ensures.value at c.read_among-primary.ensures.id)

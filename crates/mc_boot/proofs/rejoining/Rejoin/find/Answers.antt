@@ -3,12 +3,13 @@ use Rattle.mc_boot.specs.Joins.{erases_of, joins_of}
 use Rattle.mc_boot.proofs.Rejoined.{rejoins_among, rejoins_behind, rejoins_here}
 use Rattle.mc_boot.proofs.rejoining.Rejoin.find.Goals as goal
 use Rattle.mc_boot.proofs.rejoining.Rejoin.find.Goals.{then-done-kept, else-done-kept+in_ok-only}
+use Rattle.mc_boot.specs.PowerOn.{power_on}
 
 pub returns-then-done-eq0 : goal.returns-then-done-eq0
 returns-then-done-eq0 g c =
     let seen = g.F.Flash.seen c.args.flash.now in
     let none : c.args.cut.now.done ≡ 0 = omega (arith, c.if-done-eq0.true, c.count-done.ensures) in
-    λ r s whole is start. rejoins_here r seen.geometry s seen.content c.args.cut.now whole _ is none (omega arith) (omega arith)
+    λ r s whole is start. rejoins_here (power_on r seen.geometry s) seen.content c.args.cut.now whole _ is none (omega arith) (omega arith)
 
 pub returns : goal.returns
 returns g c =
@@ -23,10 +24,10 @@ returns g c =
     let erases : c.erases_of-erases.result ≡ erases_of b = c.erases_of-erases.ensures.count in
     λ r s whole is start. elim c.if-done-kept.branch [
       | then-done-kept w ↦
-          rejoins_among r seen.geometry s seen.content c.args.cut.now c.args.next.now a b whole _ is at_a at_b c.requires start c.joins.ensures.valid
+          rejoins_among (power_on r seen.geometry s) seen.content c.args.cut.now c.args.next.now a b whole _ is at_a at_b c.requires start c.joins.ensures.valid
           found done erases (omega (arith, w.if-done-kept.true))
       | else-done-kept+in_ok-only w ↦
-          rejoins_behind r seen.geometry s seen.content c.args.cut.now c.args.next.now a b whole _ is at_a at_b c.requires start c.joins.ensures.valid
+          rejoins_behind (power_on r seen.geometry s) seen.content c.args.cut.now c.args.next.now a b whole _ is at_a at_b c.requires start c.joins.ensures.valid
           found done erases (omega (arith, w.if-done-kept.false))
           (λ i lt other. w.in_ok-only.ensures i lt (λ same. other (same ∙ sym w.only-is)))
     ]

@@ -1,6 +1,6 @@
 use Rattle.std.proofs.Common.{subst}
 use Rattle.mc_output.specs.Fronts.{AppendsFront}
-use Rattle.mc_output.specs.ResultFacts.{on_err}
+use Rattle.mc_output.specs.facts.Results.{on_err}
 use Rattle.mc_campaign.specs.Rest.{campaigns}
 use Rattle.mc_explore.specs.Pages.{last_line}
 use Rattle.std.specs.Prelude.{Some}

@@ -1,6 +1,6 @@
 use Rattle.std.proofs.Common.{subst, sym, arith}
 use Rattle.std.proofs.lemmas.Result.{err_from_is_err_and}
-use Rattle.mc_flash.specs.SpendsFacts.{ran_out_later, spent_both}
+use Rattle.mc_flash.specs.facts.Spends.{ran_out_later, spent_both}
 use Rattle.mc_flash.specs.Spends.{LeaveRoom, plus}
 use Rattle.mc_walk.specs.Kind.{HasNext, IsAt}
 use Rattle.mc_campaign.specs.declared.rounds.OnWay.TheVariants as ways

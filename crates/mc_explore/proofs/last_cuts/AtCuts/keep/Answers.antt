@@ -6,14 +6,14 @@ use Rattle.mc_explore.proofs.last_cuts.AtCuts.keep.Goals as goal
 use Rattle.mc_explore.proofs.last_cuts.AtCuts.keep.Goals.{then-last-eq0, else-last-eq0}
 
 pub returns-then-count-self : goal.returns-then-count-self
-returns-then-count-self c = λ r g start known told.
+returns-then-count-self c = λ from known told.
     let here : AtCuts = c.if-last-eq0.self in
-    let P : AtCuts → Type 0 = λ x. AreAtCuts r g start x.of x.outcomes.items in
+    let P : AtCuts → Type 0 = λ x. AreAtCuts from x.of x.outcomes.items in
     let are : P here = elim c.if-last-eq0.branch [
-      | then-last-eq0 w ↦ subst P (sym w.self-is) (none_kept r g start w.of-self.result w.clear.new.self.items w.clear.ensures.items)
+      | then-last-eq0 w ↦ subst P (sym w.self-is) (none_kept from w.of-self.result w.clear.new.self.items w.clear.ensures.items)
       | else-last-eq0 w ↦ subst P (sym w.self-is) known
     ] in
     let of : here.of ≡ c.in-Some-eq0-default.of.now = search rules in
-    kept_more r g start here.of c.args.schedule.now c.in-Some.before.now here.outcomes.items c.push.new.self.items c.args.outcome c.in-Some.last.now c.in-Some-eq0-default.field-0-0.now
+    kept_more from here.of c.args.schedule.now c.in-Some.before.now here.outcomes.items c.push.new.self.items c.args.outcome c.in-Some.last.now c.in-Some-eq0-default.field-0-0.now
     (is_ok c.push.result) are told c.in-Some.ensures.cases.0 (c.in-Some-eq0-default.ensures.cases.0 ∙ ap (λ l. l ++ c.in-Some-eq0-default.field-0-0.now ∷ []) (sym of))
     c.in-Some-eq0-default.field-0-0-test (omega (arith, c.len-count.ensures, c.if-count-last.true, here.outcomes.ok.0)) c.push.ensures.items

@@ -16,6 +16,7 @@ use Rattle.mc_explore.proofs.Columns as columns
 use Rattle.mc_explore.proofs.Columns.{Reached, reached, reached_still, stays_none}
 use Rattle.mc_explore.proofs.once.Once.+census_column.Goals as goal
 use Rattle.mc_explore.proofs.once.Once.+census_column.Goals.{in-Some, in-None+in_ok-census_column-in-None}
+use Rattle.mc_boot.specs.PowerOn.{power_on}
 
 pub loop-number-init : goal.loop-number-init
 loop-number-init g t c =
@@ -37,7 +38,7 @@ child-requires-clause-child g t c =
     let s : Content = (g.F.Flash.seen c.args.flash.now).content in
     let r = c.args.self.now.rules in
     let layout = c.args.self.now.layout in
-    let early : c.loop-number._number < length (ops_of r layout s) = omega (arith, c.loop-number-test.true, width_is r layout c.args.told.now s c.requires.told.told_is) in
+    let early : c.loop-number._number < length (ops_of (power_on r layout s)) = omega (arith, c.loop-number-test.true, width_is r layout c.args.told.now s c.requires.told.told_is) in
     (s, c.loop-number._number, c.loop-number.invariant.here, early, c.requires.told.told_is)
 
 pub child-requires-clause-room : goal.child-requires-clause-room
@@ -79,7 +80,7 @@ census_column-requires g t c κs within =
     (record { stays = e.stays; limits = e.spends.limits }) in
     let some : 1 ≤ c.args.bound = omega (arith, c.if-bound-eq0.false) in
     let room = columns.column_room r layout old after (left_of layout (progress c.loop-number.at)) c.args.bound c.requires.room some x.under in
-    let told = subst (λ (s : Content). IsTold r layout s child) (sym x.here.content_is) x.told in
+    let told = subst (λ (s : Content). IsTold (power_on r layout s) child) (sym x.here.content_is) x.told in
     (omega (arith, c.decreases, some), (within, (record { layout_is = x.here.layout_is; told_is = told }, (room, omega (arith, c.requires.few)))))
 
 pub pass-requires : goal.pass-requires
@@ -126,7 +127,7 @@ loop-number-preserved g t c =
     ] in
     let y = reached_still r layout old.content n c.loop-number.at old after mid child x stays in
     let s : Content = old.content in
-    let u : Content = at_cut r layout s n in
+    let u : Content = at_cut (power_on r layout s) n in
     let P : Below → Type 0 = λ b. IsBelow r layout s c.args.bound u b in
     let below : P c.match-find.below = elim c.match-find.branch [
       | in-Some w ↦ subst P (sym w.below-is)

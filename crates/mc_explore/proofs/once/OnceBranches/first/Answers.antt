@@ -2,6 +2,7 @@ use Rattle.std.proofs.Common.{◌∙◌}
 use Rattle.mc_explore.specs.facts.Occurring.{at_zero}
 use Rattle.mc_explore.specs.facts.Telling.{first_left, first_on}
 use Rattle.mc_explore.proofs.once.OnceBranches.first.Goals as goal
+use Rattle.mc_boot.specs.PowerOn.{power_on}
 
 pub returns-clause-reaches : goal.returns-clause-reaches
 returns-clause-reaches g c =
@@ -10,7 +11,7 @@ returns-clause-reaches g c =
     λ s node some. (
       record {
         on_is = first_on r layout s c.args.told.now node.told_is;
-        content_is = node.content_is ∙ at_zero r layout s;
+        content_is = node.content_is ∙ at_zero (power_on r layout s);
         layout_is = node.layout_is;
       },
       first_left r layout s c.args.told.now node.told_is (g.F.Flash.seen c.args._flash.now).ledger.counts,

@@ -9,6 +9,7 @@ use Rattle.mc_explore.proofs.Rowing.{few_next, finds_last, finds_next, finds_ove
 use Rattle.mc_explore.proofs.rows.Rows.next.Given.{Over}
 use Rattle.mc_explore.proofs.rows.Rows.next.Goals as goal
 use Rattle.mc_explore.proofs.rows.Rows.next.Goals.{After-told, After-arrive-self-inside, In_ok-go_on}
+use Rattle.mc_explore.specs.Once.{begun_of}
 
 -- ---- a last cut
 
@@ -59,24 +60,24 @@ there : (g : Over) (c : After-told g) → IsThere (kind_of c.go_on.new.tour.walk
 there g c = subst (λ (w : Walked Once). IsThere (kind_of w.branches) w c.told.result.now) c.walk-walk.ensures c.told.ensures
 
 -- What is known of the last cuts behind it.
-kept : (g : Over) (c : After-arrive-self-inside g) → AreAtCuts c.go_on.new.tour.walk.branches.rules c.go_on.new.tour.walk.branches.layout (start_of c.go_on.new.tour.walk.seen)
+kept : (g : Over) (c : After-arrive-self-inside g) → AreAtCuts (begun_of c.go_on.new.tour.walk)
     c.self.inside.at_cuts.of c.self.inside.at_cuts.outcomes.items
-    → AreAtCuts c.go_on.new.tour.walk.branches.rules c.go_on.new.tour.walk.branches.layout (start_of c.go_on.new.tour.walk.seen) c.arrive-self-inside.new.at_cuts.of
+    → AreAtCuts (begun_of c.go_on.new.tour.walk) c.arrive-self-inside.new.at_cuts.of
     c.arrive-self-inside.new.at_cuts.outcomes.items
 kept g c =
     let old = c.self.inside.at_cuts in
     let new = c.arrive-self-inside.new.at_cuts in
-    subst (λ (w : Walked Once). AreAtCuts w.branches.rules w.branches.layout (start_of w.seen) old.of old.outcomes.items
-    → AreAtCuts w.branches.rules w.branches.layout (start_of w.seen) new.of new.outcomes.items) c.walk-walk.ensures c.arrive-self-inside.ensures.kept
+    subst (λ (w : Walked Once). AreAtCuts (begun_of w) old.of old.outcomes.items
+    → AreAtCuts (begun_of w) new.of new.outcomes.items) c.walk-walk.ensures c.arrive-self-inside.ensures.kept
 
-cuts : (g : Over) (c : After-arrive-self-inside g) → IfSome c.arrive-self-inside.result (AreLastCuts c.go_on.new.tour.walk.branches.rules c.go_on.new.tour.walk.branches.layout
-    (start_of c.go_on.new.tour.walk.seen) c.arrive-self-inside.new.at_cuts.of c.of-path.result c.arrive-self-inside.new.at_cuts.outcomes.items)
+cuts : (g : Over) (c : After-arrive-self-inside g)
+    → IfSome c.arrive-self-inside.result (AreLastCuts (begun_of c.go_on.new.tour.walk) c.arrive-self-inside.new.at_cuts.of c.of-path.result c.arrive-self-inside.new.at_cuts.outcomes.items)
 cuts g c =
     let new = c.arrive-self-inside.new.at_cuts in
-    let there = subst (λ (w : Walked Once). IfSome c.arrive-self-inside.result (AreLastCuts w.branches.rules w.branches.layout (start_of w.seen) new.of c.cuts.result.now new.outcomes.items))
+    let there = subst (λ (w : Walked Once). IfSome c.arrive-self-inside.result (AreLastCuts (begun_of w) new.of c.cuts.result.now new.outcomes.items))
     c.walk-walk.ensures c.arrive-self-inside.ensures.cuts in
     let w = c.go_on.new.tour.walk in
-    subst (λ l. IfSome c.arrive-self-inside.result (AreLastCuts w.branches.rules w.branches.layout (start_of w.seen) new.of l new.outcomes.items)) c.cuts.ensures.value there
+    subst (λ l. IfSome c.arrive-self-inside.result (AreLastCuts (begun_of w) new.of l new.outcomes.items)) c.cuts.ensures.value there
 
 deep : (g : Over) (c : After-arrive-self-inside g) → IfSome c.arrive-self-inside.result (λ x. length c.of-path.result + 1 ≡ c.go_on.new.tour.walk.bound)
 deep g c =

@@ -1,5 +1,5 @@
 use Rattle.std.proofs.Common.{rules, ℕ, List, Some, length, arith, refl, sym, ap, subst, ◌∙◌}
-use Rattle.mc_flash.specs.Facts.{fits_inside}
+use Rattle.mc_flash.specs.facts.Layouts.{fits_inside}
 use Rattle.mc_flash.specs.declared.op.Slot.TheVariants.{Primary, Secondary}
 use Rattle.mc_image.specs.Valid.{Identity, identity}
 use Rattle.mc_explore.specs.Slots.{IsKnown}

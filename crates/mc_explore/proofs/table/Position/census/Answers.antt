@@ -8,13 +8,14 @@ use Rattle.mc_explore.specs.declared.census.Census.{Census}
 use Rattle.mc_explore.specs.declared.table.Below.{Below}
 use Rattle.mc_explore.proofs.Weighing.{inside, rejoined_weigh}
 use Rattle.mc_explore.proofs.table.Position.census.Goals as goal
+use Rattle.mc_boot.specs.PowerOn.{power_on}
 
 pub returns-in-Joined : goal.returns-in-Joined
 returns-in-Joined c = λ r g s u most here level sums lt.
     let x = c.in-Joined.rejoin in
     let own : Totals = own_totals r g u in
-    let under : ℕ → Totals = λ i. weigh_fewer r g c.args.bound (at_cut r g s i) in
-    let joined : IsRejoined r g s u x = subst (λ (b : Below). IsBelow r g s most u b) c.in-Joined.is here.below in
+    let under : ℕ → Totals = λ i. weigh_fewer r g c.args.bound (at_cut (power_on r g s) i) in
+    let joined : IsRejoined (power_on r g s) u x = subst (λ (b : Below). IsBelow r g s most u b) c.in-Joined.is here.below in
     let inside_here : IsInside x (length c.args.level.now) = subst (λ n. IsInside x n) (sym level.0) (inside r g s u x joined) in
     let children = c.rejoined.ensures under level.1 sums inside_here in
     c.both.ensures own (placed_below totals under (length c.args.level.now) x.kept x.erases (place_of x)) here.own_is children

@@ -5,7 +5,7 @@ use Rattle.std.proofs.lemmas.List.{length-replicate}
 use Rattle.mc_flash.specs.Geometry.{Geometry}
 use Rattle.mc_flash.specs.Content.{Content, bytes_of, with_bytes, sectors_of}
 use Rattle.mc_flash.specs.Apply.{erased}
-use Rattle.mc_flash.specs.Facts.{sector_inside}
+use Rattle.mc_flash.specs.facts.Layouts.{sector_inside}
 use Rattle.mc_flash.specs.Reserve.{limits_of}
 use Rattle.mc_flash.specs.Seen.{Seen, Does}
 use Rattle.mc_flash.specs.Journal.{journal_of, IsSound}

@@ -16,7 +16,8 @@ use Rattle.mc_flash.specs.Blank.{is_blank}
 use Rattle.mc_flash.specs.declared.op.Op.TheVariants as ops
 use Rattle.mc_flash.specs.declared.op.Slot.{Slot}
 use Rattle.mc_trailer.specs.Places.{place, before_end, magic_bytes}
-use Rattle.mc_trailer.specs.PlaceFacts.{place_inside, field_ends, fields_apart, room, room_is, most_before_end, same_or_apart}
+use Rattle.mc_trailer.specs.facts.Places.{place_inside, field_ends, fields_apart, room_is, most_before_end, same_or_apart}
+use Rattle.mc_trailer.specs.Places.{room}
 use Rattle.mc_trailer.specs.Fields.{magic_of, flag_of, bytes_at, trailer_of, one_unit, size_bytes}
 use Rattle.mc_trailer.specs.Tables.{is_good}
 use Rattle.mc_trailer.specs.declared.places.Field.{Field}
@@ -26,6 +27,7 @@ use Rattle.mc_trailer.specs.declared.trailer.Magic.TheVariants as magics
 use Rattle.mc_trailer.specs.declared.trailer.Flag.{Flag}
 use Rattle.mc_trailer.specs.declared.trailer.Flag.TheVariants as flags
 use Rattle.mc_trailer.specs.declared.trailer.Trailer.{Trailer}
+use Rattle.mc_trailer.specs.Laws.{SameReading, ReadsBack, WritesKeep}
 
 -- A field begins with these bytes, as far as its room goes.
 abbrev pub FieldIs : Geometry → Content → Slot → Field → List ℕ → Type 0
@@ -206,20 +208,8 @@ same_parts m n i j c d a b x y magic image_ok copy_done info size = cc
 same_fields : (t u : Trailer) → t.magic ≡ u.magic → t.image_ok ≡ u.image_ok → t.copy_done ≡ u.copy_done → t.swap_info ≡ u.swap_info → t.swap_size ≡ u.swap_size → t ≡ u
 same_fields t u = same_parts t.magic u.magic t.image_ok u.image_ok t.copy_done u.copy_done t.swap_info u.swap_info t.swap_size u.swap_size
 
--- An erased trailer: the fields of bytes 0xff.
-abbrev pub erased_trailer : Trailer
-erased_trailer = record { magic = magics.Unset; image_ok = flags.Unset; copy_done = flags.Unset; swap_info = 255; swap_size = 4294967295 }
-
 abbrev pub blank_fields : Field → List ℕ
 blank_fields f = replicate (room f) 255
-
-pub reads_erased : (g : Geometry) (s : Content) (slot : Slot) → IsLayout g → IsSized g s → FieldsAre g s slot blank_fields → trailer_of g s slot ≡ erased_trailer
-reads_erased g s slot ok sized are =
-    same_fields (trailer_of g s slot) erased_trailer (reads_absent g s slot ok sized (are field.Magic))
-    (reads_image_ok g s slot 255 (replicate 7 255) (are field.ImageOk))
-    (reads_copy_done g s slot 255 (replicate 7 255) (are field.CopyDone))
-    (reads_info g s slot 255 (replicate 7 255) (are field.SwapInfo))
-    (reads_size g s slot 4294967295 (replicate 4 255) ok sized (omega arith) (are field.SwapSize))
 
 -- A field that holds the same bytes reads the same, and so does a trailer whose fields do.
 kept_bytes : (g : Geometry) (s t : Content) (slot : Slot) (f : Field) (n : ℕ) → IsLayout g → IsSized g s → IsSized g t → n ≤ room f → SameField g s t slot f
@@ -263,14 +253,6 @@ same_trailer g s t slot ok sized_s sized_t same =
     (same_info g s t slot (same field.SwapInfo))
     (same_size g s t slot ok sized_s sized_t (same field.SwapSize))
 
--- The same of any field: it is read as before.
-abbrev pub SameReading : Field → Trailer → Trailer → Type 0
-SameReading field.Magic t u = t.magic ≡ u.magic
-SameReading field.ImageOk t u = t.image_ok ≡ u.image_ok
-SameReading field.CopyDone t u = t.copy_done ≡ u.copy_done
-SameReading field.SwapInfo t u = t.swap_info ≡ u.swap_info
-SameReading field.SwapSize t u = t.swap_size ≡ u.swap_size
-
 pub same_reading : (g : Geometry) (s t : Content) (slot : Slot) (f : Field) → IsLayout g → IsSized g s → IsSized g t → SameField g s t slot f
     → SameReading f (trailer_of g t slot) (trailer_of g s slot)
 same_reading g s t slot field.Magic ok sized_s sized_t same = same_magic g s t slot ok sized_s sized_t same
@@ -291,15 +273,6 @@ pub trailer_kept_elsewhere : (g : Geometry) (s t : Content) (slot o : Slot) (at 
 trailer_kept_elsewhere g s t slot o at new ok sized ch other =
     same_trailer g s t o ok sized (changed_sized g s t slot at new ch sized) (λ f. field_kept_elsewhere g s t slot o at new f ch other)
 
--- What is written for each field is read back.
-abbrev pub ReadsBack : Type 0
-ReadsBack = (g : Geometry) (s t : Content) (slot : Slot) → IsLayout g → IsSized g s
-    → (Changed s t slot (place g slot field.Magic) magic_bytes → (trailer_of g t slot).magic ≡ magics.Good)
-    × (Changed s t slot (place g slot field.ImageOk) (one_unit g 1) → (trailer_of g t slot).image_ok ≡ flags.Set)
-    × (Changed s t slot (place g slot field.CopyDone) (one_unit g 1) → (trailer_of g t slot).copy_done ≡ flags.Set)
-    × ((value : ℕ) → Changed s t slot (place g slot field.SwapInfo) (one_unit g value) → (trailer_of g t slot).swap_info ≡ value)
-    × ((size : ℕ) → size < 256 ^ 4 → Changed s t slot (place g slot field.SwapSize) (size_bytes g size) → (trailer_of g t slot).swap_size ≡ size)
-
 pub reads_back : ReadsBack
 reads_back g s t slot ok sized =
     let rest : List ℕ = replicate (g.unit - 1) 255 in (
@@ -311,14 +284,6 @@ reads_back g s t slot ok sized =
           reads_size g t slot size (replicate (g.unit - 4) 255) ok (changed_sized g s t slot (place g slot field.SwapSize) (size_bytes g size) ch sized) small
           (written_field g s t slot field.SwapSize (size_bytes g size) ch),
     )
-
--- A write keeps the trailer of the other slot, the reading of each field that it does not touch, and so the whole trailer of
--- its own slot where it ends before the fields.
-abbrev pub WritesKeep : Type 0
-WritesKeep = (g : Geometry) (s t : Content) (slot : Slot) (at : ℕ) (new : List ℕ) → IsLayout g → IsSized g s → Changed s t slot at new
-    → ((o : Slot) → o ≢ slot → trailer_of g t o ≡ trailer_of g s o)
-    × ((f : Field) → (at + length new ≤ place g slot f) ⊎ (place g slot f + room f ≤ at) → SameReading f (trailer_of g t slot) (trailer_of g s slot))
-    × (at + length new + 48 ≤ size_of g slot → trailer_of g t slot ≡ trailer_of g s slot)
 
 pub writes_keep : WritesKeep
 writes_keep g s t slot at new ok sized ch = (

@@ -8,21 +8,13 @@ use Rattle.std.proofs.Math.Nat.{mul-le-mul_right, mod_self}
 use Rattle.mc_flash.specs.Geometry.{Geometry, IsLayout, trailer_bytes}
 use Rattle.mc_flash.specs.Content.{size_of}
 use Rattle.mc_flash.specs.Apply.{IsRange}
-use Rattle.mc_flash.specs.Facts.{trailer_inside, small_unit, data_end, data_before_trailer, whole_sub, whole_add, whole_size, whole_eights, whole_units}
+use Rattle.mc_flash.specs.facts.Layouts.{trailer_inside, small_unit, data_end, data_before_trailer, whole_sub, whole_add, whole_size, whole_eights, whole_units}
 use Rattle.mc_flash.specs.declared.op.Slot.{Slot}
 use Rattle.mc_flash.specs.declared.op.Slot.TheVariants.{Primary}
-use Rattle.mc_trailer.specs.Places.{place, entry_place, before_end}
+use Rattle.mc_trailer.specs.Places.{room, place, entry_place, before_end}
 use Rattle.mc_trailer.specs.Fields.{one_unit, size_bytes}
 use Rattle.mc_trailer.specs.declared.places.Field.{Field}
 use Rattle.mc_trailer.specs.declared.places.Field.TheVariants as field
-
--- How many bytes a field may take, up to the next field or the slot's end.
-abbrev pub room : Field → ℕ
-room field.Magic = 16
-room field.ImageOk = 8
-room field.CopyDone = 8
-room field.SwapInfo = 8
-room field.SwapSize = 8
 
 pub room_is : (f : Field) → ((before_end f ≡ 16) × (room f ≡ 16)) ⊎ ((24 ≤ before_end f) × (room f ≡ 8))
 room_is field.Magic = inl (refl, refl)
@@ -38,9 +30,6 @@ eights field.ImageOk = (3, refl, omega arith, omega arith)
 eights field.CopyDone = (4, refl, omega arith, omega arith)
 eights field.SwapInfo = (5, refl, omega arith, omega arith)
 eights field.SwapSize = (6, refl, omega arith, omega arith)
-
-pub least_before_end : (f : Field) → 16 ≤ before_end f
-least_before_end f = let e = eights f in omega (arith, e.1, e.2)
 
 pub most_before_end : (f : Field) → before_end f ≤ 48
 most_before_end f = let e = eights f in omega (arith, e.1, e.3)
@@ -99,10 +88,6 @@ entry_ends g e ok below =
     let few : (e + 1) * g.unit ≤ 3 * g.max_sectors * g.unit = mul-le-mul_right g.unit (omega arith) in
     omega arith
 
--- An entry ends before each field, and before each later entry.
-pub entry_before_field : (g : Geometry) (e : ℕ) (f : Field) → IsLayout g → e < 3 * g.max_sectors → entry_place g e + g.unit ≤ place g Primary f
-entry_before_field g e f ok below = omega (arith, entry_ends g e ok below, place_inside g Primary f ok, most_before_end f)
-
 -- So many entries from one on lie in the slot, and each is a unit behind the one before.
 pub group_inside : (g : Geometry) (first count : ℕ) → IsLayout g → 0 < count → first + count ≤ 3 * g.max_sectors → entry_place g first + count * g.unit + 48 ≤ size_of g Primary
 group_inside g first count ok some below =
@@ -130,12 +115,6 @@ field_behind_data g slot f ok = from (data_end g slot) (data_before_trailer g sl
   where
     from : (d : ℕ) → d + trailer_bytes g ≤ size_of g slot → d + 3 * g.max_sectors * g.unit ≤ place g slot f
     from d before = omega (arith, before, place_inside g slot f ok, most_before_end f)
-
-pub entry_behind_data : (g : Geometry) (e : ℕ) → IsLayout g → e < 3 * g.max_sectors → data_end g Primary + e * g.unit ≤ entry_place g e
-entry_behind_data g e ok below = from (data_end g Primary) (data_before_trailer g Primary ok)
-  where
-    from : (d : ℕ) → d + trailer_bytes g ≤ size_of g Primary → d + e * g.unit ≤ entry_place g e
-    from d before = omega (arith, before, entry_inside g e ok below)
 
 pub place_aligned : (g : Geometry) (slot : Slot) (f : Field) → IsLayout g → place g slot f % g.unit ≡ 0
 place_aligned g slot f ok =
@@ -185,10 +164,6 @@ field_range g slot f n ok short whole some = record {
 
 pub flag_range : (g : Geometry) (slot : Slot) (f : Field) (value : ℕ) → IsLayout g → IsRange g slot (place g slot f) (length (one_unit g value))
 flag_range g slot f value ok = field_range g slot f (length (one_unit g value)) ok (one_unit_fits g value f ok) (one_unit_whole g value ok) (omega arith)
-
-pub size_range : (g : Geometry) (slot : Slot) (size : ℕ) → IsLayout g → IsRange g slot (place g slot field.SwapSize) (length (size_bytes g size))
-size_range g slot size ok =
-    field_range g slot field.SwapSize (length (size_bytes g size)) ok (size_bytes_fit g size ok) (size_bytes_whole g size ok) (omega (arith, size_bytes_len g size))
 
 pub magic_range : (g : Geometry) (slot : Slot) → IsLayout g → IsRange g slot (place g slot field.Magic) 16
 magic_range g slot ok = field_range g slot field.Magic 16 ok (omega arith) (whole_eights g 2 ok) (omega arith)

@@ -11,18 +11,12 @@ use Rattle.mc_trailer.specs.declared.tables.Profile.{Profile}
 use Rattle.mc_trailer.specs.declared.tables.Profile.TheVariants as profiles
 use Rattle.mc_trailer.specs.declared.tables.SwapType.{SwapType}
 use Rattle.mc_trailer.specs.declared.tables.SwapType.TheVariants as kinds
+use Rattle.mc_trailer.specs.Laws.{RowsApart, TypesAreRows}
 
 -- Both parts of a conjunction hold.
 and_parts : (a b : Bool) → (a && b) ≡ true → (a ≡ true) × (b ≡ true)
 and_parts true b is = (refl, is)
 and_parts false b is = absurd cc
-
--- No two rows hold together.
-abbrev pub RowsApart : Type 0
-RowsApart = (profile : Profile) (p s : Trailer)
-    → (asks_test p s ≡ true → asks_perm p s ≡ false)
-    × (asks_test p s ≡ true → asks_revert profile p s ≡ false)
-    × (asks_perm p s ≡ true → asks_revert profile p s ≡ false)
 
 -- No flag is read in two ways, and a good magic of the secondary is none that a revert takes.
 not_both : (f : Flag) → is_unset f ≡ true → is_set f ≡ false
@@ -52,10 +46,6 @@ rows_apart profile p s = (
   λ test. no_revert profile p s (and_parts (is_good s.magic) (is_unset s.image_ok) test).0,
   λ perm. no_revert profile p s (and_parts (is_good s.magic) (is_set s.image_ok) perm).0,
 )
-
--- The type of the tables is that whose row holds, and no other is.
-abbrev pub TypesAreRows : Type 0
-TypesAreRows = (profile : Profile) (p s : Trailer) (kind : SwapType) → (swap_type profile p s ≡ kind) ↔ Asks profile p s kind
 
 -- The same of three tests, no two of which hold together.
 abbrev says : Bool → Bool → Bool → SwapType → Type 0

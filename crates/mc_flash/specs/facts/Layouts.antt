@@ -109,13 +109,6 @@ sector_in_data g slot i below =
     with_end : (z : ℕ) → (i + 1) * g.sector ≤ z → i * g.sector + g.sector ≤ z
     with_end z h = omega arith
 
-pub data_sector_before_trailer : (g : Geometry) (slot : Slot) (i : ℕ) → IsLayout g → i < data_sectors g slot
-    → i * g.sector + g.sector + trailer_bytes g ≤ size_of g slot
-data_sector_before_trailer g slot i ok below =
-    let ends = sector_in_data g slot i below in
-    let before = data_before_trailer g slot ok in
-    omega (arith, ends, before)
-
 -- a sector that is no data sector begins behind them
 pub trailer_sector_behind_data : (g : Geometry) (slot : Slot) (i : ℕ) → data_sectors g slot ≤ i → data_end g slot ≤ i * g.sector
 trailer_sector_behind_data g slot i above = mul-le-mul_right g.sector above
@@ -124,9 +117,6 @@ trailer_sector_behind_data g slot i above = mul-le-mul_right g.sector above
 pub image_is_data : (g : Geometry) (slot : Slot) (n : ℕ) → n ≤ greatest_sectors g → n ≤ data_sectors g slot
 image_is_data g Primary n few = omega arith
 image_is_data g Secondary n few = omega arith
-
-pub room_to_move : (g : Geometry) (n : ℕ) → IsLayout g → n ≤ greatest_sectors g → n + 1 ≤ data_sectors g Primary
-room_to_move g n ok few = let room = ok.room in omega arith
 
 -- the two greatest numbers of sectors are one for a layout
 counted_down : (p q t m : ℕ) → 0 < min (p - 1 - t) (min (q - t) m) → count_beside t m p q ≡ pos (min (p - 1 - t) (min (q - t) m))

@@ -5,7 +5,7 @@ use Rattle.mc_flash.specs.Geometry.{Geometry}
 use Rattle.mc_flash.specs.Ledger.{Counts, Limits, IsFull}
 use Rattle.mc_flash.specs.Seen.{Seen, GivesUp}
 use Rattle.mc_flash.specs.Spends.{Spent, RanOut, LeaveRoom, Allows, plus, room_of}
-use Rattle.mc_flash.specs.SpendsFacts.{Notes, done_notes, gave_up}
+use Rattle.mc_flash.specs.facts.Spends.{Notes, done_notes, gave_up}
 use Rattle.mc_flash.specs.declared.op.Op.{Op}
 use Rattle.mc_flash.specs.declared.flash.FlashError.{FlashError}
 use Rattle.mc_flash.specs.declared.flash.FlashError.TheVariants as errors
@@ -23,9 +23,6 @@ pub record StepSpends (p q : Progress) (old new : Seen) : Type 0 where
 pub step_spends_none : (p : Progress) (f : Seen) → StepSpends p p f f
 step_spends_none p f = record { applied = omega arith; limits = refl; failed = refl }
 
-pub counts_on_none : (p : Progress) (f : Seen) → CountsOn p p f f
-counts_on_none p f = record { entries = omega arith; saved = omega arith }
-
 -- Where the layout stays.
 pub counts_on_both : (o p q : Progress) (x y z : Seen) → y.geometry ≡ x.geometry → CountsOn o p x y → CountsOn p q y z → CountsOn o q x z
 counts_on_both o p q x y z same c d =
@@ -40,14 +37,7 @@ step_spends_both o p q x y z s t = record {
   failed = t.failed ∙ s.failed;
 }
 
-pub spent_along : (p q : Progress) (old new : Seen) → StepSpends p q old new → Spent (length p.to_come) old new
-spent_along p q old new s = record { applied = omega (arith, s.applied); limits = s.limits; failed = s.failed }
-
 -- ---- the first operation to come
-
-pub some_first : (ops : List Op) (first : Option Op) → first ≡ slice_get ops 0 → is_some first ≡ true → 0 < length ops
-some_first [] first is some = absurd cc
-some_first (op ∷ rest) first is some = omega arith
 
 pub none_first : (ops : List Op) (first : Option Op) → first ≡ slice_get ops 0 → is_some first ≡ false → ops ≡ []
 none_first [] first is none = refl
@@ -152,18 +142,6 @@ module _ (p q : Progress) (old new : Seen) where
         entries = omega (arith, c.entries, allows.entries);
         saved = omega (arith, c.saved, allows.saved);
       }))
-
-  -- Fewer operations are to come.
-  pub less_to_come : (result : Result (Unit {0}) FlashError) → (result ≡ Err errors.Memory → ⊥) → 0 < length p.to_come
-      → Steps p old result q new → length q.to_come < length p.to_come
-  less_to_come result other some steps = at p.to_come refl result other steps
-    where
-      at : (ops : List Op) → p.to_come ≡ ops → (x : Result (Unit {0}) FlashError) → (x ≡ Err errors.Memory → ⊥) → StepsAlong ops p old x q new
-          → length q.to_come < length p.to_come
-      at [] is x fine d = absurd (omega (arith, some, ap (λ (ops : List Op). length ops) is))
-      at (op ∷ rest) is (Ok v) fine d = omega (arith, ap (λ (ops : List Op). length ops) is, ap (λ (x : Progress). length x.to_come) d.0)
-      at (op ∷ rest) is (Err errors.NotErased) fine d = omega (arith, some, ap (λ (x : Progress). length x.to_come) d.0)
-      at (op ∷ rest) is (Err errors.Memory) fine d = absurd (fine refl)
 
   -- After a refusal nothing is to come, and no operation more happened.
   pub refused_here : (result : Result (Unit {0}) FlashError) → result ≡ Err errors.NotErased → Steps p old result q new

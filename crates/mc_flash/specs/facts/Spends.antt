@@ -2,7 +2,7 @@
 use Rattle.std.specs.Prelude.{◌≡◌, ℕ, ◌+◌, ◌<◌, ◌≤◌, Bool, true, false, [], ◌∷◌, ◌++◌, length, take, slice_index_or, Some, Result, Ok, Err, refl}
 use Rattle.std.proofs.Common.{arith, inl, inr, sym, ap, subst, ◌∙◌, length-append}
 use Rattle.std.proofs.lemmas.List.{get_or_at, take_at}
-use Rattle.mc_flash.specs.DoneFacts.{did}
+use Rattle.mc_flash.specs.facts.Done.{did}
 use Rattle.mc_flash.specs.Geometry.{Geometry}
 use Rattle.mc_flash.specs.Ledger.{Ledger, Limits, Spot, noted_by, saves}
 use Rattle.mc_flash.specs.Seen.{Seen, GivesUp, HasNoPlace, Keeps, Marks, done, marked, no_spot, spot_at, spot_of, went_back}
@@ -86,7 +86,3 @@ stays_back old mid end m keeps =
       marks = ap (take (length old.marks)) marks ∙ take_at old.marks (spot_of old ∷ []) (length old.marks) refl;
       counts = ap (λ (s : Spot). s.counts) spot;
     }
-
--- The mark is still there.
-pub mark_kept : (old mid end : Seen) → mid ≡ marked old → Keeps mid end → length old.marks < length end.marks
-mark_kept old mid end m keeps = omega (arith, ap length (keeps.marks ∙ ap (λ (f : Seen). f.marks) m), length-append old.marks (spot_of old ∷ []))

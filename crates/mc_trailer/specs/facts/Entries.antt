@@ -8,15 +8,16 @@ use Rattle.std.proofs.lemmas.List.Edits.{get_or-between, length-between}
 use Rattle.mc_flash.specs.Blank.{is_blank}
 use Rattle.mc_flash.specs.Geometry.{Geometry, IsLayout, trailer_bytes}
 use Rattle.mc_flash.specs.Content.{Content, IsSized, byte, size_of}
-use Rattle.mc_flash.specs.Facts.{small_unit}
+use Rattle.mc_flash.specs.facts.Layouts.{small_unit}
 use Rattle.mc_flash.specs.Changes.{Changed, changed_sized, blank_range, range_blank, program_changes}
 use Rattle.mc_flash.specs.Apply.{apply}
 use Rattle.mc_flash.specs.declared.op.Op.TheVariants as ops
 use Rattle.mc_flash.specs.declared.op.Slot.TheVariants.{Primary, Secondary}
 use Rattle.mc_trailer.specs.Places.{entry_place}
-use Rattle.mc_trailer.specs.PlaceFacts.{entry_behind, entry_inside, group_inside, entry_ends, entries_apart, one_unit_len}
+use Rattle.mc_trailer.specs.facts.Places.{entry_behind, entry_inside, group_inside, entry_ends, entries_apart, one_unit_len}
 use Rattle.mc_trailer.specs.Fields.{bytes_at, one_unit}
 use Rattle.mc_trailer.specs.Entries.{is_written, IsWritten, IsHighest, greatest, highest_entry}
+use Rattle.mc_trailer.specs.Laws.{WritesHighest}
 
 -- The greatest number below a limit that passes: it passes, and no other above it does.
 pub greatest_some : (p : ℕ → Bool) (n m : ℕ) → greatest p n ≡ Some m → (m < n) × (p m ≡ true) × ((d : ℕ) → d < n → p d ≡ true → d ≤ m)
@@ -176,9 +177,6 @@ entry_kept_beside g s t d e value ok below_d below_e other ch = elim (cases_orde
   | inr (inr behind) ↦ entry_kept g s t (entry_place g d) (one_unit g value) e ch (inr (entries_apart g e d ok behind below_d))
 ]
 
-pub entry_kept_elsewhere : (g : Geometry) (s t : Content) (at : ℕ) (new : List ℕ) (e : ℕ) → Changed s t Secondary at new → SameEntry g s t e
-entry_kept_elsewhere g s t at new e ch i within = ch.other Primary (entry_place g e + i) (λ same. absurd cc)
-
 -- Where the part of the trailer before the fields is the same, so is each entry.
 pub entries_same : (g : Geometry) (s t : Content) → IsLayout g → ((i : ℕ) → size_of g Primary ≤ i + trailer_bytes g → i + 48 < size_of g Primary → byte t Primary i ≡ byte s Primary i) → (e : ℕ)
     → e < 3 * g.max_sectors → SameEntry g s t e
@@ -187,15 +185,6 @@ entries_same g s t ok same e below i within = same (entry_place g e + i) (omega 
 -- The highest entry where one is written and none above it; where none is written; and where the entries are the same.
 pub highest_none : (g : Geometry) (s : Content) → ((d : ℕ) → d < 3 * g.max_sectors → is_written g s d ≡ false) → highest_entry g s ≡ None
 highest_none g s free = none_passes (is_written g s) (3 * g.max_sectors) free
-
-pub highest_same : (g : Geometry) (s t : Content) → IsLayout g → IsSized g s → IsSized g t → ((e : ℕ) → e < 3 * g.max_sectors → SameEntry g s t e) → highest_entry g t ≡ highest_entry g s
-highest_same g s t ok sized_s sized_t same = greatest_same (is_written g t) (is_written g s) (3 * g.max_sectors) (λ e below. same_entry g s t e ok sized_s sized_t below (same e below))
-
--- After an entry above all written ones was written it is the highest.
-abbrev pub WritesHighest : Type 0
-WritesHighest = (g : Geometry) (s t : Content) (e : ℕ) → IsLayout g → IsSized g s → e < 3 * g.max_sectors
-    → ((d : ℕ) → e < d → d < 3 * g.max_sectors → is_written g s d ≡ false)
-    → Changed s t Primary (entry_place g e) (one_unit g 1) → highest_entry g t ≡ Some e
 
 pub highest_after : WritesHighest
 highest_after g s t e ok sized below above ch =

@@ -18,9 +18,10 @@ use Rattle.mc_boot.specs.Runs.{applied, first_then, happening, ops_of, at, is_fa
 use Rattle.mc_boot.specs.Boot.{Progress, begun, stepped, refused, StepsAlong, Steps}
 use Rattle.mc_flash.specs.Seen.{Seen, GivesUp}
 use Rattle.mc_flash.specs.Ledger.{IsFull}
-use Rattle.mc_flash.specs.DoneFacts.{did, undefined}
+use Rattle.mc_flash.specs.facts.Done.{did, undefined}
 use Rattle.mc_boot.specs.Run.{HasCome}
 use Rattle.mc_boot.specs.Outcome.{Report, report, outcome_of}
+use Rattle.mc_boot.specs.PowerOn.{PowerOn, power_on}
 
 first_happens : (g : Geometry) (op : Op) (ops left : List Op) (s t : Content) (k : ℕ) → ((x : Content) → applied g (take k ops) x ≡ Some t → happening g ops x ≡ take k ops ++ left)
     → (o : Option Content) → option_and_then (λ u. applied g (take k ops) u) o ≡ Some t → first_then op (λ u. happening g ops u) o ≡ op ∷ (take k ops ++ left)
@@ -66,8 +67,8 @@ none_left : {A : Type 0} (xs : List A) (k : ℕ) → drop k xs ≡ [] → length
 none_left {A = A} xs k is = omega (arith, length-drop k xs, ap (λ (ys : List A). length ys) is)
 
 -- At power-on.
-pub come_begun : (r : Rules) (g : Geometry) (s : Content) → HasCome r g s (begun r (plan r g s)) s
-come_begun r g s = record {
+pub come_begun : (x : PowerOn) → HasCome x (begun x.rules (plan x)) x.content
+come_begun x = record {
   rules = refl;
   kind = refl;
   within = omega arith;
@@ -91,121 +92,113 @@ none_first : (g : Geometry) (op : Op) (rest : List Op) (t : Content) → apply g
 none_first g op rest t none = ap (λ (o : Option Content). first_then op (λ u. happening g rest u) o) none
 
 -- A step keeps a boot on its way, and the layout as it is.
-pub come_steps : (r : Rules) (s : Content) (p q : Progress) (old new : Seen) (result : Result (Unit {0}) FlashError) → HasCome r old.geometry s p old.content
-    → Steps p old result q new → HasCome r old.geometry s q new.content
+pub come_steps : (r : Rules) (s : Content) (p q : Progress) (old new : Seen) (result : Result (Unit {0}) FlashError) → HasCome (power_on r old.geometry s) p old.content
+    → Steps p old result q new → HasCome (power_on r old.geometry s) q new.content
 come_steps r s p q old new result come steps = go p.to_come refl result steps
   where
-    stays : q ≡ p → new ≡ old → HasCome r old.geometry s q new.content
+    stays : q ≡ p → new ≡ old → HasCome (power_on r old.geometry s) q new.content
     stays a b =
-        let P : Progress → Type 0 = λ x. HasCome r old.geometry s x new.content in
-        let Q : Seen → Type 0 = λ x. HasCome r old.geometry s p x.content in
+        let P : Progress → Type 0 = λ x. HasCome (power_on r old.geometry s) x new.content in
+        let Q : Seen → Type 0 = λ x. HasCome (power_on r old.geometry s) p x.content in
         subst P (sym a) (subst Q (sym b) come)
 
-    happens : (rest : List Op) (op : Op) → p.to_come ≡ op ∷ rest → apply old.geometry op old.content ≡ Some new.content → HasCome r old.geometry s (stepped p rest) new.content
+    happens : (rest : List Op) (op : Op) → p.to_come ≡ op ∷ rest → apply old.geometry op old.content ≡ Some new.content → HasCome (power_on r old.geometry s) (stepped p rest) new.content
     happens rest op to given =
-        let next = next_of p.faulted rest (drop p.count (plan r old.geometry s).list) op (sym to ∙ come.rest) in
+        let next = next_of p.faulted rest (drop p.count (plan (power_on r old.geometry s)).list) op (sym to ∙ come.rest) in
         record {
           rules = come.rules;
           kind = come.kind;
-          within = omega (arith, more_left (plan r old.geometry s).list rest op p.count next.1);
-          happened = ap (λ n. applied old.geometry (take n (plan r old.geometry s).list) s) (plus_one p.count) ∙ applied_next old.geometry (plan r old.geometry s).list rest op p.count s old.content
+          within = omega (arith, more_left (plan (power_on r old.geometry s)).list rest op p.count next.1);
+          happened = ap (λ n. applied old.geometry (take n (plan (power_on r old.geometry s)).list) s) (plus_one p.count)
+              ∙ applied_next old.geometry (plan (power_on r old.geometry s)).list rest op p.count s old.content
               new.content come.happened next.1 given;
-          rest = left_is p.faulted rest (drop (p.count + 1) (plan r old.geometry s).list) next.0
-              (sym (ap (λ n. drop n (plan r old.geometry s).list) (plus_one p.count) ∙ drop_next (plan r old.geometry s).list rest op p.count next.1));
+          rest = left_is p.faulted rest (drop (p.count + 1) (plan (power_on r old.geometry s)).list) next.0
+              (sym (ap (λ n. drop n (plan (power_on r old.geometry s)).list) (plus_one p.count) ∙ drop_next (plan (power_on r old.geometry s)).list rest op p.count next.1));
           refused = λ e. let q : true ≡ false = sym e ∙ next.0 in absurd cc;
         }
 
-    refuses : (rest : List Op) (op : Op) → p.to_come ≡ op ∷ rest → apply old.geometry op old.content ≡ None → q ≡ refused p → new ≡ old → HasCome r old.geometry s q new.content
+    refuses : (rest : List Op) (op : Op) → p.to_come ≡ op ∷ rest → apply old.geometry op old.content ≡ None → q ≡ refused p → new ≡ old → HasCome (power_on r old.geometry s) q new.content
     refuses rest op to none a b =
-        let next = next_of p.faulted rest (drop p.count (plan r old.geometry s).list) op (sym to ∙ come.rest) in
-        let P : Progress → Type 0 = λ x. HasCome r old.geometry s x new.content in
-        let Q : Seen → Type 0 = λ x. HasCome r old.geometry s (refused p) x.content in
+        let next = next_of p.faulted rest (drop p.count (plan (power_on r old.geometry s)).list) op (sym to ∙ come.rest) in
+        let P : Progress → Type 0 = λ x. HasCome (power_on r old.geometry s) x new.content in
+        let Q : Seen → Type 0 = λ x. HasCome (power_on r old.geometry s) (refused p) x.content in
         subst P (sym a) (subst Q (sym b) (record {
           rules = come.rules;
           kind = come.kind;
           within = come.within;
           happened = come.happened;
           rest = refl;
-          refused = λ _. (rw next.1 (none_first old.geometry op rest old.content none), more_left (plan r old.geometry s).list rest op p.count next.1);
+          refused = λ _. (rw next.1 (none_first old.geometry op rest old.content none), more_left (plan (power_on r old.geometry s)).list rest op p.count next.1);
         }))
 
-    go : (ops : List Op) → p.to_come ≡ ops → (x : Result (Unit {0}) FlashError) → StepsAlong ops p old x q new → HasCome r old.geometry s q new.content
+    go : (ops : List Op) → p.to_come ≡ ops → (x : Result (Unit {0}) FlashError) → StepsAlong ops p old x q new → HasCome (power_on r old.geometry s) q new.content
     go [] to (Ok v) done = stays done.0 done.1
     go [] to (Err e) done = absurd done
     go (op ∷ rest) to (Ok v) done =
-        let P : Progress → Type 0 = λ y. HasCome r old.geometry s y new.content in
+        let P : Progress → Type 0 = λ y. HasCome (power_on r old.geometry s) y new.content in
         subst P (sym done.0) (happens rest op to (did op old new done.1.0).applied)
     go (op ∷ rest) to (Err errors.NotErased) done = refuses rest op to (undefined op old done.1.0) done.0 done.1.1
     go (op ∷ rest) to (Err errors.Memory) done = wanted done.0 done.1.1
       where
-        wanted : q ≡ p → GivesUp (IsFull old.geometry op old.ledger) old new → HasCome r old.geometry s q new.content
+        wanted : q ≡ p → GivesUp (IsFull old.geometry op old.ledger) old new → HasCome (power_on r old.geometry s) q new.content
         wanted a (inl kept) = stays a kept.2
         wanted a (inr lost) =
-            let P : Progress → Type 0 = λ x. HasCome r old.geometry s x new.content in
-            let Q : Content → Type 0 = λ x. HasCome r old.geometry s p x in
+            let P : Progress → Type 0 = λ x. HasCome (power_on r old.geometry s) x new.content in
+            let Q : Content → Type 0 = λ x. HasCome (power_on r old.geometry s) p x in
             subst P (sym a) (subst Q (sym (ap (λ (x : Seen). x.content) lost.1)) come)
 
 -- Behind what happened nothing more can happen, at the end.
-ends : (r : Rules) (g : Geometry) (s : Content) (p : Progress) (t : Content) → HasCome r g s p t → p.to_come ≡ []
-    → (happening g (drop p.count (plan r g s).list) t ≡ []) × (nat_lt p.count (length (plan r g s).list) ≡ p.faulted)
-ends r g s p t come end = by_fault p.faulted refl
+ends : (x : PowerOn) (p : Progress) (t : Content) → HasCome x p t → p.to_come ≡ []
+    → (happening x.geometry (drop p.count (plan x).list) t ≡ []) × (nat_lt p.count (length (plan x).list) ≡ p.faulted)
+ends x p t come end = by_fault p.faulted refl
   where
-    by_fault : (b : Bool) → p.faulted ≡ b → (happening g (drop p.count (plan r g s).list) t ≡ []) × (nat_lt p.count (length (plan r g s).list) ≡ b)
+    by_fault : (b : Bool) → p.faulted ≡ b → (happening x.geometry (drop p.count (plan x).list) t ≡ []) × (nat_lt p.count (length (plan x).list) ≡ b)
     by_fault true e = let f = come.refused e in (f.0, grind (arith, nat_tests))
     by_fault false e =
-        let left : drop p.count (plan r g s).list ≡ [] = ap (λ (b : Bool). if b then [] else drop p.count (plan r g s).list) (sym e) ∙ sym come.rest ∙ end in
-        let all = none_left (plan r g s).list p.count left in
-        (ap (λ (ops : List Op). happening g ops t) left, grind (arith, nat_tests))
+        let left : drop p.count (plan x).list ≡ [] = ap (λ (b : Bool). if b then [] else drop p.count (plan x).list) (sym e) ∙ sym come.rest ∙ end in
+        let all = none_left (plan x).list p.count left in
+        (ap (λ (ops : List Op). happening x.geometry ops t) left, grind (arith, nat_tests))
 
 -- What happens of the plan begins with what happened so far, and at the end that is all of it.
-pub come_front : (r : Rules) (g : Geometry) (s : Content) (p : Progress) (t : Content) → HasCome r g s p t
-    → ops_of r g s ≡ take p.count (plan r g s).list ++ happening g (drop p.count (plan r g s).list) t
+pub come_front : (x : PowerOn) (p : Progress) (t : Content) → HasCome x p t
+    → ops_of x ≡ take p.count (plan x).list ++ happening x.geometry (drop p.count (plan x).list) t
 unfolding ops_of
-come_front r g s p t come = happening_front g (plan r g s).list p.count s t come.happened
+come_front x p t come = happening_front x.geometry (plan x).list p.count x.content t come.happened
 
-pub come_count : (r : Rules) (g : Geometry) (s : Content) (p : Progress) (t : Content) → HasCome r g s p t → length (take p.count (plan r g s).list) ≡ p.count
-come_count r g s p t come = length-take-le p.count (plan r g s).list come.within
-
-pub come_within : (r : Rules) (g : Geometry) (s : Content) (p : Progress) (t : Content) → HasCome r g s p t → p.count ≤ length (ops_of r g s)
-come_within r g s p t come =
-    omega (
-      arith,
-      come_count r g s p t come,
-      ap (λ (ops : List Op). length ops) (come_front r g s p t come),
-      length-append (take p.count (plan r g s).list) (happening g (drop p.count (plan r g s).list) t),
-    )
+pub come_count : (x : PowerOn) (p : Progress) (t : Content) → HasCome x p t → length (take p.count (plan x).list) ≡ p.count
+come_count x p t come = length-take-le p.count (plan x).list come.within
 
 -- The flash is what the first operations of the uncut boot leave.
-pub come_at : (r : Rules) (g : Geometry) (s : Content) (p : Progress) (t : Content) → HasCome r g s p t → at r g s p.count ≡ Some t
+pub come_at : (x : PowerOn) (p : Progress) (t : Content) → HasCome x p t → at x p.count ≡ Some t
 unfolding at
-come_at r g s p t come =
-    ap (λ (ops : List Op). applied g (take p.count ops) s) (come_front r g s p t come)
-    ∙ ap (λ (ops : List Op). applied g ops s) (take_at (take p.count (plan r g s).list) (happening g (drop p.count (plan r g s).list) t) p.count (come_count r g s p t come))
+come_at x p t come =
+    ap (λ (ops : List Op). applied x.geometry (take p.count ops) x.content) (come_front x p t come)
+    ∙ ap (λ (ops : List Op). applied x.geometry ops x.content) (take_at (take p.count (plan x).list) (happening x.geometry (drop p.count (plan x).list) t) p.count (come_count x p t come))
     ∙ come.happened
 
-pub come_ops : (r : Rules) (g : Geometry) (s : Content) (p : Progress) (t : Content) → HasCome r g s p t → p.to_come ≡ [] → length (ops_of r g s) ≡ p.count
-come_ops r g s p t come end =
-    ap (λ (ops : List Op). length ops) (come_front r g s p t come ∙ ap (λ (ops : List Op). take p.count (plan r g s).list ++ ops) (ends r g s p t come end).0 ∙ append-nil
-    (take p.count (plan r g s).list))
-    ∙ come_count r g s p t come
+pub come_ops : (x : PowerOn) (p : Progress) (t : Content) → HasCome x p t → p.to_come ≡ [] → length (ops_of x) ≡ p.count
+come_ops x p t come end =
+    ap (λ (ops : List Op). length ops) (come_front x p t come ∙ ap (λ (ops : List Op). take p.count (plan x).list ++ ops) (ends x p t come end).0 ∙ append-nil
+    (take p.count (plan x).list))
+    ∙ come_count x p t come
 
-pub come_faulted : (r : Rules) (g : Geometry) (s : Content) (p : Progress) (t : Content) → HasCome r g s p t → p.to_come ≡ [] → is_faulted r g s ≡ p.faulted
+pub come_faulted : (x : PowerOn) (p : Progress) (t : Content) → HasCome x p t → p.to_come ≡ [] → is_faulted x ≡ p.faulted
 unfolding is_faulted
-come_faulted r g s p t come end = ap (λ n. nat_lt n (length (plan r g s).list)) (come_ops r g s p t come end) ∙ (ends r g s p t come end).1
+come_faulted x p t come end = ap (λ n. nat_lt n (length (plan x).list)) (come_ops x p t come end) ∙ (ends x p t come end).1
 
-pub come_left : (r : Rules) (g : Geometry) (s : Content) (p : Progress) (t : Content) → HasCome r g s p t → p.to_come ≡ [] → left_by r g s ≡ Some t
+pub come_left : (x : PowerOn) (p : Progress) (t : Content) → HasCome x p t → p.to_come ≡ [] → left_by x ≡ Some t
 unfolding left_by
-come_left r g s p t come end = ap (at r g s) (come_ops r g s p t come end) ∙ come_at r g s p t come
+come_left x p t come end = ap (at x) (come_ops x p t come end) ∙ come_at x p t come
 
 -- What is told at the end is the outcome of the uncut boot.
-pub come_outcome : (r : Rules) (g : Geometry) (s : Content) (p : Progress) (t : Content) → HasCome r g s p t → p.to_come ≡ [] → outcome_of r g s ≡ Some (report p.rules g p.kind p.count p.faulted t)
+pub come_outcome : (x : PowerOn) (p : Progress) (t : Content) → HasCome x p t → p.to_come ≡ [] → outcome_of x ≡ Some (report p.rules x.geometry p.kind p.count p.faulted t)
 unfolding outcome_of
-come_outcome r g s p t come end =
-    ap (option_map (λ z. report r g (plan r g s).kind (length (ops_of r g s)) (is_faulted r g s) z)) (come_left r g s p t come end)
-    ∙ ap (λ (n : ℕ). Some (report r g (plan r g s).kind n (is_faulted r g s) t)) (come_ops r g s p t come end)
-    ∙ ap (λ (b : Bool). Some (report r g (plan r g s).kind p.count b t)) (come_faulted r g s p t come end)
-    ∙ ap (λ (k : SwapType). Some (report r g k p.count p.faulted t)) (sym come.kind)
-    ∙ ap (λ (x : Rules). Some (report x g p.kind p.count p.faulted t)) (sym come.rules)
+come_outcome from p t come end =
+    ap (option_map (λ z. report from.rules from.geometry (plan from).kind (length (ops_of from)) (is_faulted from) z)) (come_left from p t come end)
+    ∙ ap (λ (n : ℕ). Some (report from.rules from.geometry (plan from).kind n (is_faulted from) t)) (come_ops from p t come end)
+    ∙ ap (λ (b : Bool). Some (report from.rules from.geometry (plan from).kind p.count b t)) (come_faulted from p t come end)
+    ∙ ap (λ (k : SwapType). Some (report from.rules from.geometry k p.count p.faulted t)) (sym come.kind)
+    ∙ ap (λ (x : Rules). Some (report x from.geometry p.kind p.count p.faulted t)) (sym come.rules)
 
 -- ---- what a boot leaves is always defined
 
@@ -231,18 +224,18 @@ front_applied g [] (suc c) s z is = (s, refl)
 front_applied g (op ∷ ops) zero s z is = (s, refl)
 front_applied g (op ∷ ops) (suc c) s z is = front_on g ops c z (λ x e. front_applied g ops c x z e) (apply g op s) is
 
-pub at_defined : (r : Rules) (g : Geometry) (s : Content) (c : ℕ) → (t : Content) × (at r g s c ≡ Some t)
+pub at_defined : (x : PowerOn) (c : ℕ) → (t : Content) × (at x c ≡ Some t)
 unfolding at ops_of
-at_defined r g s c = let whole = happens_applied g (plan r g s).list s in front_applied g (happening g (plan r g s).list s) c s whole.0 whole.1
+at_defined x c = let whole = happens_applied x.geometry (plan x).list x.content in front_applied x.geometry (happening x.geometry (plan x).list x.content) c x.content whole.0 whole.1
 
-pub left_defined : (r : Rules) (g : Geometry) (s : Content) → (z : Content) × (left_by r g s ≡ Some z)
+pub left_defined : (x : PowerOn) → (z : Content) × (left_by x ≡ Some z)
 unfolding left_by
-left_defined r g s = at_defined r g s (length (ops_of r g s))
+left_defined x = at_defined x (length (ops_of x))
 
-pub outcome_defined : (r : Rules) (g : Geometry) (s : Content) → (o : Report) × (outcome_of r g s ≡ Some o)
+pub outcome_defined : (x : PowerOn) → (o : Report) × (outcome_of x ≡ Some o)
 unfolding outcome_of
-outcome_defined r g s =
-    let left = left_defined r g s in (
-      report r g (plan r g s).kind (length (ops_of r g s)) (is_faulted r g s) left.0,
-      ap (option_map (λ z. report r g (plan r g s).kind (length (ops_of r g s)) (is_faulted r g s) z)) left.1,
+outcome_defined x =
+    let left = left_defined x in (
+      report x.rules x.geometry (plan x).kind (length (ops_of x)) (is_faulted x) left.0,
+      ap (option_map (λ z. report x.rules x.geometry (plan x).kind (length (ops_of x)) (is_faulted x) z)) left.1,
     )

@@ -1,0 +1,2 @@
+-- Lemmas that the crates above cite. The definitions above them are what must be believed.
+pub mod Valid
