@@ -8,7 +8,7 @@ use Rattle.mc_flash.specs.Geometry.{Geometry}
 use Rattle.mc_flash.specs.Blank.{is_blank}
 use Rattle.mc_flash.specs.Content.{Content, IsSized, byte, bytes_of, put, with_bytes}
 use Rattle.mc_flash.specs.Apply.{apply, erased, in_slot, programmed}
-use Rattle.mc_flash.specs.Changes.{Changed, changed, copied, copy_is_program, program_changes, program_was_blank, sized_is}
+use Rattle.mc_flash.specs.Changes.{Changed, changed, copied, copy_is_program, program_changes, program_was_blank, same_content as one_content, sized_is}
 use Rattle.mc_flash.specs.facts.Layouts.{sector_inside}
 use Rattle.mc_boot.proofs.Meets.{Sector, WritesIn, AreThere, IsListed}
 use Rattle.mc_flash.specs.declared.op.Op.{Op}
@@ -145,9 +145,6 @@ changed_outside g es s t slot at new index ch listed from to = record {
         let P : Slot → Type 0 = λ x. IsOutside g es x i → byte t x i ≡ byte s x i in
         subst P (sym is) (λ out. here i (out index listed)) outside
     by o i outside (inr no_) = ch.other o i no_
-
-pub one_content : (s t : Content) → Some s ≡ Some t → s ≡ t
-one_content s t e = cc
 
 short_copy : (s : Content) (from : Slot) (at len : ℕ) → length (copied s from at len) ≤ len
 short_copy s from at len = omega (arith, length-take (at + len - at) (drop at (bytes_of s from)))

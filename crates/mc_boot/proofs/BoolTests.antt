@@ -4,11 +4,6 @@ use Rattle.std.specs.Bool.{beq}
 use Rattle.std.proofs.Common.{arith}
 use Rattle.std.proofs.lemmas.Bool.Decides.{nat_tests}
 
-pub both : (a b : Bool) → (a && b) ≡ true → (a ≡ true) × (b ≡ true)
-both true true is = (refl, refl)
-both true false is = absurd cc
-both false b is = absurd cc
-
 pub are_same : (a b : Bool) → beq a b ≡ true → a ≡ b
 are_same true true is = refl
 are_same true false is = absurd cc

@@ -31,12 +31,13 @@ use Rattle.mc_boot.specs.Transfers.{transfers, steps, copy_of, entry_of}
 use Rattle.mc_boot.specs.Writes.{trailer_erase, trailer_erases, preparation_writes, opening_writes, is_revert}
 use Rattle.mc_boot.proofs.Meets.{Sector, WritesIn, IsListed, AreThere, BeginsIn, IsRestOf, Meets, erase_of, target_of}
 use Rattle.mc_boot.specs.Joins.{comes_to, erases_at, transfer_reach}
-use Rattle.mc_boot.proofs.BoolTests.{both, are_equal, are_same, is_most, is_less}
+use Rattle.mc_boot.proofs.BoolTests.{are_equal, are_same, is_most, is_less}
 use Rattle.mc_boot.proofs.Joins.{Joins}
 use Rattle.mc_boot.proofs.Places.{drop_at_place}
 use Rattle.mc_boot.proofs.Sections.{length-steps, length-transfers}
 use Rattle.mc_boot.proofs.TransferFacts.{fits_at, there_is}
 use Rattle.mc_boot.specs.PowerOn.{PowerOn, again}
+use Rattle.mc_trailer.specs.facts.Tables.{and_parts}
 
 -- ---- lists
 
@@ -154,16 +155,16 @@ finish_rest g n first is =
 -- What a course comes to is a rest of it.
 pub comes_rest : (c : Grain) (g : Geometry) (n : ℕ) (opening : Opening) (first : ℕ) (erases image_ok : Bool) → first ≤ 3 * n
     → comes_to n opening first erases image_ok ≡ true → IsRestOf (resumed_list g n first erases image_ok) (list_from c g n opening)
-comes_rest c g n (New kind size) first erases true high is = let no_ : false ≡ true = (both (not erases || first == 0) false is).1 in absurd cc
+comes_rest c g n (New kind size) first erases true high is = let no_ : false ≡ true = (and_parts (not erases || first == 0) false is).1 in absurd cc
 comes_rest c g n (New kind size) first false false high is =
     new_rest c g kind size n (from_transfer g n first false) (resumed_rest g n 0 first true false (omega arith) high)
 comes_rest c g n (New kind size) first true false high is =
     let P : ℕ → Type 0 = λ k. IsRestOf (resumed_list g n k true false) (new_list c g kind size n) in
-    let none = are_equal first 0 (both (first == 0) true is).0 in
+    let none = are_equal first 0 (and_parts (first == 0) true is).0 in
     subst P (sym none) (new_rest c g kind size n (resumed_list g n 0 true false) (whole_rest (resumed_list g n 0 true false)))
 comes_rest c g n (Resumed start erased ok) first true image_ok high is =
-    let parts = both (start == first && erased) (beq ok image_ok) is in
-    let here = both (start == first) erased parts.0 in
+    let parts = and_parts (start == first && erased) (beq ok image_ok) is in
+    let here = and_parts (start == first) erased parts.0 in
     let P : List Op → Type 0 = λ ops. IsRestOf (resumed_list g n first true image_ok) ops in
     let same : resumed_list g n first true image_ok ≡ resumed_list g n start erased ok =
     ap (λ k. resumed_list g n k true image_ok) (sym (are_equal start first here.0))
@@ -173,7 +174,7 @@ comes_rest c g n (Resumed start erased ok) first true image_ok high is =
 comes_rest c g n (Resumed start erased ok) first false image_ok high is = ends ok image_ok parts.1
   where
     parts : (nat_le start first ≡ true) × ((beq ok image_ok || first == 3 * n && not image_ok) ≡ true)
-    parts = both (nat_le start first) (beq ok image_ok || first == 3 * n && not image_ok) is
+    parts = and_parts (nat_le start first) (beq ok image_ok || first == 3 * n && not image_ok) is
 
     low : start ≤ first
     low = is_most start first parts.0
@@ -181,9 +182,9 @@ comes_rest c g n (Resumed start erased ok) first false image_ok high is = ends o
     ends : (ok image_ok : Bool) → (beq ok image_ok || first == 3 * n && not image_ok) ≡ true → IsRestOf (from_transfer g n first image_ok) (resumed_list g n start erased ok)
     ends true true same = resumed_rest g n start first erased true low high
     ends false false same = resumed_rest g n start first erased false low high
-    ends false true same = let no_ : false ≡ true = (both (first == 3 * n) false same).1 in absurd cc
+    ends false true same = let no_ : false ≡ true = (and_parts (first == 3 * n) false same).1 in absurd cc
     ends true false same =
-        let last = are_equal first (3 * n) (both (first == 3 * n) true same).0 in
+        let last = are_equal first (3 * n) (and_parts (first == 3 * n) true same).0 in
         rest_of_rest (from_transfer g n first false) (from_transfer g n first true) (resumed_list g n start erased true)
         (finish_rest g n first last) (resumed_rest g n start first erased true low high)
 

@@ -12,6 +12,7 @@ use Rattle.mc_boot.specs.Transfers.{transfers, moved_up, brought_in, taken_out}
 use Rattle.mc_boot.specs.Plan.{first_left}
 use Rattle.mc_boot.proofs.TransferPlaces.{get_moved, get_brought, get_taken}
 use Rattle.mc_boot.proofs.Sections.{length-transfers}
+use Rattle.mc_boot.proofs.Exchange.{other_number}
 
 -- the first place that passes, from i on
 found_from : {A : Type 0} (p : A → Bool) (xs : List A) (i k : ℕ) (x : A) → slice_get xs k ≡ Some x → p x ≡ true → ((j : ℕ) (y : A) → j < k → slice_get xs j ≡ Some y → p y ≡ false)
@@ -61,9 +62,6 @@ entry_of_place g n k t at = elim (cases_lt k n) [
           omega (arith, entry)
     ]
 
-differs : (m n : ℕ) → (m ≡ n → ⊥) → (m == n) ≡ false
-differs m n distinct = grind (arith, nat_tests)
-
 -- no two transfers have one entry
 apart : (g : Geometry) (n j k d e : ℕ) → n ≤ g.max_sectors → j < k → entry_at g n j d → entry_at g n k e → d ≡ e → ⊥
 unfolding entry_at
@@ -80,7 +78,7 @@ left_after g n k e t few at is =
     let p : Transfer → Bool = λ u. u.entry == e in
     let found : position_from p 0 (transfers g n) ≡ Some (0 + k) =
     found_from p (transfers g n) 0 k t at (eq-eqb t.entry e is)
-    (λ j y below there. differs y.entry e (λ same. apart g n j k y.entry t.entry few below (entry_of_place g n j y there) (entry_of_place g n k t at) (same ∙ sym is))) in
+    (λ j y below there. other_number y.entry e (λ same. apart g n j k y.entry t.entry few below (entry_of_place g n j y there) (entry_of_place g n k t at) (same ∙ sym is))) in
     ap (option_map (λ (i : ℕ). i + 1)) (position_is p (transfers g n) ∙ found ∙ ap (λ (m : ℕ). Some m) (zero-add k))
 
 other_entry : (g : Geometry) (n k d e : ℕ) → entry_at g n k d → n ≤ e → (e < g.max_sectors) ⊎ (g.max_sectors + 2 * n ≤ e) → d ≡ e → ⊥
@@ -94,7 +92,7 @@ pub left_none : (g : Geometry) (n e : ℕ) → n ≤ e → (e < g.max_sectors) �
 left_none g n e above other =
     let p : Transfer → Bool = λ u. u.entry == e in
     ap (option_map (λ (i : ℕ). i + 1)) (position_is p (transfers g n)
-    ∙ none_from p (transfers g n) 0 (λ j y there. differs y.entry e (other_entry g n j y.entry e (entry_of_place g n j y there) above other)))
+    ∙ none_from p (transfers g n) 0 (λ j y there. other_number y.entry e (other_entry g n j y.entry e (entry_of_place g n j y there) above other)))
 
 pub left_at_pair : (g : Geometry) (n e : ℕ) → n ≤ g.max_sectors → g.max_sectors ≤ e → e - g.max_sectors < 2 * n → first_left g n (Some e) ≡ Some (n + (e - g.max_sectors) + 1)
 left_at_pair g n e few from below = elim (cases_eq ((e - g.max_sectors) % 2) 0) [

@@ -80,7 +80,7 @@ happens_front g [] (suc c) s below = refl
 happens_front g (op ∷ ops) zero s below = refl
 happens_front g (op ∷ ops) (suc c) s below = first_front g op ops c (λ t b. happens_front g ops c t b) (apply g op s) below
 
-happens_few : (g : Geometry) (ops : List Op) (s : Content) → length (happening g ops s) ≤ length ops
+pub happens_few : (g : Geometry) (ops : List Op) (s : Content) → length (happening g ops s) ≤ length ops
 happens_few g ops s =
     let all = happens_front g ops (length (happening g ops s)) s (omega arith) in
     omega (arith, length-take (length (happening g ops s)) ops, ap (λ (xs : List Op). length xs) (sym (take-length (happening g ops s)) ∙ all))

@@ -70,7 +70,7 @@ first_is g n first ok op layout few = from (drop first (transfers g n)) refl
         ap (slice_get (transfers g n)) (omega arith) ∙ sym (get_dropped first (transfers g n) 0) ∙ ap (λ (xs : List Transfer). slice_get xs 0) left in
         same_op g (Erase t.to t.to_sector) op (fits_at g n first t layout few at).to_data is
 
-some_trailer : (g : Geometry) → IsLayout g → 0 < trailer_sectors g
+pub some_trailer : (g : Geometry) → IsLayout g → 0 < trailer_sectors g
 some_trailer g ok = some (trailer_sectors g) (trailer_covered g ok)
   where
     some : (n : ℕ) → 3 * g.max_sectors * g.unit + 48 ≤ n * g.sector → 0 < n

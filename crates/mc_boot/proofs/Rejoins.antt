@@ -10,11 +10,12 @@ use Rattle.mc_flash.specs.declared.op.Op.{Op}
 use Rattle.mc_boot.specs.Plan.{plan}
 use Rattle.mc_boot.specs.facts.Run.{happening_front}
 use Rattle.mc_boot.specs.Runs.{applied, at, happening, ops_of}
-use Rattle.mc_boot.proofs.Blanking.{Fit, blank, fit_longer, fit_there, one_content}
+use Rattle.mc_boot.proofs.Blanking.{Fit, blank, fit_longer, fit_there}
 use Rattle.mc_boot.proofs.Erased.{AreErased, blank_erased, blank_noop, blank_stays, erased_front, fit_behind, fit_blanked, fit_front}
 use Rattle.mc_boot.proofs.Joins.{Joins, Met, applied_behind, applied_longer, erases_applied, happens_all, happens_few_of, meets}
 use Rattle.mc_boot.proofs.Meets.{Sector, erase_of}
 use Rattle.mc_boot.specs.PowerOn.{PowerOn, again}
+use Rattle.mc_flash.specs.Changes.{same_content}
 
 blank_append : (g : Geometry) (xs ys : List Sector) (s : Content) → blank g (xs ++ ys) s ≡ blank g ys (blank g xs s)
 blank_append g [] ys s = refl
@@ -123,7 +124,7 @@ module _ (from : PowerOn) (u : Content) (c j : ℕ) (es : List Sector) (joins : 
     was : u ≡ blank from.geometry (take (c - j) es) met.from
     was =
         let place : j + (c - j) ≡ c = (let p = joins.passed in omega (arith, p)) in
-        one_content u (blank from.geometry (take (c - j) es) met.from)
+        same_content u (blank from.geometry (take (c - j) es) met.from)
         (sym joins.cut ∙ ap (at from) (sym place) ∙ further_at (c - j) (omega (arith, within)))
 
     are_erased : AreErased from.geometry (take (c - j) es) u

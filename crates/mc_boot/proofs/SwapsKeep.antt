@@ -29,6 +29,7 @@ use Rattle.mc_trailer.specs.declared.places.Field.TheVariants as field
 use Rattle.mc_trailer.specs.declared.tables.SwapType.TheVariants as kinds
 use Rattle.mc_flash.specs.declared.flash.Grain.TheVariants as grains
 use Rattle.mc_flash.specs.declared.op.Slot.TheVariants.{Primary, Secondary}
+use Rattle.mc_boot.proofs.NewPlans.{some_trailer}
 
 -- a slot whose magic is 0xff
 pub unasked_from : (g : Geometry) (s : Content) (slot : Slot) → ((i : ℕ) → i < 16 → byte s slot (place g slot field.Magic + i) ≡ 255) → FieldsAre g s slot unasked
@@ -55,13 +56,6 @@ pub record Ready (g : Geometry) (start : Content) (size n : ℕ) (b : Bool) (kin
 
 abbrev Clearing : Geometry → Content → ℕ → ℕ → Bool → SwapType → ℕ → Content → Type 0
 Clearing g start size n b kind i s = ((i ≡ 0) × Ready g start size n b kind s) ⊎ Under g start size n kind 0 s
-
-some_trailer : (g : Geometry) → IsLayout g → 0 < trailer_sectors g
-some_trailer g ok = by (trailer_sectors g) (trailer_covered g ok)
-  where
-    by : (t : ℕ) → trailer_bytes g ≤ t * g.sector → 0 < t
-    by zero h = let none : zero * g.sector ≡ 0 = zero-mul g.sector in absurd (omega (arith, h, none))
-    by (suc t) h = omega arith
 
 clears : (g : Geometry) (start : Content) (size n : ℕ) (b : Bool) (kind : SwapType) (i : ℕ) (t u : Content) → Swap g start size n → i < trailer_sectors g → Clearing g start size n b kind i t
     → Erased g Secondary i t u → Under g start size n kind 0 u

@@ -31,16 +31,7 @@ use Rattle.mc_trailer.specs.declared.tables.SwapType.TheVariants as kinds
 use Rattle.mc_flash.specs.declared.flash.Grain.TheVariants as grains
 use Rattle.mc_flash.specs.declared.op.Slot.TheVariants.{Secondary}
 use Rattle.mc_boot.specs.PowerOn.{PowerOn, power_on}
-
--- no more happens than a list has
-first_few : (g : Geometry) (op : Op) (ops : List Op) → ((t : Content) → length (happening g ops t) ≤ length ops)
-    → (o : Option Content) → length (first_then op (λ t. happening g ops t) o) ≤ length (op ∷ ops)
-first_few g op ops few None = omega arith
-first_few g op ops few (Some t) = let rest = few t in omega (arith, rest)
-
-happens_few : (g : Geometry) (ops : List Op) (s : Content) → length (happening g ops s) ≤ length ops
-happens_few g [] s = omega arith
-happens_few g (op ∷ ops) s = first_few g op ops (λ t. happens_few g ops t) (apply g op s)
+use Rattle.mc_boot.proofs.Joins.{happens_few}
 
 -- and all of it where none is refused
 length-ops_of : (x : PowerOn) → is_faulted x ≡ false → length (ops_of x) ≡ length (plan x).list

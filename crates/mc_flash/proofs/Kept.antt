@@ -278,7 +278,3 @@ module _ (g : Geometry) (s t : Content) (slot : Slot) (at : ℕ) (new : List ℕ
 pub erase_done : (g : Geometry) (s t : Content) (slot : Slot) (sector : ℕ) → t ≡ with_bytes s slot (erased g.sector sector (bytes_of s slot)) → apply g (ops.Erase slot sector) s ≡ Some t
 unfolding apply
 erase_done g s t slot sector is = ap (λ (z : Content). Some z) (sym is)
-
-pub length_of : (g : Geometry) (s : Content) (slot : Slot) → IsSized g s → length (bytes_of s slot) ≡ size_of g slot
-length_of g s Primary sized = sized.primary
-length_of g s Secondary sized = sized.secondary

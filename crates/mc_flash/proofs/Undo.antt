@@ -14,20 +14,17 @@ use Rattle.mc_flash.specs.declared.op.Slot.{Slot}
 use Rattle.mc_flash.specs.declared.op.Slot.TheVariants.{Primary, Secondary}
 use Rattle.mc_flash.specs.declared.entry.Entry.{Entry}
 use Rattle.mc_flash.specs.declared.entry.Entry.TheVariants.{Written, Erased}
+use Rattle.mc_flash.specs.Changes.{and_true}
 
 -- blank bytes are all 0xff
 blank_head : (x : ℕ) (rest : Bool) → ((x == 255) && rest) ≡ true → (x ≡ 255)
 blank_head x rest h = grind (arith, nat_tests)
 
-blank_tail : (a b : Bool) → (a && b) ≡ true → b ≡ true
-blank_tail true b e = e
-blank_tail false b e = absurd cc
-
 pub blank_is : (xs : List ℕ) → is_blank xs ≡ true → xs ≡ replicate (length xs) 255
 blank_is [] h = refl
 blank_is (x ∷ xs) h =
     let first = blank_head x (is_blank xs) h in
-    let rest = blank_is xs (blank_tail (x == 255) (is_blank xs) h) in
+    let rest = blank_is xs (and_true (x == 255) (is_blank xs) h) in
     ap (λ (n : ℕ). n ∷ xs) first ∙ ap (λ (l : List ℕ). 255 ∷ l) rest
 
 -- bytes that are put back where they were

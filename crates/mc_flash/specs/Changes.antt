@@ -44,7 +44,7 @@ pub all_blank : (xs : List ℕ) → ((i : ℕ) → i < length xs → slice_index
 all_blank [] each = refl
 all_blank (x ∷ xs) each = rw (each 0 (omega arith)) (all_blank xs (λ i below. each (suc i) (omega (arith, below))))
 
-and_true : (a b : Bool) → (a && b) ≡ true → b ≡ true
+pub and_true : (a b : Bool) → (a && b) ≡ true → b ≡ true
 and_true true b e = e
 and_true false b e = absurd cc
 

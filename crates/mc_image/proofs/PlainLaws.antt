@@ -13,6 +13,7 @@ use Rattle.mc_image.specs.Walking.{IsOne}
 use Rattle.mc_image.specs.declared.areas.DigestValue.{DigestValue}
 use Rattle.mc_image.specs.declared.error.ImageError.{ImageError}
 use Rattle.mc_image.specs.declared.error.ImageError.TheVariants.{BadTlvMagic, BadTlvLength}
+use Rattle.mc_image.proofs.Sound.{not_some}
 
 earlier : (a b c : Bool) (e : ImageError) → (fault_if a BadTlvMagic <+> fault_if b BadTlvLength) ≡ Some e → (fault_if a BadTlvMagic <+> fault_if (b || c) BadTlvLength) ≡ Some e
 earlier true b c e h = h
@@ -53,13 +54,9 @@ plain_entries x y h le is =
     ap (λ o. o <+> digest_fault (digests (entries_in (drop 4 (area_in x))))) (plain_whole x h le)
     ∙ ap (λ (z : List ℕ). fault_if (is_none (entries_of z)) BadTlvLength <+> digest_fault (digests (entries_in z))) (sym is)
 
-some_none : {A : Type 0} (o : Option A) → is_some o ≡ true → is_none o ≡ false
-some_none None e = absurd cc
-some_none (Some x) e = refl
-
 pub plain_none : (x y : List ℕ) → head_fault x ≡ None → u16_at 2 x ≤ length x → y ≡ drop 4 (area_in x) → is_some (entries_of y) ≡ true → plain_fault x ≡ None
 plain_none x y h le is filled =
-    plain_whole x h le ∙ ap (λ (t : Bool). fault_if t BadTlvLength) (some_none (entries_of (drop 4 (area_in x))) (ap (λ (z : List ℕ). is_some (entries_of z)) (sym is) ∙ filled))
+    plain_whole x h le ∙ ap (λ (t : Bool). fault_if t BadTlvLength) (not_some (entries_of (drop 4 (area_in x))) (ap (λ (z : List ℕ). is_some (entries_of z)) (sym is) ∙ filled))
 
 -- the digest of 32 bytes, as it stands among the entries
 pub digest_stands : (v : DigestValue) (y : List ℕ) → IsOne v y → length (held v.bytes) ≡ 32 → (take 32 (drop v.start y) ≡ held v.bytes)

@@ -23,7 +23,7 @@ none_true (Some x) e = absurd cc
 true_none : {A : Type 0} (o : Option A) → o ≡ None → is_none o ≡ true
 true_none o e = ap (λ x. is_none x) e
 
-both_true : (a b : Bool) → a ≡ true → b ≡ true → (a && b) ≡ true
+pub both_true : (a b : Bool) → a ≡ true → b ≡ true → (a && b) ≡ true
 both_true true b e f = f
 both_true false b e f = absurd cc
 

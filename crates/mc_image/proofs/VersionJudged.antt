@@ -14,6 +14,7 @@ use Rattle.mc_image.specs.declared.version.Version.{Version}
 use Rattle.mc_image.specs.declared.error.VersionError.{VersionError}
 use Rattle.mc_image.specs.declared.error.VersionError.TheVariants.{Range}
 use Rattle.mc_image.proofs.VersionLaws.{capped_number, all_padded, form_takes, form_again}
+use Rattle.mc_image.proofs.ValidLaws.{both_true}
 
 -- four numbers, each at most 2 ^ 32
 abbrev pub four : List ℕ → List ℕ
@@ -30,10 +31,6 @@ padded_four t (a ∷ b ∷ c ∷ d ∷ ns) f = refl
 abbrev all_fit : List ℕ → Bool
 all_fit ns = nat_lt (capped_number (get_or ns 0 0)) (2 ^ 8) && (nat_lt (capped_number (get_or ns 1 0)) (2 ^ 8) &&
     (nat_lt (capped_number (get_or ns 2 0)) (2 ^ 16) && nat_lt (capped_number (get_or ns 3 0)) (2 ^ 32)))
-
-both_true : (a b : Bool) → a ≡ true → b ≡ true → (a && b) ≡ true
-both_true true b e f = f
-both_true false b e f = absurd cc
 
 below_cap : (n k : ℕ) → n < k → capped_number n < k
 below_cap n k lt = omega arith

@@ -13,8 +13,9 @@ use Rattle.mc_flash.specs.declared.op.Op.{Op}
 use Rattle.mc_flash.specs.declared.op.Op.TheVariants.{Copy}
 use Rattle.mc_flash.specs.declared.entry.Entry.TheVariants.{Written}
 use Rattle.mc_flash.specs.declared.flash.FlashError.TheVariants.{NotErased, Memory}
-use Rattle.mc_flash.proofs.Kept.{sound_write, marks_write, length_of, journal_refuses, journal_full, journal_does, copy_done, copy_refused}
+use Rattle.mc_flash.proofs.Kept.{sound_write, marks_write, journal_refuses, journal_full, journal_does, copy_done, copy_refused}
 use Rattle.mc_flash.proofs.journal.JournalFlashFlash.copy.Goals as goal
+use Rattle.mc_flash.specs.Changes.{sized_is}
 
 pub invariant_of-self-2 : goal.invariant_of-self-2
 invariant_of-self-2 c =
@@ -33,7 +34,7 @@ returns-then-not-is_blank c =
     let r = f.reserve in
     let op : Op = Copy c.args.from c.args.at c.args.to c.args.offset c.args.len in
     let can : CanTry f.slots.layout op = subst (λ (j : Seen). CanTry j.geometry op) (sym c.self.view_is) c.requires in
-    let long = length_of f.slots.layout f.slots.content c.args.from f.slots.sized in
+    let long = sized_is f.slots.layout f.slots.content c.args.from f.slots.sized in
     subst (λ (j : Seen). Does op j (Err NotErased) j) c.self.view_is
     (journal_refuses f.slots.layout r.entries r.saved r.marks op f.slots.content f.entries.items f.saved.items f.marks.items f.applied
     (copy_refused f.slots.layout f.slots.content f.slots.content c.args.from c.args.to c.args.at c.args.offset c.args.len (omega (arith, can.0.inside, long)) (sym c.if-not-is_blank.ensures)))
@@ -44,7 +45,7 @@ returns-then-len-self c =
     let r = f.reserve in
     let op : Op = Copy c.args.from c.args.at c.args.to c.args.offset c.args.len in
     let can : CanTry f.slots.layout op = subst (λ (j : Seen). CanTry j.geometry op) (sym c.self.view_is) c.requires in
-    let long = length_of f.slots.layout f.slots.content c.args.from f.slots.sized in
+    let long = sized_is f.slots.layout f.slots.content c.args.from f.slots.sized in
     let moved = between c.args.at (c.args.at + c.args.len) (bytes_of f.slots.content c.args.from) in
     let t : Content = with_bytes f.slots.content c.args.to (put (bytes_of f.slots.content c.args.to) c.args.offset moved) in
     subst (λ (j : Seen). Does op j (Err Memory) j) c.self.view_is
@@ -58,8 +59,8 @@ returns c =
     let r = f.reserve in
     let op : Op = Copy c.args.from c.args.at c.args.to c.args.offset c.args.len in
     let can : CanTry f.slots.layout op = subst (λ (j : Seen). CanTry j.geometry op) (sym c.self.view_is) c.requires in
-    let source = length_of f.slots.layout f.slots.content c.args.from f.slots.sized in
-    let target = length_of f.slots.layout f.slots.content c.args.to f.slots.sized in
+    let source = sized_is f.slots.layout f.slots.content c.args.from f.slots.sized in
+    let target = sized_is f.slots.layout f.slots.content c.args.to f.slots.sized in
     let new = between c.args.at (c.args.at + c.args.len) (bytes_of f.slots.content c.args.from) in
     let n : length (between c.args.at (c.args.at + c.args.len) (bytes_of f.slots.content c.args.from)) ≡ c.args.len =
     omega (arith, length-between (bytes_of f.slots.content c.args.from) c.args.at (c.args.at + c.args.len) (omega (arith, can.0.inside, source))) in

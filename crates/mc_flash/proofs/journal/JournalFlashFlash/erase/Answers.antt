@@ -13,8 +13,9 @@ use Rattle.mc_flash.specs.declared.op.Op.{Op}
 use Rattle.mc_flash.specs.declared.op.Op.TheVariants.{Erase}
 use Rattle.mc_flash.specs.declared.flash.FlashError.TheVariants.{Memory}
 use Rattle.mc_flash.specs.declared.entry.Entry.TheVariants.{Erased}
-use Rattle.mc_flash.proofs.Kept.{sound_erase, marks_erase, length_of, journal_full, journal_does, erase_done}
+use Rattle.mc_flash.proofs.Kept.{sound_erase, marks_erase, journal_full, journal_does, erase_done}
 use Rattle.mc_flash.proofs.journal.JournalFlashFlash.erase.Goals as goal
+use Rattle.mc_flash.specs.Changes.{sized_is}
 
 pub invariant_of-self-2 : goal.invariant_of-self-2
 invariant_of-self-2 c =
@@ -59,7 +60,7 @@ returns c =
     let size = c.sector-size.ensures.value ∙ ap (λ (g : Geometry). g.sector) c.layout.ensures in
     let below : c.args.sector < sectors_of f.slots.layout c.args.slot = subst (λ (j : Seen). c.args.sector < sectors_of j.geometry c.args.slot) (sym c.self.view_is) c.requires in
     let fits = sector_inside f.slots.layout c.args.slot c.args.sector below in
-    let long = length_of f.slots.layout f.slots.content c.args.slot f.slots.sized in
+    let long = sized_is f.slots.layout f.slots.content c.args.slot f.slots.sized in
     let entry = c.in_ok-push.ensures.items ∙ ap (λ k. f.entries.items ++ Erased c.args.slot (c.args.sector * k) k ∷ []) size in
     let kept = marks_erase f.entries.items c.push.new.self.items f.saved.items c.extend_from_slice.new.self.items f.marks.items f.slots.content c.erase.new.self.content c.args.slot
     (c.args.sector * f.slots.layout.sector) f.slots.layout.sector (replicate f.slots.layout.sector 255)

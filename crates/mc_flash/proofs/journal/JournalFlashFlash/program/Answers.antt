@@ -10,8 +10,9 @@ use Rattle.mc_flash.specs.declared.op.Op.{Op}
 use Rattle.mc_flash.specs.declared.op.Op.TheVariants.{Program}
 use Rattle.mc_flash.specs.declared.entry.Entry.TheVariants.{Written}
 use Rattle.mc_flash.specs.declared.flash.FlashError.TheVariants.{NotErased, Memory}
-use Rattle.mc_flash.proofs.Kept.{sound_write, marks_write, length_of, journal_refuses, journal_full, journal_does, program_done, program_refused}
+use Rattle.mc_flash.proofs.Kept.{sound_write, marks_write, journal_refuses, journal_full, journal_does, program_done, program_refused}
 use Rattle.mc_flash.proofs.journal.JournalFlashFlash.program.Goals as goal
+use Rattle.mc_flash.specs.Changes.{sized_is}
 
 pub invariant_of-self-2 : goal.invariant_of-self-2
 invariant_of-self-2 c =
@@ -50,7 +51,7 @@ returns c =
     let op : Op = Program c.args.slot c.args.offset c.args.bytes.now in
     let fits : c.args.offset + length c.args.bytes.now ≤ size_of f.slots.layout c.args.slot =
     subst (λ (j : Seen). c.args.offset + length c.args.bytes.now ≤ size_of j.geometry c.args.slot) (sym c.self.view_is) c.requires.inside in
-    let long = length_of f.slots.layout f.slots.content c.args.slot f.slots.sized in
+    let long = sized_is f.slots.layout f.slots.content c.args.slot f.slots.sized in
     let kept = marks_write f.entries.items c.push.new.self.items f.saved.items f.marks.items f.slots.content c.put.new.self.content c.args.slot c.args.offset (length c.args.bytes.now) c.args.bytes.now
     c.self.invariant.ascend c.in_ok-push.ensures.items c.put.ensures.content refl (omega (arith, fits, long)) (sym c.if-not-is_blank.ensures) in
     let does = journal_does f.slots.layout r.entries r.saved r.marks op f.slots.content f.entries.items f.saved.items f.marks.items f.applied c.put.new.self.content c.push.new.self.items f.saved.items
