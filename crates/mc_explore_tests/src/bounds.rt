@@ -1,8 +1,9 @@
 //! What explorations take of a flash with a journal.
 use crate::common::swap;
 use mc_campaign::CampaignExplorer;
-use mc_explore::{Cursor, Explorer, Kind, Schedule};
+use mc_explore::{Cursor, Explorer, Kind, Schedule, Start};
 use mc_flash::JournalFlash;
+use std::alloc::Global;
 use std::process::Abort;
 use std::test::Fail;
 
@@ -13,22 +14,45 @@ fn assert_bounds(rt: &impl Abort, flash: &JournalFlash, most: [u64; 4]) {
     assert!(rt; is_short && flash.marks() <= marks && flash.applied() <= applied);
 }
 
+/// How many rows an exploration has, each of which leaves it within its bounds.
+fn rows_within(rt: &impl Abort, explorer: &mut Explorer<'_, JournalFlash>) -> Result<u32, Fail> {
+    for place in 0u32..1000 {
+        let is_last = explorer.next_row()?.is_none();
+        assert_bounds(rt, explorer.flash(), [108, 6912, 4, 8436]);
+        if is_last {
+            return Ok(place);
+        }
+    }
+    Ok(1000)
+}
+
+/// How many rows a start has, with at most two cuts, which keep their bounds from the first on.
+fn rows_of(rt: &impl Abort, alloc: Global, start: &Start) -> Result<u32, Fail> {
+    let mut explorer = Explorer::<JournalFlash>::start(alloc, start, 2)?;
+    assert_bounds(rt, explorer.flash(), [108, 6912, 4, 0]);
+    rows_within(rt, &mut explorer)
+}
+
 /// Three boots of 36 operations and 2304 saved bytes leave no more in a journal; and four marks, and 38 operations a row.
 #[test]
 fn an_exploration_keeps_its_bounds(rt: HostRuntime) -> Result<(), Fail> {
     let start = swap(rt.alloc(), Kind::Test)?;
-    let mut explorer = Explorer::<JournalFlash>::start(rt.alloc(), &start, 2)?;
-    assert_bounds(&rt, explorer.flash(), [108, 6912, 4, 0]);
-    let mut rows = 1000;
-    for place in 0u32..1000 {
-        let is_last = explorer.next_row()?.is_none();
-        assert_bounds(&rt, explorer.flash(), [108, 6912, 4, 8436]);
-        if is_last {
-            rows = place;
-            break;
-        }
-    }
+    let rows = rows_of(&rt, rt.alloc(), &start)?;
     assert_eq!(rt; rows, 222);
+    Ok(())
+}
+
+/// An explorer that goes on behind the last schedule of two cuts.
+fn behind_the_last(alloc: Global, start: &Start) -> Result<Explorer<'_, JournalFlash>, Fail> {
+    let cursor = Cursor::of(start, 2, &Schedule::read("17.0")?);
+    Ok(Explorer::resume(alloc, start, 2, &cursor)?)
+}
+
+/// Looks whether there is no next row, and whether the bounds are kept on either side of it.
+fn assert_end(rt: &impl Abort, explorer: &mut Explorer<'_, JournalFlash>) -> Result<(), Fail> {
+    assert_bounds(rt, explorer.flash(), [108, 6912, 4, 216]);
+    assert!(rt; explorer.next_row()?.is_none());
+    assert_bounds(rt, explorer.flash(), [108, 6912, 4, 216]);
     Ok(())
 }
 
@@ -36,33 +60,39 @@ fn an_exploration_keeps_its_bounds(rt: HostRuntime) -> Result<(), Fail> {
 #[test]
 fn a_resume_goes_straight_down(rt: HostRuntime) -> Result<(), Fail> {
     let start = swap(rt.alloc(), Kind::Test)?;
-    let cursor = Cursor::of(&start, 2, &Schedule::read("17.0")?);
-    let mut explorer = Explorer::<JournalFlash>::resume(rt.alloc(), &start, 2, &cursor)?;
-    assert_bounds(&rt, explorer.flash(), [108, 6912, 4, 216]);
-    assert!(rt; explorer.next_row()?.is_none());
-    assert_bounds(&rt, explorer.flash(), [108, 6912, 4, 216]);
-    Ok(())
+    let mut explorer = behind_the_last(rt.alloc(), &start)?;
+    assert_end(&rt, &mut explorer)
+}
+
+/// How many rows an exploration of campaigns has, each of which leaves it within its bounds.
+fn campaigns_within(
+    rt: &impl Abort,
+    explorer: &mut CampaignExplorer<'_, JournalFlash>,
+) -> Result<u32, Fail> {
+    for place in 0u32..1000 {
+        if explorer.next_row()?.is_none() {
+            return Ok(place);
+        }
+        let applied = 112 * (u64::from(place) + 1);
+        assert_bounds(rt, explorer.flash(), [144, 9216, 5, applied]);
+    }
+    Ok(1000)
+}
+
+/// How many campaigns a start has, with at most one cut, which keep their bounds from the first to the end.
+fn campaigns_of(rt: &impl Abort, alloc: Global, start: &Start) -> Result<u32, Fail> {
+    let mut explorer = CampaignExplorer::<JournalFlash>::start(alloc, start, 1, false)?;
+    assert_bounds(rt, explorer.flash(), [144, 9216, 5, 0]);
+    let rows = campaigns_within(rt, &mut explorer)?;
+    assert_bounds(rt, explorer.flash(), [144, 9216, 5, 4704]);
+    Ok(rows)
 }
 
 /// Four boots leave no more in a journal, and five marks. A row takes 112 operations.
 #[test]
 fn an_exploration_of_campaigns_keeps_its_bounds(rt: HostRuntime) -> Result<(), Fail> {
     let start = swap(rt.alloc(), Kind::Test)?;
-    let mut explorer = CampaignExplorer::<JournalFlash>::start(rt.alloc(), &start, 1, false)?;
-    assert_bounds(&rt, explorer.flash(), [144, 9216, 5, 0]);
-    let mut rows = 1000;
-    for place in 0u32..1000 {
-        if explorer.next_row()?.is_none() {
-            rows = place;
-            break;
-        }
-        assert_bounds(
-            &rt,
-            explorer.flash(),
-            [144, 9216, 5, 112 * (u64::from(place) + 1)],
-        );
-    }
-    assert_bounds(&rt, explorer.flash(), [144, 9216, 5, 4704]);
+    let rows = campaigns_of(&rt, rt.alloc(), &start)?;
     assert_eq!(rt; rows, 42);
     Ok(())
 }

@@ -1,8 +1,10 @@
 //! Campaigns of the worked swaps, explored and replayed.
+ghost use Rattle.std.specs.Prelude.{◌≤◌};
+
 use crate::common::{start_of, swap};
 use crate::sessions::{plays, refused};
 use mc_campaign::{Campaign, CampaignCursor, CampaignExplorer, CampaignRow, replay_campaign};
-use mc_explore::Kind;
+use mc_explore::{Kind, Start};
 use mc_flash::{Flash, JournalFlash, SnapFlash};
 use std::alloc::Global;
 use std::test::Fail;
@@ -15,10 +17,24 @@ pub fn campaign_row<F: Flash + Drop>(
     bound: &str,
     place: &str,
 ) -> Result<String, Fail> {
-    let start = start_of(alloc, start)?;
     let bound = bound.parse::<u8>()?.min(16);
-    let mut explorer = CampaignExplorer::<F>::start(alloc, &start, bound, confirms == "confirm")?;
-    row_at(alloc, &mut explorer, place.parse::<u32>()?)
+    let place = place.parse::<u32>()?;
+    let start = start_of(alloc, start)?;
+    row_of::<F>(alloc, &start, bound, confirms == "confirm", place)
+}
+
+/// The same from a start.
+fn row_of<F: Flash + Drop>(
+    alloc: Global,
+    start: &Start,
+    bound: u8,
+    confirms: bool,
+    place: u32,
+) -> Result<String, Fail>
+    requires { bound ≤ 16 }
+{
+    let mut explorer = CampaignExplorer::<F>::start(alloc, start, bound, confirms)?;
+    row_at(alloc, &mut explorer, place)
 }
 
 /// The row at a place of an exploration, counted from 0, or how many rows there are.
@@ -47,6 +63,22 @@ fn next_of(
     }
 }
 
+/// The row behind a cursor, or why there is none.
+fn row_behind(
+    alloc: Global,
+    start: &Start,
+    bound: u8,
+    confirms: bool,
+    cursor: &CampaignCursor,
+) -> Result<String, Fail>
+    requires { bound ≤ 16 }
+{
+    match CampaignExplorer::resume(alloc, start, bound, confirms, cursor) {
+        Ok(mut explorer) => next_of(alloc, &mut explorer),
+        Err(error) => refused(alloc, error),
+    }
+}
+
 /// The row behind a campaign of at most one cut, which the new image does not confirm, or why there is none.
 pub fn campaign_behind(
     alloc: Global,
@@ -54,21 +86,21 @@ pub fn campaign_behind(
     confirms: &str,
     text: &str,
 ) -> Result<String, Fail> {
-    let start = swap(alloc, Kind::Test)?;
-    let cursor = CampaignCursor::of(&start, 1, false, &Campaign::read(text)?);
+    let campaign = Campaign::read(text)?;
     let bound = bound.parse::<u8>()?.min(16);
-    let confirms = confirms == "confirm";
-    match CampaignExplorer::resume(alloc, &start, bound, confirms, &cursor) {
-        Ok(mut explorer) => next_of(alloc, &mut explorer),
-        Err(error) => refused(alloc, error),
-    }
+    let start = swap(alloc, Kind::Test)?;
+    let cursor = CampaignCursor::of(&start, 1, false, &campaign);
+    row_behind(alloc, &start, bound, confirms == "confirm", &cursor)
 }
 
-/// The row of a campaign that is replayed, or why it is not.
-pub fn campaign_replayed(alloc: Global, confirms: &str, text: &str) -> Result<String, Fail> {
-    let start = swap(alloc, Kind::Test)?;
-    let campaign = Campaign::read(text)?;
-    match replay_campaign::<SnapFlash>(alloc, &start, &campaign, confirms == "confirm") {
+/// The row of a campaign that is replayed from a start, or why it is not.
+fn row_replayed(
+    alloc: Global,
+    start: &Start,
+    campaign: Campaign,
+    confirms: bool,
+) -> Result<String, Fail> {
+    match replay_campaign::<SnapFlash>(alloc, start, &campaign, confirms) {
         Ok((first, second, _)) => {
             let row = CampaignRow {
                 campaign,
@@ -79,6 +111,13 @@ pub fn campaign_replayed(alloc: Global, confirms: &str, text: &str) -> Result<St
         }
         Err(error) => refused(alloc, error),
     }
+}
+
+/// The same from a test swap.
+pub fn campaign_replayed(alloc: Global, confirms: &str, text: &str) -> Result<String, Fail> {
+    let campaign = Campaign::read(text)?;
+    let start = swap(alloc, Kind::Test)?;
+    row_replayed(alloc, &start, campaign, confirms == "confirm")
 }
 
 /// Rows at their places, how many there are, rows behind others, and campaigns that are replayed.

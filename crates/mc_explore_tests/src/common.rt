@@ -35,15 +35,20 @@ fn rules_of(grain: &str, profile: &str) -> Rules {
     Rules { grain, profile }
 }
 
+/// A place and the byte that is there.
+fn change_of(change: &str) -> Result<(usize, u8), Fail> {
+    let (place, byte) = change.split_once('=').ok_or("a place and a byte")?;
+    Ok((place.parse::<usize>()?, u8::from_str_radix(byte, 16)?))
+}
+
 /// The bytes of both slots: 0xff but for the primary's magic, a swap-size of 80, and the bytes at these places.
 fn flash_of(changes: &str) -> Result<[u8; 1792], Fail> {
     let mut flash = [0xff; 1792];
     flash[976..980].copy_from_slice(&[80, 0, 0, 0]);
     flash[1008..1024].copy_from_slice(&MAGIC);
     for change in changes.split(',') {
-        let (place, byte) = change.split_once('=').ok_or("a place and a byte")?;
-        let byte = u8::from_str_radix(byte, 16)?;
-        if let Some(cell) = flash.get_mut(place.parse::<usize>()?) {
+        let (place, byte) = change_of(change)?;
+        if let Some(cell) = flash.get_mut(place) {
             *cell = byte;
         }
     }

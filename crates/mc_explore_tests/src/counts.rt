@@ -32,9 +32,10 @@ pub fn tally_of(alloc: Global, start: &Start, bound: u8, limit: u32) -> Result<S
 
 /// The tally of so many rows of a start at most.
 pub fn tally(alloc: Global, start: &str, bound: &str, limit: &str) -> Result<String, Fail> {
-    let start = start_of(alloc, start)?;
     let bound = bound.parse::<u8>()?.min(16);
-    tally_of(alloc, &start, bound, limit.parse::<u32>()?.max(1))
+    let limit = limit.parse::<u32>()?.max(1);
+    let start = start_of(alloc, start)?;
+    tally_of(alloc, &start, bound, limit)
 }
 
 /// A census as text.
@@ -52,8 +53,8 @@ pub fn census_of<F: Flash>(alloc: Global, start: &Start, bound: u32) -> Result<S
 
 /// The census of a start: of a swap over copies, and of another flash over a journal.
 pub fn census(alloc: Global, told: &str, bound: &str) -> Result<String, Fail> {
-    let start = start_of(alloc, told)?;
     let bound = bound.parse::<u32>()?.min(16);
+    let start = start_of(alloc, told)?;
     if told.contains('=') {
         census_of::<JournalFlash>(alloc, &start, bound)
     } else {
@@ -107,23 +108,45 @@ fn rows_and_schedules_are_counted(rt: HostRuntime) -> Result<(), Fail> {
     plays(&rt, rt.alloc(), COUNTS)
 }
 
+/// How many rows stand before a schedule, and whether they are all, up to it.
+fn rows_before(
+    explorer: &mut Explorer<'_, JournalFlash>,
+    schedule: &str,
+) -> Result<(u32, bool), Fail> {
+    let tally = survey_until(explorer, Some(Schedule::read(schedule)?), 1000)?;
+    Ok((tally.rows, tally.next.is_none()))
+}
+
+/// How many rows are left, and whether they are all.
+fn rows_left(explorer: &mut Explorer<'_, JournalFlash>) -> Result<(u32, bool), Fail> {
+    let tally = survey(explorer, 1000)?;
+    Ok((tally.rows, tally.next.is_none()))
+}
+
+/// How many rows stand before the last schedule of a start, and how many are told then.
+fn rows_before_and_behind(alloc: Global, start: &Start) -> Result<[(u32, bool); 2], Fail> {
+    let mut explorer = Explorer::<JournalFlash>::start(alloc, start, 2)?;
+    let before = rows_before(&mut explorer, "17.0")?;
+    Ok([before, rows_left(&mut explorer)?])
+}
+
 #[test]
 fn a_survey_goes_on_where_its_page_would(rt: HostRuntime) -> Result<(), Fail> {
     let start = swap(rt.alloc(), Kind::Test)?;
-    let mut explorer = Explorer::<JournalFlash>::start(rt.alloc(), &start, 2)?;
-    let until = Some(Schedule::read("17.0")?);
-    let before = survey_until(&mut explorer, until, 1000)?;
-    let after = survey(&mut explorer, 1000)?;
-    assert_eq!(rt;
-        (before.rows, before.next.is_none(), after.rows),
-        (221, true, 0)
-    );
+    let rows = rows_before_and_behind(rt.alloc(), &start)?;
+    assert_eq!(rt; rows, [(221, true), (0, true)]);
     Ok(())
+}
+
+/// The census of a revert, with as many cuts as there may be.
+fn census_of_a_revert(alloc: Global) -> Result<Census, Fail> {
+    let start = swap(alloc, Kind::Revert)?;
+    Ok(take_census::<JournalFlash>(alloc, &start, 16)?)
 }
 
 #[test]
 fn all_schedules_of_a_revert_end_in_a_boot(rt: HostRuntime) -> Result<(), Fail> {
-    let most = take_census::<JournalFlash>(rt.alloc(), &swap(rt.alloc(), Kind::Revert)?, 16)?;
+    let most = census_of_a_revert(rt.alloc())?;
     assert_eq!(rt;
         (most.boot, most.first_not_boot.is_none()),
         (most.schedules, true)
@@ -153,7 +176,7 @@ fn a_number_that_was_cut_off_is_told_so(rt: HostRuntime) -> Result<(), Fail> {
         most_operations: 7,
         first_not_boot: Some(Schedule::read("0.17")?),
     };
-    let told = format!(in rt.alloc(); "{census}")?;
+    let told = text_of(rt.alloc(), &census)?;
     assert_eq!(rt; told.as_str(), CUT_OFF);
     Ok(())
 }

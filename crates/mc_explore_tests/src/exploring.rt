@@ -1,4 +1,6 @@
 //! The rows of explorations of two small images.
+ghost use Rattle.std.specs.Prelude.{◌≤◌};
+
 use crate::common::{start_of, swap};
 use crate::sessions::{plays, refused};
 use mc_explore::{Cursor, Explorer, Kind, Row, Start, replay};
@@ -8,10 +10,18 @@ use std::test::Fail;
 
 /// The row at a place, counted from 0, or how many rows there are.
 pub fn row(alloc: Global, start: &str, bound: &str, place: &str) -> Result<String, Fail> {
-    let start = start_of(alloc, start)?;
     let bound = bound.parse::<u8>()?.min(16);
-    let mut explorer = Explorer::<SnapFlash>::start(alloc, &start, bound)?;
-    row_at(alloc, &mut explorer, place.parse::<u32>()?)
+    let place = place.parse::<u32>()?;
+    let start = start_of(alloc, start)?;
+    row_of(alloc, &start, bound, place)
+}
+
+/// The same from a start.
+fn row_of(alloc: Global, start: &Start, bound: u8, place: u32) -> Result<String, Fail>
+    requires { bound ≤ 16 }
+{
+    let mut explorer = Explorer::<SnapFlash>::start(alloc, start, bound)?;
+    row_at(alloc, &mut explorer, place)
 }
 
 /// The row at a place of an exploration, counted from 0, or how many rows there are.
@@ -43,33 +53,57 @@ fn next_of(alloc: Global, explorer: &mut Explorer<'_, SnapFlash>) -> Result<Stri
     }
 }
 
+/// Whether the next row of an exploration is replayed with its outcome, if there is one.
+fn is_next_replayed(
+    alloc: Global,
+    start: &Start,
+    explorer: &mut Explorer<'_, SnapFlash>,
+) -> Result<Option<bool>, Fail> {
+    match explorer.next_row()? {
+        Some(row) => Ok(Some(is_replayed(alloc, start, &row)?)),
+        None => Ok(None),
+    }
+}
+
 /// How many of the rows of a start, with at most two cuts, are replayed with their outcomes.
-pub fn rows_replayed(alloc: Global, start: &str) -> Result<String, Fail> {
-    let start = start_of(alloc, start)?;
-    let mut explorer = Explorer::<SnapFlash>::start(alloc, &start, 2)?;
+fn count_replayed(alloc: Global, start: &Start) -> Result<u32, Fail> {
+    let mut explorer = Explorer::<SnapFlash>::start(alloc, start, 2)?;
     for rows in 0..1000 {
-        let Some(row) = explorer.next_row()? else {
-            return Ok(format!(in alloc; "{rows}")?);
-        };
-        if !is_replayed(alloc, &start, &row)? {
-            break;
+        match is_next_replayed(alloc, start, &mut explorer)? {
+            Some(true) => {}
+            Some(false) => break,
+            None => return Ok(rows),
         }
     }
     Err(Fail::from("the outcome of a row"))
 }
 
-/// The row behind the text of a cursor of a test swap, or why there is none.
+/// The same as text.
+pub fn rows_replayed(alloc: Global, start: &str) -> Result<String, Fail> {
+    let start = start_of(alloc, start)?;
+    let rows = count_replayed(alloc, &start)?;
+    Ok(format!(in alloc; "{rows}")?)
+}
+
+/// The row behind a cursor, or why there is none.
+fn row_behind(alloc: Global, start: &Start, bound: u8, cursor: &Cursor) -> Result<String, Fail>
+    requires { bound ≤ 16 }
+{
+    match Explorer::resume(alloc, start, bound, cursor) {
+        Ok(mut explorer) => next_of(alloc, &mut explorer),
+        Err(error) => refused(alloc, error),
+    }
+}
+
+/// The same of a test swap and the text of a cursor.
 pub fn behind(alloc: Global, bound: &str, cursor: &str) -> Result<String, Fail> {
-    let start = swap(alloc, Kind::Test)?;
     let bound = bound.parse::<u8>()?.min(16);
     let cursor = match Cursor::read(cursor) {
         Ok(cursor) => cursor,
         Err(error) => return refused(alloc, error),
     };
-    match Explorer::resume(alloc, &start, bound, &cursor) {
-        Ok(mut explorer) => next_of(alloc, &mut explorer),
-        Err(error) => refused(alloc, error),
-    }
+    let start = swap(alloc, Kind::Test)?;
+    row_behind(alloc, &start, bound, &cursor)
 }
 
 /// Rows at their places, and how many there are.

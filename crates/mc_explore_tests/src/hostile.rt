@@ -11,32 +11,65 @@ use sha2::{Digest, Sha256};
 use std::alloc::Global;
 use std::test::Fail;
 
-/// How many lines the page of all rows of a start has, and the SHA-256 of its text.
+/// Writes all rows of an exploration.
+fn page_of<F: Flash + Drop>(
+    alloc: Global,
+    explorer: &mut Explorer<'_, F>,
+) -> Result<Vec<u8>, Fail> {
+    let mut page = Vec::with_capacity(alloc, 1 << 16)?;
+    write_page(explorer, 1000, &mut page)?;
+    Ok(page)
+}
+
+/// How many lines a page has, and the SHA-256 of its text.
+fn sum_of(alloc: Global, page: &[u8]) -> Result<String, Fail> {
+    let lines = str::from_utf8(page)?.lines().count();
+    let sum = hex::encode(alloc, Sha256::digest(page))?;
+    Ok(format!(in alloc; "{lines} {sum}")?)
+}
+
+/// The same of the page of all rows of a start.
 fn page_sum<F: Flash + Drop>(alloc: Global, start: &Start, bound: u8) -> Result<String, Fail>
     requires { bound ≤ 16 }
 {
     let mut explorer = Explorer::<F>::start(alloc, start, bound)?;
-    let mut page = Vec::with_capacity(alloc, 1 << 16)?;
-    write_page(&mut explorer, 1000, &mut page)?;
-    let sum = hex::encode(alloc, Sha256::digest(page.as_slice()))?;
-    let lines = String::from_utf8(page)?.as_str().lines().count();
-    Ok(format!(in alloc; "{lines} {sum}")?)
+    let page = page_of(alloc, &mut explorer)?;
+    sum_of(alloc, page.as_slice())
+}
+
+/// Whether a census tells what the tally of all rows does.
+fn is_tallied(alloc: Global, start: &Start, bound: u8, census: &str) -> Result<bool, Fail>
+    requires { bound ≤ 16 }
+{
+    let tally = tally_of(alloc, start, bound, 10000)?;
+    let begins = tally.as_str().replace(alloc, "rows", "schedules")?;
+    let begins = begins.as_str().replace(alloc, "end\n", "first-not-boot")?;
+    Ok(census.starts_with(begins.as_str()))
+}
+
+/// A sum, and the first line of a census.
+fn with_schedules(alloc: Global, sum: &str, census: &str) -> Result<String, Fail> {
+    let schedules = census.lines().next().unwrap_or("");
+    Ok(format!(in alloc; "{sum} {schedules}")?)
 }
 
 /// The sum of the page of a start, and the number of schedules of its census, where that tells what the tally of all rows does.
-pub fn sums(alloc: Global, told: &str, bound: &str) -> Result<String, Fail> {
-    let start = start_of(alloc, told)?;
-    let most = bound.parse::<u8>()?.min(16);
-    let sum = page_sum::<JournalFlash>(alloc, &start, most)?;
-    let tally = tally_of(alloc, &start, most, 10000)?;
-    let census = census_of::<JournalFlash>(alloc, &start, u32::from(most))?;
-    let begins = tally.as_str().replace(alloc, "rows", "schedules")?;
-    let begins = begins.as_str().replace(alloc, "end\n", "first-not-boot")?;
-    if !census.as_str().starts_with(begins.as_str()) {
+fn sums_of(alloc: Global, start: &Start, bound: u8) -> Result<String, Fail>
+    requires { bound ≤ 16 }
+{
+    let census = census_of::<JournalFlash>(alloc, start, u32::from(bound))?;
+    if !is_tallied(alloc, start, bound, census.as_str())? {
         return Ok(census);
     }
-    let schedules = census.as_str().lines().next().unwrap_or("");
-    Ok(format!(in alloc; "{sum} {schedules}")?)
+    let sum = page_sum::<JournalFlash>(alloc, start, bound)?;
+    with_schedules(alloc, sum.as_str(), census.as_str())
+}
+
+/// The same of a start and a bound in words.
+pub fn sums(alloc: Global, told: &str, bound: &str) -> Result<String, Fail> {
+    let bound = bound.parse::<u8>()?.min(16);
+    let start = start_of(alloc, told)?;
+    sums_of(alloc, &start, bound)
 }
 
 /// A line has the bytes of the worked flash that are not 0xff, by their places, beside the primary's magic and a swap-size of 80, and
@@ -85,13 +118,16 @@ fn hostile_flashes_are_explored(rt: HostRuntime) -> Result<(), Fail> {
     plays(&rt, rt.alloc(), PAGES)
 }
 
+/// The sum of the page of a test swap of the first image and another.
+fn swap_sum(alloc: Global, second: &[u8]) -> Result<String, Fail> {
+    let start = Start::from_images(alloc, &worked()?, Kind::Test, &FIRST_IMAGE, second)?;
+    page_sum::<SnapFlash>(alloc, &start, 2)
+}
+
 #[test]
 fn an_image_of_two_sectors_is_explored(rt: HostRuntime) -> Result<(), Fail> {
-    let alloc = rt.alloc();
-    let larger = image_of(alloc, &[0; 228])?;
-    let layout = worked()?;
-    let start = Start::from_images(alloc, &layout, Kind::Test, &FIRST_IMAGE, larger.as_slice())?;
-    let sum = page_sum::<SnapFlash>(alloc, &start, 2)?;
+    let larger = image_of(rt.alloc(), &[0; 228])?;
+    let sum = swap_sum(rt.alloc(), larger.as_slice())?;
     let want = "547 ebe6527a1a7ebba32511e755d5ed61e6d13afed11fcbb92eb457c56553b1b0ee";
     assert_eq!(rt; (larger.len(), sum.as_str()), (300, want));
     Ok(())

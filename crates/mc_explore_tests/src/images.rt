@@ -11,17 +11,25 @@ pub fn starts_digest(alloc: Global, start: &str) -> Result<String, Fail> {
     Ok(hex::encode(alloc, start_of(alloc, start)?.digest())?)
 }
 
+/// The start of a flash without an image, or of what is told.
+fn start_or_blank(alloc: Global, told: &str) -> Result<Start, Fail> {
+    match told {
+        "blank" => Ok(Start::from_flash(alloc, &worked()?, &[0xff; 1792])?),
+        _ => start_of(alloc, told),
+    }
+}
+
 /// The major versions of the images that a start names.
-pub fn named(alloc: Global, start: &str) -> Result<String, Fail> {
-    let start = match start {
-        "blank" => Start::from_flash(alloc, &worked()?, &[0xff; 1792])?,
-        told => start_of(alloc, told)?,
-    };
-    match start.named() {
-        Some((image, rest)) => {
-            let (image, rest) = (image.version.major, rest.version.major);
-            Ok(format!(in alloc; "{image} {rest}")?)
-        }
+fn versions(start: &Start) -> Option<(u8, u8)> {
+    let (image, rest) = start.named()?;
+    Some((image.version.major, rest.version.major))
+}
+
+/// The same as text.
+pub fn named(alloc: Global, told: &str) -> Result<String, Fail> {
+    let start = start_or_blank(alloc, told)?;
+    match versions(&start) {
+        Some((image, rest)) => Ok(format!(in alloc; "{image} {rest}")?),
         None => Ok(String::from_str(alloc, "none")?),
     }
 }
@@ -43,20 +51,24 @@ pub fn of_bytes(alloc: Global, size: &str) -> Result<String, Fail> {
     )
 }
 
-/// How long the images of two payloads are, and what is told of them.
-pub fn of_payloads(alloc: Global, first: &str, second: &str) -> Result<String, Fail> {
-    let layout = worked()?;
-    let a = image_of(
-        alloc,
-        vec![in alloc; 7u8; first.parse::<usize>()?]?.as_slice(),
-    )?;
-    let b = image_of(
-        alloc,
-        vec![in alloc; 7u8; second.parse::<usize>()?]?.as_slice(),
-    )?;
-    let start = Start::from_images(alloc, &layout, Kind::Test, a.as_slice(), b.as_slice());
+/// The image of a payload of so many bytes.
+fn image_of_sevens(alloc: Global, size: &str) -> Result<Vec<u8>, Fail> {
+    let payload = vec![in alloc; 7u8; size.parse::<usize>()?]?;
+    Ok(image_of(alloc, payload.as_slice())?)
+}
+
+/// How long two images are, and what is told of them.
+fn of_images(alloc: Global, a: &[u8], b: &[u8]) -> Result<String, Fail> {
+    let start = Start::from_images(alloc, &worked()?, Kind::Test, a, b);
     let told = told(alloc, start)?;
     Ok(format!(in alloc; "{} {} {told}", a.len(), b.len())?)
+}
+
+/// The same of the images of two payloads.
+pub fn of_payloads(alloc: Global, first: &str, second: &str) -> Result<String, Fail> {
+    let a = image_of_sevens(alloc, first)?;
+    let b = image_of_sevens(alloc, second)?;
+    of_images(alloc, a.as_slice(), b.as_slice())
 }
 
 /// What is told of so many bytes of the first image, and of the second image with another payload.

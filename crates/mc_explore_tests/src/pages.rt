@@ -33,12 +33,24 @@ pub fn page(
     until: &str,
     limit: &str,
 ) -> Result<String, Fail> {
-    let start = swap(alloc, Kind::Test)?;
     let bound = bound.parse::<u8>()?.min(16);
     let limit = limit.parse::<u32>()?.max(1);
+    let start = swap(alloc, Kind::Test)?;
     let mut explorer = explorer_behind(alloc, &start, bound, behind)?;
+    page_of(alloc, &mut explorer, until, limit)
+}
+
+/// The same of an exploration.
+fn page_of(
+    alloc: Global,
+    explorer: &mut Explorer<'_, SnapFlash>,
+    until: &str,
+    limit: u32,
+) -> Result<String, Fail>
+    requires { 1 ≤ limit }
+{
     let mut page = Vec::with_capacity(alloc, 2048)?;
-    write_pages(&mut explorer, until, limit, &mut page)?;
+    write_pages(explorer, until, limit, &mut page)?;
     Ok(String::from_utf8(page)?)
 }
 

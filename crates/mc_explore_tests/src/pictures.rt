@@ -1,25 +1,33 @@
 //! Pictures and traces of the worked start, and the numbers that follow from its layout.
 use crate::common::{start_of, swap};
 use crate::sessions::{plays, refused};
-use mc_explore::{Kind, Schedule};
+use mc_explore::{Kind, Schedule, Start};
 use mc_fixtures::worked;
 use mc_flash::SnapFlash;
-use mc_trace::{write_layout, write_sectors, write_trace};
+use mc_trace::{TraceError, write_layout, write_sectors, write_trace};
 use std::alloc::Global;
 use std::test::Fail;
 
-/// The sectors at the last cut of a schedule of a test swap, or how many bytes are out and why there are no more.
-pub fn sectors(alloc: Global, schedule: &str) -> Result<String, Fail> {
-    let start = swap(alloc, Kind::Test)?;
-    let schedule = Schedule::read(schedule)?;
+/// How many bytes are out, and why there are no more.
+fn stopped(alloc: Global, bytes: usize, error: TraceError) -> Result<String, Fail> {
+    let error = refused(alloc, error)?;
+    Ok(format!(in alloc; "{bytes} {error}")?)
+}
+
+/// The sectors at the last cut of a schedule of a start, or what is told of none.
+fn sectors_of(alloc: Global, start: &Start, schedule: &Schedule) -> Result<String, Fail> {
     let mut out = Vec::new(alloc);
-    match write_sectors::<SnapFlash, Vec<u8>>(alloc, &start, &schedule, &mut out) {
+    match write_sectors::<SnapFlash, Vec<u8>>(alloc, start, schedule, &mut out) {
         Ok(()) => Ok(String::from_utf8(out)?),
-        Err(error) => {
-            let error = refused(alloc, error)?;
-            Ok(format!(in alloc; "{} {error}", out.len())?)
-        }
+        Err(error) => stopped(alloc, out.len(), error),
     }
+}
+
+/// The same of a test swap.
+pub fn sectors(alloc: Global, schedule: &str) -> Result<String, Fail> {
+    let schedule = Schedule::read(schedule)?;
+    let start = swap(alloc, Kind::Test)?;
+    sectors_of(alloc, &start, &schedule)
 }
 
 /// Pictures, and one of a cut that cannot occur.
@@ -36,19 +44,8 @@ fn sectors_are_told_at_the_last_cut(rt: HostRuntime) -> Result<(), Fail> {
     plays(&rt, rt.alloc(), PICTURES)
 }
 
-/// How the boot of a test swap begins where each unit is written by itself.
-const UNITS: &str = "\
-boot 0 test
-0 erase primary 3
-1 write primary 984 swap-info 02ffffffffffffff
-2 write primary 976 swap-size 50000000ffffffff
-3 write primary 1008 magic 77c295f360d2ef7f
-4 write primary 1016 magic 3552500f2cb67980
-5 erase secondary 2
-";
-
-/// The numbers of the worked layout, worked out by hand.
-const WORKED: &str = "\
+/// The numbers of the worked layout, worked out by hand, and how the boot of a test swap begins where each unit is written by itself.
+static WORKED: &str = "\
 trailer-bytes 144
 trailer-sectors 1
 image-sectors 2
@@ -69,15 +66,27 @@ call swap-ops 30
 call most-ops 36
 unit swap-ops 211
 unit most-ops 218
+boot 0 test
+0 erase primary 3
+1 write primary 984 swap-info 02ffffffffffffff
+2 write primary 976 swap-size 50000000ffffffff
+3 write primary 1008 magic 77c295f360d2ef7f
+4 write primary 1016 magic 3552500f2cb67980
+5 erase secondary 2
 ";
+
+/// Writes the worked layout, and the trace of a boot of a start.
+fn layout_and_trace(alloc: Global, start: &Start) -> Result<Vec<u8>, Fail> {
+    let mut out = Vec::new(alloc);
+    write_layout(&worked()?, &mut out)?;
+    write_trace::<SnapFlash, Vec<u8>>(alloc, start, &Schedule::new(), &mut out)?;
+    Ok(out)
+}
 
 #[test]
 fn a_layout_and_the_units_of_a_boot_are_written(rt: HostRuntime) -> Result<(), Fail> {
-    let mut out = Vec::new(rt.alloc());
-    write_layout(&worked()?, &mut out)?;
     let start = start_of(rt.alloc(), "test/unit/1")?;
-    write_trace::<SnapFlash, Vec<u8>>(rt.alloc(), &start, &Schedule::new(), &mut out)?;
-    let want = format!(in rt.alloc(); "{WORKED}{UNITS}")?;
-    assert!(rt; out.as_slice().starts_with(want.as_bytes()));
+    let out = layout_and_trace(rt.alloc(), &start)?;
+    assert!(rt; out.as_slice().starts_with(WORKED.as_bytes()));
     Ok(())
 }

@@ -1,7 +1,7 @@
 //! Schedules of a test swap that are replayed, and the flash at their last cut.
 use crate::common::swap;
 use crate::sessions::{plays, refused};
-use mc_explore::{Kind, Row, Schedule, flash_at_cut, replay};
+use mc_explore::{Kind, Row, Schedule, Start, flash_at_cut, replay};
 use mc_fixtures::{FIRST_IMAGE, SECOND_IMAGE};
 use mc_flash::{Flash, Slot, SnapFlash};
 use mc_trace::write_slots;
@@ -15,11 +15,20 @@ fn is_swapped<F: Flash>(flash: &F) -> bool {
     primary.starts_with(SECOND_IMAGE.as_slice()) && secondary.starts_with(FIRST_IMAGE.as_slice())
 }
 
-/// The row of a schedule, and whether the images are swapped then; or why it is not replayed.
+/// The row of a schedule, and whether the images are swapped then; or why it is not replayed from a test swap.
 pub fn replayed<F: Flash + Drop>(alloc: Global, schedule: &str) -> Result<String, Fail> {
-    let start = swap(alloc, Kind::Test)?;
     let schedule = Schedule::read(schedule)?;
-    match replay::<F>(alloc, &start, &schedule) {
+    let start = swap(alloc, Kind::Test)?;
+    replayed_of::<F>(alloc, &start, schedule)
+}
+
+/// The same from a start.
+fn replayed_of<F: Flash + Drop>(
+    alloc: Global,
+    start: &Start,
+    schedule: Schedule,
+) -> Result<String, Fail> {
+    match replay::<F>(alloc, start, &schedule) {
         Ok((outcome, flash)) => {
             let row = Row { schedule, outcome };
             let is_swapped = is_swapped(&flash);
@@ -43,19 +52,35 @@ fn is_after_a_transfer(slots: &[u8]) -> bool {
     image && entry && magic
 }
 
-/// Whether the flash at the last cut of a schedule has the bytes of the start and no more, and whether it is after a transfer.
-pub fn flash_at(alloc: Global, schedule: &str) -> Result<String, Fail> {
-    let start = swap(alloc, Kind::Test)?;
-    let flash: SnapFlash = match flash_at_cut(alloc, &start, &Schedule::read(schedule)?) {
-        Ok(flash) => flash,
-        Err(error) => return refused(alloc, error),
-    };
+/// The bytes of both slots of a flash.
+fn slots_of(alloc: Global, flash: &SnapFlash) -> Result<Vec<u8>, Fail> {
     let mut slots = Vec::new(alloc);
-    write_slots(&flash, &mut slots)?;
+    write_slots(flash, &mut slots)?;
+    Ok(slots)
+}
+
+/// Whether a flash has the bytes of the start and no more, and whether it is after a transfer.
+fn told_of(alloc: Global, start: &Start, flash: &SnapFlash) -> Result<String, Fail> {
+    let slots = slots_of(alloc, flash)?;
     let slots = slots.as_slice();
     let is_start = slots.split_at_checked(1024) == Some((start.primary(), start.secondary()));
     let is_after = is_after_a_transfer(slots);
     Ok(format!(in alloc; "{is_start} {is_after}")?)
+}
+
+/// The same of the flash at the last cut of a schedule of a start, or why there is none.
+fn told_at(alloc: Global, start: &Start, schedule: &Schedule) -> Result<String, Fail> {
+    match flash_at_cut(alloc, start, schedule) {
+        Ok(flash) => told_of(alloc, start, &flash),
+        Err(error) => refused(alloc, error),
+    }
+}
+
+/// The same of a test swap.
+pub fn flash_at(alloc: Global, schedule: &str) -> Result<String, Fail> {
+    let schedule = Schedule::read(schedule)?;
+    let start = swap(alloc, Kind::Test)?;
+    told_at(alloc, &start, &schedule)
 }
 
 /// Replays that end, over copies and over a journal, and cuts that cannot occur.

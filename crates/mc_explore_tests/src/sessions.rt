@@ -76,41 +76,51 @@ fn in_full(alloc: Global, line: &str) -> Result<String, AllocError> {
 /// Plays a session.
 pub fn plays(rt: &impl Abort, alloc: Global, session: &str) -> Result<(), Fail> {
     for line in session.lines() {
-        let whole = in_full(alloc, line)?;
-        let (step, want) = whole
-            .as_str()
-            .split_once(" => ")
-            .ok_or("a step and an end")?;
-        let (step, rest) = step.split_once(' ').ok_or("a step and its words")?;
-        let told = match read_of(alloc, step, rest)? {
-            Some(told) => told,
-            None => told_of(alloc, step, rest)?,
-        };
-        assert_eq!(rt; told.as_str(), want, "{line}");
+        plays_line(rt, alloc, line)?;
     }
     Ok(())
 }
 
-/// What is told of a text that is read, if that is the step.
-fn read_of(alloc: Global, step: &str, text: &str) -> Result<Option<String>, Fail> {
-    Ok(Some(match step {
-        "schedule" => read_back(alloc, Schedule::read(text))?,
-        "campaign" => read_back(alloc, Campaign::read(text))?,
-        "cursor" => read_back(alloc, Cursor::read(text))?,
-        "campaign-cursor" => read_back(alloc, CampaignCursor::read(text))?,
-        _ => return Ok(None),
-    }))
+/// Plays a line of a session.
+fn plays_line(rt: &impl Abort, alloc: Global, line: &str) -> Result<(), Fail> {
+    let whole = in_full(alloc, line)?;
+    let (step, want) = whole
+        .as_str()
+        .split_once(" => ")
+        .ok_or("a step and an end")?;
+    let told = told_of(alloc, step)?;
+    assert_eq!(rt; told.as_str(), want, "{line}");
+    Ok(())
 }
 
-/// What is told of any other step, by its name and its words.
-fn told_of(alloc: Global, step: &str, rest: &str) -> Result<String, Fail> {
-    let words: Vec<&str> = rest.split(' ').collect(alloc)?;
-    match words.as_slice() {
-        [word] => told_of_one(alloc, step, word),
-        [first, second] => told_of_two(alloc, step, first, second),
-        [first, second, third] => told_of_three(alloc, step, first, second, third),
-        [first, second, third, fourth] => told_of_four(alloc, step, [first, second, third, fourth]),
-        _ => Err(Fail::from("a step that is known")),
+/// What is told of a step.
+fn told_of(alloc: Global, step: &str) -> Result<String, Fail> {
+    let (step, text) = step.split_once(' ').ok_or("a step and its words")?;
+    match step {
+        "schedule" => read_back(alloc, Schedule::read(text)),
+        "campaign" => read_back(alloc, Campaign::read(text)),
+        "cursor" => read_back(alloc, Cursor::read(text)),
+        "campaign-cursor" => read_back(alloc, CampaignCursor::read(text)),
+        _ => told_of_words(alloc, step, text),
+    }
+}
+
+/// What is told of a step that reads no text, by its words: one, or several.
+fn told_of_words(alloc: Global, step: &str, words: &str) -> Result<String, Fail> {
+    match words.split_once(' ') {
+        Some((first, rest)) => told_of_more(alloc, step, first, rest),
+        None => told_of_one(alloc, step, words),
+    }
+}
+
+/// What is told of a step with a word and others: one, two or three.
+fn told_of_more(alloc: Global, step: &str, first: &str, rest: &str) -> Result<String, Fail> {
+    let Some((second, rest)) = rest.split_once(' ') else {
+        return told_of_two(alloc, step, first, rest);
+    };
+    match rest.split_once(' ') {
+        Some((third, fourth)) => told_of_four(alloc, step, [first, second, third, fourth]),
+        None => told_of_three(alloc, step, first, second, rest),
     }
 }
 

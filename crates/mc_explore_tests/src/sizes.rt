@@ -1,6 +1,6 @@
 //! Large images, and as many cuts as a schedule has.
 use mc_boot::{BootResult, Outcome};
-use mc_explore::{Cursor, Explorer, Kind, Schedule, Start, replay};
+use mc_explore::{Cursor, Explorer, Kind, Row, Schedule, Start, replay};
 use mc_fixtures::image_of;
 use mc_flash::{Flash, JournalFlash, Layout, Slot, SnapFlash};
 use std::alloc::Global;
@@ -35,20 +35,25 @@ fn large_images_are_placed(rt: HostRuntime) -> Result<(), Fail> {
     Ok(())
 }
 
-/// Whether a large flash without an image has one row.
-fn has_one_row(alloc: Global) -> Result<bool, Fail> {
+/// A large flash without an image.
+fn large_blank(alloc: Global) -> Result<Start, Fail> {
     let layout = Layout::new(4096, 8, 256, 512, 256, 255)?;
     let bytes = vec![in alloc; 0xffu8; 511 * 4096]?;
-    let start = Start::from_flash(alloc, &layout, bytes.as_slice())?;
-    let mut explorer = Explorer::<SnapFlash>::start(alloc, &start, 16)?;
-    let first = explorer.next_row()?;
-    let second = explorer.next_row()?;
-    Ok(first.is_some() && second.is_none())
+    Ok(Start::from_flash(alloc, &layout, bytes.as_slice())?)
+}
+
+/// Whether a start has one row.
+fn has_one_row(alloc: Global, start: &Start) -> Result<bool, Fail> {
+    let mut explorer = Explorer::<SnapFlash>::start(alloc, start, 16)?;
+    let has_first = explorer.next_row()?.is_some();
+    let has_second = explorer.next_row()?.is_some();
+    Ok(has_first && !has_second)
 }
 
 #[test]
 fn a_large_flash_is_explored(rt: HostRuntime) -> Result<(), Fail> {
-    assert!(rt; has_one_row(rt.alloc())?);
+    let start = large_blank(rt.alloc())?;
+    assert!(rt; has_one_row(rt.alloc(), &start)?);
     Ok(())
 }
 
@@ -63,19 +68,26 @@ fn is_swapped<F: Flash + Drop>(alloc: Global, start: &Start) -> Result<bool, Fai
     Ok(matches!(outcome.result, BootResult::Boot) && primary && secondary)
 }
 
-/// Returns whether the row after it has the next schedule, and boots.
-fn goes_on<F: Flash + Drop>(alloc: Global, start: &Start) -> Result<bool, Fail> {
+/// The row after it.
+fn row_behind<F: Flash + Drop>(alloc: Global, start: &Start) -> Result<Row, Fail> {
     let cursor = Cursor::of(start, 16, &Schedule::read(CUTS)?);
     let mut explorer = Explorer::<F>::resume(alloc, start, 16, &cursor)?;
-    let row = explorer.next_row()?.ok_or("a row")?;
+    Ok(explorer.next_row()?.ok_or("a row")?)
+}
+
+/// Returns whether the row after it has the next schedule, and boots.
+fn goes_on<F: Flash + Drop>(alloc: Global, start: &Start) -> Result<bool, Fail> {
     let next = Schedule::read("9.9.9.9.9.9.9.9.9.9.9.9.9.9.9.10")?;
+    let row = row_behind::<F>(alloc, start)?;
     Ok(matches!(row.outcome.result, BootResult::Boot) && row.schedule.cuts() == next.cuts())
 }
 
 /// Whether a schedule of 16 cuts of a swap of large images is replayed, and an exploration goes on after it.
 fn are_replayed<F: Flash + Drop>(alloc: Global) -> Result<bool, Fail> {
     let start = large(alloc, Kind::Test)?;
-    Ok(is_swapped::<F>(alloc, &start)? && goes_on::<F>(alloc, &start)?)
+    let is_swapped = is_swapped::<F>(alloc, &start)?;
+    let goes_on = goes_on::<F>(alloc, &start)?;
+    Ok(is_swapped && goes_on)
 }
 
 #[test]

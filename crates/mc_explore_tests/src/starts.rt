@@ -4,6 +4,7 @@ use mc_fixtures::{FIRST_IMAGE, SECOND_IMAGE, worked};
 use mc_flash::Slot;
 use mc_trailer::MAGIC;
 use std::alloc::Global;
+use std::process::Abort;
 use std::test::Fail;
 
 /// The primary slot that holds the first image.
@@ -26,9 +27,22 @@ fn secondary(alloc: Global, flag: u8, asks: bool) -> Result<Vec<u8>, Fail> {
     Ok(slot)
 }
 
+/// Looks whether a start of two images has these bytes in its slots.
+fn assert_placed(
+    rt: &impl Abort,
+    alloc: Global,
+    kind: Kind,
+    images: (&[u8], &[u8]),
+    slots: (&[u8], &[u8]),
+) -> Result<(), Fail> {
+    let (a, b) = images;
+    let start = Start::from_images(alloc, &worked()?, kind, a, b)?;
+    assert_eq!(rt; (start.primary(), start.secondary()), slots, "{kind:?}");
+    Ok(())
+}
+
 #[test]
 fn images_are_placed_without_the_bytes_after_them(rt: HostRuntime) -> Result<(), Fail> {
-    let layout = worked()?;
     let first = primary(rt.alloc())?;
     let longer = secondary(rt.alloc(), 0xff, false)?;
     for (kind, first_bytes, second_bytes, flag, asks) in [
@@ -39,27 +53,27 @@ fn images_are_placed_without_the_bytes_after_them(rt: HostRuntime) -> Result<(),
     ] {
         let a = first.get(..first_bytes).ok_or("a part of the first")?;
         let b = longer.get(..second_bytes).ok_or("a part of the second")?;
-        let start = Start::from_images(rt.alloc(), &layout, kind, a, b)?;
         let second = secondary(rt.alloc(), flag, asks)?;
-        assert_eq!(rt;
-            (start.primary(), start.secondary()),
-            (first.as_slice(), second.as_slice()),
-            "{kind:?}"
-        );
+        let slots = (first.as_slice(), second.as_slice());
+        assert_placed(&rt, rt.alloc(), kind, (a, b), slots)?;
     }
     Ok(())
 }
 
-#[test]
-fn a_flash_has_the_bytes_of_both_slots(rt: HostRuntime) -> Result<(), Fail> {
-    let layout = worked()?;
-    let mut bytes = vec![in rt.alloc(); 0x55u8; 1024]?;
-    bytes.resize(1792, 0xaa)?;
-    let start = Start::from_flash(rt.alloc(), &layout, bytes.as_slice())?;
+/// Looks whether a start has these bytes in its slots, the first of which has 1024.
+fn assert_slots(rt: &impl Abort, start: &Start, bytes: &[u8]) {
     let told = (
         start.layout().size(Slot::Primary),
         Some((start.primary(), start.secondary())),
     );
-    assert_eq!(rt; told, (1024, bytes.as_slice().split_at_checked(1024)));
+    assert_eq!(rt; told, (1024, bytes.split_at_checked(1024)));
+}
+
+#[test]
+fn a_flash_has_the_bytes_of_both_slots(rt: HostRuntime) -> Result<(), Fail> {
+    let mut bytes = vec![in rt.alloc(); 0x55u8; 1024]?;
+    bytes.resize(1792, 0xaa)?;
+    let start = Start::from_flash(rt.alloc(), &worked()?, bytes.as_slice())?;
+    assert_slots(&rt, &start, bytes.as_slice());
     Ok(())
 }

@@ -2,7 +2,8 @@
 use crate::common::swap;
 use crate::sessions::plays;
 use mc_campaign::{Campaign, CampaignCursor, Round};
-use mc_explore::{Kind, Schedule};
+use mc_explore::{Kind, Schedule, Start};
+use std::alloc::Global;
 use std::test::Fail;
 
 /// Schedules, and texts that are none, the first of them empty.
@@ -130,13 +131,23 @@ fn texts_name_their_cuts_in_order(rt: HostRuntime) -> Result<(), Fail> {
     Ok(())
 }
 
+/// The text of the cursor of a campaign.
+fn cursor_of(alloc: Global, start: &Start) -> Result<String, Fail> {
+    let cursor = CampaignCursor::of(start, 2, true, &Campaign::read("1.0,2.5")?);
+    Ok(format!(in alloc; "{cursor}")?)
+}
+
+/// The same, as it is to be.
+fn cursor_with_digest(alloc: Global, start: &Start) -> Result<String, Fail> {
+    let digest = hex::encode(alloc, start.digest())?;
+    Ok(format!(in alloc; "mc3:call:1:confirm:{digest}:2:1.0,2.5")?)
+}
+
 #[test]
 fn the_cursor_of_a_campaign_names_its_start(rt: HostRuntime) -> Result<(), Fail> {
     let start = swap(rt.alloc(), Kind::Test)?;
-    let cursor = CampaignCursor::of(&start, 2, true, &Campaign::read("1.0,2.5")?);
-    let digest = hex::encode(rt.alloc(), start.digest())?;
-    let want = format!(in rt.alloc(); "mc3:call:1:confirm:{digest}:2:1.0,2.5")?;
-    let text = format!(in rt.alloc(); "{cursor}")?;
+    let want = cursor_with_digest(rt.alloc(), &start)?;
+    let text = cursor_of(rt.alloc(), &start)?;
     assert_eq!(rt; text.as_str(), want.as_str());
     Ok(())
 }

@@ -11,12 +11,12 @@ use std::alloc::Global;
 use std::process::Abort;
 use std::test::Fail;
 
-/// What a call returned. The test ends where an allocation failed (`scripts/refuse-tests`).
-fn ended(told: Result<(), ExploreError>) -> Result<Result<(), ExploreError>, Fail> {
-    if told == Err(ExploreError::Memory) {
-        told?;
+/// The error of a call, if there is one. The test ends where an allocation failed (`scripts/refuse-tests`).
+fn ended(told: Result<(), ExploreError>) -> Result<Option<ExploreError>, Fail> {
+    match told {
+        Err(ExploreError::Memory) => Err(Fail::from(ExploreError::Memory)),
+        told => Ok(told.err()),
     }
-    Ok(told)
 }
 
 /// What was told of a page, of another page where that failed, and then of the next row: their errors.
@@ -45,6 +45,22 @@ trait Paged {
         requires limit { 1 ≤ limit };
 }
 
+/// What is told of the pages of an exploration of schedules.
+fn errors_of(
+    explorer: &mut Explorer<'_, SnapFlash>,
+    limit: u32,
+    writer: &mut FailingWriter,
+) -> Result<Errors, Fail>
+    requires { 1 ≤ limit }
+{
+    let first = ended(write_page(explorer, limit, writer))?;
+    if first.is_none() {
+        return Ok([None; 3]);
+    }
+    let again = write_page(explorer, limit, writer).err();
+    Ok([first, again, explorer.next_row().err()])
+}
+
 /// Explorations of schedules.
 struct Schedules;
 
@@ -57,12 +73,24 @@ impl Paged for Schedules {
         writer: &mut FailingWriter,
     ) -> Result<Errors, Fail> {
         let mut explorer = Explorer::<SnapFlash>::start(alloc, start, bound)?;
-        let Err(first) = ended(write_page(&mut explorer, limit, writer))? else {
-            return Ok([None; 3]);
-        };
-        let again = write_page(&mut explorer, limit, writer).err();
-        Ok([Some(first), again, explorer.next_row().err()])
+        errors_of(&mut explorer, limit, writer)
     }
+}
+
+/// What is told of the pages of an exploration of campaigns.
+fn campaign_errors_of(
+    explorer: &mut CampaignExplorer<'_, SnapFlash>,
+    limit: u32,
+    writer: &mut FailingWriter,
+) -> Result<Errors, Fail>
+    requires { 1 ≤ limit }
+{
+    let first = ended(write_campaign_page(explorer, limit, writer))?;
+    if first.is_none() {
+        return Ok([None; 3]);
+    }
+    let again = write_campaign_page(explorer, limit, writer).err();
+    Ok([first, again, explorer.next_row().err()])
 }
 
 /// Explorations of campaigns, without a confirmation.
@@ -77,30 +105,43 @@ impl Paged for Campaigns {
         writer: &mut FailingWriter,
     ) -> Result<Errors, Fail> {
         let mut explorer = CampaignExplorer::<SnapFlash>::start(alloc, start, bound, false)?;
-        let Err(first) = ended(write_campaign_page(&mut explorer, limit, writer))? else {
-            return Ok([None; 3]);
-        };
-        let again = write_campaign_page(&mut explorer, limit, writer).err();
-        Ok([Some(first), again, explorer.next_row().err()])
+        campaign_errors_of(&mut explorer, limit, writer)
     }
 }
 
-/// A writer that fails after so many bytes, each of which was a call.
-fn writer_after(
-    alloc: Global,
-    calls: usize,
-    fault: Fault,
-    lasts: bool,
-) -> Result<FailingWriter, Fail> {
+/// A writer that takes one byte a call, and fails so.
+fn writer_of(alloc: Global, failure: Failure) -> Result<FailingWriter, Fail> {
     Ok(FailingWriter {
         taken: Vec::with_capacity(alloc, 1024)?,
-        failure: Failure {
-            calls,
-            fault,
-            lasts,
-        },
+        failure,
     })
 }
+
+/// Looks what is told of a page over a writer that fails so, and which bytes it took.
+fn assert_told<P: Paged>(
+    rt: &impl Abort,
+    alloc: Global,
+    start: &Start,
+    bound: u8,
+    limit: u32,
+    failure: Failure,
+    told: (Errors, &[u8]),
+) -> Result<(), Fail>
+    requires bound { bound ≤ 16 }
+    requires limit { 1 ≤ limit }
+{
+    let mut writer = writer_of(alloc, failure)?;
+    let errors = P::errors(alloc, start, bound, limit, &mut writer)?;
+    assert_eq!(rt; (errors, writer.taken.as_slice()), told);
+    Ok(())
+}
+
+/// A writer that never fails.
+static NEVER: Failure = Failure {
+    calls: usize::MAX,
+    fault: Fault::Error,
+    lasts: true,
+};
 
 /// Writes a page over a writer that fails at each call in turn, and over one that never does: where it fails a prefix of the page
 /// is out, and nothing comes after it.
@@ -117,15 +158,16 @@ fn meets_failing_writes<P: Paged>(
     let start = swap(alloc, Kind::Test)?;
     for room in 0..page.len() {
         for (fault, lasts) in FAULTS {
-            let mut writer = writer_after(alloc, room, fault, lasts)?;
-            let told = P::errors(alloc, &start, bound, limit, &mut writer)?;
-            assert_eq!(rt; (told, writer.taken.as_slice()), (STOPPED, &page[..room]));
+            let failure = Failure {
+                calls: room,
+                fault,
+                lasts,
+            };
+            let told = (STOPPED, &page[..room]);
+            assert_told::<P>(rt, alloc, &start, bound, limit, failure, told)?;
         }
     }
-    let mut writer = writer_after(alloc, usize::MAX, Fault::Error, true)?;
-    let told = P::errors(alloc, &start, bound, limit, &mut writer)?;
-    assert_eq!(rt; (told, writer.taken.as_slice()), ([None; 3], page));
-    Ok(())
+    assert_told::<P>(rt, alloc, &start, bound, limit, NEVER, ([None; 3], page))
 }
 
 /// A page of three rows, and one of the only row without a cut.
@@ -171,9 +213,12 @@ fn a_failed_write_ends_an_exploration_of_campaigns(rt: HostRuntime) -> Result<()
 
 #[test]
 fn a_page_of_all_rows_is_cut_off(rt: HostRuntime) -> Result<(), Fail> {
-    let mut writer = writer_after(rt.alloc(), 100, Fault::Error, true)?;
+    let failure = Failure {
+        calls: 100,
+        fault: Fault::Error,
+        lasts: true,
+    };
     let start = swap(rt.alloc(), Kind::Test)?;
-    let told = Schedules::errors(rt.alloc(), &start, 1, 19, &mut writer)?;
-    assert_eq!(rt; (told, writer.taken.as_slice()), (STOPPED, &PAGE[..100]));
-    Ok(())
+    let told = (STOPPED, &PAGE[..100]);
+    assert_told::<Schedules>(&rt, rt.alloc(), &start, 1, 19, failure, told)
 }
