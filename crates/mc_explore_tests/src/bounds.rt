@@ -33,11 +33,16 @@ fn rows_of(rt: &impl Abort, alloc: Global, start: &Start) -> Result<u32, Fail> {
     rows_within(rt, &mut explorer)
 }
 
+/// The same of a test swap.
+fn rows_of_a_swap(rt: &impl Abort, alloc: Global) -> Result<u32, Fail> {
+    let start = swap(alloc, Kind::Test)?;
+    rows_of(rt, alloc, &start)
+}
+
 /// Three boots of 36 operations and 2304 saved bytes leave no more in a journal; and four marks, and 38 operations a row.
 #[test]
 fn an_exploration_keeps_its_bounds(rt: HostRuntime) -> Result<(), Fail> {
-    let start = swap(rt.alloc(), Kind::Test)?;
-    let rows = rows_of(&rt, rt.alloc(), &start)?;
+    let rows = rows_of_a_swap(&rt, rt.alloc())?;
     assert_eq!(rt; rows, 222);
     Ok(())
 }
@@ -56,12 +61,17 @@ fn assert_end(rt: &impl Abort, explorer: &mut Explorer<'_, JournalFlash>) -> Res
     Ok(())
 }
 
+/// The same of an exploration that goes on behind the last schedule of a start.
+fn assert_resumed(rt: &impl Abort, alloc: Global, start: &Start) -> Result<(), Fail> {
+    let mut explorer = behind_the_last(alloc, start)?;
+    assert_end(rt, &mut explorer)
+}
+
 /// The way to the last schedule takes two boots a cut, and two.
 #[test]
 fn a_resume_goes_straight_down(rt: HostRuntime) -> Result<(), Fail> {
     let start = swap(rt.alloc(), Kind::Test)?;
-    let mut explorer = behind_the_last(rt.alloc(), &start)?;
-    assert_end(&rt, &mut explorer)
+    assert_resumed(&rt, rt.alloc(), &start)
 }
 
 /// How many rows an exploration of campaigns has, each of which leaves it within its bounds.
@@ -88,11 +98,16 @@ fn campaigns_of(rt: &impl Abort, alloc: Global, start: &Start) -> Result<u32, Fa
     Ok(rows)
 }
 
+/// The same of a test swap.
+fn campaigns_of_a_swap(rt: &impl Abort, alloc: Global) -> Result<u32, Fail> {
+    let start = swap(alloc, Kind::Test)?;
+    campaigns_of(rt, alloc, &start)
+}
+
 /// Four boots leave no more in a journal, and five marks. A row takes 112 operations.
 #[test]
 fn an_exploration_of_campaigns_keeps_its_bounds(rt: HostRuntime) -> Result<(), Fail> {
-    let start = swap(rt.alloc(), Kind::Test)?;
-    let rows = campaigns_of(&rt, rt.alloc(), &start)?;
+    let rows = campaigns_of_a_swap(&rt, rt.alloc())?;
     assert_eq!(rt; rows, 42);
     Ok(())
 }

@@ -130,10 +130,15 @@ fn rows_before_and_behind(alloc: Global, start: &Start) -> Result<[(u32, bool); 
     Ok([before, rows_left(&mut explorer)?])
 }
 
+/// The same of a test swap.
+fn rows_of_a_swap(alloc: Global) -> Result<[(u32, bool); 2], Fail> {
+    let start = swap(alloc, Kind::Test)?;
+    rows_before_and_behind(alloc, &start)
+}
+
 #[test]
 fn a_survey_goes_on_where_its_page_would(rt: HostRuntime) -> Result<(), Fail> {
-    let start = swap(rt.alloc(), Kind::Test)?;
-    let rows = rows_before_and_behind(rt.alloc(), &start)?;
+    let rows = rows_of_a_swap(rt.alloc())?;
     assert_eq!(rt; rows, [(221, true), (0, true)]);
     Ok(())
 }

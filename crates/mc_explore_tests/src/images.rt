@@ -25,13 +25,18 @@ fn versions(start: &Start) -> Option<(u8, u8)> {
     Some((image.version.major, rest.version.major))
 }
 
-/// The same as text.
-pub fn named(alloc: Global, told: &str) -> Result<String, Fail> {
-    let start = start_or_blank(alloc, told)?;
-    match versions(&start) {
+/// Two numbers as text.
+fn text_of(alloc: Global, versions: Option<(u8, u8)>) -> Result<String, Fail> {
+    match versions {
         Some((image, rest)) => Ok(format!(in alloc; "{image} {rest}")?),
         None => Ok(String::from_str(alloc, "none")?),
     }
+}
+
+/// The versions of what is told, as text.
+pub fn named(alloc: Global, told: &str) -> Result<String, Fail> {
+    let start = start_or_blank(alloc, told)?;
+    text_of(alloc, versions(&start))
 }
 
 /// Whether there is a start, or why there is none.

@@ -36,7 +36,22 @@ pub fn page(
     let bound = bound.parse::<u8>()?.min(16);
     let limit = limit.parse::<u32>()?.max(1);
     let start = swap(alloc, Kind::Test)?;
-    let mut explorer = explorer_behind(alloc, &start, bound, behind)?;
+    page_behind(alloc, &start, bound, behind, until, limit)
+}
+
+/// The same of a start.
+fn page_behind(
+    alloc: Global,
+    start: &Start,
+    bound: u8,
+    behind: &str,
+    until: &str,
+    limit: u32,
+) -> Result<String, Fail>
+    requires bound { bound ≤ 16 }
+    requires limit { 1 ≤ limit }
+{
+    let mut explorer = explorer_behind(alloc, start, bound, behind)?;
     page_of(alloc, &mut explorer, until, limit)
 }
 

@@ -84,10 +84,12 @@ pub fn plays(rt: &impl Abort, alloc: Global, session: &str) -> Result<(), Fail> 
 /// Plays a line of a session.
 fn plays_line(rt: &impl Abort, alloc: Global, line: &str) -> Result<(), Fail> {
     let whole = in_full(alloc, line)?;
-    let (step, want) = whole
-        .as_str()
-        .split_once(" => ")
-        .ok_or("a step and an end")?;
+    plays_step(rt, alloc, line, whole.as_str())
+}
+
+/// Plays the step of a line whose words are in full.
+fn plays_step(rt: &impl Abort, alloc: Global, line: &str, whole: &str) -> Result<(), Fail> {
+    let (step, want) = whole.split_once(" => ").ok_or("a step and an end")?;
     let told = told_of(alloc, step)?;
     assert_eq!(rt; told.as_str(), want, "{line}");
     Ok(())

@@ -42,12 +42,17 @@ fn large_blank(alloc: Global) -> Result<Start, Fail> {
     Ok(Start::from_flash(alloc, &layout, bytes.as_slice())?)
 }
 
-/// Whether a start has one row.
-fn has_one_row(alloc: Global, start: &Start) -> Result<bool, Fail> {
-    let mut explorer = Explorer::<SnapFlash>::start(alloc, start, 16)?;
+/// Whether an exploration has one row left.
+fn has_one_left(explorer: &mut Explorer<'_, SnapFlash>) -> Result<bool, Fail> {
     let has_first = explorer.next_row()?.is_some();
     let has_second = explorer.next_row()?.is_some();
     Ok(has_first && !has_second)
+}
+
+/// Whether a start has one row.
+fn has_one_row(alloc: Global, start: &Start) -> Result<bool, Fail> {
+    let mut explorer = Explorer::<SnapFlash>::start(alloc, start, 16)?;
+    has_one_left(&mut explorer)
 }
 
 #[test]
@@ -68,11 +73,16 @@ fn is_swapped<F: Flash + Drop>(alloc: Global, start: &Start) -> Result<bool, Fai
     Ok(matches!(outcome.result, BootResult::Boot) && primary && secondary)
 }
 
+/// The next row of an exploration.
+fn next_of<F: Flash + Drop>(explorer: &mut Explorer<'_, F>) -> Result<Row, Fail> {
+    Ok(explorer.next_row()?.ok_or("a row")?)
+}
+
 /// The row after it.
 fn row_behind<F: Flash + Drop>(alloc: Global, start: &Start) -> Result<Row, Fail> {
     let cursor = Cursor::of(start, 16, &Schedule::read(CUTS)?);
     let mut explorer = Explorer::<F>::resume(alloc, start, 16, &cursor)?;
-    Ok(explorer.next_row()?.ok_or("a row")?)
+    next_of(&mut explorer)
 }
 
 /// Returns whether the row after it has the next schedule, and boots.

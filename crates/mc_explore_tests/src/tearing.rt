@@ -40,14 +40,25 @@ static PAGES: [(&[u8], &str); 8] = [
     (b"0 boot", ""),
 ];
 
-#[test]
-fn a_torn_page_ends_with_its_last_whole_row(rt: HostRuntime) -> Result<(), Fail> {
+/// Looks at each part of the page.
+fn assert_parts(rt: &impl Abort, alloc: Global) -> Result<(), Fail> {
     for (bytes, want) in PARTS {
         let torn = PAGE.get(..bytes).ok_or("a part of the page")?;
-        assert_last(&rt, rt.alloc(), torn, want)?;
-    }
-    for (torn, want) in PAGES {
-        assert_last(&rt, rt.alloc(), torn, want)?;
+        assert_last(rt, alloc, torn, want)?;
     }
     Ok(())
+}
+
+/// Looks at each of the other pages.
+fn assert_pages(rt: &impl Abort, alloc: Global) -> Result<(), Fail> {
+    for (torn, want) in PAGES {
+        assert_last(rt, alloc, torn, want)?;
+    }
+    Ok(())
+}
+
+#[test]
+fn a_torn_page_ends_with_its_last_whole_row(rt: HostRuntime) -> Result<(), Fail> {
+    assert_parts(&rt, rt.alloc())?;
+    assert_pages(&rt, rt.alloc())
 }

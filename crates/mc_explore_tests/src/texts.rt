@@ -4,6 +4,7 @@ use crate::sessions::plays;
 use mc_campaign::{Campaign, CampaignCursor, Round};
 use mc_explore::{Kind, Schedule, Start};
 use std::alloc::Global;
+use std::process::Abort;
 use std::test::Fail;
 
 /// Schedules, and texts that are none, the first of them empty.
@@ -143,11 +144,16 @@ fn cursor_with_digest(alloc: Global, start: &Start) -> Result<String, Fail> {
     Ok(format!(in alloc; "mc3:call:1:confirm:{digest}:2:1.0,2.5")?)
 }
 
+/// Looks whether that is the text.
+fn assert_named(rt: &impl Abort, alloc: Global, start: &Start) -> Result<(), Fail> {
+    let want = cursor_with_digest(alloc, start)?;
+    let text = cursor_of(alloc, start)?;
+    assert_eq!(rt; text.as_str(), want.as_str());
+    Ok(())
+}
+
 #[test]
 fn the_cursor_of_a_campaign_names_its_start(rt: HostRuntime) -> Result<(), Fail> {
     let start = swap(rt.alloc(), Kind::Test)?;
-    let want = cursor_with_digest(rt.alloc(), &start)?;
-    let text = cursor_of(rt.alloc(), &start)?;
-    assert_eq!(rt; text.as_str(), want.as_str());
-    Ok(())
+    assert_named(&rt, rt.alloc(), &start)
 }

@@ -143,6 +143,30 @@ static NEVER: Failure = Failure {
     lasts: true,
 };
 
+/// Looks at a page over a writer that fails after so many calls, in each way.
+fn assert_stopped<P: Paged>(
+    rt: &impl Abort,
+    alloc: Global,
+    start: &Start,
+    bound: u8,
+    limit: u32,
+    calls: usize,
+    page: &[u8],
+) -> Result<(), Fail>
+    requires bound { bound ≤ 16 }
+    requires limit { 1 ≤ limit }
+{
+    for (fault, lasts) in FAULTS {
+        let failure = Failure {
+            calls,
+            fault,
+            lasts,
+        };
+        assert_told::<P>(rt, alloc, start, bound, limit, failure, (STOPPED, page))?;
+    }
+    Ok(())
+}
+
 /// Writes a page over a writer that fails at each call in turn, and over one that never does: where it fails a prefix of the page
 /// is out, and nothing comes after it.
 fn meets_failing_writes<P: Paged>(
@@ -157,15 +181,7 @@ fn meets_failing_writes<P: Paged>(
 {
     let start = swap(alloc, Kind::Test)?;
     for room in 0..page.len() {
-        for (fault, lasts) in FAULTS {
-            let failure = Failure {
-                calls: room,
-                fault,
-                lasts,
-            };
-            let told = (STOPPED, &page[..room]);
-            assert_told::<P>(rt, alloc, &start, bound, limit, failure, told)?;
-        }
+        assert_stopped::<P>(rt, alloc, &start, bound, limit, room, &page[..room])?;
     }
     assert_told::<P>(rt, alloc, &start, bound, limit, NEVER, ([None; 3], page))
 }
