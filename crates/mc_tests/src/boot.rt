@@ -5,12 +5,13 @@ ghost use Rattle.mc_boot.specs.Boot.{IsBootOf};
 mod cuts;
 mod joins;
 
-use crate::common::flash_of;
+use crate::common::{flash_of, same, same_at};
 use mc_boot::{Boot, BootResult, Outcome, Rejoin, confirm};
 use mc_fixtures::{FIRST_TOLD, SECOND_TOLD};
 use mc_flash::{Flash, FlashError, Op, Slot, SnapFlash};
 use mc_trailer::Rules;
 use std::alloc::{AllocError, Global};
+use std::process::Abort;
 use std::test::Fail;
 
 /// A flag or a status entry of one unit.
@@ -59,19 +60,61 @@ fn letter(slot: Slot) -> &'static str {
 
 /// An operation with its bytes in digits.
 fn line_of(alloc: Global, op: Op) -> Result<String, AllocError> {
-    let (name, slot, at, rest) = match op {
-        Op::Erase(slot, sector) => ("erase", slot, sector, String::new(alloc)),
-        Op::Program(slot, at, bytes) => {
-            let digits = hex::encode(alloc, bytes.bytes())?;
-            ("program", slot, at, format!(in alloc; " {digits}")?)
-        }
+    match op {
+        Op::Erase(slot, sector) => erase_line(alloc, letter(slot), sector),
+        Op::Program(slot, at, bytes) => program_line(alloc, letter(slot), at, bytes.bytes()),
         Op::Copy(from, at, to, offset, len) => {
-            let to = letter(to);
-            ("copy", from, at, format!(in alloc; " {to}{offset} {len}")?)
+            copy_line(alloc, (letter(from), at), (letter(to), offset), len)
         }
+    }
+}
+
+fn erase_line(alloc: Global, slot: &str, sector: u32) -> Result<String, AllocError> {
+    format!(in alloc; "erase {slot}{sector}\n")
+}
+
+fn program_line(alloc: Global, slot: &str, at: u32, bytes: &[u8]) -> Result<String, AllocError> {
+    let digits = hex::encode(alloc, bytes)?;
+    format!(in alloc; "program {slot}{at} {digits}\n")
+}
+
+fn copy_line(
+    alloc: Global,
+    (from, at): (&str, u32),
+    (to, offset): (&str, u32),
+    len: u32,
+) -> Result<String, AllocError> {
+    format!(in alloc; "copy {from}{at} {to}{offset} {len}\n")
+}
+
+/// Adds an operation's line.
+fn push_op(alloc: Global, course: &mut String, op: Op) -> Result<(), AllocError> {
+    course.push_str(line_of(alloc, op)?.as_str())
+}
+
+/// Adds the line of a refusal.
+fn push_refusal(alloc: Global, course: &mut String, error: FlashError) -> Result<(), AllocError> {
+    course.push_str(format!(in alloc; "{error}\n")?.as_str())
+}
+
+/// Tells the next operation of a boot, and makes it. Whether there was one.
+fn tells_step<F: Flash>(
+    alloc: Global,
+    flash: &mut F,
+    boot: &mut Boot,
+    course: &mut String,
+) -> Result<bool, AllocError>
+    requires { IsBootOf (F.seen flash.old).geometry boot.old }
+    ensures { IsBootOf (F.seen flash.new).geometry boot.new }
+{
+    let Some(op) = boot.peek() else {
+        return Ok(false);
     };
-    let slot = letter(slot);
-    format!(in alloc; "{name} {slot}{at}{rest}\n")
+    push_op(alloc, course, op)?;
+    if let Err(error) = boot.step(flash) {
+        push_refusal(alloc, course, error)?;
+    }
+    Ok(true)
 }
 
 /// The operations of a boot, a line for one that is refused, and the outcome. A step behind the last operation is none.
@@ -79,14 +122,8 @@ fn course_of<F: Flash>(alloc: Global, flash: &mut F) -> Result<String, Fail> {
     let mut boot = Boot::cold(flash, Rules::PLAIN);
     let mut course = String::new(alloc);
     for _ in 0..200u32 {
-        let Some(op) = boot.peek() else {
+        if !tells_step(alloc, flash, &mut boot, &mut course)? {
             break;
-        };
-        let line = line_of(alloc, op)?;
-        course.push_str(line.as_str())?;
-        if let Err(error) = boot.step(flash) {
-            let line = format!(in alloc; "{error}\n")?;
-            course.push_str(line.as_str())?;
         }
     }
     boot.step(flash)?;
@@ -168,11 +205,22 @@ next test
     ),
 ];
 
+/// The boot from a flash has this course.
+fn has_course(
+    rt: &impl Abort,
+    alloc: Global,
+    start: &'static str,
+    wanted: &'static str,
+) -> Result<(), Fail> {
+    let course = course_of(alloc, &mut flash_of(alloc, start)?)?;
+    same_at(rt, &start, &course.as_str(), &wanted);
+    Ok(())
+}
+
 #[test]
 fn boots_make_their_operations(rt: HostRuntime) -> Result<(), Fail> {
-    for (start, wanted) in COURSES {
-        let course = course_of(rt.alloc(), &mut flash_of(rt.alloc(), start)?)?;
-        assert_eq!(rt; course.as_str(), wanted);
+    for (start, wanted) in &COURSES {
+        has_course(&rt, rt.alloc(), *start, *wanted)?;
     }
     Ok(())
 }
@@ -186,15 +234,19 @@ fn finished(mut flash: SnapFlash) -> Result<(bool, BootResult, u32), FlashError>
     Ok((boot.peek().is_none(), outcome.result, outcome.ops))
 }
 
+/// Two boots, and how they end.
+static ENDS: [(&str, (bool, BootResult, u32)); 2] = [
+    ("IMAGES", (true, BootResult::Boot, 18)),
+    // Copy-done reads as unset and can't be written.
+    ("BEGUN,984=02,993=00", (true, BootResult::Fault, 13)),
+];
+
 #[test]
 fn a_boot_to_its_end(rt: HostRuntime) -> Result<(), Fail> {
-    let test = finished(test_flash(rt.alloc())?)?;
-    // Copy-done reads as unset and can't be written.
-    let begun = flash_of(rt.alloc(), "BEGUN,984=02,993=00")?;
-    assert_eq!(rt;
-        [test, finished(begun)?],
-        [(true, BootResult::Boot, 18), (true, BootResult::Fault, 13)]
-    );
+    for (start, wanted) in &ENDS {
+        let end = finished(flash_of(rt.alloc(), *start)?)?;
+        same_at(&rt, start, &end, wanted);
+    }
     Ok(())
 }
 
@@ -213,36 +265,53 @@ fn told_again(flash: &mut SnapFlash) -> Result<[Outcome; 2], FlashError> {
     Ok([first, boot.outcome(flash)])
 }
 
+/// An outcome has this text.
+fn has_text(
+    rt: &impl Abort,
+    alloc: Global,
+    outcome: &Outcome,
+    wanted: &'static str,
+) -> Result<(), AllocError> {
+    let text = text_of(alloc, outcome)?;
+    same(rt, &text.as_str(), &wanted);
+    Ok(())
+}
+
 #[test]
 fn a_kept_boot_serves_again(rt: HostRuntime) -> Result<(), Fail> {
-    let mut flash = test_flash(rt.alloc())?;
-    for outcome in told_again(&mut flash)? {
-        assert_eq!(rt; text_of(rt.alloc(), &outcome)?.as_str(), TESTED);
-    }
+    let [first, again] = told_again(&mut test_flash(rt.alloc())?)?;
+    has_text(&rt, rt.alloc(), &first, TESTED)?;
+    has_text(&rt, rt.alloc(), &again, TESTED)?;
     Ok(())
 }
 
 /// What the boot after the swap for a test tells, where the new image is confirmed before or not.
-fn told_after_a_test(alloc: Global, confirms: bool) -> Result<String, Fail> {
-    let mut flash = test_flash(alloc)?;
-    let _ = told(&mut flash, Rules::PLAIN);
+fn told_after_a_test(flash: &mut SnapFlash, confirms: bool) -> Result<Outcome, FlashError> {
+    let _ = told(flash, Rules::PLAIN);
     if confirms {
-        confirm(&mut flash)?;
+        confirm(flash)?;
     }
-    Ok(text_of(alloc, &told(&mut flash, Rules::PLAIN))?)
+    Ok(told(flash, Rules::PLAIN))
 }
+
+/// The reverted boot, and the one that was confirmed.
+static AFTER_A_TEST: [(bool, &str); 2] = [
+    (
+        false,
+        "result boot\ntype revert\nops 23\nprimary FIRST\nsecondary SECOND\nnext none\n",
+    ),
+    (
+        true,
+        "result boot\ntype none\nops 0\nprimary SECOND\nsecondary FIRST\nnext none\n",
+    ),
+];
 
 #[test]
 fn a_test_is_reverted_unless_it_is_confirmed(rt: HostRuntime) -> Result<(), Fail> {
-    let reverted = told_after_a_test(rt.alloc(), false)?;
-    let kept = told_after_a_test(rt.alloc(), true)?;
-    assert_eq!(rt;
-        [reverted.as_str(), kept.as_str()],
-        [
-            "result boot\ntype revert\nops 23\nprimary FIRST\nsecondary SECOND\nnext none\n",
-            "result boot\ntype none\nops 0\nprimary SECOND\nsecondary FIRST\nnext none\n",
-        ]
-    );
+    for (confirms, wanted) in &AFTER_A_TEST {
+        let outcome = told_after_a_test(&mut test_flash(rt.alloc())?, *confirms)?;
+        has_text(&rt, rt.alloc(), &outcome, *wanted)?;
+    }
     Ok(())
 }
 
@@ -253,18 +322,21 @@ fn confirmed(flash: &mut SnapFlash, wanted: &[u8]) -> Result<(bool, bool), Flash
     Ok((confirms, image_ok == Some(wanted)))
 }
 
+/// The same twice after a boot.
+fn confirmed_twice(flash: &mut SnapFlash) -> Result<[(bool, bool); 2], FlashError> {
+    let _ = told(flash, Rules::PLAIN);
+    Ok([confirmed(flash, &ONE)?, confirmed(flash, &ONE)?])
+}
+
 /// Once after a test, and not where a swap is not finished.
 #[test]
 fn an_image_confirms_itself(rt: HostRuntime) -> Result<(), Fail> {
-    let mut flash = test_flash(rt.alloc())?;
-    let _ = told(&mut flash, Rules::PLAIN);
-    let first = confirmed(&mut flash, &ONE)?;
-    let again = confirmed(&mut flash, &ONE)?;
-    let mut begun = flash_of(rt.alloc(), "BEGUN,984=02")?;
-    let unfinished = confirmed(&mut begun, &[0xff; 8])?;
-    assert_eq!(rt;
-        [first, again, unfinished],
-        [(true, true), (false, true), (false, true)]
+    let [first, again] = confirmed_twice(&mut test_flash(rt.alloc())?)?;
+    let unfinished = confirmed(&mut flash_of(rt.alloc(), "BEGUN,984=02")?, &[0xff; 8])?;
+    same(
+        &rt,
+        &[first, again, unfinished],
+        &[(true, true), (false, true), (false, true)],
     );
     Ok(())
 }
@@ -298,18 +370,11 @@ static PLACES: [(u32, [u32; 4]); 8] = [
     (17, [17, 18, 19, 20]),
 ];
 
-/// The first cut of a test whose places are not as its row says.
-fn first_misplaced(alloc: Global) -> Result<Option<u32>, Fail> {
-    for (cut, wanted) in PLACES {
-        if places(&mut test_flash(alloc)?, cut) != Some(wanted) {
-            return Ok(Some(cut));
-        }
-    }
-    Ok(None)
-}
-
 #[test]
 fn places_after_cuts(rt: HostRuntime) -> Result<(), Fail> {
-    assert_eq!(rt; first_misplaced(rt.alloc())?, None);
+    for (cut, wanted) in &PLACES {
+        let found = places(&mut test_flash(rt.alloc())?, *cut);
+        same_at(&rt, cut, &found, &Some(*wanted));
+    }
     Ok(())
 }

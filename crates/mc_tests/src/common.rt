@@ -2,8 +2,19 @@
 use mc_fixtures::{GOOD_LINE, REPORT, named, worked};
 use mc_flash::{Flash, Grain, SnapFlash};
 use std::alloc::{AllocError, Global};
-use std::fmt::Display;
+use std::fmt::{Debug, Display};
+use std::process::Abort;
 use std::test::Fail;
+
+/// What was found is what is wanted.
+pub fn same<T: PartialEq + Debug>(rt: &impl Abort, found: &T, wanted: &T) {
+    assert_eq!(rt; *found, *wanted);
+}
+
+/// The same of one row of a table, which is told where it is not so.
+pub fn same_at<T: PartialEq + Debug, A: Debug>(rt: &impl Abort, at: &A, found: &T, wanted: &T) {
+    assert_eq!(rt; *found, *wanted, "at {at:?}");
+}
 
 /// What stands for what in the tests' texts: the two images with the swap for a test asked for; the primary's trailer of a swap
 /// of 80 bytes that was begun; the magic of a trailer; the line for the plain image; and the report of the
@@ -32,19 +43,34 @@ pub fn in_full(alloc: Global, text: &str) -> Result<String, AllocError> {
     Ok(whole)
 }
 
+/// Named bytes, or those of some digits.
+fn bytes_of(alloc: Global, told: &str) -> Result<Vec<u8>, Fail> {
+    match named(told) {
+        Some(file) => Ok(file.to_vec(alloc)?),
+        None => Ok(hex::decode(alloc, told)?),
+    }
+}
+
+/// Puts bytes in a place. What there is no room for is left out.
+fn put(bytes: &mut [u8], place: usize, new: &[u8]) {
+    for (old, byte) in bytes.iter_mut().skip(place).zip(new) {
+        *old = *byte;
+    }
+}
+
+/// Makes one change, as in `0=first`.
+fn change_one(alloc: Global, bytes: &mut [u8], change: &str) -> Result<(), Fail> {
+    let (place, told) = change.split_once('=').ok_or("a place and bytes")?;
+    let place = place.parse::<usize>()?;
+    put(bytes, place, bytes_of(alloc, told)?.as_slice());
+    Ok(())
+}
+
 /// Puts named bytes, or those of some digits, in their places, as in `0=first,984=02`. What there is no room for is left out.
 pub fn change(alloc: Global, bytes: &mut [u8], changes: &str) -> Result<(), Fail> {
     let changes = in_full(alloc, changes)?;
     for change in changes.as_str().split(',') {
-        let (place, told) = change.split_once('=').ok_or("a place and bytes")?;
-        let new = match named(told) {
-            Some(file) => file.to_vec(alloc)?,
-            None => hex::decode(alloc, told)?,
-        };
-        let room = bytes.iter_mut().skip(place.parse::<usize>()?);
-        for (old, byte) in room.zip(new.as_slice()) {
-            *old = *byte;
-        }
+        change_one(alloc, bytes, change)?;
     }
     Ok(())
 }
@@ -66,4 +92,16 @@ pub fn texts_of<T: Display>(alloc: Global, values: &[T]) -> Result<String, Alloc
         texts.push_str(line.as_str())?;
     }
     Ok(texts)
+}
+
+/// Some values have these texts.
+pub fn have_texts<T: Display>(
+    rt: &impl Abort,
+    alloc: Global,
+    values: &[T],
+    wanted: &str,
+) -> Result<(), AllocError> {
+    let texts = texts_of(alloc, values)?;
+    same(rt, &texts.as_str(), &wanted);
+    Ok(())
 }

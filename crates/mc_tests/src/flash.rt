@@ -2,7 +2,7 @@
 ghost use Rattle.std.specs.Prelude.{◌≡◌, ◌≤◌, [], IfOk, length};
 ghost use Rattle.mc_flash.specs.Worked.{worked};
 
-use crate::common::texts_of;
+use crate::common::{have_texts, same, same_at};
 use mc_fixtures::worked;
 use mc_flash::{
     Bytes16, Flash, FlashError, Grain, JournalFlash, Layout, LayoutError, Slot, SnapFlash, blank,
@@ -40,11 +40,9 @@ fn numbers_of(layout: &Layout) -> [u32; 13] {
 #[test]
 fn the_worked_layout_is_read(rt: HostRuntime) -> Result<(), Fail> {
     let layout = worked()?;
-    assert_eq!(rt;
-        numbers_of(&layout),
-        [256, 8, 4, 128, 4, 3, 4, 3, 1024, 768, 1, 2, 8]
-    );
-    assert_eq!(rt; [layout.fits(512), layout.fits(513)], [true, false]);
+    let wanted = [256, 8, 4, 128, 4, 3, 4, 3, 1024, 768, 1, 2, 8];
+    same(&rt, &numbers_of(&layout), &wanted);
+    same(&rt, &[layout.fits(512), layout.fits(513)], &[true, false]);
     Ok(())
 }
 
@@ -89,22 +87,23 @@ static NUMBERS: [([u32; 6], Option<LayoutError>); 26] = [
 
 #[test]
 fn numbers_are_a_layout_or_are_refused(rt: HostRuntime) {
-    for (numbers, wanted) in NUMBERS {
-        assert_eq!(rt; refusal(numbers), wanted);
+    for (numbers, wanted) in &NUMBERS {
+        same_at(&rt, numbers, &refusal(*numbers), wanted);
     }
 }
 
 #[test]
 fn refusals_have_their_numbers(rt: HostRuntime) -> Result<(), Fail> {
-    let layouts = texts_of(rt.alloc(), &LAYOUT_ERRORS)?;
-    assert_eq!(rt;
-        layouts.as_str(),
-        "E30 Unit\nE31 Sector\nE32 Chunk\nE33 Counts\nE34 NoRoom\n"
-    );
-    let flashes = texts_of(rt.alloc(), &[FlashError::NotErased, FlashError::Memory])?;
-    assert_eq!(rt; flashes.as_str(), "E40 NotErased\nE41 Memory\n");
+    have_texts(&rt, rt.alloc(), &LAYOUT_ERRORS, LAYOUT_TEXTS)?;
+    have_texts(&rt, rt.alloc(), &FLASH_ERRORS, FLASH_TEXTS)?;
     Ok(())
 }
+
+static LAYOUT_TEXTS: &str = "E30 Unit\nE31 Sector\nE32 Chunk\nE33 Counts\nE34 NoRoom\n";
+
+static FLASH_ERRORS: [FlashError; 2] = [FlashError::NotErased, FlashError::Memory];
+
+static FLASH_TEXTS: &str = "E40 NotErased\nE41 Memory\n";
 
 static LAYOUT_ERRORS: [LayoutError; 5] = [
     LayoutError::Unit,
@@ -142,10 +141,12 @@ fn first_unseen() -> Option<usize> {
 #[test]
 fn bytes_are_blank(rt: HostRuntime) -> Result<(), Fail> {
     let sector = vec![in rt.alloc(); 0xff; 65_536]?;
-    assert!(rt; blank(&sector));
-    assert_eq!(rt; first_unseen(), None);
-    assert!(rt; blank_lanes(u8x32::splat(0xff)));
-    assert!(rt; !blank_lanes(u8x32::splat(0xfe)));
+    let lanes = [
+        blank_lanes(u8x32::splat(0xff)),
+        blank_lanes(u8x32::splat(0xfe)),
+    ];
+    same(&rt, &(blank(&sector), lanes), &(true, [true, false]));
+    same(&rt, &first_unseen(), &None);
     Ok(())
 }
 
@@ -158,10 +159,8 @@ fn are_kept(bytes: &[u8]) -> bool
 
 #[test]
 fn at_most_sixteen_bytes_are_kept(rt: HostRuntime) {
-    assert_eq!(rt;
-        [are_kept(&[]), are_kept(&[0, 7]), are_kept(&[9; 16])],
-        [true; 3]
-    );
+    let kept = [are_kept(&[]), are_kept(&[0, 7]), are_kept(&[9; 16])];
+    same(&rt, &kept, &[true; 3]);
 }
 
 const UNIT: [u8; 8] = [1, 2, 3, 4, 5, 6, 7, 8];
@@ -226,18 +225,21 @@ fn is_given_back<F: Flash>(flash: &mut F) -> Result<(bool, [usize; 3]), FlashErr
 
 /// What is told of a flash of one kind: whether it is programmed, whether it is copied, and how it is given back.
 fn plays<F: Flash>(alloc: Global) -> Result<(u32, bool, bool, (bool, [usize; 3])), Fail> {
-    let is_programmed = is_programmed(&mut loaded::<F>(alloc)?)?;
+    let mut flash = loaded::<F>(alloc)?;
+    let sector = flash.layout().sector();
+    let is_programmed = is_programmed(&mut flash)?;
     let is_copied = is_copied(&mut loaded::<F>(alloc)?)?;
     let given = is_given_back(&mut loaded::<F>(alloc)?)?;
-    let sector = loaded::<F>(alloc)?.layout().sector();
     Ok((sector, is_programmed, is_copied, given))
 }
 
 #[test]
 fn flashes_are_programmed_and_given_back(rt: HostRuntime) -> Result<(), Fail> {
-    let wanted = (256, true, true, (true, [0, 1, 0]));
-    assert_eq!(rt; plays::<SnapFlash>(rt.alloc())?, wanted);
-    assert_eq!(rt; plays::<JournalFlash>(rt.alloc())?, wanted);
+    let told = [
+        plays::<SnapFlash>(rt.alloc())?,
+        plays::<JournalFlash>(rt.alloc())?,
+    ];
+    same(&rt, &told, &[(256, true, true, (true, [0, 1, 0])); 2]);
     Ok(())
 }
 
@@ -253,7 +255,7 @@ fn is_kept(flash: &mut SnapFlash) -> Result<bool, FlashError> {
 /// `scripts/refuse-tests` refuses each allocation of the tests in turn.
 #[test]
 fn a_refused_mark_changes_nothing(rt: HostRuntime) -> Result<(), Fail> {
-    let mut flash = loaded::<SnapFlash>(rt.alloc())?;
-    assert!(rt; is_kept(&mut flash)?);
+    let kept = is_kept(&mut loaded::<SnapFlash>(rt.alloc())?)?;
+    same(&rt, &kept, &true);
     Ok(())
 }

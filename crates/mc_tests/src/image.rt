@@ -1,7 +1,7 @@
 //! The worked images, byte for byte, and what no clause says.
 ghost use Rattle.std.specs.Prelude.{◌<◌, ◌≤◌, ◌^◌, length};
 
-use crate::common::texts_of;
+use crate::common::{have_texts, same, same_at};
 use mc_fixtures::{COUNTED_IMAGE, EMPTY_IMAGE, PAYLOAD, PLAIN_IMAGE};
 use mc_image::{Area, ImageError, ImageParts, ImageView, Judge, Judged, Tlv, Version, write_image};
 use std::alloc::{AllocError, Global};
@@ -38,6 +38,14 @@ fn is_written(mut out: Vec<u8>, parts: &ImageParts, wanted: &[u8]) -> Result<boo
     Ok(out.as_slice() == wanted)
 }
 
+/// All were written, and well.
+fn all_written(rt: &impl Abort, found: &[Result<bool, ImageError>]) -> Result<(), ImageError> {
+    for is_written in found {
+        same(rt, &(*is_written)?, &true);
+    }
+    Ok(())
+}
+
 fn fault(bytes: &[u8]) -> Option<ImageError> {
     ImageView::read(bytes).err()
 }
@@ -46,11 +54,16 @@ fn fault(bytes: &[u8]) -> Option<ImageError> {
 fn worked_images_are_written(rt: HostRuntime) -> Result<(), Fail> {
     let alloc = rt.alloc();
     let counter = [(0x50, [7, 0, 0, 0].as_slice())];
-    let plain = is_written(Vec::new(alloc), &parts_of(&PAYLOAD, &[], &[]), &PLAIN_IMAGE)?;
-    let empty = is_written(Vec::new(alloc), &parts_of(&[], &[], &[]), &EMPTY_IMAGE)?;
-    let parts = parts_of(&PAYLOAD, &counter, &[]);
-    let counted = is_written(Vec::new(alloc), &parts, &COUNTED_IMAGE)?;
-    assert_eq!(rt; [plain, empty, counted], [true; 3]);
+    let found = [
+        is_written(Vec::new(alloc), &parts_of(&PAYLOAD, &[], &[]), &PLAIN_IMAGE),
+        is_written(Vec::new(alloc), &parts_of(&[], &[], &[]), &EMPTY_IMAGE),
+        is_written(
+            Vec::new(alloc),
+            &parts_of(&PAYLOAD, &counter, &[]),
+            &COUNTED_IMAGE,
+        ),
+    ];
+    all_written(&rt, &found)?;
     Ok(())
 }
 
@@ -63,7 +76,11 @@ fn an_empty_entry_follows_the_digest(rt: HostRuntime) -> Result<(), Fail> {
     wanted[42] = 0x2c;
     wanted[80] = 0x99;
     let parts = parts_of(&PAYLOAD, &[], &entries);
-    assert!(rt; is_written(Vec::new(rt.alloc()), &parts, &wanted)?);
+    same(
+        &rt,
+        &is_written(Vec::new(rt.alloc()), &parts, &wanted)?,
+        &true,
+    );
     Ok(())
 }
 
@@ -72,7 +89,8 @@ fn an_image_is_appended(rt: HostRuntime) -> Result<(), Fail> {
     let mut wanted = [9; 81];
     wanted[1..].copy_from_slice(&PLAIN_IMAGE);
     let parts = parts_of(&PAYLOAD, &[], &[]);
-    assert!(rt; is_written([9].to_vec(rt.alloc())?, &parts, &wanted)?);
+    let out = [9].to_vec(rt.alloc())?;
+    same(&rt, &is_written(out, &parts, &wanted)?, &true);
     Ok(())
 }
 
@@ -98,30 +116,36 @@ fn refused_parts_leave_the_vector(rt: HostRuntime) -> Result<(), Fail> {
     let many = refusal_of(rt.alloc(), &parts_of(&PAYLOAD, &[], &digest))?;
     // Too large comes first.
     let large = refusal_of_large(rt.alloc(), &digest)?;
-    assert_eq!(rt;
-        [many, large],
-        [Some(ImageError::ManyDigests), Some(ImageError::TooLarge)]
-    );
+    let wanted = [Some(ImageError::ManyDigests), Some(ImageError::TooLarge)];
+    same(&rt, &[many, large], &wanted);
     Ok(())
 }
 
 /// Whether a view shows the parts of the image with a counter.
 fn shows_the_parts(view: &ImageView) -> bool {
-    view.header() == &COUNTED_IMAGE[..32]
-        && view.payload() == PAYLOAD.as_slice()
-        && view.protected() == &COUNTED_IMAGE[40..52]
-        && view.plain() == &COUNTED_IMAGE[52..]
-        && view.digest() == &COUNTED_IMAGE[60..]
+    let parts = [
+        view.header(),
+        view.payload(),
+        view.protected(),
+        view.plain(),
+        view.digest(),
+    ];
+    let wanted = [
+        &COUNTED_IMAGE[..32],
+        PAYLOAD.as_slice(),
+        &COUNTED_IMAGE[40..52],
+        &COUNTED_IMAGE[52..],
+        &COUNTED_IMAGE[60..],
+    ];
+    parts == wanted
 }
 
 #[test]
 fn a_view_shows_the_parts(rt: HostRuntime) -> Result<(), Fail> {
     let view = ImageView::read(&COUNTED_IMAGE)?;
-    assert!(rt; shows_the_parts(&view));
-    assert_eq!(rt;
-        (view.size(), view.version(), view.check()),
-        (92, VERSION, Ok(()))
-    );
+    let told = (view.size(), view.version(), view.check());
+    same(&rt, &shows_the_parts(&view), &true);
+    same(&rt, &told, &(92, VERSION, Ok(())));
     Ok(())
 }
 
@@ -138,10 +162,8 @@ fn a_view_shows_the_entries(rt: HostRuntime) -> Result<(), Fail> {
         kind: 0x10,
         value: &COUNTED_IMAGE[60..],
     };
-    assert_eq!(rt;
-        [tlvs.next(), tlvs.next(), tlvs.next()],
-        [Some(counter), Some(digest), None]
-    );
+    let found = [tlvs.next(), tlvs.next(), tlvs.next()];
+    same(&rt, &found, &[Some(counter), Some(digest), None]);
     Ok(())
 }
 
@@ -166,8 +188,8 @@ fn first_amiss(image: &[u8], area: usize) -> Option<usize> {
 
 #[test]
 fn fronts_are_refused(rt: HostRuntime) {
-    assert_eq!(rt; first_amiss(&PLAIN_IMAGE, 40), None);
-    assert_eq!(rt; first_amiss(&COUNTED_IMAGE, 52), None);
+    same(&rt, &first_amiss(&PLAIN_IMAGE, 40), &None);
+    same(&rt, &first_amiss(&COUNTED_IMAGE, 52), &None);
 }
 
 /// The image of 80 bytes with one byte changed.
@@ -202,9 +224,9 @@ fn fault_with_digest(bytes: &[u8]) -> Option<ImageError> {
 
 #[test]
 fn changed_bytes_are_refused(rt: HostRuntime) {
-    for (place, byte, wanted) in CHANGES {
-        let fault = fault_with_digest(&changed(place, byte));
-        assert_eq!(rt; fault, Some(wanted), "{place}");
+    for (place, byte, wanted) in &CHANGES {
+        let fault = fault_with_digest(&changed(*place, *byte));
+        same_at(&rt, place, &fault, &Some(*wanted));
     }
 }
 
@@ -225,14 +247,13 @@ fn line_of(alloc: Global, text: &str) -> Result<String, AllocError> {
     }
 }
 
+static VERSIONS: &str = "1.2.3+4\n1.0.0+0\n255.255.65535+4294967295\n";
+
 #[test]
 fn versions_are_read_and_printed(rt: HostRuntime) -> Result<(), Fail> {
-    assert_eq!(rt; Version::read("1.2.3+4"), Ok(VERSION));
+    same(&rt, &Version::read("1.2.3+4"), &Ok(VERSION));
     let told = told_of(rt.alloc(), "1.2.3+4|1|255.255.65535+4294967295")?;
-    assert_eq!(rt;
-        told.as_str(),
-        "1.2.3+4\n1.0.0+0\n255.255.65535+4294967295\n"
-    );
+    same(&rt, &told.as_str(), &VERSIONS);
     Ok(())
 }
 
@@ -262,7 +283,7 @@ fn texts_that_are_no_versions_are_refused(rt: HostRuntime) -> Result<(), Fail> {
         rt.alloc(),
         "|01|1.2+4|1.|1.2.3+4+5|1.2.3.4|a|1a|1.2.3+| 1|256.x|256|1.256|1.2.65536|1.2.3+4294967296|99999999999999999999999",
     )?;
-    assert_eq!(rt; told.as_str(), NO_VERSIONS);
+    same(&rt, &told.as_str(), &NO_VERSIONS);
     Ok(())
 }
 
@@ -304,8 +325,7 @@ E14 Memory
 
 #[test]
 fn refusals_have_their_texts(rt: HostRuntime) -> Result<(), Fail> {
-    let texts = texts_of(rt.alloc(), &ERRORS)?;
-    assert_eq!(rt; texts.as_str(), TEXTS);
+    have_texts(&rt, rt.alloc(), &ERRORS, TEXTS)?;
     Ok(())
 }
 
@@ -355,8 +375,8 @@ fn is_judged(rt: &impl Abort, image: &[u8], most: usize)
     requires some { 0 < most }
     requires fits { (32 ≤ length image.now) × (length image.now ≤ 2 ^ 32) }
 {
-    assert_eq!(rt; judged(image, most), Ok(wanted_of(image)));
-    assert_eq!(rt; first_difference(image, most), None);
+    same(rt, &judged(image, most), &Ok(wanted_of(image)));
+    same(rt, &first_difference(image, most), &None);
 }
 
 #[test]
@@ -373,7 +393,7 @@ fn is_refused(rt: &impl Abort, bytes: &[u8], wanted: ImageError)
     requires fits { length bytes.now ≤ 2 ^ 32 }
 {
     for most in [1, 7, 4096] {
-        assert_eq!(rt; judged(bytes, most), Err(wanted), "in pieces of {most}");
+        same_at(rt, &most, &judged(bytes, most), &Err(wanted));
     }
 }
 
@@ -394,8 +414,8 @@ fn with_a_short_digest() -> [u8; 80] {
 
 #[test]
 fn each_fault_is_judged_in_any_pieces(rt: HostRuntime) {
-    for (place, byte, wanted) in CHANGES {
-        is_refused(&rt, &changed(place, byte), wanted);
+    for (place, byte, wanted) in &CHANGES {
+        is_refused(&rt, &changed(*place, *byte), *wanted);
     }
     is_refused(&rt, &PLAIN_IMAGE[..31], ImageError::Truncated);
     is_refused(&rt, &PLAIN_IMAGE[..39], ImageError::TruncatedBody);
@@ -428,6 +448,11 @@ fn a_padded_image_is_judged_in_any_pieces(rt: HostRuntime) {
         0x80,
     ]);
     for most in [1, 7, 4096] {
-        assert_eq!(rt; judged(&slot, most), Ok(wanted_of(&PLAIN_IMAGE)));
+        same_at(
+            &rt,
+            &most,
+            &judged(&slot, most),
+            &Ok(wanted_of(&PLAIN_IMAGE)),
+        );
     }
 }

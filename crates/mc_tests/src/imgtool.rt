@@ -2,11 +2,12 @@
 mod faults;
 mod sizes;
 
-use crate::common::{change, in_full};
+use crate::common::{change, have_texts, in_full, same, same_at};
 use mc_fixtures::PAYLOAD;
 use mc_image::{ImageError, ImageParts, Version, write_image};
 use mc_imgtool::{CreateOptions, ToolError, create, dumpinfo, read_bounded, verify};
-use std::alloc::Global;
+use std::alloc::{AllocError, Global};
+use std::fmt::Debug;
 use std::io::{Read, Write};
 use std::process::Abort;
 use std::test::Fail;
@@ -249,17 +250,37 @@ static READINGS: [Run; 11] = [
     ),
 ];
 
+/// An engine tells this of some bytes.
+fn is_told<A: Debug>(
+    rt: &impl Abort,
+    alloc: Global,
+    (at, engine): (&A, Engine),
+    mut input: &[u8],
+    wanted: &[u8],
+) -> Result<(), Fail> {
+    let told = engine.told(alloc, &mut input)?;
+    same_at(rt, at, &told.as_slice(), &wanted);
+    Ok(())
+}
+
+/// An engine tells of its input what it is to tell.
+fn tells(rt: &impl Abort, alloc: Global, run: &Run) -> Result<(), Fail> {
+    let (engine, input, wanted) = run;
+    let bytes = input.bytes(alloc)?;
+    let wanted = wanted.bytes(alloc)?;
+    is_told(
+        rt,
+        alloc,
+        (run, *engine),
+        bytes.as_slice(),
+        wanted.as_slice(),
+    )
+}
+
 /// Runs engines, and looks at what they tell.
 fn tell(rt: &impl Abort, alloc: Global, runs: &[Run]) -> Result<(), Fail> {
-    for (engine, input, wanted) in runs {
-        let bytes = input.bytes(alloc)?;
-        let told = engine.told(alloc, &mut bytes.as_slice())?;
-        let wanted = wanted.bytes(alloc)?;
-        assert_eq!(rt;
-            told.as_slice(),
-            wanted.as_slice(),
-            "{engine:?} of {input:?}"
-        );
+    for run in runs {
+        tells(rt, alloc, run)?;
     }
     Ok(())
 }
@@ -274,24 +295,29 @@ fn images_are_verified_and_reported(rt: HostRuntime) -> Result<(), Fail> {
     tell(&rt, rt.alloc(), &READINGS)
 }
 
+/// With no size of a slot that is to be filled.
+const SLOTLESS: Engine = Engine::Create(CreateOptions {
+    pad: true,
+    ..WORKED
+});
+
+/// Why 5000 bytes are more than a limit, and how many are left unread.
+fn refusal_and_rest(alloc: Global, limit: u32) -> Result<(Option<ToolError>, usize), AllocError> {
+    let bytes = vec![in alloc; 7u8; 5000]?;
+    let mut rest = bytes.as_slice();
+    let refusal = read_bounded(alloc, &mut rest, limit).err();
+    Ok((refusal, rest.len()))
+}
+
 /// Nothing where the size of the slot is wanting, and a byte behind the limit where there are more.
 #[test]
 fn no_more_is_read_than_is_needed(rt: HostRuntime) -> Result<(), Fail> {
-    let slotless = Engine::Create(CreateOptions {
-        pad: true,
-        ..WORKED
-    });
     let mut payload = PAYLOAD.as_slice();
-    let told = slotless.told(rt.alloc(), &mut payload)?;
-    let refusal = String::from_utf8(told).map_err(|_| "a text")?;
-    assert_eq!(rt;
-        (refusal.as_str(), payload.len()),
-        ("E22 NeedsSlotSize\n", 8)
-    );
-    let bytes = vec![in rt.alloc(); 7u8; 5000]?;
-    let mut rest = bytes.as_slice();
-    let refusal = read_bounded(rt.alloc(), &mut rest, 4000).err();
-    assert_eq!(rt; (refusal, rest.len()), (Some(ToolError::InputTooLong), 999));
+    let told = SLOTLESS.told(rt.alloc(), &mut payload)?;
+    let wanted = "E22 NeedsSlotSize\n".as_bytes();
+    same(&rt, &(told.as_slice(), payload.len()), &(wanted, 8));
+    let found = refusal_and_rest(rt.alloc(), 4000)?;
+    same(&rt, &found, &(Some(ToolError::InputTooLong), 999));
     Ok(())
 }
 
@@ -299,7 +325,7 @@ fn no_more_is_read_than_is_needed(rt: HostRuntime) -> Result<(), Fail> {
 fn as_many_bytes_are_read_as_the_limit(rt: HostRuntime) -> Result<(), Fail> {
     let bytes = vec![in rt.alloc(); 7u8; 5000]?;
     let whole = read_bounded(rt.alloc(), &mut bytes.as_slice(), 5000)?;
-    assert_eq!(rt; whole.as_slice(), bytes.as_slice());
+    same(&rt, &whole.as_slice(), &bytes.as_slice());
     Ok(())
 }
 
@@ -326,6 +352,13 @@ fn odd_image(alloc: Global) -> Result<Vec<u8>, Fail> {
     Ok(out)
 }
 
+/// Its report.
+fn odd_report(alloc: Global) -> Result<String, Fail> {
+    let image = odd_image(alloc)?;
+    let report = Engine::Dumpinfo.told(alloc, &mut image.as_slice())?;
+    Ok(String::from_utf8(report).ok().ok_or("a text")?)
+}
+
 /// Parts of its report.
 static ODD_LINES: [&str; 4] = [
     "load 0x10000001\nheader-size 35\nprotected-size 13\nimage-size 8\n",
@@ -336,29 +369,39 @@ static ODD_LINES: [&str; 4] = [
 
 #[test]
 fn odd_fields_and_entries_are_reported(rt: HostRuntime) -> Result<(), Fail> {
-    let image = odd_image(rt.alloc())?;
-    let report = Engine::Dumpinfo.told(rt.alloc(), &mut image.as_slice())?;
-    let report = String::from_utf8(report).map_err(|_| "a text")?;
-    for lines in ODD_LINES {
-        assert!(rt; report.as_str().contains(lines), "{lines}");
+    let report = odd_report(rt.alloc())?;
+    for lines in &ODD_LINES {
+        same_at(&rt, lines, &report.as_str().contains(*lines), &true);
     }
     Ok(())
 }
 
+/// A refusal of an image, and the tool's own.
+static ERRORS: [ToolError; 8] = [
+    ToolError::Image(ImageError::WrongDigest),
+    ToolError::NotZeros,
+    ToolError::SlotTooSmall,
+    ToolError::NeedsSlotSize,
+    ToolError::InputTooLong,
+    ToolError::Read,
+    ToolError::Write,
+    ToolError::Memory,
+];
+
+/// Their texts.
+static TEXTS: &str = "\
+E12 WrongDigest
+E20 NotZeros
+E21 SlotTooSmall
+E22 NeedsSlotSize
+E23 InputTooLong
+E24 Read
+E25 Write
+E26 Memory
+";
+
 #[test]
 fn refusals_have_their_texts(rt: HostRuntime) -> Result<(), Fail> {
-    let texts = [
-        (ToolError::Image(ImageError::WrongDigest), "E12 WrongDigest"),
-        (ToolError::NotZeros, "E20 NotZeros"),
-        (ToolError::SlotTooSmall, "E21 SlotTooSmall"),
-        (ToolError::NeedsSlotSize, "E22 NeedsSlotSize"),
-        (ToolError::InputTooLong, "E23 InputTooLong"),
-        (ToolError::Read, "E24 Read"),
-        (ToolError::Write, "E25 Write"),
-        (ToolError::Memory, "E26 Memory"),
-    ];
-    for (error, text) in texts {
-        assert_eq!(rt; format!(in rt.alloc(); "{error}")?.as_str(), text);
-    }
+    have_texts(&rt, rt.alloc(), &ERRORS, TEXTS)?;
     Ok(())
 }

@@ -2,6 +2,7 @@
 ghost use Rattle.std.specs.Prelude.{◌≡◌, [], length, ◌<◌, ◌≤◌, IfOk};
 ghost use Rattle.mc_flash.specs.Worked.{worked};
 
+use crate::common::same;
 use mc_fixtures::worked;
 use mc_flash::{Flash, FlashError, Grain, JournalFlash, Slot};
 use std::alloc::Global;
@@ -35,12 +36,12 @@ fn counts(flash: &JournalFlash) -> [u64; 4] {
     ]
 }
 
+type Operated = ([usize; 2], [[u64; 4]; 3], Result<(), FlashError>);
+
 /// Marks and erases a sector; marks, writes a unit, copies it to that sector, and is refused to write it again. The places
 /// of the marks, the counts before and after each part, and the refusal.
 #[tactic(auto, using(mc_flash::specs::facts::Done::does_keep))]
-fn operated(
-    flash: &mut JournalFlash,
-) -> Result<([usize; 2], [[u64; 4]; 3], Result<(), FlashError>), FlashError>
+fn operated(flash: &mut JournalFlash) -> Result<Operated, FlashError>
     requires geometry { flash.old.geometry ≡ worked }
     requires marks { flash.old.marks ≡ [] }
     ensures { IfOk result (λ told. length flash.new.marks ≡ 2) }
@@ -66,9 +67,11 @@ fn counts_back(flash: &mut JournalFlash, place: usize) -> [u64; 4]
     counts(flash)
 }
 
+type GoneBack = ([[u64; 4]; 2], [bool; 3], usize);
+
 /// Goes back to the second mark, and then to the first. The counts after each, whether the slots are as they were, and the
 /// place of the next mark.
-fn gone_back(flash: &mut JournalFlash) -> Result<([[u64; 4]; 2], [bool; 3], usize), FlashError>
+fn gone_back(flash: &mut JournalFlash) -> Result<GoneBack, FlashError>
     requires { length flash.old.marks ≡ 2 }
 {
     let second = counts_back(flash, 1);
@@ -81,14 +84,21 @@ fn gone_back(flash: &mut JournalFlash) -> Result<([[u64; 4]; 2], [bool; 3], usiz
     Ok(([second, first], [primary, erased, whole], flash.mark()?))
 }
 
+/// Both, one after the other.
+fn operated_and_gone_back(flash: &mut JournalFlash) -> Result<(Operated, GoneBack), FlashError>
+    requires geometry { flash.old.geometry ≡ worked }
+    requires marks { flash.old.marks ≡ [] }
+{
+    let there = operated(flash)?;
+    Ok((there, gone_back(flash)?))
+}
+
 #[test]
 fn operations_are_counted_and_taken_back(rt: HostRuntime) -> Result<(), Fail> {
-    let mut flash = loaded(rt.alloc(), 3)?;
-    let told = operated(&mut flash)?;
+    let (there, back) = operated_and_gone_back(&mut loaded(rt.alloc(), 3)?)?;
     let wanted = [[0, 0, 0, 0], [1, 256, 1, 1], [3, 256, 2, 3]];
-    assert_eq!(rt; told, ([0, 1], wanted, Err(FlashError::NotErased)));
-    let told = gone_back(&mut flash)?;
-    assert_eq!(rt; told, ([[1, 256, 1, 3], [0, 0, 0, 3]], [true; 3], 0));
+    same(&rt, &there, &([0, 1], wanted, Err(FlashError::NotErased)));
+    same(&rt, &back, &([[1, 256, 1, 3], [0, 0, 0, 3]], [true; 3], 0));
     Ok(())
 }
 
@@ -122,13 +132,10 @@ fn filled(
 /// The most erases of a boot, and the place for one mark more.
 #[test]
 fn a_full_journal_refuses(rt: HostRuntime) -> Result<(), Fail> {
-    let mut flash = loaded(rt.alloc(), 1)?;
-    let told = filled(&mut flash)?;
+    let told = filled(&mut loaded(rt.alloc(), 1)?)?;
     let memory = Some(FlashError::Memory);
     let refused = [memory, memory, memory, Some(FlashError::NotErased)];
-    assert_eq!(rt;
-        told,
-        ([0, 1], [[9, 2304, 2, 9], [36, 2304, 2, 36]], refused)
-    );
+    let counts = [[9, 2304, 2, 9], [36, 2304, 2, 36]];
+    same(&rt, &told, &([0, 1], counts, refused));
     Ok(())
 }

@@ -1,36 +1,45 @@
 //! The worked layout's places, and what is read of the flashes of worked examples.
 ghost use Rattle.std.specs.Prelude.{◌<◌};
 
+use crate::common::{flash_of, same, same_at};
 use mc_fixtures::worked;
-use mc_flash::{Flash, Grain, Slot, SnapFlash};
+use mc_flash::{Flash, Grain, Layout, Slot, SnapFlash};
 use mc_trailer::{
     Field, Flag, MAGIC, Magic, Profile, SwapType, Trailer, entry_place, highest_entry, place,
     resumes, swap_type,
 };
 use std::alloc::Global;
+use std::process::Abort;
 use std::test::Fail;
 
 /// A flash of the worked layout.
-fn flash_of(alloc: Global, primary: &[u8; 1024], secondary: &[u8; 768]) -> Result<SnapFlash, Fail> {
+fn loaded(alloc: Global, primary: &[u8; 1024], secondary: &[u8; 768]) -> Result<SnapFlash, Fail> {
     let layout = worked()?;
     let flash = SnapFlash::load(alloc, &layout, Grain::Call, primary, secondary, 1)?;
     Ok(flash)
 }
 
+/// The places of the fields in the primary and in the secondary.
+static FIELD_PLACES: [(Field, [u32; 2]); 5] = [
+    (Field::Magic, [1008, 752]),
+    (Field::ImageOk, [1000, 744]),
+    (Field::CopyDone, [992, 736]),
+    (Field::SwapInfo, [984, 728]),
+    (Field::SwapSize, [976, 720]),
+];
+
+fn places_of(layout: &Layout, field: Field) -> [u32; 2] {
+    [
+        place(layout, Slot::Primary, field),
+        place(layout, Slot::Secondary, field),
+    ]
+}
+
 #[test]
 fn fields_stand_in_the_worked_places(rt: HostRuntime) -> Result<(), Fail> {
     let layout = worked()?;
-    let places = [
-        (Field::Magic, 1008, 752),
-        (Field::ImageOk, 1000, 744),
-        (Field::CopyDone, 992, 736),
-        (Field::SwapInfo, 984, 728),
-        (Field::SwapSize, 976, 720),
-    ];
-    for (field, primary, secondary) in places {
-        let first = place(&layout, Slot::Primary, field);
-        let second = place(&layout, Slot::Secondary, field);
-        assert_eq!(rt; [first, second], [primary, secondary]);
+    for (field, wanted) in &FIELD_PLACES {
+        same_at(&rt, field, &places_of(&layout, *field), wanted);
     }
     Ok(())
 }
@@ -39,7 +48,7 @@ fn fields_stand_in_the_worked_places(rt: HostRuntime) -> Result<(), Fail> {
 fn entries_stand_in_the_worked_places(rt: HostRuntime) -> Result<(), Fail> {
     let layout = worked()?;
     for entry in 0..12u32 {
-        assert_eq!(rt; entry_place(&layout, entry), 880 + 8 * entry);
+        same(&rt, &entry_place(&layout, entry), &(880 + 8 * entry));
     }
     Ok(())
 }
@@ -63,7 +72,7 @@ fn flags_of(alloc: Global, byte: u8) -> Result<([Flag; 4], u8), Fail> {
     primary[984] = byte;
     secondary[744] = 255 - byte;
     secondary[736] = byte;
-    let flash = flash_of(alloc, &primary, &secondary)?;
+    let flash = loaded(alloc, &primary, &secondary)?;
     let first = Trailer::read(&flash, Slot::Primary);
     let second = Trailer::read(&flash, Slot::Secondary);
     let flags = [
@@ -81,7 +90,7 @@ fn every_byte_of_a_flag_is_read(rt: HostRuntime) -> Result<(), Fail> {
         let told = flags_of(rt.alloc(), byte)?;
         let one = flag(byte);
         let other = flag(255 - byte);
-        assert_eq!(rt; told, ([one, other, other, one], byte));
+        same(&rt, &told, &([one, other, other, one], byte));
     }
     Ok(())
 }
@@ -93,39 +102,43 @@ fn magic_with(alloc: Global, off: usize) -> Result<Magic, Fail>
     let mut primary = [0xff; 1024];
     primary[1008..].copy_from_slice(&MAGIC);
     primary[1008 + off] ^= 1;
-    let flash = flash_of(alloc, &primary, &[0xff; 768])?;
+    let flash = loaded(alloc, &primary, &[0xff; 768])?;
     Ok(Trailer::read(&flash, Slot::Primary).magic)
 }
 
 #[test]
 fn a_magic_with_one_byte_off_is_bad(rt: HostRuntime) -> Result<(), Fail> {
     for off in 0..16usize {
-        assert_eq!(rt; magic_with(rt.alloc(), off)?, Magic::Bad, "{off}");
+        same_at(&rt, &off, &magic_with(rt.alloc(), off)?, &Magic::Bad);
     }
     Ok(())
 }
 
 /// The highest entry of a flash with this primary.
 fn highest_of(alloc: Global, primary: &[u8; 1024]) -> Result<Option<u32>, Fail> {
-    let flash = flash_of(alloc, primary, &[0; 768])?;
+    let flash = loaded(alloc, primary, &[0; 768])?;
     Ok(highest_entry(&flash))
 }
+
+/// Bytes that are written one after the other, and the highest entry then. Bytes beside the entries are of none. Then entry 0
+/// by its first byte, entry 3 by its last, entry 5 by a byte that is not 1.
+static ENTRIES: [(usize, u8, Option<u32>); 6] = [
+    (879, 1, None),
+    (976, 1, None),
+    (880, 1, Some(0)),
+    (911, 0xfe, Some(3)),
+    (920, 0, Some(5)),
+    (975, 1, Some(11)),
+];
 
 #[test]
 fn the_highest_written_entry_is_found(rt: HostRuntime) -> Result<(), Fail> {
     let mut primary = [0xff; 1024];
-    // Bytes beside the entries are of none. Then entry 0 by its first byte, entry 3 by its last, entry 5 by a byte that is
-    // not 1.
-    for (at, byte, entry) in [
-        (879usize, 1, None),
-        (976, 1, None),
-        (880, 1, Some(0)),
-        (911, 0xfe, Some(3)),
-        (920, 0, Some(5)),
-        (975, 1, Some(11)),
-    ] {
-        primary[at] = byte;
-        assert_eq!(rt; highest_of(rt.alloc(), &primary)?, entry);
+    for (at, byte, entry) in &ENTRIES {
+        if let Some(place) = primary.get_mut(*at) {
+            *place = *byte;
+        }
+        same_at(&rt, at, &highest_of(rt.alloc(), &primary)?, entry);
     }
     Ok(())
 }
@@ -139,26 +152,33 @@ const ERASED: Trailer = Trailer {
     swap_size: 4_294_967_295,
 };
 
-/// What is read of a flash: its trailers, the type of the tables in each profile, and whether a boot goes on.
-type Told = ([Trailer; 2], [SwapType; 2], bool);
+/// The type of the tables in each profile.
+type Types = (SwapType, SwapType);
 
-fn told_of(alloc: Global, primary: &[u8; 1024], secondary: &[u8; 768]) -> Result<Told, Fail> {
-    let flash = flash_of(alloc, primary, secondary)?;
-    let first = Trailer::read(&flash, Slot::Primary);
-    let second = Trailer::read(&flash, Slot::Secondary);
+const NONE: Types = (SwapType::None, SwapType::None);
+
+const TEST: Types = (SwapType::Test, SwapType::Test);
+
+const PERM: Types = (SwapType::Perm, SwapType::Perm);
+
+/// What is read of a flash: its trailers, the type of the tables in each profile, and whether a boot goes on.
+type Told = ((Trailer, Trailer), Types, bool);
+
+fn told_of(flash: &SnapFlash) -> Told {
+    let first = Trailer::read(flash, Slot::Primary);
+    let second = Trailer::read(flash, Slot::Secondary);
     let one = swap_type(Profile::One, &first, &second);
     let two = swap_type(Profile::Two, &first, &second);
-    Ok(([first, second], [one, two], resumes(&first, &second)))
+    ((first, second), (one, two), resumes(&first, &second))
 }
 
-/// The type of the tables in each profile, and whether a boot goes on.
-fn asked(
-    alloc: Global,
-    primary: &[u8; 1024],
-    secondary: &[u8; 768],
-) -> Result<([SwapType; 2], bool), Fail> {
-    let (_, kinds, goes_on) = told_of(alloc, primary, secondary)?;
-    Ok((kinds, goes_on))
+/// This is read of flashes that differ so from a blank one.
+fn are_told(rt: &impl Abort, alloc: Global, table: &[(&str, Told)]) -> Result<(), Fail> {
+    for (changes, wanted) in table {
+        let flash = flash_of(alloc, *changes)?;
+        same_at(rt, changes, &told_of(&flash), wanted);
+    }
+    Ok(())
 }
 
 /// The trailer with its magic and no more.
@@ -167,66 +187,69 @@ const MARKED: Trailer = Trailer {
     ..ERASED
 };
 
+/// The same with an image that is confirmed.
+const CONFIRMED: Trailer = Trailer {
+    image_ok: Flag::Set,
+    ..MARKED
+};
+
+/// No upgrade, a test, and a swap for good.
+static UPGRADES: [(&str, Told); 3] = [
+    ("0=ff", ((ERASED, ERASED), NONE, false)),
+    ("1776=MAGIC", ((ERASED, MARKED), TEST, false)),
+    ("1776=MAGIC,1768=01", ((ERASED, CONFIRMED), PERM, false)),
+];
+
 #[test]
 fn an_asked_upgrade_is_read(rt: HostRuntime) -> Result<(), Fail> {
-    let primary = [0xff; 1024];
-    let mut secondary = [0xff; 768];
-    let erased = told_of(rt.alloc(), &primary, &secondary)?;
-    secondary[752..].copy_from_slice(&MAGIC);
-    let test = told_of(rt.alloc(), &primary, &secondary)?;
-    secondary[744] = 1;
-    let perm = told_of(rt.alloc(), &primary, &secondary)?;
-    let mut confirmed = MARKED;
-    confirmed.image_ok = Flag::Set;
-    assert_eq!(rt;
-        [erased, test, perm],
-        [
-            ([ERASED, ERASED], [SwapType::None; 2], false),
-            ([ERASED, MARKED], [SwapType::Test; 2], false),
-            ([ERASED, confirmed], [SwapType::Perm; 2], false),
-        ]
-    );
-    Ok(())
+    are_told(&rt, rt.alloc(), &UPGRADES)
 }
+
+/// The trailer of a test that was begun.
+const BEGUN: Trailer = Trailer {
+    swap_info: 2,
+    ..MARKED
+};
+
+/// The same with its size.
+const SIZED: Trailer = Trailer {
+    swap_size: 80,
+    ..BEGUN
+};
+
+/// A test that was begun, without its size and with it.
+static CUT: [(&str, Told); 2] = [
+    ("1008=MAGIC,984=02", ((BEGUN, ERASED), NONE, true)),
+    (
+        "1008=MAGIC,984=02,976=50000000",
+        ((SIZED, ERASED), NONE, true),
+    ),
+];
 
 #[test]
 fn a_swap_that_was_cut_is_read(rt: HostRuntime) -> Result<(), Fail> {
-    let mut primary = [0xff; 1024];
-    let secondary = [0xff; 768];
-    primary[1008..].copy_from_slice(&MAGIC);
-    primary[984] = 2;
-    let begun = told_of(rt.alloc(), &primary, &secondary)?;
-    primary[976..980].copy_from_slice(&[0x50, 0, 0, 0]);
-    let sized = told_of(rt.alloc(), &primary, &secondary)?;
-    let mut wanted = MARKED;
-    wanted.swap_info = 2;
-    let first = ([wanted, ERASED], [SwapType::None; 2], true);
-    wanted.swap_size = 80;
-    let second = ([wanted, ERASED], [SwapType::None; 2], true);
-    assert_eq!(rt; [begun, sized], [first, second]);
-    Ok(())
+    are_told(&rt, rt.alloc(), &CUT)
 }
+
+/// A finished test; the same where the preparation of the secondary was cut inside the magic; and then with a flag that is
+/// neither. The type of the tables in each profile, and whether a boot goes on.
+static FINISHED: [(&str, (Types, bool)); 3] = [
+    (
+        "1008=MAGIC,992=01",
+        ((SwapType::Revert, SwapType::Revert), false),
+    ),
+    (
+        "1008=MAGIC,992=01,1776=77c295f360d2ef7f",
+        ((SwapType::None, SwapType::Revert), false),
+    ),
+    ("1008=MAGIC,992=00,1776=77c295f360d2ef7f", (NONE, false)),
+];
 
 #[test]
 fn a_finished_test_is_reverted(rt: HostRuntime) -> Result<(), Fail> {
-    let mut primary = [0xff; 1024];
-    let mut secondary = [0xff; 768];
-    primary[1008..].copy_from_slice(&MAGIC);
-    primary[992] = 1;
-    let done = asked(rt.alloc(), &primary, &secondary)?;
-    // The preparation of the secondary was cut inside the magic.
-    secondary[752..760].copy_from_slice(&MAGIC[..8]);
-    let half = asked(rt.alloc(), &primary, &secondary)?;
-    // A flag that is neither.
-    primary[992] = 0;
-    let bad = asked(rt.alloc(), &primary, &secondary)?;
-    assert_eq!(rt;
-        [done, half, bad],
-        [
-            ([SwapType::Revert, SwapType::Revert], false),
-            ([SwapType::None, SwapType::Revert], false),
-            ([SwapType::None, SwapType::None], false),
-        ]
-    );
+    for (changes, wanted) in &FINISHED {
+        let (_, kinds, goes_on) = told_of(&flash_of(rt.alloc(), *changes)?);
+        same_at(&rt, changes, &(kinds, goes_on), wanted);
+    }
     Ok(())
 }

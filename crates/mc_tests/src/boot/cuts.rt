@@ -2,7 +2,7 @@
 ghost use Rattle.std.specs.Prelude.{◌≡◌};
 
 use super::*;
-use crate::common::change;
+use crate::common::{change, same_at};
 use mc_boot::outcome_after;
 use mc_flash::{Grain, Layout};
 use mc_trailer::Profile;
@@ -67,7 +67,7 @@ fn are_told<F: Flash>(
     boots: &[Rows],
 ) -> Result<(), Fail> {
     for rows in boots {
-        assert_eq!(rt; first_amiss(flash, rules, *rows)?, None, "{rules:?}");
+        same_at(rt, &rules, &first_amiss(flash, rules, *rows)?, &None);
         let _ = told(flash, rules);
     }
     Ok(())
@@ -271,10 +271,10 @@ static REVERTS: [(Rules, &[Rows]); 2] = [
 
 #[test]
 fn cuts_of_reverts_by_units(rt: HostRuntime) -> Result<(), Fail> {
-    for (rules, boots) in REVERTS {
+    for (rules, boots) in &REVERTS {
         let mut flash = test_flash(rt.alloc())?;
-        let _ = told(&mut flash, rules);
-        are_told(&rt, &mut flash, rules, boots)?;
+        let _ = told(&mut flash, *rules);
+        are_told(&rt, &mut flash, *rules, *boots)?;
     }
     Ok(())
 }
@@ -317,13 +317,17 @@ static TWO_SECTORS: [Rows; 2] = [
     ],
 ];
 
+/// A flash of such trailers that holds the two images. A swap for a test is asked for.
+fn two_sectors_flash(alloc: Global) -> Result<SnapFlash, Fail> {
+    let mut bytes = [0xff; 1152];
+    change(alloc, &mut bytes, "0=first,640=second,1136=MAGIC")?;
+    let (primary, secondary) = bytes.split_at(640);
+    let layout = Layout::new(128, 8, 4, 128, 5, 4)?;
+    Ok(SnapFlash::load(alloc, &layout, Grain::Call, primary, secondary, 1)?)
+}
+
 #[test]
 fn cuts_of_trailers_of_two_sectors(rt: HostRuntime) -> Result<(), Fail> {
-    let layout = Layout::new(128, 8, 4, 128, 5, 4)?;
-    let mut primary = [0xff; 640];
-    change(rt.alloc(), &mut primary, "0=first")?;
-    let mut secondary = [0xff; 512];
-    change(rt.alloc(), &mut secondary, "0=second,496=MAGIC")?;
-    let mut flash = SnapFlash::load(rt.alloc(), &layout, Grain::Call, &primary, &secondary, 1)?;
+    let mut flash = two_sectors_flash(rt.alloc())?;
     are_told(&rt, &mut flash, CALL_ONE, &TWO_SECTORS)
 }

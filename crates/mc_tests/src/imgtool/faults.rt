@@ -1,5 +1,6 @@
 //! The engines over readers and writers that move one byte a call, and fail at each call in turn.
 use super::{Engine, WORKED};
+use crate::common::same_at;
 use mc_fixtures::{
     COUNTED_IMAGE, FAULTS, FailingReader, FailingWriter, Failure, Fault, GOOD_LINE, PAYLOAD,
     PLAIN_IMAGE, REPORT,
@@ -20,6 +21,18 @@ fn texts_of(engine: Engine) -> (&'static [u8], &'static [u8]) {
     }
 }
 
+/// How an engine ends whose reader fails or not, and whose writer takes so many of a text's bytes, a byte a call; and how much
+/// it has written.
+fn end_of(reader_fails: bool, taken: usize, len: usize) -> (Result<(), ToolError>, usize) {
+    if reader_fails {
+        (Err(ToolError::Read), 0)
+    } else if taken < len {
+        (Err(ToolError::Write), taken)
+    } else {
+        (Ok(()), len)
+    }
+}
+
 /// Whether an engine ends as it is to where its reader fails so, or else its writer, and has written the beginning of its text.
 /// The last call of a reader finds the end.
 fn ends_well(alloc: Global, engine: Engine, reads: Failure, writes: Failure) -> Result<bool, Fail> {
@@ -33,13 +46,7 @@ fn ends_well(alloc: Global, engine: Engine, reads: Failure, writes: Failure) -> 
         failure: writes,
     };
     let told = engine.run(alloc, &mut reader, &mut writer)?;
-    let (wanted, count) = if reads.calls <= input.len() {
-        (Err(ToolError::Read), 0)
-    } else if writes.calls < text.len() {
-        (Err(ToolError::Write), writes.calls)
-    } else {
-        (Ok(()), text.len())
-    };
+    let (wanted, count) = end_of(reads.calls <= input.len(), writes.calls, text.len());
     Ok(told == wanted && Some(writer.taken.as_slice()) == text.get(..count))
 }
 
@@ -78,10 +85,10 @@ fn all_end_well(
     faults: &[(Fault, bool)],
     of_reader: bool,
 ) -> Result<(), Fail> {
-    for engine in ENGINES {
+    for engine in &ENGINES {
         for fault in faults {
-            let missed = first_missed(alloc, engine, *fault, of_reader)?;
-            assert_eq!(rt; missed, None, "{engine:?} {fault:?}");
+            let missed = first_missed(alloc, *engine, *fault, of_reader)?;
+            same_at(rt, &(*engine, *fault), &missed, &None);
         }
     }
     Ok(())

@@ -1,11 +1,13 @@
 //! The engines on the largest inputs. The digests are those of an independent program.
 ghost use Rattle.std.specs.Prelude.{◌≡◌, true};
 
-use super::{Engine, WORKED};
+use super::{Engine, WORKED, is_told};
+use crate::common::{same, same_at};
 use mc_imgtool::{CreateOptions, create, read_bounded};
 use std::alloc::Global;
 use std::io;
 use std::io::Read;
+use std::process::Abort;
 use std::test::Fail;
 
 /// The most bytes of an input.
@@ -70,14 +72,21 @@ fn ends_with(alloc: Global, bytes: &[u8], length: usize, digits: &str) -> Result
     Ok(bytes.len() == length && bytes.ends_with(end.as_slice()))
 }
 
+/// Whether an image and a slot are so many bytes and end as they are to, and whether the slot begins with the image.
+fn are_filled(alloc: Global, image: &[u8], slot: &[u8]) -> Result<[bool; 3], Fail> {
+    Ok([
+        ends_with(alloc, image, MOST + 72, LARGEST_PAYLOAD)?,
+        ends_with(alloc, slot, 2 * MOST, MAGIC)?,
+        slot.starts_with(image),
+    ])
+}
+
 #[test]
 fn the_largest_payload_is_taken_and_the_largest_slot_filled(rt: HostRuntime) -> Result<(), Fail> {
     let image = created(rt.alloc(), MOST, None)?;
     let slot = created(rt.alloc(), MOST, Some(1 << 25))?;
-    let is_image = ends_with(rt.alloc(), image.as_slice(), MOST + 72, LARGEST_PAYLOAD)?;
-    let is_marked = ends_with(rt.alloc(), slot.as_slice(), 2 * MOST, MAGIC)?;
-    let is_filled = slot.as_slice().starts_with(image.as_slice());
-    assert_eq!(rt; [is_image, is_marked, is_filled], [true; 3]);
+    let found = are_filled(rt.alloc(), image.as_slice(), slot.as_slice())?;
+    same(&rt, &found, &[true; 3]);
     Ok(())
 }
 
@@ -88,20 +97,25 @@ static ZEROS: [(Engine, usize, &str); 3] = [
     (Engine::Verify, MOST + 1, "E23 InputTooLong\n"),
 ];
 
-/// What an engine tells of so many zeros, and how many it leaves.
-fn told_of_zeros(alloc: Global, engine: Engine, left: usize) -> Result<(Vec<u8>, usize), Fail> {
+/// An engine tells this of so many zeros, and leaves none.
+fn tells_of_zeros(
+    rt: &impl Abort,
+    alloc: Global,
+    engine: Engine,
+    left: usize,
+    wanted: &[u8],
+) -> Result<(), Fail> {
     let mut input = Zeros { left };
     let told = engine.told(alloc, &mut input)?;
-    Ok((told, input.left))
+    same_at(rt, &left, &(told.as_slice(), input.left), &(wanted, 0));
+    Ok(())
 }
 
 /// Zeros are read to the end or the limit.
 #[test]
 fn zeros_are_refused(rt: HostRuntime) -> Result<(), Fail> {
-    for (engine, left, wanted) in ZEROS {
-        let (told, rest) = told_of_zeros(rt.alloc(), engine, left)?;
-        assert_eq!(rt; told.as_slice(), wanted.as_bytes(), "{left}");
-        assert_eq!(rt; rest, 0, "{left}");
+    for (engine, left, wanted) in &ZEROS {
+        tells_of_zeros(&rt, rt.alloc(), *engine, *left, wanted.as_bytes())?;
     }
     Ok(())
 }
@@ -117,10 +131,10 @@ static LARGEST: [(Engine, usize, &str); 4] = [
 #[test]
 fn the_largest_image_is_judged_and_a_larger_one_refused(rt: HostRuntime) -> Result<(), Fail> {
     let mut image = created(rt.alloc(), MOST - 72, None)?;
-    for (engine, behind, wanted) in LARGEST {
-        image.resize(MOST + behind, 0)?;
-        let told = engine.told(rt.alloc(), &mut image.as_slice())?;
-        assert_eq!(rt; told.as_slice(), wanted.as_bytes(), "{engine:?}");
+    for (engine, behind, wanted) in &LARGEST {
+        image.resize(MOST + *behind, 0)?;
+        let at = (engine, *engine);
+        is_told(&rt, rt.alloc(), at, image.as_slice(), wanted.as_bytes())?;
     }
     Ok(())
 }
@@ -129,6 +143,6 @@ fn the_largest_image_is_judged_and_a_larger_one_refused(rt: HostRuntime) -> Resu
 fn more_than_an_engine_takes_is_read(rt: HostRuntime) -> Result<(), Fail> {
     let mut input = Zeros { left: 2 * MOST };
     let whole = read_bounded(rt.alloc(), &mut input, 1 << 25)?;
-    assert_eq!(rt; whole.len(), 2 * MOST);
+    same(&rt, &whole.len(), &(2 * MOST));
     Ok(())
 }
