@@ -277,12 +277,17 @@ fn has_text(
     Ok(())
 }
 
+/// The swap for a test is told both times.
+fn serves_again(rt: &impl Abort, alloc: Global, flash: &mut SnapFlash) -> Result<(), Fail> {
+    for outcome in &told_again(flash)? {
+        has_text(rt, alloc, outcome, TESTED)?;
+    }
+    Ok(())
+}
+
 #[test]
 fn a_kept_boot_serves_again(rt: HostRuntime) -> Result<(), Fail> {
-    let [first, again] = told_again(&mut test_flash(rt.alloc())?)?;
-    has_text(&rt, rt.alloc(), &first, TESTED)?;
-    has_text(&rt, rt.alloc(), &again, TESTED)?;
-    Ok(())
+    serves_again(&rt, rt.alloc(), &mut test_flash(rt.alloc())?)
 }
 
 /// What the boot after the swap for a test tells, where the new image is confirmed before or not.
@@ -292,6 +297,18 @@ fn told_after_a_test(flash: &mut SnapFlash, confirms: bool) -> Result<Outcome, F
         confirm(flash)?;
     }
     Ok(told(flash, Rules::PLAIN))
+}
+
+/// That boot tells this.
+fn tells_after_a_test(
+    rt: &impl Abort,
+    alloc: Global,
+    flash: &mut SnapFlash,
+    (confirms, wanted): (bool, &'static str),
+) -> Result<(), Fail> {
+    let outcome = told_after_a_test(flash, confirms)?;
+    has_text(rt, alloc, &outcome, wanted)?;
+    Ok(())
 }
 
 /// The reverted boot, and the one that was confirmed.
@@ -308,9 +325,8 @@ static AFTER_A_TEST: [(bool, &str); 2] = [
 
 #[test]
 fn a_test_is_reverted_unless_it_is_confirmed(rt: HostRuntime) -> Result<(), Fail> {
-    for (confirms, wanted) in &AFTER_A_TEST {
-        let outcome = told_after_a_test(&mut test_flash(rt.alloc())?, *confirms)?;
-        has_text(&rt, rt.alloc(), &outcome, *wanted)?;
+    for row in &AFTER_A_TEST {
+        tells_after_a_test(&rt, rt.alloc(), &mut test_flash(rt.alloc())?, *row)?;
     }
     Ok(())
 }
@@ -322,23 +338,25 @@ fn confirmed(flash: &mut SnapFlash, wanted: &[u8]) -> Result<(bool, bool), Flash
     Ok((confirms, image_ok == Some(wanted)))
 }
 
-/// The same twice after a boot.
-fn confirmed_twice(flash: &mut SnapFlash) -> Result<[(bool, bool); 2], FlashError> {
+/// Where a test is done, it confirms itself once.
+fn confirms_once(rt: &impl Abort, flash: &mut SnapFlash) -> Result<(), Fail> {
     let _ = told(flash, Rules::PLAIN);
-    Ok([confirmed(flash, &ONE)?, confirmed(flash, &ONE)?])
+    let found = [confirmed(flash, &ONE)?, confirmed(flash, &ONE)?];
+    same(rt, &found, &[(true, true), (false, true)]);
+    Ok(())
+}
+
+/// Where a swap is not finished, it does not.
+fn confirms_never(rt: &impl Abort, flash: &mut SnapFlash) -> Result<(), Fail> {
+    same(rt, &confirmed(flash, &[0xff; 8])?, &(false, true));
+    Ok(())
 }
 
 /// Once after a test, and not where a swap is not finished.
 #[test]
 fn an_image_confirms_itself(rt: HostRuntime) -> Result<(), Fail> {
-    let [first, again] = confirmed_twice(&mut test_flash(rt.alloc())?)?;
-    let unfinished = confirmed(&mut flash_of(rt.alloc(), "BEGUN,984=02")?, &[0xff; 8])?;
-    same(
-        &rt,
-        &[first, again, unfinished],
-        &[(true, true), (false, true), (false, true)],
-    );
-    Ok(())
+    confirms_once(&rt, &mut test_flash(rt.alloc())?)?;
+    confirms_never(&rt, &mut flash_of(rt.alloc(), "BEGUN,984=02")?)
 }
 
 /// The places of the first four operations of the boot after a cut, among those of the boot that was cut.

@@ -105,3 +105,10 @@ pub fn have_texts<T: Display>(
     same(rt, &texts.as_str(), &wanted);
     Ok(())
 }
+
+/// A secondary of the worked layout that holds 0xaa, but for its sector in the middle, which is erased.
+pub fn with_an_erased_sector() -> [u8; 768] {
+    let mut bytes = [0xaa; 768];
+    bytes[256..512].fill(0xff);
+    bytes
+}

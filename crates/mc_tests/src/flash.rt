@@ -2,7 +2,7 @@
 ghost use Rattle.std.specs.Prelude.{◌≡◌, ◌≤◌, [], IfOk, length};
 ghost use Rattle.mc_flash.specs.Worked.{worked};
 
-use crate::common::{have_texts, same, same_at};
+use crate::common::{have_texts, same, same_at, with_an_erased_sector};
 use mc_fixtures::worked;
 use mc_flash::{
     Bytes16, Flash, FlashError, Grain, JournalFlash, Layout, LayoutError, Slot, SnapFlash, blank,
@@ -177,54 +177,60 @@ fn loaded<F: Flash>(alloc: Global) -> Result<F, Fail>
 
 /// Whether a unit is programmed, and refused where it stands.
 #[tactic(auto, using(mc_flash::specs::facts::Done::does_keep))]
-fn is_programmed<F: Flash>(flash: &mut F) -> Result<bool, FlashError>
+fn is_programmed<F: Flash>(flash: &mut F) -> Result<[bool; 2], FlashError>
     requires { (F.seen flash.old).geometry ≡ worked }
 {
     flash.program(Slot::Primary, 16, &UNIT)?;
     let again = flash.program(Slot::Primary, 16, &UNIT);
     let mut wanted = [0xff; 1024];
     wanted[16..24].copy_from_slice(&UNIT);
-    Ok(again == Err(FlashError::NotErased) && flash.read(Slot::Primary) == wanted.as_slice())
+    let is_refused = again == Err(FlashError::NotErased);
+    Ok([is_refused, flash.read(Slot::Primary) == wanted.as_slice()])
+}
+
+/// The primary after it.
+fn copied() -> [u8; 1024] {
+    let mut bytes = [0xff; 1024];
+    bytes[..8].fill(0xaa);
+    bytes[256..384].fill(0xaa);
+    bytes
 }
 
 /// Whether bytes are copied, and refused where others stand.
 #[tactic(auto, using(mc_flash::specs::facts::Done::does_keep))]
-fn is_copied<F: Flash>(flash: &mut F) -> Result<bool, FlashError>
+fn is_copied<F: Flash>(flash: &mut F) -> Result<[bool; 3], FlashError>
     requires { (F.seen flash.old).geometry ≡ worked }
 {
     flash.copy(Slot::Secondary, 8, Slot::Primary, 256, 128)?;
     let over = flash.copy(Slot::Primary, 0, Slot::Secondary, 0, 8);
     flash.copy(Slot::Primary, 256, Slot::Primary, 0, 8)?;
-    let mut wanted = [0xff; 1024];
-    wanted[..8].fill(0xaa);
-    wanted[256..384].fill(0xaa);
-    Ok(
-        over == Err(FlashError::NotErased)
-            && flash.read(Slot::Primary) == wanted.as_slice()
-            && flash.read(Slot::Secondary) == [0xaa; 768].as_slice(),
-    )
+    Ok([
+        over == Err(FlashError::NotErased),
+        flash.read(Slot::Primary) == copied().as_slice(),
+        flash.read(Slot::Secondary) == [0xaa; 768].as_slice(),
+    ])
 }
 
-/// Whether a sector that was erased behind a mark is given back. The places of the marks before it, behind it, and behind
+/// Whether a sector is erased behind a mark, and given back. The places of the marks before it, behind it, and behind
 /// the way back.
 #[tactic(auto, using(mc_flash::specs::facts::Done::does_keep), unfolding(mc_flash::specs::Seen::went_back))]
-fn is_given_back<F: Flash>(flash: &mut F) -> Result<(bool, [usize; 3]), FlashError>
+fn is_given_back<F: Flash>(flash: &mut F) -> Result<([bool; 2], [usize; 3]), FlashError>
     requires geometry { (F.seen flash.old).geometry ≡ worked }
     requires marks { (F.seen flash.old).marks ≡ [] }
 {
     let before = flash.mark()?;
     flash.erase(Slot::Secondary, 1)?;
-    let mut wanted = [0xaa; 768];
-    wanted[256..512].fill(0xff);
-    let is_erased = flash.read(Slot::Secondary) == wanted.as_slice();
+    let is_erased = flash.read(Slot::Secondary) == with_an_erased_sector().as_slice();
     let behind = flash.mark()?;
     flash.back_to(0);
     let is_back = flash.read(Slot::Secondary) == [0xaa; 768].as_slice();
-    Ok((is_erased && is_back, [before, behind, flash.mark()?]))
+    Ok(([is_erased, is_back], [before, behind, flash.mark()?]))
 }
 
+type Played = (u32, [bool; 2], [bool; 3], ([bool; 2], [usize; 3]));
+
 /// What is told of a flash of one kind: whether it is programmed, whether it is copied, and how it is given back.
-fn plays<F: Flash>(alloc: Global) -> Result<(u32, bool, bool, (bool, [usize; 3])), Fail> {
+fn plays<F: Flash>(alloc: Global) -> Result<Played, Fail> {
     let mut flash = loaded::<F>(alloc)?;
     let sector = flash.layout().sector();
     let is_programmed = is_programmed(&mut flash)?;
@@ -239,7 +245,8 @@ fn flashes_are_programmed_and_given_back(rt: HostRuntime) -> Result<(), Fail> {
         plays::<SnapFlash>(rt.alloc())?,
         plays::<JournalFlash>(rt.alloc())?,
     ];
-    same(&rt, &told, &[(256, true, true, (true, [0, 1, 0])); 2]);
+    let wanted = (256, [true; 2], [true; 3], ([true; 2], [0, 1, 0]));
+    same(&rt, &told, &[wanted, wanted]);
     Ok(())
 }
 

@@ -33,17 +33,15 @@ fn parts_of<'a>(
 }
 
 /// Whether this comes of it that these parts are written behind some bytes.
-fn is_written(mut out: Vec<u8>, parts: &ImageParts, wanted: &[u8]) -> Result<bool, ImageError> {
+fn is_written(
+    alloc: Global,
+    before: &[u8],
+    parts: &ImageParts,
+    wanted: &[u8],
+) -> Result<bool, Fail> {
+    let mut out = before.to_vec(alloc)?;
     write_image(parts, &mut out)?;
     Ok(out.as_slice() == wanted)
-}
-
-/// All were written, and well.
-fn all_written(rt: &impl Abort, found: &[Result<bool, ImageError>]) -> Result<(), ImageError> {
-    for is_written in found {
-        same(rt, &(*is_written)?, &true);
-    }
-    Ok(())
 }
 
 fn fault(bytes: &[u8]) -> Option<ImageError> {
@@ -54,16 +52,16 @@ fn fault(bytes: &[u8]) -> Option<ImageError> {
 fn worked_images_are_written(rt: HostRuntime) -> Result<(), Fail> {
     let alloc = rt.alloc();
     let counter = [(0x50, [7, 0, 0, 0].as_slice())];
-    let found = [
-        is_written(Vec::new(alloc), &parts_of(&PAYLOAD, &[], &[]), &PLAIN_IMAGE),
-        is_written(Vec::new(alloc), &parts_of(&[], &[], &[]), &EMPTY_IMAGE),
-        is_written(
-            Vec::new(alloc),
-            &parts_of(&PAYLOAD, &counter, &[]),
-            &COUNTED_IMAGE,
-        ),
-    ];
-    all_written(&rt, &found)?;
+    let empty = parts_of(&[], &[], &[]);
+    same(&rt, &is_written(alloc, &[], &empty, &EMPTY_IMAGE)?, &true);
+    let plain = parts_of(&PAYLOAD, &[], &[]);
+    same(&rt, &is_written(alloc, &[], &plain, &PLAIN_IMAGE)?, &true);
+    let counted = parts_of(&PAYLOAD, &counter, &[]);
+    same(
+        &rt,
+        &is_written(alloc, &[], &counted, &COUNTED_IMAGE)?,
+        &true,
+    );
     Ok(())
 }
 
@@ -76,11 +74,7 @@ fn an_empty_entry_follows_the_digest(rt: HostRuntime) -> Result<(), Fail> {
     wanted[42] = 0x2c;
     wanted[80] = 0x99;
     let parts = parts_of(&PAYLOAD, &[], &entries);
-    same(
-        &rt,
-        &is_written(Vec::new(rt.alloc()), &parts, &wanted)?,
-        &true,
-    );
+    same(&rt, &is_written(rt.alloc(), &[], &parts, &wanted)?, &true);
     Ok(())
 }
 
@@ -89,8 +83,7 @@ fn an_image_is_appended(rt: HostRuntime) -> Result<(), Fail> {
     let mut wanted = [9; 81];
     wanted[1..].copy_from_slice(&PLAIN_IMAGE);
     let parts = parts_of(&PAYLOAD, &[], &[]);
-    let out = [9].to_vec(rt.alloc())?;
-    same(&rt, &is_written(out, &parts, &wanted)?, &true);
+    same(&rt, &is_written(rt.alloc(), &[9], &parts, &wanted)?, &true);
     Ok(())
 }
 

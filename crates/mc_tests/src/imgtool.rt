@@ -312,12 +312,12 @@ fn refusal_and_rest(alloc: Global, limit: u32) -> Result<(Option<ToolError>, usi
 /// Nothing where the size of the slot is wanting, and a byte behind the limit where there are more.
 #[test]
 fn no_more_is_read_than_is_needed(rt: HostRuntime) -> Result<(), Fail> {
+    let found = refusal_and_rest(rt.alloc(), 4000)?;
+    same(&rt, &found, &(Some(ToolError::InputTooLong), 999));
     let mut payload = PAYLOAD.as_slice();
     let told = SLOTLESS.told(rt.alloc(), &mut payload)?;
     let wanted = "E22 NeedsSlotSize\n".as_bytes();
     same(&rt, &(told.as_slice(), payload.len()), &(wanted, 8));
-    let found = refusal_and_rest(rt.alloc(), 4000)?;
-    same(&rt, &found, &(Some(ToolError::InputTooLong), 999));
     Ok(())
 }
 

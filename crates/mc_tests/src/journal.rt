@@ -2,7 +2,7 @@
 ghost use Rattle.std.specs.Prelude.{◌≡◌, [], length, ◌<◌, ◌≤◌, IfOk};
 ghost use Rattle.mc_flash.specs.Worked.{worked};
 
-use crate::common::same;
+use crate::common::{same, with_an_erased_sector};
 use mc_fixtures::worked;
 use mc_flash::{Flash, FlashError, Grain, JournalFlash, Slot};
 use std::alloc::Global;
@@ -75,10 +75,8 @@ fn gone_back(flash: &mut JournalFlash) -> Result<GoneBack, FlashError>
     requires { length flash.old.marks ≡ 2 }
 {
     let second = counts_back(flash, 1);
-    let mut wanted = [0xaa; 768];
-    wanted[256..512].fill(0xff);
     let primary = flash.read(Slot::Primary) == [0xff; 1024].as_slice();
-    let erased = flash.read(Slot::Secondary) == wanted.as_slice();
+    let erased = flash.read(Slot::Secondary) == with_an_erased_sector().as_slice();
     let first = counts_back(flash, 0);
     let whole = flash.read(Slot::Secondary) == [0xaa; 768].as_slice();
     Ok(([second, first], [primary, erased, whole], flash.mark()?))

@@ -6,12 +6,7 @@ use mc_flash::Grain;
 use mc_trailer::Profile;
 
 /// Whether an outcome is told of the second flash's boot, as though it came after a cut of the first one's.
-fn goes_on<F: Flash>(
-    first: &mut F,
-    cut: u32,
-    second: &F,
-    rules: Rules,
-) -> Result<bool, FlashError> {
+fn goes_on<F: Flash>(first: &mut F, cut: u32, second: &F, rules: Rules) -> Result<bool, Fail> {
     let place = first.mark()?;
     let whole = told(first, Rules::PLAIN);
     first.back_to(place);
@@ -30,7 +25,7 @@ fn goes_on_from(
     rules: Rules,
 ) -> Result<bool, Fail> {
     let second = flash_of(alloc, second)?;
-    Ok(goes_on(&mut flash_of(alloc, first)?, cut, &second, rules)?)
+    goes_on(&mut flash_of(alloc, first)?, cut, &second, rules)
 }
 
 const CALL: Rules = Rules::PLAIN;

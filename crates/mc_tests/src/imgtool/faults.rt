@@ -47,7 +47,7 @@ fn ends_well(alloc: Global, engine: Engine, reads: Failure, writes: Failure) -> 
     };
     let told = engine.run(alloc, &mut reader, &mut writer)?;
     let (wanted, count) = end_of(reads.calls <= input.len(), writes.calls, text.len());
-    Ok(told == wanted && Some(writer.taken.as_slice()) == text.get(..count))
+    Ok((told, Some(writer.taken.as_slice())) == (wanted, text.get(..count)))
 }
 
 /// The first call at which an engine ends otherwise where that call of its reader, or of its writer, fails.

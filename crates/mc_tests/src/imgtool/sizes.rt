@@ -72,22 +72,23 @@ fn ends_with(alloc: Global, bytes: &[u8], length: usize, digits: &str) -> Result
     Ok(bytes.len() == length && bytes.ends_with(end.as_slice()))
 }
 
-/// Whether an image and a slot are so many bytes and end as they are to, and whether the slot begins with the image.
-fn are_filled(alloc: Global, image: &[u8], slot: &[u8]) -> Result<[bool; 3], Fail> {
-    Ok([
-        ends_with(alloc, image, MOST + 72, LARGEST_PAYLOAD)?,
-        ends_with(alloc, slot, 2 * MOST, MAGIC)?,
-        slot.starts_with(image),
-    ])
+/// An image and a slot are so many bytes and end as they are to, and the slot begins with the image.
+fn are_filled(rt: &impl Abort, alloc: Global, image: &[u8], slot: &[u8]) -> Result<(), Fail> {
+    let is_image = ends_with(alloc, image, MOST + 72, LARGEST_PAYLOAD)?;
+    let is_marked = ends_with(alloc, slot, 2 * MOST, MAGIC)?;
+    same(
+        rt,
+        &[is_image, is_marked, slot.starts_with(image)],
+        &[true; 3],
+    );
+    Ok(())
 }
 
 #[test]
 fn the_largest_payload_is_taken_and_the_largest_slot_filled(rt: HostRuntime) -> Result<(), Fail> {
     let image = created(rt.alloc(), MOST, None)?;
     let slot = created(rt.alloc(), MOST, Some(1 << 25))?;
-    let found = are_filled(rt.alloc(), image.as_slice(), slot.as_slice())?;
-    same(&rt, &found, &[true; 3]);
-    Ok(())
+    are_filled(&rt, rt.alloc(), image.as_slice(), slot.as_slice())
 }
 
 /// Inputs of zeros, and why they are refused.
@@ -128,15 +129,19 @@ static LARGEST: [(Engine, usize, &str); 4] = [
     (Engine::Dumpinfo, 1, "E23 InputTooLong\n"),
 ];
 
-#[test]
-fn the_largest_image_is_judged_and_a_larger_one_refused(rt: HostRuntime) -> Result<(), Fail> {
-    let mut image = created(rt.alloc(), MOST - 72, None)?;
+/// This is told of the largest image.
+fn judges_and_refuses(rt: &impl Abort, alloc: Global, image: &mut Vec<u8>) -> Result<(), Fail> {
     for (engine, behind, wanted) in &LARGEST {
         image.resize(MOST + *behind, 0)?;
         let at = (engine, *engine);
-        is_told(&rt, rt.alloc(), at, image.as_slice(), wanted.as_bytes())?;
+        is_told(rt, alloc, at, image.as_slice(), wanted.as_bytes())?;
     }
     Ok(())
+}
+
+#[test]
+fn the_largest_image_is_judged_and_a_larger_one_refused(rt: HostRuntime) -> Result<(), Fail> {
+    judges_and_refuses(&rt, rt.alloc(), &mut created(rt.alloc(), MOST - 72, None)?)
 }
 
 #[test]
