@@ -118,18 +118,17 @@ fn tells_step<F: Flash>(
 }
 
 /// The operations of a boot, a line for one that is refused, and the outcome. A step behind the last operation is none.
-fn course_of<F: Flash>(alloc: Global, flash: &mut F) -> Result<String, Fail> {
+fn course_of<F: Flash>(alloc: Global, flash: &mut F, course: &mut String) -> Result<(), Fail> {
     let mut boot = Boot::cold(flash, Rules::PLAIN);
-    let mut course = String::new(alloc);
     for _ in 0..200u32 {
-        if !tells_step(alloc, flash, &mut boot, &mut course)? {
+        if !tells_step(alloc, flash, &mut boot, course)? {
             break;
         }
     }
     boot.step(flash)?;
-    let outcome = text_of(alloc, &boot.outcome(flash))?;
-    course.push_str(outcome.as_str())?;
-    Ok(course)
+    let outcome = boot.outcome(flash);
+    course.push_str(text_of(alloc, &outcome)?.as_str())?;
+    Ok(())
 }
 
 /// What the swap for a test tells.
@@ -212,7 +211,8 @@ fn has_course(
     start: &'static str,
     wanted: &'static str,
 ) -> Result<(), Fail> {
-    let course = course_of(alloc, &mut flash_of(alloc, start)?)?;
+    let mut course = String::new(alloc);
+    course_of(alloc, &mut flash_of(alloc, start)?, &mut course)?;
     same_at(rt, &start, &course.as_str(), &wanted);
     Ok(())
 }

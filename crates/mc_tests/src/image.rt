@@ -32,16 +32,18 @@ fn parts_of<'a>(
     }
 }
 
-/// Whether this comes of it that these parts are written behind some bytes.
-fn is_written(
+/// This comes of it that these parts are written behind some bytes.
+fn writes(
+    rt: &impl Abort,
     alloc: Global,
     before: &[u8],
     parts: &ImageParts,
     wanted: &[u8],
-) -> Result<bool, Fail> {
+) -> Result<(), Fail> {
     let mut out = before.to_vec(alloc)?;
     write_image(parts, &mut out)?;
-    Ok(out.as_slice() == wanted)
+    same(rt, &out.as_slice(), &wanted);
+    Ok(())
 }
 
 fn fault(bytes: &[u8]) -> Option<ImageError> {
@@ -52,17 +54,15 @@ fn fault(bytes: &[u8]) -> Option<ImageError> {
 fn worked_images_are_written(rt: HostRuntime) -> Result<(), Fail> {
     let alloc = rt.alloc();
     let counter = [(0x50, [7, 0, 0, 0].as_slice())];
-    let empty = parts_of(&[], &[], &[]);
-    same(&rt, &is_written(alloc, &[], &empty, &EMPTY_IMAGE)?, &true);
-    let plain = parts_of(&PAYLOAD, &[], &[]);
-    same(&rt, &is_written(alloc, &[], &plain, &PLAIN_IMAGE)?, &true);
-    let counted = parts_of(&PAYLOAD, &counter, &[]);
-    same(
+    writes(&rt, alloc, &[], &parts_of(&[], &[], &[]), &EMPTY_IMAGE)?;
+    writes(&rt, alloc, &[], &parts_of(&PAYLOAD, &[], &[]), &PLAIN_IMAGE)?;
+    writes(
         &rt,
-        &is_written(alloc, &[], &counted, &COUNTED_IMAGE)?,
-        &true,
-    );
-    Ok(())
+        alloc,
+        &[],
+        &parts_of(&PAYLOAD, &counter, &[]),
+        &COUNTED_IMAGE,
+    )
 }
 
 #[test]
@@ -74,8 +74,7 @@ fn an_empty_entry_follows_the_digest(rt: HostRuntime) -> Result<(), Fail> {
     wanted[42] = 0x2c;
     wanted[80] = 0x99;
     let parts = parts_of(&PAYLOAD, &[], &entries);
-    same(&rt, &is_written(rt.alloc(), &[], &parts, &wanted)?, &true);
-    Ok(())
+    writes(&rt, rt.alloc(), &[], &parts, &wanted)
 }
 
 #[test]
@@ -83,8 +82,7 @@ fn an_image_is_appended(rt: HostRuntime) -> Result<(), Fail> {
     let mut wanted = [9; 81];
     wanted[1..].copy_from_slice(&PLAIN_IMAGE);
     let parts = parts_of(&PAYLOAD, &[], &[]);
-    same(&rt, &is_written(rt.alloc(), &[9], &parts, &wanted)?, &true);
-    Ok(())
+    writes(&rt, rt.alloc(), &[9], &parts, &wanted)
 }
 
 /// Why these parts are refused. None where the vector is another then.
