@@ -46,6 +46,17 @@ fn writes(
     Ok(())
 }
 
+/// This comes of it that a payload is written with some protected entries.
+fn writes_payload(
+    rt: &impl Abort,
+    alloc: Global,
+    payload: &[u8],
+    protected: &[(u16, &[u8])],
+    wanted: &[u8],
+) -> Result<(), Fail> {
+    writes(rt, alloc, &[], &parts_of(payload, protected, &[]), wanted)
+}
+
 fn fault(bytes: &[u8]) -> Option<ImageError> {
     ImageView::read(bytes).err()
 }
@@ -54,15 +65,9 @@ fn fault(bytes: &[u8]) -> Option<ImageError> {
 fn worked_images_are_written(rt: HostRuntime) -> Result<(), Fail> {
     let alloc = rt.alloc();
     let counter = [(0x50, [7, 0, 0, 0].as_slice())];
-    writes(&rt, alloc, &[], &parts_of(&[], &[], &[]), &EMPTY_IMAGE)?;
-    writes(&rt, alloc, &[], &parts_of(&PAYLOAD, &[], &[]), &PLAIN_IMAGE)?;
-    writes(
-        &rt,
-        alloc,
-        &[],
-        &parts_of(&PAYLOAD, &counter, &[]),
-        &COUNTED_IMAGE,
-    )
+    writes_payload(&rt, alloc, &PAYLOAD, &[], &PLAIN_IMAGE)?;
+    writes_payload(&rt, alloc, &[], &[], &EMPTY_IMAGE)?;
+    writes_payload(&rt, alloc, &PAYLOAD, &counter, &COUNTED_IMAGE)
 }
 
 #[test]

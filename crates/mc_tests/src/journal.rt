@@ -6,6 +6,7 @@ use crate::common::{same, with_an_erased_sector};
 use mc_fixtures::worked;
 use mc_flash::{Flash, FlashError, Grain, JournalFlash, Slot};
 use std::alloc::Global;
+use std::process::Abort;
 use std::test::Fail;
 
 /// A journal flash of the worked layout: the primary is blank, and the secondary holds 0xaa.
@@ -82,22 +83,22 @@ fn gone_back(flash: &mut JournalFlash) -> Result<GoneBack, FlashError>
     Ok(([second, first], [primary, erased, whole], flash.mark()?))
 }
 
-/// Both, one after the other.
-fn operated_and_gone_back(flash: &mut JournalFlash) -> Result<(Operated, GoneBack), FlashError>
+/// Operates and goes back, and tells what it is to.
+fn operates_and_goes_back(rt: &impl Abort, flash: &mut JournalFlash) -> Result<(), Fail>
     requires geometry { flash.old.geometry ≡ worked }
     requires marks { flash.old.marks ≡ [] }
 {
     let there = operated(flash)?;
-    Ok((there, gone_back(flash)?))
+    let wanted = [[0, 0, 0, 0], [1, 256, 1, 1], [3, 256, 2, 3]];
+    same(rt, &there, &([0, 1], wanted, Err(FlashError::NotErased)));
+    let back = gone_back(flash)?;
+    same(rt, &back, &([[1, 256, 1, 3], [0, 0, 0, 3]], [true; 3], 0));
+    Ok(())
 }
 
 #[test]
 fn operations_are_counted_and_taken_back(rt: HostRuntime) -> Result<(), Fail> {
-    let (there, back) = operated_and_gone_back(&mut loaded(rt.alloc(), 3)?)?;
-    let wanted = [[0, 0, 0, 0], [1, 256, 1, 1], [3, 256, 2, 3]];
-    same(&rt, &there, &([0, 1], wanted, Err(FlashError::NotErased)));
-    same(&rt, &back, &([[1, 256, 1, 3], [0, 0, 0, 3]], [true; 3], 0));
-    Ok(())
+    operates_and_goes_back(&rt, &mut loaded(rt.alloc(), 3)?)
 }
 
 /// Takes the marks, erases and entries that there is room for. The places of the marks, the counts after the erases and at
