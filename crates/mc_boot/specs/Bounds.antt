@@ -1,7 +1,7 @@
 -- How much a boot counts: how many operations, and how many bytes their erases save.
 use Rattle.std.specs.Prelude.{ℕ, ◌+◌, ◌≤◌, List, [], ◌∷◌, length}
 use Rattle.mc_flash.specs.Geometry.{Geometry}
-use Rattle.mc_flash.specs.Ledger.{Counts, saves}
+use Rattle.mc_flash.specs.Usage.{Counts, saves}
 use Rattle.mc_flash.specs.Seen.{Seen}
 use Rattle.mc_flash.specs.Spends.{LeaveRoom, plus}
 use Rattle.mc_flash.specs.declared.op.Op.{Op}
@@ -18,7 +18,7 @@ left_of g p = record { entries = length p.to_come; saved = all_saves g p.to_come
 
 -- What is counted and what is left to count are together no more than before.
 abbrev pub CountsOn : Progress → Progress → Seen → Seen → Type 0
-CountsOn p q old new = LeaveRoom new.ledger.counts (left_of old.geometry q) (plus old.ledger.counts (left_of old.geometry p))
+CountsOn p q old new = LeaveRoom new.usage.counts (left_of old.geometry q) (plus old.usage.counts (left_of old.geometry p))
 
 -- At most so many operations, and at most so many bytes that they save.
 pub record IsBounded (g : Geometry) (ops : List Op) (count saved : ℕ) : Type 0 where

@@ -1,7 +1,7 @@
 -- What a boot at power-on is.
 use Rattle.std.specs.Prelude.{◌≡◌, ◌≤◌, length}
 use Rattle.mc_flash.specs.Content.{IsSized}
-use Rattle.mc_flash.specs.Ledger.{most_operations, most_saved}
+use Rattle.mc_flash.specs.Usage.{most_operations, most_saved}
 use Rattle.mc_flash.specs.Seen.{Seen}
 use Rattle.mc_trailer.specs.declared.tables.Rules.{Rules}
 use Rattle.mc_boot.specs.Boot.{IsBootOf, all_of, begun, progress}

@@ -12,7 +12,7 @@ use Rattle.mc_boot.specs.declared.boot.Boot.{Boot}
 use Rattle.mc_boot.specs.PowerOn.{power_on}
 
 -- A boot of a flash's layout stays on its way from the flash at power-on, with the same operations in all. The flash keeps
--- its layout and its marks.
+-- its layout and its checkpoints.
 pub record GoesOn (old : Boot) (before : Seen) (new : Boot) (after : Seen) : Type 0 where
   pub come : (r : Rules) (s : Content) → HasCome (power_on r before.geometry s) (progress old) before.content → HasCome (power_on r before.geometry s) (progress new) after.content
   pub layout : IsBootOf after.geometry new

@@ -26,7 +26,7 @@ use mc_flash::{Flash, FlashError, Layout, Op, Slot};
 use mc_image::{one_reading, same_front};
 use mc_trailer::{Flag, Rules, SwapType, Trailer, highest_entry, resumes, swap_type};
 
-/// A boot, by how many of its operations have happened. It is small and `Copy`: one that was kept beside a mark of the
+/// A boot, by how many of its operations have happened. It is small and `Copy`: one that was kept beside a checkpoint of the
 /// flash serves again after `back_to`.
 #[derive(Clone, Copy)]
 pub struct Boot {
@@ -105,9 +105,16 @@ impl Boot {
         }
     }
 
-    // A boot that the tables ask for. Images are read where it is a swap alone, unless they are known.
-    fn new_boot<F: Flash>(flash: &F, rules: Rules, known: Option<Images>, kind: SwapType) -> Boot
-        requires { IfSome known (λ images. images ≡ images_of (F.seen flash.now).content) }
+    // A boot that the tables ask for. Images are read where it is a swap alone, unless they were read before, and hashed where
+    // their bytes are none that are known.
+    fn new_boot<F: Flash>(
+        flash: &F,
+        rules: Rules,
+        images: Option<Images>,
+        known: &[Option<KnownImage<'_>>],
+        kind: SwapType,
+    ) -> Boot
+        requires { IfSome images (λ images. images ≡ images_of (F.seen flash.now).content) }
         ensures progress { progress result
             ≡ begun rules (new_plan rules.grain (F.seen flash.now).geometry
             (images_of (F.seen flash.now).content) kind) }
@@ -115,9 +122,9 @@ impl Boot {
     {
         match kind {
             SwapType::Test | SwapType::Perm | SwapType::Revert => {
-                let images = match known {
+                let images = match images {
                     Some(images) => images,
-                    None => Images::read(flash),
+                    None => Images::read_among(flash, known),
                 };
                 Boot::new_swap(flash.layout(), rules, &images, kind)
             }
@@ -185,9 +192,15 @@ impl Boot {
         }
     }
 
-    // A boot at power-on. Images are read where it begins a swap alone, unless they are known.
-    pub(crate) fn begin<F: Flash>(flash: &F, rules: Rules, known: Option<Images>) -> Boot
-        requires { IfSome known (λ images. images ≡ images_of (F.seen flash.now).content) }
+    // A boot at power-on. Images are read where it begins a swap alone, unless they were read before, and hashed where their
+    // bytes are none that are known.
+    pub(crate) fn begin<F: Flash>(
+        flash: &F,
+        rules: Rules,
+        images: Option<Images>,
+        known: &[Option<KnownImage<'_>>],
+    ) -> Boot
+        requires { IfSome images (λ images. images ≡ images_of (F.seen flash.now).content) }
         ensures progress { progress result ≡ begun rules (plan (powered rules (F.seen flash.now))) }
         ensures layout { IsBootOf (F.seen flash.now).geometry result }
     {
@@ -197,13 +210,23 @@ impl Boot {
             Boot::resumed_boot(flash, rules, &primary)
         } else {
             let kind = swap_type(rules.profile, &primary, &secondary);
-            Boot::new_boot(flash, rules, known, kind)
+            Boot::new_boot(flash, rules, images, known, kind)
         }
     }
 
     /// A boot at power-on. It reads and hashes images only where it begins a swap.
-    #[tactic(auto, using(crate::proofs::AfterCut::is_cold))]
     pub fn cold<F: Flash>(flash: &F, rules: Rules) -> Boot
+        ensures cold { IsCold rules (F.seen flash.now) result }
+        ensures come { HasCome (powered rules (F.seen flash.now)) (progress result)
+            (F.seen flash.now).content }
+    {
+        Boot::cold_among(flash, rules, &[])
+    }
+
+    /// A boot at power-on. It reads images only where it begins a swap, and hashes that of the secondary where it is none of those
+    /// that are known.
+    #[tactic(auto, using(crate::proofs::AfterCut::is_cold))]
+    pub fn cold_among<F: Flash>(flash: &F, rules: Rules, known: &[Option<KnownImage<'_>>]) -> Boot
         ensures cold { IsCold rules (F.seen flash.now) result }
         ensures come { HasCome (powered rules (F.seen flash.now)) (progress result)
             (F.seen flash.now).content }
@@ -212,7 +235,7 @@ impl Boot {
         let _sector = flash.layout().sector();
         let _primary = flash.read(Slot::Primary);
         let _secondary = flash.read(Slot::Secondary);
-        Boot::begin(flash, rules, None)
+        Boot::begin(flash, rules, None, known)
     }
 
     /// The boot at power-on after a power cut, by the rules of the boot that was cut: the flash stands where that one left it. It
@@ -231,11 +254,11 @@ impl Boot {
         let _sector = flash.layout().sector();
         let _primary = flash.read(Slot::Primary);
         let _secondary = flash.read(Slot::Secondary);
-        let known = match &cut.course {
+        let images = match &cut.course {
             Some(course) if cut.done < course.setup_len() => Some(Images::read_valid(flash)),
             _ => None,
         };
-        Boot::begin(flash, cut.rules, known)
+        Boot::begin(flash, cut.rules, images, &[])
     }
 
     // The next operation. That there are not many keeps the count of those that happened from overflowing.
@@ -284,7 +307,7 @@ impl Boot {
             → HasCome x (progress self.new) (F.seen flash.new).content }
         ensures whole { all_of self.new ≡ all_of self.old }
         ensures layout { IsBootOf (F.seen flash.new).geometry self.new }
-        // The layout and the marks stay.
+        // The layout and the checkpoints stay.
         ensures keeps { Keeps (F.seen flash.old) (F.seen flash.new) }
     {
         let Some(op) = self.next_op() else {

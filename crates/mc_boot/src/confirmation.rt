@@ -1,7 +1,7 @@
 //! An image that confirms itself.
 ghost use Rattle.std.specs.Prelude.{◌≡◌, OnOk, IfErr};
 ghost use Rattle.mc_flash.specs.Geometry.{IsLayout};
-ghost use Rattle.mc_flash.specs.Ledger.{no_counts};
+ghost use Rattle.mc_flash.specs.Usage.{no_counts};
 ghost use Rattle.mc_flash.specs.Seen.{Keeps};
 ghost use Rattle.mc_flash.specs.Spends.{Allows, LeaveRoom, Spends, plus};
 ghost use Rattle.mc_boot.specs.Confirm.{Confirms, confirmed, may_confirm, one_write};
@@ -39,13 +39,13 @@ pub fn confirm<F: Flash>(flash: &mut F) -> Result<bool, FlashError>
         ≡ confirmed (F.seen flash.old).geometry (F.seen flash.old).content) }
     ensures err { IfErr result (λ e. (e ≡ FlashError.Memory)
         × ((F.seen flash.new).content ≡ (F.seen flash.old).content)) }
-    // The layout and the marks stay.
+    // The layout and the checkpoints stay.
     ensures keeps { Keeps (F.seen flash.old) (F.seen flash.new) }
     // With room for one operation it fails only where the flash takes memory as it goes.
     ensures spends { Allows one_write (F.seen flash.old)
         → Spends 1 (F.seen flash.old) result (F.seen flash.new) }
-    ensures counts { LeaveRoom (F.seen flash.new).ledger.counts no_counts
-        (plus (F.seen flash.old).ledger.counts one_write) }
+    ensures counts { LeaveRoom (F.seen flash.new).usage.counts no_counts
+        (plus (F.seen flash.old).usage.counts one_write) }
 {
     if !may_confirm(flash) {
         return Ok(false);

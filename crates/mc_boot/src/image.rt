@@ -114,16 +114,7 @@ impl Images {
         }
     }
 
-    /// By the bytes of the slots. Of the primary no digest is asked.
-    pub fn read<F: Flash>(flash: &F) -> Images
-        ensures { result ≡ images_of (F.seen flash.now).content }
-    {
-        let primary = image_size(slot_bytes(flash, Slot::Primary));
-        let secondary = Held::read(slot_bytes(flash, Slot::Secondary));
-        Images::new(primary, &secondary)
-    }
-
-    /// The same where the secondary's image is known to be valid. It hashes nothing.
+    /// By the bytes of the slots, where the secondary's image is known to be valid. It hashes nothing.
     pub fn read_valid<F: Flash>(flash: &F) -> Images
         requires { is_valid (F.seen flash.now).content.secondary ≡ true }
         ensures { result ≡ images_of (F.seen flash.now).content }

@@ -2,9 +2,10 @@
 ghost use Rattle.std.specs.Prelude.{◌≡◌, ◌≤◌, ◌^◌, true, length, take, IfSome, option_map, Some};
 ghost use Rattle.mc_image.specs.Bytes.{IsBytes};
 ghost use Rattle.mc_image.specs.Valid.{id_of};
-ghost use Rattle.mc_boot.specs.Image.{image_size, identity_of};
+ghost use Rattle.mc_boot.specs.Image.{image_size, images_of, identity_of};
 
-use crate::image::{Held, ImageId};
+use crate::image::{Held, ImageId, Images, image_size, slot_bytes};
+use mc_flash::{Flash, Slot};
 use mc_image::same_front;
 
 /// A valid image: bytes that begin with it, and what tells it apart. It takes no memory.
@@ -84,5 +85,17 @@ impl Held {
             },
             None => Held::read(bytes),
         }
+    }
+}
+
+impl Images {
+    /// By the bytes of the slots. Of the primary no digest is asked; the secondary's image is hashed where it is none of those that
+    /// are known.
+    pub fn read_among<F: Flash>(flash: &F, known: &[Option<KnownImage<'_>>]) -> Images
+        ensures { result ≡ images_of (F.seen flash.now).content }
+    {
+        let primary = image_size(slot_bytes(flash, Slot::Primary));
+        let secondary = Held::read_among(slot_bytes(flash, Slot::Secondary), known);
+        Images::new(primary, &secondary)
     }
 }

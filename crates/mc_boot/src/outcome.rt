@@ -75,7 +75,7 @@ impl Outcome {
             ops,
             primary: primary.id,
             secondary: secondary.id,
-            next: Boot::begin(flash, rules, Some(images)).kind(),
+            next: Boot::begin(flash, rules, Some(images), &[]).kind(),
         }
     }
 }

@@ -3,13 +3,13 @@ use Rattle.std.specs.Prelude.{◌≡◌, ℕ, ◌+◌, ◌*◌, ◌≤◌, Bool,
 use Rattle.std.proofs.Common.{arith, sym, ap, subst, ◌∙◌}
 use Rattle.mc_flash.specs.Content.{Content}
 use Rattle.mc_flash.specs.Geometry.{Geometry, IsLayout}
-use Rattle.mc_flash.specs.Ledger.{Ledger, Limits, most_operations, most_saved}
+use Rattle.mc_flash.specs.Usage.{Usage, Limits, most_operations, most_saved}
 use Rattle.mc_flash.specs.Seen.{Seen, Loads}
 use Rattle.mc_flash.specs.Spends.{Spent}
 use Rattle.mc_flash.specs.declared.flash.Grain.{Grain}
 use Rattle.mc_flash.specs.declared.flash.Grain.TheVariants as grains
 use Rattle.mc_trailer.specs.declared.tables.Rules.{Rules}
-use Rattle.mc_walk.specs.Walks.{IsClear, IsFresh, IsOf, Walked, start_of}
+use Rattle.mc_walk.specs.Walks.{IsClear, IsFresh, IsOf, Walked, origin_of}
 use Rattle.mc_boot.specs.PowerOn.{PowerOn}
 use Rattle.mc_explore.specs.facts.Room.{limits_are}
 use Rattle.mc_campaign.specs.Places.{Places, no_places, pairs_of}
@@ -27,19 +27,19 @@ module _ (counted : Bool) (g : Geometry) (primary secondary : List ℕ) (f : See
   -- It serves for a walk of three cuts fewer than there are boots.
   pub clear : (r : Rules) (confirms : Bool) (bound boots : ℕ) → boots ≡ bound + 3 → Loads counted g primary secondary r.grain boots f → IsClear (twice_kind r g confirms) bound f
   clear r confirms bound boots many l =
-      let limits = limits_are r.grain g boots f.ledger.limits l.room in
+      let limits = limits_are r.grain g boots f.usage.limits l.room in
       let some = some_operations r.grain g in
       let entries : boots * most_operations r.grain g ≡ bound * most_operations r.grain g + 3 * most_operations r.grain g =
       ap (λ n. n * most_operations r.grain g) many ∙ three bound (most_operations r.grain g) in
       let saved : boots * most_saved g ≡ bound * most_saved g + 3 * most_saved g = ap (λ n. n * most_saved g) many ∙ three bound (most_saved g) in
       record {
         none = l.none;
-        counts = ap (λ (x : Ledger). x.counts) l.ledger_is;
+        counts = ap (λ (x : Usage). x.counts) l.usage_is;
         layout_is = l.geometry_is;
         roomy = record {
           entries = omega (arith, limits.for_entries, entries, some);
           saved = omega (arith, limits.for_saved, saved);
-          marks = omega (arith, limits.for_marks, many);
+          checkpoints = omega (arith, limits.for_checkpoints, many);
         };
       }
     where
@@ -53,17 +53,17 @@ pub loaded : (counted : Bool) (start : PowerOn) (confirms : Bool) (primary secon
     → IsOf b bound f w → IsFresh (twice_kind b.once.rules b.once.layout b.confirms) w → Spent 0 f w.seen → IsLayout start.geometry
     → IsLoaded counted start confirms bound w
 loaded counted start confirms primary secondary bound many f b w l is content of fresh spent valid =
-    let at : start_of w.seen ≡ start.content = of.start ∙ l.content_is ∙ sym content in
+    let at : origin_of w.seen ≡ start.content = of.origin ∙ l.content_is ∙ sym content in
     let branches : w.branches ≡ record { once = record { rules = start.rules; layout = start.geometry }; confirms = confirms } = of.branches_are ∙ is in
     record {
-      start_is = ap (λ (x : Twice). record { geometry = x.once.layout; rules = x.once.rules; content = start_of w.seen }) branches
+      start_is = ap (λ (x : Twice). record { geometry = x.once.layout; rules = x.once.rules; content = origin_of w.seen }) branches
           ∙ ap (λ (x : Content). record { geometry = start.geometry; rules = start.rules; content = x }) at;
       choice_is = ap (λ (x : Twice). x.confirms) branches;
       bound_is = of.bound_is;
       fresh = subst (λ (x : Twice). IsFresh (twice_kind x.once.rules x.once.layout x.confirms) w) (sym of.branches_are) fresh;
       counted_is = ap (λ (x : Limits). x.counted) spent.limits ∙ l.counted_is;
-      idle = omega (arith, spent.applied, ap (λ (x : Ledger). x.applied) l.ledger_is);
-      calm = spent.failed ∙ ap (λ (x : Ledger). x.failed) l.ledger_is;
+      idle = omega (arith, spent.applied, ap (λ (x : Usage). x.applied) l.usage_is);
+      calm = spent.failed ∙ ap (λ (x : Usage). x.failed) l.usage_is;
       valid = valid;
     }
 

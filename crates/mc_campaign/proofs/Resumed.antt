@@ -3,9 +3,9 @@ use Rattle.std.specs.Prelude.{◌≡◌, ◌≤◌, ℕ, Bool, true, false, refl
 use Rattle.std.proofs.Common.{sym, ap, subst, ◌∙◌}
 use Rattle.mc_tree.specs.Paths.{After}
 use Rattle.mc_flash.specs.Geometry.{IsLayout}
-use Rattle.mc_flash.specs.Ledger.{Limits}
+use Rattle.mc_flash.specs.Usage.{Limits}
 use Rattle.mc_flash.specs.Spends.{Spent}
-use Rattle.mc_walk.specs.Walks.{Walked, Begins, start_of}
+use Rattle.mc_walk.specs.Walks.{Walked, Begins, origin_of}
 use Rattle.mc_walk.specs.declared.tour.Phase.TheVariants as phases
 use Rattle.mc_boot.specs.PowerOn.{PowerOn, power_on}
 use Rattle.mc_campaign.specs.Campaigns.{IsMember}
@@ -33,7 +33,7 @@ module _ (counted : Bool) (start : PowerOn) (confirms : Bool) (bound n : ℕ) (l
   pub valid_there : IsLayout one.branches.once.layout
   valid_there = subst (λ (s : PowerOn). IsLayout s.geometry) (sym one_start) l.valid
 
-  listed_there : (IsMember (power_on one.branches.once.rules one.branches.once.layout (start_of one.seen)) one.branches.confirms one.bound last)
+  listed_there : (IsMember (power_on one.branches.once.rules one.branches.once.layout (origin_of one.seen)) one.branches.confirms one.bound last)
       ≡ (IsMember start confirms bound last)
   listed_there =
       ap (λ (s : PowerOn). IsMember s one.branches.confirms one.bound last) one_start
@@ -52,15 +52,15 @@ module _ (counted : Bool) (start : PowerOn) (confirms : Bool) (bound n : ℕ) (l
     pub listed : IsMember start confirms bound last
     listed =
         let x = there went is f in
-        subst (λ (T : Type 0). T) listed_there (member_of one.branches.once.rules one.branches.once.layout one.branches.confirms (start_of one.seen) one.bound last two.path x.0)
+        subst (λ (T : Type 0). T) listed_there (member_of one.branches.once.rules one.branches.once.layout one.branches.confirms (origin_of one.seen) one.bound last two.path x.0)
 
     pub behind_it : state_of two (After last) ≡ behind start confirms bound last
     behind_it =
         let x = there went is f in
         same_state one two (After last) x.1 calm.failed
-        ∙ ap (λ (s : PowerOn). record { start = s; confirms = one.branches.confirms; bound = one.bound; position = After last; failed = one.seen.ledger.failed }) one_start
-        ∙ ap (λ k. record { start = start; confirms = k; bound = one.bound; position = After last; failed = one.seen.ledger.failed }) one_choice
-        ∙ ap (λ m. record { start = start; confirms = confirms; bound = m; position = After last; failed = one.seen.ledger.failed }) one_bound
+        ∙ ap (λ (s : PowerOn). record { start = s; confirms = one.branches.confirms; bound = one.bound; position = After last; failed = one.seen.usage.failed }) one_start
+        ∙ ap (λ k. record { start = start; confirms = k; bound = one.bound; position = After last; failed = one.seen.usage.failed }) one_choice
+        ∙ ap (λ m. record { start = start; confirms = confirms; bound = m; position = After last; failed = one.seen.usage.failed }) one_bound
         ∙ ap (λ k. record { start = start; confirms = confirms; bound = bound; position = After last; failed = k }) (spent.failed ∙ l.calm)
 
     pub resumed : IsSound counted start confirms bound (record { walk = two; phase = phases.Going }) last

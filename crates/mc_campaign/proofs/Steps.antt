@@ -5,8 +5,8 @@ use Rattle.std.proofs.lemmas.List.{take_all}
 use Rattle.mc_tree.specs.Twice.{Place, first, second}
 use Rattle.mc_flash.specs.Content.{Content}
 use Rattle.mc_flash.specs.Geometry.{Geometry, IsLayout}
-use Rattle.mc_flash.specs.Ledger.{Counts, Limits, no_counts}
-use Rattle.mc_flash.specs.facts.Ledger.{few_operations}
+use Rattle.mc_flash.specs.Usage.{Counts, Limits, no_counts}
+use Rattle.mc_flash.specs.facts.Usage.{few_operations}
 use Rattle.mc_flash.specs.Seen.{Seen}
 use Rattle.mc_flash.specs.Spends.{Allows, LeaveRoom, plus, room_of}
 use Rattle.mc_flash.specs.declared.op.Op.{Op}
@@ -143,9 +143,9 @@ module _ (r : Rules) (g : Geometry) (confirms : Bool) where
 
   -- There is room for the write between the rounds.
   pub room_between : (boot boot' : Boot) (ops : ℕ) (later : Told) (old mid : Seen) → Allows (left_of_way r g (ways.First boot ops later)) old
-      → LeaveRoom mid.ledger.counts (left_of g (progress boot')) (plus old.ledger.counts (left_of g (progress boot))) → mid.ledger.limits ≡ old.ledger.limits → Allows one_write mid
+      → LeaveRoom mid.usage.counts (left_of g (progress boot')) (plus old.usage.counts (left_of g (progress boot))) → mid.usage.limits ≡ old.usage.limits → Allows one_write mid
   room_between boot boot' ops later old mid room c same =
-      let P : Limits → Type 0 = λ l. LeaveRoom mid.ledger.counts one_write (room_of l) in
+      let P : Limits → Type 0 = λ l. LeaveRoom mid.usage.counts one_write (room_of l) in
       subst P (sym same) (record { entries = omega (arith, room.entries, c.entries); saved = omega (arith, room.saved, c.saved) })
 
   -- ---- what is told of a child

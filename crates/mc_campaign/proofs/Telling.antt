@@ -9,13 +9,13 @@ use Rattle.mc_tree.specs.Paths.{After, IsNextIn, IsOverIn, IsPastIn, Position}
 use Rattle.mc_tree.specs.facts.Rounds.{both_first, both_second, first_of, second_of}
 use Rattle.mc_flash.specs.Content.{Content}
 use Rattle.mc_flash.specs.Geometry.{Geometry}
-use Rattle.mc_flash.specs.Ledger.{Limits}
+use Rattle.mc_flash.specs.Usage.{Limits}
 use Rattle.mc_trailer.specs.declared.tables.Rules.{Rules}
 use Rattle.mc_boot.specs.Outcome.{shown}
 use Rattle.mc_boot.specs.declared.outcome.Outcome.{Outcome}
 use Rattle.mc_walk.specs.Kind.{Kind}
 use Rattle.mc_walk.specs.Tours.{StandsAt, Toured, Visits, position_of}
-use Rattle.mc_walk.specs.Walks.{Walked, IsPath, IsSame, IsThere, start_of}
+use Rattle.mc_walk.specs.Walks.{Walked, IsPath, IsSame, IsThere, origin_of}
 use Rattle.mc_walk.specs.facts.Same.{over_there}
 use Rattle.mc_walk.specs.declared.tour.Phase.{Phase}
 use Rattle.mc_walk.specs.declared.tour.Phase.TheVariants as phases
@@ -106,32 +106,32 @@ module _ (r : Rules) (g : Geometry) (confirms : Bool) (s : Content) (bound : ℕ
 
 pub same_begun : (old new : Walked Twice) → IsSame old new → begun_of new ≡ begun_of old
 same_begun old new s =
-    ap (λ (b : Twice). record { geometry = b.once.layout; rules = b.once.rules; content = start_of new.seen }) s.branches
-    ∙ ap (λ (c : Content). record { geometry = old.branches.once.layout; rules = old.branches.once.rules; content = c }) s.start
+    ap (λ (b : Twice). record { geometry = b.once.layout; rules = b.once.rules; content = origin_of new.seen }) s.branches
+    ∙ ap (λ (c : Content). record { geometry = old.branches.once.layout; rules = old.branches.once.rules; content = c }) s.origin
 
-pub same_state : (old new : Walked Twice) (position : Position Places) → IsSame old new → new.seen.ledger.failed ≡ old.seen.ledger.failed → state_of new position ≡ state_of old position
+pub same_state : (old new : Walked Twice) (position : Position Places) → IsSame old new → new.seen.usage.failed ≡ old.seen.usage.failed → state_of new position ≡ state_of old position
 same_state old new position s calm =
-    ap (λ (b : PowerOn). record { start = b; confirms = new.branches.confirms; bound = new.bound; position = position; failed = new.seen.ledger.failed }) (same_begun old new s)
-    ∙ ap (λ (b : Twice). record { start = begun_of old; confirms = b.confirms; bound = new.bound; position = position; failed = new.seen.ledger.failed }) s.branches
-    ∙ ap (λ (n : ℕ). record { start = begun_of old; confirms = old.branches.confirms; bound = n; position = position; failed = new.seen.ledger.failed }) s.bound
+    ap (λ (b : PowerOn). record { start = b; confirms = new.branches.confirms; bound = new.bound; position = position; failed = new.seen.usage.failed }) (same_begun old new s)
+    ∙ ap (λ (b : Twice). record { start = begun_of old; confirms = b.confirms; bound = new.bound; position = position; failed = new.seen.usage.failed }) s.branches
+    ∙ ap (λ (n : ℕ). record { start = begun_of old; confirms = old.branches.confirms; bound = n; position = position; failed = new.seen.usage.failed }) s.bound
     ∙ ap (λ (f : Bool). record { start = begun_of old; confirms = old.branches.confirms; bound = old.bound; position = position; failed = f }) calm
 
 -- A path is that of the same campaign.
 abbrev pub IsPathFor : Walked Twice → List ℕ → Places → Type 0
-IsPathFor w path c = IsPathOf (power_on w.branches.once.rules w.branches.once.layout (start_of w.seen)) w.branches.confirms w.bound path c
+IsPathFor w path c = IsPathOf (power_on w.branches.once.rules w.branches.once.layout (origin_of w.seen)) w.branches.confirms w.bound path c
 
 pub path_there : (old new : Walked Twice) (path : List ℕ) (c : Places) → IsSame old new → IsPathFor old path c → IsPathFor new path c
 path_there old new path c s p =
-    let at_branches = subst (λ (b : Twice). IsPathOf (power_on b.once.rules b.once.layout (start_of old.seen)) b.confirms old.bound path c) (sym s.branches) p in
-    let at_start = subst (λ x. IsPathOf (power_on new.branches.once.rules new.branches.once.layout x) new.branches.confirms old.bound path c) (sym s.start) at_branches in
-    subst (λ n. IsPathOf (power_on new.branches.once.rules new.branches.once.layout (start_of new.seen)) new.branches.confirms n path c) (sym s.bound) at_start
+    let at_branches = subst (λ (b : Twice). IsPathOf (power_on b.once.rules b.once.layout (origin_of old.seen)) b.confirms old.bound path c) (sym s.branches) p in
+    let at_start = subst (λ x. IsPathOf (power_on new.branches.once.rules new.branches.once.layout x) new.branches.confirms old.bound path c) (sym s.origin) at_branches in
+    subst (λ n. IsPathOf (power_on new.branches.once.rules new.branches.once.layout (origin_of new.seen)) new.branches.confirms n path c) (sym s.bound) at_start
 
 pub pairs_there : (old new : Walked Twice) (path : List ℕ) → IsSame old new
-    → pairs_along new.branches.once.rules new.branches.once.layout new.branches.confirms (start_of new.seen) path
-    ≡ pairs_along old.branches.once.rules old.branches.once.layout old.branches.confirms (start_of old.seen) path
+    → pairs_along new.branches.once.rules new.branches.once.layout new.branches.confirms (origin_of new.seen) path
+    ≡ pairs_along old.branches.once.rules old.branches.once.layout old.branches.confirms (origin_of old.seen) path
 pairs_there old new path s =
-    ap (λ (b : Twice). pairs_along b.once.rules b.once.layout b.confirms (start_of new.seen) path) s.branches
-    ∙ ap (λ x. pairs_along old.branches.once.rules old.branches.once.layout old.branches.confirms x path) s.start
+    ap (λ (b : Twice). pairs_along b.once.rules b.once.layout b.confirms (origin_of new.seen) path) s.branches
+    ∙ ap (λ x. pairs_along old.branches.once.rules old.branches.once.layout old.branches.confirms x path) s.origin
 
 -- ---- what a visit finds
 
@@ -140,8 +140,8 @@ pub record Visited (counted : Bool) (start : PowerOn) (confirms : Bool) (bound :
   pub works : old.phase ≢ phases.Broken
   pub sound : IsSound counted start confirms bound old last
   pub visits : Visits (kind_of old.walk.branches) old (position_of old.phase (sound works).1.path) went new
-  pub limits : new.walk.seen.ledger.limits ≡ old.walk.seen.ledger.limits
-  pub failed : new.walk.seen.ledger.failed ≡ old.walk.seen.ledger.failed
+  pub limits : new.walk.seen.usage.limits ≡ old.walk.seen.usage.limits
+  pub failed : new.walk.seen.usage.failed ≡ old.walk.seen.usage.failed
 
 module _ (counted : Bool) (start : PowerOn) (confirms : Bool) (bound : ℕ) (old new : Toured Twice) (last : Places) where
   abbrev w : Walked Twice
@@ -167,10 +167,10 @@ module _ (counted : Bool) (start : PowerOn) (confirms : Bool) (bound : ℕ) (old
     behind = (v.sound v.works).1
 
     abbrev cuts : List (ℕ × ℕ)
-    cuts = pairs_along w.branches.once.rules w.branches.once.layout w.branches.confirms (start_of w.seen) new.walk.path
+    cuts = pairs_along w.branches.once.rules w.branches.once.layout w.branches.confirms (origin_of w.seen) new.walk.path
 
     path_is : IsPathFor w new.walk.path (placed cuts)
-    path_is = campaign_of w.branches.once.rules w.branches.once.layout w.branches.confirms (start_of w.seen) w.bound new.walk.path v.visits.0.listed
+    path_is = campaign_of w.branches.once.rules w.branches.once.layout w.branches.confirms (origin_of w.seen) w.bound new.walk.path v.visits.0.listed
 
     pub stands_next : new.walk.stands ≡ true
     stands_next = v.visits.3
@@ -184,12 +184,12 @@ module _ (counted : Bool) (start : PowerOn) (confirms : Bool) (bound : ℕ) (old
 
     told_next : (told : Both) → IsThere (kind_of new.walk.branches) new.walk told
         → AreTold w.branches.once.rules w.branches.once.layout w.branches.confirms
-        (landed (rounds w.branches.once.rules w.branches.once.layout w.branches.confirms) (first (start_of w.seen)) new.walk.path) told
+        (landed (rounds w.branches.once.rules w.branches.once.layout w.branches.confirms) (first (origin_of w.seen)) new.walk.path) told
     told_next told there =
-        let P : Twice → Type 0 = λ b. AreTold b.once.rules b.once.layout b.confirms (landed (rounds b.once.rules b.once.layout b.confirms) (first (start_of new.walk.seen)) new.walk.path) told in
+        let P : Twice → Type 0 = λ b. AreTold b.once.rules b.once.layout b.confirms (landed (rounds b.once.rules b.once.layout b.confirms) (first (origin_of new.walk.seen)) new.walk.path) told in
         let Q : Content → Type 0 = λ x. AreTold w.branches.once.rules w.branches.once.layout w.branches.confirms
         (landed (rounds w.branches.once.rules w.branches.once.layout w.branches.confirms) (first x) new.walk.path) told in
-        subst Q v.visits.1.start (subst P v.visits.1.branches there.told_is)
+        subst Q v.visits.1.origin (subst P v.visits.1.branches there.told_is)
 
     pub finds_row : (told : Both) → IsThere (kind_of new.walk.branches) new.walk told → (row : CampaignRow) → row.campaign ≡ placed cuts → row.first ≡ told.first.outcome
         → row.second ≡ told.second.outcome → Finds (state_of w here) (Some row)
@@ -197,12 +197,12 @@ module _ (counted : Bool) (start : PowerOn) (confirms : Bool) (bound : ℕ) (old
         let r = w.branches.once.rules in
         let g = w.branches.once.layout in
         let k = w.branches.confirms in
-        let outcomes = outcomes_told r g k (start_of w.seen) w.bound new.walk.path (placed cuts) told path_is (told_next told there) in
-        let P : Places → Type 0 = λ d. (z : Content) × AreReplayed (power_on r g (start_of w.seen)) k d (shown told.first.outcome) (shown told.second.outcome) z in
-        let Q : Outcome → Type 0 = λ o. (z : Content) × AreReplayed (power_on r g (start_of w.seen)) k row.campaign (shown o) (shown told.second.outcome) z in
-        let R : Outcome → Type 0 = λ o. (z : Content) × AreReplayed (power_on r g (start_of w.seen)) k row.campaign (shown row.first) (shown o) z in (
-          subst (IsNextIn Precedes (IsMember (power_on r g (start_of w.seen)) k w.bound) here) (sym is)
-              (next_campaign r g k (start_of w.seen) w.bound behind.path last behind.path_is old.phase new.walk.path (placed cuts) path_is v.visits.0),
+        let outcomes = outcomes_told r g k (origin_of w.seen) w.bound new.walk.path (placed cuts) told path_is (told_next told there) in
+        let P : Places → Type 0 = λ d. (z : Content) × AreReplayed (power_on r g (origin_of w.seen)) k d (shown told.first.outcome) (shown told.second.outcome) z in
+        let Q : Outcome → Type 0 = λ o. (z : Content) × AreReplayed (power_on r g (origin_of w.seen)) k row.campaign (shown o) (shown told.second.outcome) z in
+        let R : Outcome → Type 0 = λ o. (z : Content) × AreReplayed (power_on r g (origin_of w.seen)) k row.campaign (shown row.first) (shown o) z in (
+          subst (IsNextIn Precedes (IsMember (power_on r g (origin_of w.seen)) k w.bound) here) (sym is)
+              (next_campaign r g k (origin_of w.seen) w.bound behind.path last behind.path_is old.phase new.walk.path (placed cuts) path_is v.visits.0),
           subst R (sym two) (subst Q (sym one) (subst P (sym is) outcomes)),
         )
 
@@ -226,7 +226,7 @@ module _ (counted : Bool) (start : PowerOn) (confirms : Bool) (bound : ℕ) (old
 
     pub finds_none : states.IsOver (state_of w here)
     finds_none =
-        over_campaign w.branches.once.rules w.branches.once.layout w.branches.confirms (start_of w.seen) w.bound before.path last before.path_is old.phase v.visits.0
+        over_campaign w.branches.once.rules w.branches.once.layout w.branches.confirms (origin_of w.seen) w.bound before.path last before.path_is old.phase v.visits.0
 
     stays_there : {K : Type 0} (x : K) → position_of phases.Done x ≡ position_of old.phase x
     stays_there x = by old.phase refl

@@ -2,7 +2,7 @@
 use Rattle.std.specs.Prelude.{◌≡◌, ℕ, ◌+◌, ◌*◌, Bool, Option, Some, None, Result}
 use Rattle.mc_tree.specs.Paths.{Lost}
 use Rattle.mc_flash.specs.Geometry.{Geometry}
-use Rattle.mc_flash.specs.Ledger.{most_operations}
+use Rattle.mc_flash.specs.Usage.{most_operations}
 use Rattle.mc_trailer.specs.declared.tables.Rules.{Rules}
 use Rattle.mc_explore.specs.Explores.{ExploresOn}
 use Rattle.mc_explore.specs.declared.error.ExploreError.{ExploreError}
@@ -11,7 +11,7 @@ use Rattle.mc_campaign.specs.declared.row.CampaignRow.{CampaignRow}
 
 -- It goes on as an explorer of schedules does.
 abbrev pub Explores : {A : Type 0} → Bool → Explored → Result A ExploreError → Explored → Type 0
-Explores = ExploresOn (λ explorer. explorer.ledger) (λ explorer. explorer.state.position ≡ Lost)
+Explores = ExploresOn (λ explorer. explorer.usage) (λ explorer. explorer.state.position ≡ Lost)
 
 -- The most operations for a row: two boots and the write between them, and two on the way to it.
 abbrev pub most_for_row : Rules → Geometry → ℕ

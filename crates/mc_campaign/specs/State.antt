@@ -2,7 +2,7 @@
 use Rattle.std.specs.Prelude.{ℕ, Bool, false, Option, Some, None}
 use Rattle.mc_tree.specs.Paths.{Position, AtStart, After, Lost, IsNextIn, IsOverIn}
 use Rattle.mc_flash.specs.Content.{Content}
-use Rattle.mc_flash.specs.Ledger.{Ledger}
+use Rattle.mc_flash.specs.Usage.{Usage}
 use Rattle.mc_boot.specs.Outcome.{Report, shown}
 use Rattle.mc_boot.specs.PowerOn.{PowerOn}
 use Rattle.mc_campaign.specs.Campaigns.{IsMember, Precedes}
@@ -70,9 +70,9 @@ abbrev pub at_start : PowerOn → Bool → ℕ → State
 at_start start confirms bound =
     record { start = start; confirms = confirms; bound = bound; position = AtStart; failed = false }
 
--- What callers see of an explorer: its state; the content of its flash and the ledger; and how many contents are marked there.
+-- What callers see of an explorer: its state; the content of its flash and the usage; and how many contents are marked there.
 pub record Explored : Type 0 where
   pub state : State
   pub content : Content
-  pub ledger : Ledger
+  pub usage : Usage
   pub marked : ℕ

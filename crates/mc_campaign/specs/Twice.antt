@@ -6,7 +6,7 @@ use Rattle.mc_tree.specs.Twice as trees
 use Rattle.mc_tree.specs.facts.Rounds.{child_second}
 use Rattle.mc_flash.specs.Content.{Content}
 use Rattle.mc_flash.specs.Geometry.{Geometry}
-use Rattle.mc_flash.specs.Ledger.{Counts, no_counts}
+use Rattle.mc_flash.specs.Usage.{Counts, no_counts}
 use Rattle.mc_flash.specs.Seen.{Seen}
 use Rattle.mc_flash.specs.Spends.{LeaveRoom, plus}
 use Rattle.mc_trailer.specs.declared.tables.Rules.{Rules}

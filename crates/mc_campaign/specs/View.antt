@@ -4,7 +4,7 @@ use Rattle.mc_tree.specs.Paths.{Position}
 use Rattle.mc_walk.specs.Tours.{StandsAt, Toured, position_of}
 use Rattle.mc_flash.specs.Geometry.{IsLayout}
 use Rattle.mc_flash.specs.Seen.{Seen}
-use Rattle.mc_walk.specs.Walks.{Walked, IsFresh, IsPath, IsSame, start_of}
+use Rattle.mc_walk.specs.Walks.{Walked, IsFresh, IsPath, IsSame, origin_of}
 use Rattle.mc_walk.specs.declared.tour.Phase.TheVariants.{Broken}
 use Rattle.mc_boot.specs.PowerOn.{PowerOn}
 use Rattle.mc_campaign.specs.Boots.{IsPathOf}
@@ -17,7 +17,7 @@ use Rattle.mc_campaign.specs.declared.rounds.Twice.{Twice}
 
 -- The start of a walk.
 abbrev pub begun_of : Walked Twice → PowerOn
-begun_of w = begins w.branches.once (start_of w.seen)
+begun_of w = begins w.branches.once (origin_of w.seen)
 
 -- The state of an explorer on that walk.
 abbrev pub state_of : Walked Twice → Position Places → State
@@ -26,15 +26,15 @@ state_of w position = record {
   confirms = w.branches.confirms;
   bound = w.bound;
   position = position;
-  failed = w.seen.ledger.failed;
+  failed = w.seen.usage.failed;
 }
 
 abbrev pub explored : Walked Twice → Position Places → Explored
 explored w position = record {
   state = state_of w position;
   content = w.seen.content;
-  ledger = w.seen.ledger;
-  marked = length w.seen.marks;
+  usage = w.seen.usage;
+  marked = length w.seen.checkpoints;
 }
 
 -- The walk is one from that start with that choice and so many cuts, and the flash counts where its kind does.
@@ -43,7 +43,7 @@ pub record IsOurs (counted : Bool) (start : PowerOn) (confirms : Bool) (bound : 
   pub choice_is : w.branches.confirms ≡ confirms
   pub bound_is : w.bound ≡ bound
   pub few : bound ≤ 16
-  pub counted_is : w.seen.ledger.limits.counted ≡ counted
+  pub counted_is : w.seen.usage.limits.counted ≡ counted
 
 -- The tour stands where the last row says: at the end of the path of its campaign.
 pub record StandsBehind (t : Toured Twice) (c : Places) : Type 0 where
@@ -62,9 +62,9 @@ pub record IsLoaded (counted : Bool) (start : PowerOn) (confirms : Bool) (bound 
   pub choice_is : w.branches.confirms ≡ confirms
   pub bound_is : w.bound ≡ bound
   pub fresh : IsFresh (twice_kind w.branches.once.rules w.branches.once.layout w.branches.confirms) w
-  pub counted_is : w.seen.ledger.limits.counted ≡ counted
-  pub idle : w.seen.ledger.applied ≡ 0
-  pub calm : w.seen.ledger.failed ≡ false
+  pub counted_is : w.seen.usage.limits.counted ≡ counted
+  pub idle : w.seen.usage.applied ≡ 0
+  pub calm : w.seen.usage.failed ≡ false
   pub valid : IsLayout start.geometry
 
 -- The kind of tree that a walk goes through, and the paths of a walk.
@@ -92,5 +92,5 @@ FollowsCampaign old c false new =
 
 -- The limits of a flash stay, and it was refused no memory.
 pub record IsCalm (old new : Seen) : Type 0 where
-  pub limits : new.ledger.limits ≡ old.ledger.limits
-  pub failed : new.ledger.failed ≡ old.ledger.failed
+  pub limits : new.usage.limits ≡ old.usage.limits
+  pub failed : new.usage.failed ≡ old.usage.failed

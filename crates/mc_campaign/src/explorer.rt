@@ -3,7 +3,7 @@ ghost use Rattle.std.specs.Prelude.{◌≡◌, ◌+◌, ◌≤◌, true, length,
 ghost use Rattle.mc_tree.specs.Paths.{After};
 ghost use Rattle.mc_tree.specs.Tree.{labelled};
 ghost use Rattle.mc_walk.specs.Walks.{root_of};
-ghost use Rattle.mc_flash.specs.Ledger.{limits_for};
+ghost use Rattle.mc_flash.specs.Usage.{limits_for};
 ghost use Rattle.mc_explore.specs.Start.{begun};
 ghost use Rattle.mc_campaign.specs.Boots.{pairs_along};
 ghost use Rattle.mc_campaign.specs.Cursor.{cursor_of};
@@ -92,8 +92,8 @@ impl<'a, F: Flash + Drop> CampaignExplorer<'a, F> {
         ensures ok { IfOk result (λ explorer. explorer.state
             ≡ at_start (begun start.now) confirms bound) }
         // No operation is done yet, and a flash that counts has room for exactly so many boots.
-        ensures applied { IfOk result (λ explorer. explorer.ledger.applied ≡ 0) }
-        ensures exact { IfOk result (λ explorer. F.counted ≡ true → explorer.ledger.limits
+        ensures applied { IfOk result (λ explorer. explorer.usage.applied ≡ 0) }
+        ensures exact { IfOk result (λ explorer. F.counted ≡ true → explorer.usage.limits
             ≡ limits_for start.now.rules.grain start.now.geometry (bound + 3)) }
         ensures err { IfErr result (λ e. e ≡ ExploreError.Memory) }
     {
@@ -125,7 +125,7 @@ impl<'a, F: Flash + Drop> CampaignExplorer<'a, F> {
     ) -> Result<CampaignExplorer<'a, F>, ExploreError>
         requires { bound ≤ 16 }
         ensures resumes { Resumes (begun start.now) confirms bound cursor.now result }
-        ensures exact { IfOk result (λ explorer. F.counted ≡ true → explorer.ledger.limits
+        ensures exact { IfOk result (λ explorer. F.counted ≡ true → explorer.usage.limits
             ≡ limits_for start.now.rules.grain start.now.geometry (bound + 3)) }
     {
         ask(start, bound, confirms, cursor)?;
@@ -159,7 +159,7 @@ impl<'a, F: Flash + Drop> CampaignExplorer<'a, F> {
             (λ row. RowRestarts s.start s.confirms (told row))) }
         // It takes at most two boots and three operations, and none where there is no row.
         ensures applied { IfOk result (λ
-            found. self.new.ledger.applied ≤ self.old.ledger.applied + row_cost
+            found. self.new.usage.applied ≤ self.old.usage.applied + row_cost
             self.old.state.start.rules self.old.state.start.geometry found) }
         // A flash that counts has enough memory. After an error the explorer has failed, and it stays so as it is.
         ensures explores { Explores F.counted self.old result self.new }
@@ -184,8 +184,8 @@ impl<'a, F: Flash + Drop> CampaignExplorer<'a, F> {
     /// The flash as it is.
     pub fn flash(&self) -> &F
         ensures content { (F.seen result.now).content ≡ self.now.content }
-        ensures ledger { (F.seen result.now).ledger ≡ self.now.ledger }
-        ensures marked { length (F.seen result.now).marks ≡ self.now.marked }
+        ensures usage { (F.seen result.now).usage ≡ self.now.usage }
+        ensures marked { length (F.seen result.now).checkpoints ≡ self.now.marked }
     {
         self.tour.walk().flash()
     }
@@ -236,7 +236,7 @@ impl<'a, F: Flash + Drop> RowSource for CampaignExplorer<'a, F> {
 
     ghost state = { λ explorer. explorer.state };
 
-    ghost ledger = { λ explorer. explorer.ledger };
+    ghost usage = { λ explorer. explorer.usage };
 
     ghost counted = { F.counted };
 
@@ -252,9 +252,14 @@ impl<'a, F: Flash + Drop> RowSource for CampaignExplorer<'a, F> {
         self.next_row()
     }
 
-    fn write_row<W: Write>(&self, row: CampaignRow, writer: &mut W) -> Result<(), ExploreError> {
-        let mut line = Line::new();
-        row.put_into(&mut line, &self.labels);
+    fn write_row<W: Write>(
+        &self,
+        row: &CampaignRow,
+        line: &mut Line,
+        writer: &mut W,
+    ) -> Result<(), ExploreError> {
+        line.clear();
+        row.put_into(line, &self.labels);
         line.put("\n");
         write_text(writer, line.as_str().as_bytes())
     }

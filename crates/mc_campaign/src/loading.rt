@@ -1,6 +1,6 @@
 //! The walk from a start through two rounds, the cursors of that start, and whether a cursor is one of them.
 ghost use Rattle.std.specs.Prelude.{◌≡◌, ◌+◌, ◌≤◌, true, IfOk, IfErr, OnOk};
-ghost use Rattle.mc_flash.specs.Ledger.{limits_for};
+ghost use Rattle.mc_flash.specs.Usage.{limits_for};
 ghost use Rattle.mc_explore.specs.Start.{begun};
 ghost use Rattle.mc_campaign.specs.Cursor.{Names, Refuses, cursor_of};
 ghost use Rattle.mc_campaign.specs.View.{IsLoaded};
@@ -26,7 +26,7 @@ pub(crate) fn load<F: Flash>(
 ) -> Result<Walk<F, Twice>, FlashError>
     requires { bound ≤ 16 }
     ensures loaded { IfOk result (IsLoaded F.counted (begun start.now) confirms bound) }
-    ensures exact { IfOk result (λ walk. F.counted ≡ true → walk.seen.ledger.limits
+    ensures exact { IfOk result (λ walk. F.counted ≡ true → walk.seen.usage.limits
         ≡ limits_for start.now.rules.grain start.now.geometry (bound + 3)) }
 {
     let layout = *start.layout();

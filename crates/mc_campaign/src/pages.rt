@@ -26,7 +26,7 @@ pub fn write_campaign_page<F: Flash + Drop, W: Write>(
     ensures began { OnErr result (PageBegan explorer.old.state limit (W.contents writer.old)
         (W.contents writer.new)) }
     // Each row takes as much as one by itself.
-    ensures applied { OnOk result (explorer.new.ledger.applied ≤ explorer.old.ledger.applied + limit
+    ensures applied { OnOk result (explorer.new.usage.applied ≤ explorer.old.usage.applied + limit
         * most_for_row explorer.old.state.start.rules explorer.old.state.start.geometry) }
     ensures explores { Explores F.counted explorer.old result explorer.new }
     ensures unwritten { IsErrOf result ExploreError.Failed → writer.new ≡ writer.old }

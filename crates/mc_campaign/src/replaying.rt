@@ -1,7 +1,7 @@
 //! One campaign of power cuts, replayed.
 ghost use Rattle.std.specs.Prelude.{◌≡◌, ◌+◌, ◌≤◌, true, length, IfOk, MatchResult};
 ghost use Rattle.mc_flash.specs.Content.{size_of};
-ghost use Rattle.mc_flash.specs.Ledger.{limits_for};
+ghost use Rattle.mc_flash.specs.Usage.{limits_for};
 ghost use Rattle.mc_flash.specs.declared.op.Slot.TheVariants.{Primary, Secondary};
 ghost use Rattle.mc_boot.specs.Outcome.{shown};
 ghost use Rattle.mc_explore.specs.Replay as replays;
@@ -35,7 +35,7 @@ fn replay_round<F: Flash>(
         (λ done. replays.IsReplayed s cuts.now (shown done.0) (F.seen done.1).content)
         (λ e. replays.Refuses s cuts.now e) }
     ensures geometry { IfOk result (λ done. (F.seen done.1).geometry ≡ once.now.layout) }
-    ensures exact { IfOk result (λ done. F.counted ≡ true → (F.seen done.1).ledger.limits
+    ensures exact { IfOk result (λ done. F.counted ≡ true → (F.seen done.1).usage.limits
         ≡ limits_for once.now.rules.grain once.now.layout boots) }
 {
     let walk = load_for(alloc, *once, primary, secondary, cuts.len() as u8, boots)?;
@@ -62,7 +62,7 @@ pub fn replay_campaign<F: Flash>(
         (λ e. Refuses s confirms campaign.now e) }
     ensures geometry { IfOk result (λ done. (F.seen done.2).geometry ≡ start.now.geometry) }
     // A flash that counts has room for exactly so many boots.
-    ensures exact { IfOk result (λ done. F.counted ≡ true → (F.seen done.2).ledger.limits
+    ensures exact { IfOk result (λ done. F.counted ≡ true → (F.seen done.2).usage.limits
         ≡ limits_for start.now.rules.grain start.now.geometry
         (length (pairs_of campaign.now) + 3)) }
     // The restart theorem, for both rounds of the campaign that was replayed.

@@ -1,7 +1,7 @@
 //! Two rounds of boots, one behind the other.
 ghost use Rattle.std.specs.Prelude.{◌≡◌, ◌+◌, IfOk, IfErr, OnOk};
 ghost use Rattle.mc_tree.specs.Twice.{first};
-ghost use Rattle.mc_flash.specs.Ledger.{no_counts};
+ghost use Rattle.mc_flash.specs.Usage.{no_counts};
 ghost use Rattle.mc_flash.specs.Seen.{Keeps};
 ghost use Rattle.mc_flash.specs.Spends.{Allows, HasRoom, LeaveRoom, Spends, Stays, plus};
 ghost use Rattle.mc_boot.specs.Confirm.{confirmed_if, one_write};
@@ -46,8 +46,8 @@ pub(crate) fn go_between<F: Flash>(confirms: bool, flash: &mut F) -> Result<(), 
     ensures content { OnOk result ((F.seen flash.new).content ≡ confirmed_if confirms
         (F.seen flash.old).geometry (F.seen flash.old).content) }
     ensures keeps { Keeps (F.seen flash.old) (F.seen flash.new) }
-    ensures counts { LeaveRoom (F.seen flash.new).ledger.counts no_counts
-        (plus (F.seen flash.old).ledger.counts one_write) }
+    ensures counts { LeaveRoom (F.seen flash.new).usage.counts no_counts
+        (plus (F.seen flash.old).usage.counts one_write) }
     ensures spends { Allows one_write (F.seen flash.old)
         → Spends 1 (F.seen flash.old) result (F.seen flash.new) }
     ensures err { IfErr result (λ e. e ≡ FlashError.Memory) }
@@ -77,7 +77,7 @@ impl Twice {
     {
         let first = self.once.run(flash, boot, start)?;
         go_between(self.confirms, flash)?;
-        let then = self.once.boot(flash);
+        let then = self.once.boot(flash, start);
         let second = self.once.run(flash, then, start)?;
         Ok(Both {
             round: Round::First,

@@ -93,7 +93,7 @@ impl Branches for Twice {
     }
 
     fn root<F: Flash>(self, flash: &mut F, start: &Start) -> Result<Both, FlashError> {
-        let boot = self.once.boot(flash);
+        let boot = self.once.boot(flash, start);
         self.tell(flash, boot, start)
     }
 

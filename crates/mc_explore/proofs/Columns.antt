@@ -15,8 +15,8 @@ use Rattle.mc_boot.specs.declared.rejoining.Rejoin.{Rejoin}
 use Rattle.mc_boot.specs.declared.boot.Boot.{Boot}
 use Rattle.mc_flash.specs.Content.{Content}
 use Rattle.mc_flash.specs.Geometry.{Geometry}
-use Rattle.mc_flash.specs.Ledger.{Counts, Limits}
-use Rattle.mc_flash.specs.Seen.{Keeps, Seen, marked, spot_of, went_back}
+use Rattle.mc_flash.specs.Usage.{Counts, Limits}
+use Rattle.mc_flash.specs.Seen.{Keeps, Seen, marked, checkpoint_of, went_back}
 use Rattle.mc_flash.specs.Spends.{Allows, HasRoom, LeaveRoom, Stays, plus}
 use Rattle.mc_flash.specs.facts.Spends.{keeps_both, keeps_none, spent_back, stays_back}
 use Rattle.mc_trailer.specs.declared.tables.Rules.{Rules}
@@ -38,16 +38,17 @@ one_more : (b n : ℕ) → (b + 1) * n ≡ b * n + n
 one_more b n = omega arith
 
 pub stays_none : (a : Seen) → StaysSo a a
-stays_none a = record { stays = record { geometry = refl; content = refl; marks = refl; counts = refl }; limits = refl }
+stays_none a = record { stays = record { geometry = refl; content = refl; checkpoints = refl; counts = refl }; limits = refl }
 
 pub kept_from : (old mid end : Seen) → mid ≡ marked old → Keeps (marked old) end → Keeps mid end
 kept_from old mid end m keeps = subst (λ (f : Seen). Keeps f end) (sym m) keeps
 
--- A flash that was marked and worked on, and is back at that mark.
-pub went_so : (old mid end new : Seen) (place : ℕ) → place ≡ length old.marks → mid ≡ marked old → Keeps mid end → end.ledger.limits ≡ old.ledger.limits → new ≡ went_back place end → StaysSo old new
+-- A flash that was marked and worked on, and is back at that checkpoint.
+pub went_so : (old mid end new : Seen) (place : ℕ) → place ≡ length old.checkpoints → mid ≡ marked old → Keeps mid end → end.usage.limits ≡ old.usage.limits → new ≡ went_back place end
+    → StaysSo old new
 went_so old mid end new place at m keeps limits is =
-    let back : new ≡ went_back (length old.marks) end = is ∙ ap (λ n. went_back n end) at in
-    subst (StaysSo old) (sym back) (record { stays = stays_back old mid end m keeps; limits = (spent_back (length old.marks) end).limits ∙ limits })
+    let back : new ≡ went_back (length old.checkpoints) end = is ∙ ap (λ n. went_back n end) at in
+    subst (StaysSo old) (sym back) (record { stays = stays_back old mid end m keeps; limits = (spent_back (length old.checkpoints) end).limits ∙ limits })
 
 module _ (r : Rules) (g : Geometry) where
   pub own_told : (s : Content) (told : Told) → IsTold (power_on r g s) told → report_totals (shown told.outcome) ≡ own_totals r g s
@@ -63,12 +64,12 @@ module _ (r : Rules) (g : Geometry) where
   -- On the way of a boot that begins with room for some more.
   pub record IsUnder (old : Seen) (left : Counts) (now : Seen) : Type 0 where
     pub keeps : Keeps (marked old) now
-    pub limits : now.ledger.limits ≡ old.ledger.limits
-    pub counts : LeaveRoom now.ledger.counts left (plus old.ledger.counts (most_of r g))
+    pub limits : now.usage.limits ≡ old.usage.limits
+    pub counts : LeaveRoom now.usage.counts left (plus old.usage.counts (most_of r g))
 
   module _ (old now : Seen) (left : Counts) (bound : ℕ) (room : HasRoomFor r g (bound + 1) old) (some : 1 ≤ bound) (u : IsUnder old left now) where
-    marks_are : length now.marks ≡ length old.marks + 1
-    marks_are = omega (arith, ap length u.keeps.marks, length-append old.marks (spot_of old ∷ []))
+    checkpoints_are : length now.checkpoints ≡ length old.checkpoints + 1
+    checkpoints_are = omega (arith, ap length u.keeps.checkpoints, length-append old.checkpoints (checkpoint_of old ∷ []))
 
     most : Counts
     most = most_of r g
@@ -82,7 +83,7 @@ module _ (r : Rules) (g : Geometry) where
             entries = omega (arith, entries, room.allows.entries, u.counts.entries, ap (λ (l : Limits). l.entries) u.limits);
             saved = omega (arith, saved, room.allows.saved, u.counts.saved, ap (λ (l : Limits). l.saved) u.limits);
           };
-          mark = omega (arith, marks_are, room.marks, some, ap (λ (l : Limits). l.marks) u.limits);
+          mark = omega (arith, checkpoints_are, room.checkpoints, some, ap (λ (l : Limits). l.checkpoints) u.limits);
         }
       where
         two : (b : ℕ) → 1 ≤ b → 2 ≤ b + 1
@@ -96,7 +97,7 @@ module _ (r : Rules) (g : Geometry) where
             entries = omega (arith, one_more bound (most_of r g).entries, room.allows.entries, u.counts.entries, ap (λ (l : Limits). l.entries) u.limits);
             saved = omega (arith, one_more bound (most_of r g).saved, room.allows.saved, u.counts.saved, ap (λ (l : Limits). l.saved) u.limits);
           };
-          marks = omega (arith, marks_are, room.marks, ap (λ (l : Limits). l.marks) u.limits);
+          checkpoints = omega (arith, checkpoints_are, room.checkpoints, ap (λ (l : Limits). l.checkpoints) u.limits);
         })
 
     pub pass_room : Allows left now
@@ -112,7 +113,7 @@ module _ (r : Rules) (g : Geometry) where
       let saved = mul-le-mul_right (most_of r g).saved some in
       record {
         allows = record { entries = omega (arith, entries, room.allows.entries); saved = omega (arith, saved, room.allows.saved) };
-        mark = omega (arith, room.marks, some);
+        mark = omega (arith, room.checkpoints, some);
       }
 
   pub still_room : (old new : Seen) (boots : ℕ) → StaysSo old new → HasRoomFor r g boots old → HasRoomFor r g boots new
@@ -121,14 +122,14 @@ module _ (r : Rules) (g : Geometry) where
       entries = omega (arith, room.allows.entries, ap (λ (n : Counts). n.entries) x.stays.counts, ap (λ (l : Limits). l.entries) x.limits);
       saved = omega (arith, room.allows.saved, ap (λ (n : Counts). n.saved) x.stays.counts, ap (λ (l : Limits). l.saved) x.limits);
     };
-    marks = omega (arith, room.marks, ap length x.stays.marks, ap (λ (l : Limits). l.marks) x.limits);
+    checkpoints = omega (arith, room.checkpoints, ap length x.stays.checkpoints, ap (λ (l : Limits). l.checkpoints) x.limits);
   }
 
   pub stays_under : (old now new : Seen) (left : Counts) → IsUnder old left now → StaysSo now new → IsUnder old left new
   stays_under old now new left u x = record {
-    keeps = record { geometry = x.stays.geometry ∙ u.keeps.geometry; marks = x.stays.marks ∙ u.keeps.marks };
+    keeps = record { geometry = x.stays.geometry ∙ u.keeps.geometry; checkpoints = x.stays.checkpoints ∙ u.keeps.checkpoints };
     limits = x.limits ∙ u.limits;
-    counts = subst (λ (n : Counts). LeaveRoom n left (plus old.ledger.counts (most_of r g))) (sym x.stays.counts) u.counts;
+    counts = subst (λ (n : Counts). LeaveRoom n left (plus old.usage.counts (most_of r g))) (sym x.stays.counts) u.counts;
   }
 
   -- The flash stands at a position that occurs, of which that is told.
@@ -165,12 +166,12 @@ module _ (r : Rules) (g : Geometry) where
   first_under s told old mid t m = subst (IsUnder old (left_of g (progress told.boot))) (sym m) (record {
     keeps = keeps_none (marked old);
     limits = refl;
-    counts = first_left r g s told t old.ledger.counts;
+    counts = first_left r g s told t old.usage.counts;
   })
 
   -- And at the next.
-  pub passed_under : (old now new : Seen) (left left' : Counts) → IsUnder old left now → Keeps now new → new.ledger.limits ≡ now.ledger.limits
-      → LeaveRoom new.ledger.counts left' (plus now.ledger.counts left) → IsUnder old left' new
+  pub passed_under : (old now new : Seen) (left left' : Counts) → IsUnder old left now → Keeps now new → new.usage.limits ≡ now.usage.limits
+      → LeaveRoom new.usage.counts left' (plus now.usage.counts left) → IsUnder old left' new
   passed_under old now new left left' u keeps limits counts = record {
     keeps = keeps_both (marked old) now new u.keeps keeps;
     limits = limits ∙ u.limits;

@@ -9,13 +9,13 @@ use Rattle.mc_tree.specs.Paths.{After, Lost}
 use Rattle.mc_tree.specs.facts.Order.{allowed_front}
 use Rattle.mc_flash.specs.Content.{Content}
 use Rattle.mc_flash.specs.Geometry.{Geometry, IsLayout}
-use Rattle.mc_flash.specs.Ledger.{Limits, most_operations}
+use Rattle.mc_flash.specs.Usage.{Limits, most_operations}
 use Rattle.mc_flash.specs.Seen.{Seen}
 use Rattle.mc_flash.specs.Spends.{Allows, LeaveRoom, Spent, room_of}
 use Rattle.mc_flash.specs.declared.op.Op.{Op}
 use Rattle.mc_trailer.specs.declared.tables.Rules.{Rules}
 use Rattle.mc_walk.specs.Kind.{telling}
-use Rattle.mc_walk.specs.Walks.{Walked, Begins, Follows, IsThere, path_cost, start_of}
+use Rattle.mc_walk.specs.Walks.{Walked, Begins, Follows, IsThere, path_cost, origin_of}
 use Rattle.mc_boot.specs.Boot.{Progress, progress}
 use Rattle.mc_boot.specs.Bounds.{left_of}
 use Rattle.mc_boot.specs.facts.Bounds.{ops_few}
@@ -72,18 +72,18 @@ module _ (counted : Bool) (start : PowerOn) (bound : ℕ) (path : List ℕ) (zer
   from_root : (l : List ℕ) → one.path ++ l ≡ l
   from_root l = ap (λ z. z ++ l) b.path
 
-  at_start : (l : List ℕ) → tree.IsMember (boots one.branches.rules one.branches.layout) (start_of one.seen) one.bound l → tree.IsMember (boots start.rules start.geometry) start.content bound l
+  at_start : (l : List ℕ) → tree.IsMember (boots one.branches.rules one.branches.layout) (origin_of one.seen) one.bound l → tree.IsMember (boots start.rules start.geometry) start.content bound l
   at_start l m =
       let P : PowerOn → Type 0 = λ s. tree.IsMember (boots s.rules s.geometry) s.content one.bound l in
       subst (λ n. tree.IsMember (boots start.rules start.geometry) start.content n l) one_bound (subst P one_start m)
 
   -- And those of its start are its own.
   at_one : (l : List ℕ) → tree.IsMember (boots start.rules start.geometry) start.content bound l
-      → tree.IsMember (boots one.branches.rules one.branches.layout) (start_of one.seen) one.bound (one.path ++ l)
+      → tree.IsMember (boots one.branches.rules one.branches.layout) (origin_of one.seen) one.bound (one.path ++ l)
   at_one l m =
       let P : PowerOn → Type 0 = λ s. tree.IsMember (boots s.rules s.geometry) s.content one.bound l in
       let here = subst P (sym one_start) (subst (λ n. tree.IsMember (boots start.rules start.geometry) start.content n l) (sym one_bound) m) in
-      subst (tree.IsMember (boots one.branches.rules one.branches.layout) (start_of one.seen) one.bound) (sym (from_root l)) here
+      subst (tree.IsMember (boots one.branches.rules one.branches.layout) (origin_of one.seen) one.bound) (sym (from_root l)) here
 
   -- There.
   pub followed : (went : Bool) → went ≡ true → Follows (once one.branches.rules one.branches.layout) path one went two
@@ -92,7 +92,7 @@ module _ (counted : Bool) (start : PowerOn) (bound : ℕ) (path : List ℕ) (zer
   followed false is f s t = absurd cc
   followed true is f s t =
       let path_is : two.path ≡ path = f.0 ∙ from_root path in
-      let allowed = at_start path (subst (tree.IsMember (boots one.branches.rules one.branches.layout) (start_of one.seen) one.bound) path_is f.1) in
+      let allowed = at_start path (subst (tree.IsMember (boots one.branches.rules one.branches.layout) (origin_of one.seen) one.bound) path_is f.1) in
       let P : PowerOn → Type 0 = λ x. Spent (telling (once x.rules x.geometry)) zero_walk.seen one.seen in
       let Q : PowerOn → Type 0 = λ x. Spent (path_cost (once x.rules x.geometry) path) one.seen two.seen in
       let first : Spent (telling (once start.rules start.geometry)) zero_walk.seen one.seen = subst P l.start_is s in
@@ -109,7 +109,7 @@ module _ (counted : Bool) (start : PowerOn) (bound : ℕ) (path : List ℕ) (zer
         counted_is = ap (λ (x : Limits). x.counted) (along.limits ∙ first.limits) ∙ l.counted_is;
         calm = along.failed ∙ first.failed ∙ l.calm;
         applied = sum (most_operations start.rules.grain start.geometry) bound (path_cost (once start.rules start.geometry) path) (length path * (2 * most_operations start.rules.grain start.geometry))
-            zero_walk.seen.ledger.applied one.seen.ledger.applied two.seen.ledger.applied l.idle first.applied along.applied cost few;
+            zero_walk.seen.usage.applied one.seen.usage.applied two.seen.usage.applied l.idle first.applied along.applied cost few;
       }
     where
       sum : (most n cost many a b c : ℕ) → a ≡ 0 → b ≤ a + most → c ≤ b + cost → cost ≤ many → many ≤ n * (2 * most) → c ≤ 2 * (n + 1) * most
@@ -159,8 +159,8 @@ started counted start bound w l few = λ _. record { start_is = l.start_is; boun
 
 pub behind_it : (counted : Bool) (start : PowerOn) (bound : ℕ) (path : List ℕ) (w : Walked Once) → Followed counted start bound path w → state_of w (After path) ≡ behind start bound path
 behind_it counted start bound path w f =
-    ap (λ (s : PowerOn). record { start = s; bound = w.bound; position = After path; failed = w.seen.ledger.failed }) f.start_is
-    ∙ ap (λ (n : ℕ). record { start = start; bound = n; position = After path; failed = w.seen.ledger.failed }) f.bound_is
+    ap (λ (s : PowerOn). record { start = s; bound = w.bound; position = After path; failed = w.seen.usage.failed }) f.start_is
+    ∙ ap (λ (n : ℕ). record { start = start; bound = n; position = After path; failed = w.seen.usage.failed }) f.bound_is
     ∙ ap (λ (b : Bool). record { start = start; bound = bound; position = After path; failed = b }) f.calm
 
 -- The start of an explorer behind a schedule is the one that it tells.
@@ -180,13 +180,13 @@ module _ (counted : Bool) (start : PowerOn) (bound : ℕ) (path : List ℕ) (w :
   abbrev cut : Content
   cut = landed (boots start.rules start.geometry) start.content path
 
-  node_is : landed (boots w.branches.rules w.branches.layout) (start_of w.seen) w.path ≡ cut
+  node_is : landed (boots w.branches.rules w.branches.layout) (origin_of w.seen) w.path ≡ cut
   node_is =
       ap (λ (s : PowerOn). landed (boots s.rules s.geometry) s.content w.path) f.start_is ∙ ap (landed (boots start.rules start.geometry) start.content) f.path_is
 
   pub told_here : IsTold (again start cut) told
   told_here =
-      let P : PowerOn → Type 0 = λ s. IsTold (again s (landed (boots w.branches.rules w.branches.layout) (start_of w.seen) w.path)) told in
+      let P : PowerOn → Type 0 = λ s. IsTold (again s (landed (boots w.branches.rules w.branches.layout) (origin_of w.seen) w.path)) told in
       subst (λ s. IsTold (again start s) told) node_is (subst P f.start_is there.told_is)
 
   pub layout_here : w.seen.geometry ≡ start.geometry
@@ -200,7 +200,7 @@ module _ (counted : Bool) (start : PowerOn) (bound : ℕ) (path : List ℕ) (w :
   pub room_here : Allows (left_of w.seen.geometry (progress told.boot)) w.seen
   room_here =
       let t = told_here in
-      let few : LeaveRoom w.seen.ledger.counts (left_of start.geometry (progress told.boot)) (room_of w.seen.ledger.limits) = record {
+      let few : LeaveRoom w.seen.usage.counts (left_of start.geometry (progress told.boot)) (room_of w.seen.usage.limits) = record {
         entries = omega (arith, there.room.allows.entries, t.few.few, ap (λ (p : Progress). length p.to_come) t.boot_is, ap (λ (s : PowerOn). most_operations s.rules.grain s.geometry) f.start_is);
         saved = omega (
           arith,
@@ -210,7 +210,7 @@ module _ (counted : Bool) (start : PowerOn) (bound : ℕ) (path : List ℕ) (w :
           ap (λ (s : PowerOn). (most_of s.rules s.geometry).saved) f.start_is,
         );
       } in
-      subst (λ (x : Geometry). LeaveRoom w.seen.ledger.counts (left_of x (progress told.boot)) (room_of w.seen.ledger.limits)) (sym layout_here) few
+      subst (λ (x : Geometry). LeaveRoom w.seen.usage.counts (left_of x (progress told.boot)) (room_of w.seen.usage.limits)) (sym layout_here) few
 
   -- What it leaves is what the replay leaves.
   pub replayed : (q : Progress) (new : Seen)

@@ -10,7 +10,7 @@ use Rattle.mc_flash.specs.Geometry.{Geometry}
 use Rattle.mc_trailer.specs.declared.tables.Rules.{Rules}
 use Rattle.mc_tree.specs.facts.Order.{landed-push}
 use Rattle.mc_walk.specs.Kind.{IsAt}
-use Rattle.mc_walk.specs.Walks.{IsLastStep, IsThere, Walked, start_of}
+use Rattle.mc_walk.specs.Walks.{IsLastStep, IsThere, Walked, origin_of}
 use Rattle.mc_walk.specs.declared.frame.Frame.{Frame}
 use Rattle.mc_boot.specs.After.{IsCut}
 use Rattle.mc_boot.specs.Boot.{IsBootOf, begun, progress}
@@ -85,33 +85,33 @@ module _ (w : Walked Once) (f : Frame Boot Told) (told : Told) (of path : List �
   g = w.branches.layout
 
   abbrev before : Content
-  before = flash_at (power_on r g (start_of w.seen)) of
+  before = flash_at (power_on r g (origin_of w.seen)) of
 
-  before_is : flash_at (power_on r g (start_of w.seen)) step.before ≡ before
-  before_is = ap (flash_at (power_on r g (start_of w.seen))) (last_alike step.before of f.number last (sym step.path_is ∙ sym path_is ∙ split))
+  before_is : flash_at (power_on r g (origin_of w.seen)) step.before ≡ before
+  before_is = ap (flash_at (power_on r g (origin_of w.seen))) (last_alike step.before of f.number last (sym step.path_is ∙ sym path_is ∙ split))
 
-  here_is : flash_at (power_on r g (start_of w.seen)) path ≡ at_cut (power_on r g before) f.number
+  here_is : flash_at (power_on r g (origin_of w.seen)) path ≡ at_cut (power_on r g before) f.number
   here_is =
-      ap (flash_at (power_on r g (start_of w.seen))) (path_is ∙ step.path_is) ∙ landed-push (boots r g) (start_of w.seen) step.before f.number
+      ap (flash_at (power_on r g (origin_of w.seen))) (path_is ∙ step.path_is) ∙ landed-push (boots r g) (origin_of w.seen) step.before f.number
       ∙ ap (λ s. at_cut (power_on r g s) f.number) before_is
 
   pub last_cuts_there : (outcomes : List Outcome) (x : Rejoin)
       → ((y : Rules) (v : Content) (whole : Report) → IsCut (power_on y w.seen.geometry v) w.seen.content f.at whole → progress told.boot ≡ begun y (plan (powered y w.seen))
       → IsRejoined (power_on y w.seen.geometry v) w.seen.content x)
       → length outcomes ≡ f.parent.outcome.ops → 1 ≤ told.outcome.ops → told.outcome.ops ≤ 2 ^ 31
-      → AreLastCuts (power_on r g (start_of w.seen)) of path outcomes (record { rejoin = x; count = told.outcome.ops; next = 0 })
+      → AreLastCuts (power_on r g (origin_of w.seen)) of path outcomes (record { rejoin = x; count = told.outcome.ops; next = 0 })
   last_cuts_there outcomes x joins whole some small =
       let at = subst (λ s. IsAt (once r g) s f.number f.at w.seen) before_is step.at_is in
       let early = subst (λ s. f.number < length (ops_of (power_on r g s))) before_is step.some in
       let parent = subst (λ s. IsTold (power_on r g s) f.parent) before_is step.parent_is in
-      let child : IsTold (power_on r g (flash_at (power_on r g (start_of w.seen)) path)) told = subst (λ l. IsTold (power_on r g (flash_at (power_on r g (start_of w.seen)) l)) told)
+      let child : IsTold (power_on r g (flash_at (power_on r g (origin_of w.seen)) path)) told = subst (λ l. IsTold (power_on r g (flash_at (power_on r g (origin_of w.seen)) l)) told)
       (sym path_is) there.told_is in
       let rejoined = joined_here r g before f.number f.at told f.parent w.seen x at early parent (subst (λ s. IsTold (power_on r g s) told) here_is child) joins in
       record {
         number = last;
         path_is = split;
         rejoined = subst (λ u. IsRejoined (power_on r g before) u x) (sym here_is) rejoined;
-        count_is = width_is r g told (flash_at (power_on r g (start_of w.seen)) path) child;
+        count_is = width_is r g told (flash_at (power_on r g (origin_of w.seen)) path) child;
         whole = whole ∙ width_is r g f.parent before parent;
         some = some;
         small = small;

@@ -4,7 +4,7 @@ use Rattle.std.proofs.Common.{arith, sym, ap, subst, ◌∙◌}
 use Rattle.std.proofs.Math.Nat.{mul-le-mul_right}
 use Rattle.mc_flash.specs.Content.{Content}
 use Rattle.mc_flash.specs.Geometry.{Geometry, IsLayout}
-use Rattle.mc_flash.specs.Ledger.{Ledger, Limits, most_operations, most_saved}
+use Rattle.mc_flash.specs.Usage.{Usage, Limits, most_operations, most_saved}
 use Rattle.mc_flash.specs.Seen.{Seen, Loads}
 use Rattle.mc_flash.specs.Spends.{Allows, Spent}
 use Rattle.mc_trailer.specs.declared.tables.Rules.{Rules}
@@ -14,7 +14,7 @@ use Rattle.mc_boot.specs.Plan.{plain}
 use Rattle.mc_boot.specs.Run.{HasCome}
 use Rattle.mc_boot.specs.facts.Run.{come_left}
 use Rattle.mc_boot.specs.Runs.{left_by}
-use Rattle.mc_walk.specs.Walks.{IsClear, IsFresh, IsOf, Walked, start_of}
+use Rattle.mc_walk.specs.Walks.{IsClear, IsFresh, IsOf, Walked, origin_of}
 use Rattle.mc_explore.specs.Once.{once}
 use Rattle.mc_explore.specs.facts.Room.{limits_are}
 use Rattle.mc_explore.specs.Start.{Started, begun}
@@ -27,17 +27,17 @@ module _ (counted : Bool) (g : Geometry) (primary secondary : List ℕ) (f : See
   -- It serves for a walk of fewer cuts than there are boots.
   pub clear : (r : Rules) (bound boots : ℕ) → bound + 1 ≤ boots → Loads counted g primary secondary r.grain boots f → IsClear (once r g) bound f
   clear r bound boots few l =
-      let limits = limits_are r.grain g boots f.ledger.limits l.room in
+      let limits = limits_are r.grain g boots f.usage.limits l.room in
       let entries : (bound + 1) * most_operations r.grain g ≤ boots * most_operations r.grain g = mul-le-mul_right (most_operations r.grain g) few in
       let saved : (bound + 1) * most_saved g ≤ boots * most_saved g = mul-le-mul_right (most_saved g) few in
       record {
         none = l.none;
-        counts = ap (λ (x : Ledger). x.counts) l.ledger_is;
+        counts = ap (λ (x : Usage). x.counts) l.usage_is;
         layout_is = l.geometry_is;
         roomy = record {
           entries = omega (arith, limits.for_entries, entries);
           saved = omega (arith, limits.for_saved, saved);
-          marks = omega (arith, limits.for_marks, few);
+          checkpoints = omega (arith, limits.for_checkpoints, few);
         };
       }
 
@@ -45,12 +45,12 @@ module _ (counted : Bool) (g : Geometry) (primary secondary : List ℕ) (f : See
   pub allows : (p : Progress) → Loads counted g primary secondary plain.grain 1 f → length p.to_come ≤ most_operations plain.grain f.geometry → (left_of f.geometry p).saved ≤ most_saved f.geometry
       → Allows (left_of f.geometry p) f
   allows p l few saves =
-      let limits = limits_are plain.grain g 1 f.ledger.limits l.room in
+      let limits = limits_are plain.grain g 1 f.usage.limits l.room in
       let entries = ap (λ x. most_operations plain.grain x) l.geometry_is in
       let saved = ap most_saved l.geometry_is in
       record {
-        entries = omega (arith, few, entries, limits.for_entries, ap (λ (x : Ledger). x.counts.entries) l.ledger_is);
-        saved = omega (arith, saves, saved, limits.for_saved, ap (λ (x : Ledger). x.counts.saved) l.ledger_is);
+        entries = omega (arith, few, entries, limits.for_entries, ap (λ (x : Usage). x.counts.entries) l.usage_is);
+        saved = omega (arith, saves, saved, limits.for_saved, ap (λ (x : Usage). x.counts.saved) l.usage_is);
       }
 
   -- What the uncut boot leaves.
@@ -60,16 +60,16 @@ module _ (counted : Bool) (g : Geometry) (primary secondary : List ℕ) (f : See
       ap (λ (x : Geometry). left_by (power_on plain x (record { primary = primary; secondary = secondary }))) (sym l.geometry_is) ∙ ap (λ s. left_by (power_on plain f.geometry s)) (sym l.content_is)
       ∙ come_left (powered plain f) p new.content come end ∙ ap (λ (x : Content). Some x) (sym same)
 
--- It has room for so many boots, and their marks.
+-- It has room for so many boots, and their checkpoints.
 pub room_for : (counted : Bool) (g : Geometry) (primary secondary : List ℕ) (f : Seen) (r : Rules) (boots : ℕ) → Loads counted g primary secondary r.grain boots f → HasRoomFor r g boots f
 room_for counted g primary secondary f r boots l =
-    let limits = limits_are r.grain g boots f.ledger.limits l.room in
+    let limits = limits_are r.grain g boots f.usage.limits l.room in
     record {
       allows = record {
-        entries = omega (arith, limits.for_entries, ap (λ (x : Ledger). x.counts.entries) l.ledger_is);
-        saved = omega (arith, limits.for_saved, ap (λ (x : Ledger). x.counts.saved) l.ledger_is);
+        entries = omega (arith, limits.for_entries, ap (λ (x : Usage). x.counts.entries) l.usage_is);
+        saved = omega (arith, limits.for_saved, ap (λ (x : Usage). x.counts.saved) l.usage_is);
       };
-      marks = omega (arith, limits.for_marks, ap length l.none);
+      checkpoints = omega (arith, limits.for_checkpoints, ap length l.none);
     }
 
 -- The start of the same four parts.
@@ -88,15 +88,15 @@ pub loaded : (counted : Bool) (start : PowerOn) (primary secondary : List ℕ) (
     → Spent 0 f w.seen → IsLayout start.geometry
     → IsLoaded counted start bound w
 loaded counted start primary secondary bound many f b w l is content of fresh spent valid =
-    let at : start_of w.seen ≡ start.content = of.start ∙ l.content_is ∙ sym content in
+    let at : origin_of w.seen ≡ start.content = of.origin ∙ l.content_is ∙ sym content in
     let branches : w.branches ≡ record { rules = start.rules; layout = start.geometry } = of.branches_are ∙ is in
     record {
-      start_is = ap (λ (x : Once). record { geometry = x.layout; rules = x.rules; content = start_of w.seen }) branches ∙ ap
+      start_is = ap (λ (x : Once). record { geometry = x.layout; rules = x.rules; content = origin_of w.seen }) branches ∙ ap
           (λ (x : Content). record { geometry = start.geometry; rules = start.rules; content = x }) at;
       bound_is = of.bound_is;
       fresh = subst (λ (x : Once). IsFresh (once x.rules x.layout) w) (sym of.branches_are) fresh;
       counted_is = ap (λ (x : Limits). x.counted) spent.limits ∙ l.counted_is;
-      idle = omega (arith, spent.applied, ap (λ (x : Ledger). x.applied) l.ledger_is);
-      calm = spent.failed ∙ ap (λ (x : Ledger). x.failed) l.ledger_is;
+      idle = omega (arith, spent.applied, ap (λ (x : Usage). x.applied) l.usage_is);
+      calm = spent.failed ∙ ap (λ (x : Usage). x.failed) l.usage_is;
       valid = valid;
     }

@@ -7,12 +7,12 @@ use Rattle.mc_tree.specs.Paths as paths
 use Rattle.mc_tree.specs.Paths.{Position, After, IsOver}
 use Rattle.mc_tree.specs.facts.Past.{same_next, same_over}
 use Rattle.mc_flash.specs.Content.{Content}
-use Rattle.mc_flash.specs.Ledger.{Limits}
+use Rattle.mc_flash.specs.Usage.{Limits}
 use Rattle.mc_flash.specs.Seen.{Seen}
 use Rattle.mc_flash.specs.Spends.{Spent}
 use Rattle.mc_trailer.specs.declared.tables.Rules.{Rules}
 use Rattle.mc_walk.specs.Tours.{position_of}
-use Rattle.mc_walk.specs.Walks.{Walked, IsPath, IsSame, child_cost, start_of}
+use Rattle.mc_walk.specs.Walks.{Walked, IsPath, IsSame, child_cost, origin_of}
 use Rattle.mc_walk.specs.declared.tour.Phase.{Phase}
 use Rattle.mc_walk.specs.declared.tour.Phase.TheVariants as phases
 use Rattle.mc_explore.specs.Boots.{boots}
@@ -35,25 +35,25 @@ use Rattle.mc_explore.proofs.Restarts.{row_restarts}
 module _ (w : Walked Once) (position : Position (List ℕ)) where
   pub next_listed : (l : List ℕ) → paths.IsNext (IsPath (kind_of w.branches) w) position l → states.IsNext (state_of w position) l
   next_listed =
-      same_next (tree.IsMember (boots w.branches.rules w.branches.layout) (start_of w.seen) w.bound) (IsMember (begun_of w) w.bound)
+      same_next (tree.IsMember (boots w.branches.rules w.branches.layout) (origin_of w.seen) w.bound) (IsMember (begun_of w) w.bound)
       (member_of (begun_of w) w.bound) (path_of (begun_of w) w.bound) position
 
   pub over_listed : paths.IsOver (IsPath (kind_of w.branches) w) position → states.IsOver (state_of w position)
   over_listed =
-      same_over (tree.IsMember (boots w.branches.rules w.branches.layout) (start_of w.seen) w.bound) (IsMember (begun_of w) w.bound)
+      same_over (tree.IsMember (boots w.branches.rules w.branches.layout) (origin_of w.seen) w.bound) (IsMember (begun_of w) w.bound)
       (member_of (begun_of w) w.bound) (path_of (begun_of w) w.bound) position
 
 -- ---- the same start
 
 pub same_begun : (old new : Walked Once) → IsSame old new → begun_of new ≡ begun_of old
 same_begun old new s =
-    ap (λ (b : Once). record { geometry = b.layout; rules = b.rules; content = start_of new.seen }) s.branches
-    ∙ ap (λ (c : Content). record { geometry = old.branches.layout; rules = old.branches.rules; content = c }) s.start
+    ap (λ (b : Once). record { geometry = b.layout; rules = b.rules; content = origin_of new.seen }) s.branches
+    ∙ ap (λ (c : Content). record { geometry = old.branches.layout; rules = old.branches.rules; content = c }) s.origin
 
-same_state : (old new : Walked Once) (position : Position (List ℕ)) → IsSame old new → new.seen.ledger.failed ≡ old.seen.ledger.failed → state_of new position ≡ state_of old position
+same_state : (old new : Walked Once) (position : Position (List ℕ)) → IsSame old new → new.seen.usage.failed ≡ old.seen.usage.failed → state_of new position ≡ state_of old position
 same_state old new position s calm =
-    ap (λ (b : PowerOn). record { start = b; bound = new.bound; position = position; failed = new.seen.ledger.failed }) (same_begun old new s)
-    ∙ ap (λ (n : ℕ). record { start = begun_of old; bound = n; position = position; failed = new.seen.ledger.failed }) s.bound
+    ap (λ (b : PowerOn). record { start = b; bound = new.bound; position = position; failed = new.seen.usage.failed }) (same_begun old new s)
+    ∙ ap (λ (n : ℕ). record { start = begun_of old; bound = n; position = position; failed = new.seen.usage.failed }) s.bound
     ∙ ap (λ (f : Bool). record { start = begun_of old; bound = old.bound; position = position; failed = f }) calm
 
 -- ---- what is found
@@ -63,8 +63,8 @@ pub record Found (counted : Bool) (start : PowerOn) (bound : ℕ) (old new : Row
   pub works : old.phase ≢ phases.Broken
   pub sound : IsSound counted start bound old
   pub finds : FindsRow old found new
-  pub limits : new.walk.seen.ledger.limits ≡ old.walk.seen.ledger.limits
-  pub failed : new.walk.seen.ledger.failed ≡ old.walk.seen.ledger.failed
+  pub limits : new.walk.seen.usage.limits ≡ old.walk.seen.usage.limits
+  pub failed : new.walk.seen.usage.failed ≡ old.walk.seen.usage.failed
 
 module _ (counted : Bool) (start : PowerOn) (bound : ℕ) (old new : Rowed) where
   abbrev here : State
@@ -109,9 +109,9 @@ module _ (counted : Bool) (start : PowerOn) (bound : ℕ) (old new : Rowed) wher
   sound_on None f = λ _. ours_there None f f.finds.2
 
   pub costs_row : (found : Option Row) → Found counted start bound old new found → Spent (child_cost (kind_of old.walk.branches) 0) old.walk.seen new.walk.seen
-      → new.walk.seen.ledger.applied ≤ old.walk.seen.ledger.applied + row_cost here.start.rules here.start.geometry found
+      → new.walk.seen.usage.applied ≤ old.walk.seen.usage.applied + row_cost here.start.rules here.start.geometry found
   costs_row (Some row) f spent = omega (arith, spent.applied)
-  costs_row None f spent = omega (arith, ap (λ (x : Seen). x.ledger.applied) f.finds.1)
+  costs_row None f spent = omega (arith, ap (λ (x : Seen). x.usage.applied) f.finds.1)
 
   pub restarts_it : (found : Option Row) → ((rules : Rules) → RestartLaw rules) → Found counted start bound old new found → IfSome found (λ row. RowRestarts here.start (told row))
   restarts_it (Some row) law f = row_restarts here.start (told row) law (finds_it (Some row) f).1

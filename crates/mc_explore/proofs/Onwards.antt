@@ -3,7 +3,7 @@ use Rattle.std.specs.Prelude.{◌≡◌, ℕ, ◌+◌, ◌<◌, ◌≤◌, List,
 use Rattle.std.proofs.Common.{arith, sym, ap, subst, ◌∙◌}
 use Rattle.mc_flash.specs.Content.{Content, IsSized}
 use Rattle.mc_flash.specs.Geometry.{Geometry}
-use Rattle.mc_flash.specs.Ledger.{most_operations, most_saved}
+use Rattle.mc_flash.specs.Usage.{most_operations, most_saved}
 use Rattle.mc_flash.specs.Seen.{Seen, Keeps}
 use Rattle.mc_flash.specs.Spends.{Spends, LeaveRoom, plus, room_of}
 use Rattle.mc_flash.specs.declared.op.Op.{Op}
@@ -32,7 +32,7 @@ use Rattle.mc_boot.specs.PowerOn.{PowerOn, again, power_on, powered}
 
 -- At most one operation is done.
 step_once : (p q : Progress) (old new : Seen) (result : Result (Unit {0}) FlashError) → (result ≡ Err errors.Memory → ⊥) → Steps p old result q new → length p.to_come ≤ length q.to_come + 1
-    → new.ledger.applied ≤ old.ledger.applied + 1
+    → new.usage.applied ≤ old.usage.applied + 1
 step_once p q old new result other steps near = omega (arith, near, (step_spends p q old new result other steps).applied)
 
 -- After an operation that happened the others are to come.
@@ -112,7 +112,7 @@ module _ (r : Rules) (g : Geometry) where
   passes b b' old new (Ok v) has steps come whole layout keeps =
       let same : old.geometry ≡ g = has.2.layout_is in
       let counts = step_counts (progress b) (progress b') old new (Ok v) steps in
-      let P : Geometry → Type 0 = λ x. LeaveRoom new.ledger.counts (left_of x (progress b')) (plus old.ledger.counts (left_of x (progress b))) in
+      let P : Geometry → Type 0 = λ x. LeaveRoom new.usage.counts (left_of x (progress b')) (plus old.usage.counts (left_of x (progress b))) in
       (λ s i at early. went_on s i b b' old new at early v steps (come r s (come_here s i b b' old new at early)) whole layout keeps, subst P same counts)
 
   -- And what it spends.
@@ -131,7 +131,7 @@ module _ (r : Rules) (g : Geometry) where
       let came = come r has.0 (come_here has.0 has.1 b b' old new has.2 has.3) in
       absurd (not_refused has.0 has.1 b b' old new has.2 has.3 (Err errors.NotErased) steps came refl)
   pass_spends b b' old new (Err errors.Memory) has steps come =
-      let P : Geometry → Type 0 = λ x. LeaveRoom old.ledger.counts (left_of x (progress b)) (room_of old.ledger.limits) in
+      let P : Geometry → Type 0 = λ x. LeaveRoom old.usage.counts (left_of x (progress b)) (room_of old.usage.limits) in
       step_ran_out (progress b) (progress b') old new (Err errors.Memory) refl steps (subst P (sym has.2.layout_is) has.4)
 
   -- A step that fails has wanted memory.

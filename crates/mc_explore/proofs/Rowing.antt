@@ -12,7 +12,7 @@ use Rattle.mc_tree.specs.Tree.{IsMember}
 use Rattle.mc_tree.specs.Paths.{Position, After, IsNext, IsOver}
 use Rattle.mc_tree.specs.facts.Order.{allowed-push, landed-push, next_after, next_below}
 use Rattle.mc_walk.specs.Tours.{Toured, Visits, position_of}
-use Rattle.mc_walk.specs.Walks.{IsPath, IsThere, start_of}
+use Rattle.mc_walk.specs.Walks.{IsPath, IsThere, origin_of}
 use Rattle.mc_walk.specs.declared.tour.Phase.{Phase}
 use Rattle.mc_walk.specs.declared.tour.Phase.TheVariants.{Fresh, Going, Done, Broken}
 use Rattle.mc_walk.specs.facts.Same.{over_there, path_back, same_back}
@@ -57,7 +57,7 @@ module _ (t : Toured Once) (of : List ℕ) (outcomes : List Outcome) (path : Lis
   g = t.walk.branches.layout
 
   abbrev start : Content
-  start = start_of t.walk.seen
+  start = origin_of t.walk.seen
 
   some : x.next < length (ops_of (power_on r g (flash_at (power_on r g start) path)))
   some = omega (arith, lt, there.1.are.count_is)
@@ -81,7 +81,7 @@ module _ (t : Toured Once) (of : List ℕ) (outcomes : List Outcome) (path : Lis
       let flash = landed-push (boots r g) start path x.next ∙ placed_at r g (flash_at (power_on r g start) of) (flash_at (power_on r g start) path) x.rejoin there.1.are.rejoined x.next some in (
         subst (λ p. P p schedule) (sym going) (subst (P Going) (sym s) next_is),
         ap (λ l. outcome_of (power_on r g (flash_at (power_on r g start) l))) s ∙ ap (λ s. outcome_of (power_on r g s)) flash ∙ step.at_cuts (place_of x.rejoin x.next) o told,
-        record { branches = refl; bound = refl; start = refl },
+        record { branches = refl; bound = refl; origin = refl },
         going,
         last_more path x.next ∙ sym s,
       )
@@ -129,9 +129,9 @@ module _ (t : Toured Once) (of : List ℕ) (outcomes : List Outcome) (path : Lis
         → IsTold (again (begun_of t.walk) (flash_at (begun_of t.walk) new.walk.path)) told
     told_next told there =
         let b : Once = t.walk.branches in
-        let P : Once → Type 0 = λ x. IsTold (power_on x.rules x.layout (flash_at (power_on x.rules x.layout (start_of new.walk.seen)) new.walk.path)) told in
+        let P : Once → Type 0 = λ x. IsTold (power_on x.rules x.layout (flash_at (power_on x.rules x.layout (origin_of new.walk.seen)) new.walk.path)) told in
         let Q : Content → Type 0 = λ x. IsTold (power_on b.rules b.layout (flash_at (power_on b.rules b.layout x) new.walk.path)) told in
-        subst Q v.1.start (subst P v.1.branches there.told_is)
+        subst Q v.1.origin (subst P v.1.branches there.told_is)
 
     pub told_there : (told : Told) (schedule : List ℕ) → IsThere (kind_of new.walk.branches) new.walk told → schedule ≡ new.walk.path
         → outcome_of (again (begun_of new.walk) (flash_at (begun_of new.walk) schedule)) ≡ Some (shown told.outcome)
@@ -141,9 +141,9 @@ module _ (t : Toured Once) (of : List ℕ) (outcomes : List Outcome) (path : Lis
     -- What was kept serves there.
     pub kept_there : AreAtCuts (begun_of new.walk) of outcomes
     kept_there =
-        let P : Once → Type 0 = λ b. AreAtCuts (power_on b.rules b.layout (start_of new.walk.seen)) of outcomes in
+        let P : Once → Type 0 = λ b. AreAtCuts (power_on b.rules b.layout (origin_of new.walk.seen)) of outcomes in
         let Q : Content → Type 0 = λ s. AreAtCuts (power_on t.walk.branches.rules t.walk.branches.layout s) of outcomes in
-        subst P (sym v.1.branches) (subst Q (sym v.1.start) (inv.sound works).at_cuts)
+        subst P (sym v.1.branches) (subst Q (sym v.1.origin) (inv.sound works).at_cuts)
 
     listed_there : IsPath (kind_of new.walk.branches) new.walk new.walk.path
     listed_there = path_back kind_of new.walk t.walk new.walk.path (same_back kind_of t.walk new.walk v.1) v.0.listed
@@ -184,7 +184,7 @@ module _ (t : Toured Once) (of : List ℕ) (outcomes : List Outcome) (path : Lis
           let r : Rules = t.walk.branches.rules in
           let g : Geometry = t.walk.branches.layout in (
             subst (IsNext (IsPath (kind_of t.walk.branches) t.walk) here) (sym path_is) v.0,
-            ap (λ l. outcome_of (power_on r g (flash_at (power_on r g (start_of t.walk.seen)) l))) path_is ∙ (told_next told there).outcome_is,
+            ap (λ l. outcome_of (power_on r g (flash_at (power_on r g (origin_of t.walk.seen)) l))) path_is ∙ (told_next told there).outcome_is,
             v.1,
             v.2,
             none_taken cuts' fresh,
@@ -205,14 +205,14 @@ module _ (t : Toured Once) (of : List ℕ) (outcomes : List Outcome) (path : Lis
 
     pub in_step_over : IsRowing new of outcomes path cuts
     in_step_over =
-        let P : Once → Type 0 = λ b. AreAtCuts (power_on b.rules b.layout (start_of new.walk.seen)) of outcomes in
+        let P : Once → Type 0 = λ b. AreAtCuts (power_on b.rules b.layout (origin_of new.walk.seen)) of outcomes in
         let Q : Content → Type 0 = λ s. AreAtCuts (power_on t.walk.branches.rules t.walk.branches.layout s) of outcomes in
         record {
           short = inv.short;
           spent = λ is. spent;
           sound = λ w. record {
             few = omega (arith, (inv.sound works).few, v.2.bound);
-            at_cuts = subst P (sym v.2.branches) (subst Q (sym v.2.start) (inv.sound works).at_cuts);
+            at_cuts = subst P (sym v.2.branches) (subst Q (sym v.2.origin) (inv.sound works).at_cuts);
             stands = subst (IsAtPhase new.walk of outcomes path cuts) (sym v.3) (
               over_there kind_of t.walk new.walk (After (last_of path cuts)) v.2 (subst (IsOver (IsPath (kind_of t.walk.branches) t.walk)) over_here v.0),
               spent,

@@ -10,7 +10,7 @@ use Rattle.std.proofs.lemmas.List.Elements.{All-nil, All-cons, All-head, All-tai
 use Rattle.std.proofs.Math.Seq.{take-append-add}
 use Rattle.std.proofs.lemmas.Fmt.{decimal_injective}
 use Rattle.mc_flash.specs.Geometry.{IsLayout}
-use Rattle.mc_flash.specs.facts.Ledger.{few_operations}
+use Rattle.mc_flash.specs.facts.Usage.{few_operations}
 use Rattle.mc_trailer.specs.Texts.{type_text}
 use Rattle.mc_tree.specs.Tree.{Allowed}
 use Rattle.mc_tree.specs.facts.Lists.{at_front, behind}

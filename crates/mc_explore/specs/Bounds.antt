@@ -1,7 +1,7 @@
 -- How many operations a row costs.
 use Rattle.std.specs.Prelude.{ℕ, ◌+◌, Option, Some, None}
 use Rattle.mc_flash.specs.Geometry.{Geometry}
-use Rattle.mc_flash.specs.Ledger.{most_operations}
+use Rattle.mc_flash.specs.Usage.{most_operations}
 use Rattle.mc_trailer.specs.declared.tables.Rules.{Rules}
 
 -- The most operations for a row: a boot, and two on the way to it.

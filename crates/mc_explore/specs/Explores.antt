@@ -1,19 +1,19 @@
 -- What a call that goes through rows leaves of an explorer, whatever it answers.
 use Rattle.std.specs.Prelude.{◌≡◌, Bool, Result, OnErr, IsErrOf}
-use Rattle.mc_flash.specs.Ledger.{Ledger}
+use Rattle.mc_flash.specs.Usage.{Usage}
 use Rattle.mc_tree.specs.Paths.{Lost}
 use Rattle.mc_explore.specs.State.{Explored}
 use Rattle.mc_explore.specs.Want.{RanOut}
 use Rattle.mc_explore.specs.declared.error.ExploreError.{ExploreError}
 use Rattle.mc_explore.specs.declared.error.ExploreError.TheVariants as errors
 
--- Of what is seen of an explorer, the ledger of its flash, and whether it has failed.
-module _ {E : Type 0} (ledger_of : E → Ledger) (IsLost : E → Type 0) where
+-- Of what is seen of an explorer, the usage of its flash, and whether it has failed.
+module _ {E : Type 0} (usage_of : E → Usage) (IsLost : E → Type 0) where
   -- The limits of the flash never change. Memory is wanted only where the flash does not count, and was refused some. An explorer
   -- that has failed says so and stays as it is, and no other says so.
   pub record GoesOn {A : Type 0} (counted : Bool) (old : E) (result : Result A ExploreError) (new : E) : Type 0 where
-    pub limits : (ledger_of new).limits ≡ (ledger_of old).limits
-    pub cause : IsErrOf result errors.Memory → RanOut counted (ledger_of new).failed
+    pub limits : (usage_of new).limits ≡ (usage_of old).limits
+    pub cause : IsErrOf result errors.Memory → RanOut counted (usage_of new).failed
     pub stays_lost : IsLost old → IsErrOf result errors.Failed
     pub not_lost : IsErrOf result errors.Failed → IsLost old
     pub still : IsErrOf result errors.Failed → new ≡ old
@@ -28,7 +28,7 @@ abbrev pub HasFailed : Explored → Type 0
 HasFailed explorer = explorer.state.position ≡ Lost
 
 abbrev pub Goes : {A : Type 0} → Bool → Explored → Result A ExploreError → Explored → Type 0
-Goes = GoesOn (λ explorer. explorer.ledger) HasFailed
+Goes = GoesOn (λ explorer. explorer.usage) HasFailed
 
 abbrev pub Explores : {A : Type 0} → Bool → Explored → Result A ExploreError → Explored → Type 0
-Explores = ExploresOn (λ explorer. explorer.ledger) HasFailed
+Explores = ExploresOn (λ explorer. explorer.usage) HasFailed

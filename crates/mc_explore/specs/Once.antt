@@ -3,7 +3,7 @@ use Rattle.std.specs.Prelude.{◌≡◌, ℕ, ◌+◌, ◌<◌, length, Some, Re
 use Rattle.std.proofs.Common.{arith}
 use Rattle.mc_flash.specs.Content.{Content, IsSized}
 use Rattle.mc_flash.specs.Geometry.{Geometry}
-use Rattle.mc_flash.specs.Ledger.{Counts, most_operations, most_saved, no_counts}
+use Rattle.mc_flash.specs.Usage.{Counts, most_operations, most_saved, no_counts}
 use Rattle.mc_flash.specs.Seen.{Keeps, Seen}
 use Rattle.mc_flash.specs.Spends.{Allows, HasRoom, LeaveRoom, plus}
 use Rattle.mc_image.specs.Bytes.{IsBytes}
@@ -17,7 +17,7 @@ use Rattle.mc_boot.specs.Run.{HasCome}
 use Rattle.mc_boot.specs.Runs.{left_by, ops_of}
 use Rattle.mc_boot.specs.declared.boot.Boot.{Boot}
 use Rattle.mc_walk.specs.Kind.{Kind, IsAt}
-use Rattle.mc_walk.specs.Walks.{Walked, start_of}
+use Rattle.mc_walk.specs.Walks.{Walked, origin_of}
 use Rattle.mc_explore.specs.Boots.{at_cut, boots}
 use Rattle.mc_explore.specs.declared.once.Once.{Once}
 use Rattle.mc_explore.specs.declared.once.Told.{Told}
@@ -29,7 +29,7 @@ begins o s = power_on o.rules o.layout s
 
 -- What the first boot of a walk begins with.
 abbrev pub begun_of : Walked Once → PowerOn
-begun_of w = begins w.branches (start_of w.seen)
+begun_of w = begins w.branches (origin_of w.seen)
 
 -- The most that a boot counts.
 abbrev pub most_of : Rules → Geometry → Counts
@@ -68,10 +68,10 @@ pub record HasRun (x : PowerOn) (told : Told) (left : Content) : Type 0 where
   pub told_is : IsTold x told
   pub left_is : left_by x ≡ Some left
 
--- The layout and the marks stay, and no more is counted than that.
+-- The layout and the checkpoints stay, and no more is counted than that.
 pub record CountsAtMost (most : Counts) (old new : Seen) : Type 0 where
   pub keeps : Keeps old new
-  pub counts : LeaveRoom new.ledger.counts no_counts (plus old.ledger.counts most)
+  pub counts : LeaveRoom new.usage.counts no_counts (plus old.usage.counts most)
 
 -- A node is a content. One goes from a child to the next by one operation, and one boot tells of a node.
 abbrev pub once : Rules → Geometry → Kind Content Boot Told
@@ -101,7 +101,7 @@ CanPass r g b seen =
 abbrev pub Passes : {E : Type 0} → Rules → Geometry → Boot → Seen → Result (Unit {0}) E → Boot → Seen → Type 0
 Passes r g b old (Ok _) b' new =
     ((s : Content) (i : ℕ) → IsAt (once r g) s i b old → i < length (ops_of (power_on r g s)) → IsAt (once r g) s (i + 1) b' new)
-    × LeaveRoom new.ledger.counts (left_of g (progress b')) (plus old.ledger.counts (left_of g (progress b)))
+    × LeaveRoom new.usage.counts (left_of g (progress b')) (plus old.usage.counts (left_of g (progress b)))
 Passes r g b old (Err _) b' new = Unit {0}
 
 -- The uncut boot from a cut leaves what the boot that was cut would have left, of which that was told.

@@ -1,7 +1,7 @@
 -- What an explorer goes through, where it has come to, and the row that comes next.
 use Rattle.std.specs.Prelude.{◌≡◌, ℕ, Bool, false, List, Option, Some, None, option_and_then}
 use Rattle.mc_flash.specs.Content.{Content}
-use Rattle.mc_flash.specs.Ledger.{Ledger}
+use Rattle.mc_flash.specs.Usage.{Usage}
 use Rattle.mc_boot.specs.Runs.{after}
 use Rattle.mc_boot.specs.Outcome.{Report, shown, outcome_of}
 use Rattle.mc_tree.specs.Paths as paths
@@ -69,9 +69,9 @@ lost_at state = record { start = state.start; bound = state.bound; position = Lo
 abbrev pub at_start : PowerOn → ℕ → State
 at_start start bound = record { start = start; bound = bound; position = AtStart; failed = false }
 
--- What callers see of an explorer: its state; the content of its flash and the ledger; and how many contents are marked there.
+-- What callers see of an explorer: its state; the content of its flash and the usage; and how many contents are marked there.
 pub record Explored : Type 0 where
   pub state : State
   pub content : Content
-  pub ledger : Ledger
+  pub usage : Usage
   pub marked : ℕ

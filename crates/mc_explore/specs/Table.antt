@@ -79,12 +79,12 @@ pub record IsToldHere (r : Rules) (g : Geometry) (seen : Seen) (told : Told) : T
   pub layout_is : seen.geometry ≡ g
   pub told_is : IsTold (power_on r g seen.content) told
 
--- Room for so many boots on one another, and their marks.
+-- Room for so many boots on one another, and their checkpoints.
 pub record HasRoomFor (r : Rules) (g : Geometry) (boots : ℕ) (seen : Seen) : Type 0 where
   pub allows : Allows (times boots (most_of r g)) seen
-  pub marks : length seen.marks + boots ≤ seen.ledger.limits.marks
+  pub checkpoints : length seen.checkpoints + boots ≤ seen.usage.limits.checkpoints
 
 -- The flash stays, and its limits.
 pub record StaysSo (old new : Seen) : Type 0 where
   pub stays : Stays old new
-  pub limits : new.ledger.limits ≡ old.ledger.limits
+  pub limits : new.usage.limits ≡ old.usage.limits

@@ -3,7 +3,7 @@ use Rattle.std.specs.Prelude.{◌≡◌, ◌≢◌, ℕ, ◌+◌, ◌*◌, ◌�
 use Rattle.mc_tree.specs.Tree as tree
 use Rattle.mc_tree.specs.Paths.{Position}
 use Rattle.mc_flash.specs.Geometry.{IsLayout}
-use Rattle.mc_flash.specs.Ledger.{most_operations}
+use Rattle.mc_flash.specs.Usage.{most_operations}
 use Rattle.mc_walk.specs.Walks.{Walked, IsFresh}
 use Rattle.mc_explore.specs.Boots.{boots}
 use Rattle.mc_explore.specs.Once.{begins, begun_of, once}
@@ -20,14 +20,14 @@ begun_with once primary secondary = begins once (record { primary = primary; sec
 
 -- The state of an explorer on that walk, whose last row is that of a schedule.
 abbrev pub state_of : Walked Once → Position (List ℕ) → State
-state_of w position = record { start = begun_of w; bound = w.bound; position = position; failed = w.seen.ledger.failed }
+state_of w position = record { start = begun_of w; bound = w.bound; position = position; failed = w.seen.usage.failed }
 
 abbrev pub explored : Walked Once → Position (List ℕ) → Explored
 explored w position = record {
   state = state_of w position;
   content = w.seen.content;
-  ledger = w.seen.ledger;
-  marked = length w.seen.marks;
+  usage = w.seen.usage;
+  marked = length w.seen.checkpoints;
 }
 
 -- The walk is one from that start with so many cuts, and the flash counts where its kind does.
@@ -35,7 +35,7 @@ pub record IsOurs (counted : Bool) (start : PowerOn) (bound : ℕ) (w : Walked O
   pub start_is : begun_of w ≡ start
   pub bound_is : w.bound ≡ bound
   pub few : bound ≤ 16
-  pub counted_is : w.seen.ledger.limits.counted ≡ counted
+  pub counted_is : w.seen.usage.limits.counted ≡ counted
 
 -- What holds of an explorer's rows until they fail.
 abbrev pub IsSound : Bool → PowerOn → ℕ → Rowed → Type 0
@@ -50,9 +50,9 @@ pub record IsLoaded (counted : Bool) (start : PowerOn) (bound : ℕ) (w : Walked
   pub start_is : begun_of w ≡ start
   pub bound_is : w.bound ≡ bound
   pub fresh : IsFresh (once w.branches.rules w.branches.layout) w
-  pub counted_is : w.seen.ledger.limits.counted ≡ counted
-  pub idle : w.seen.ledger.applied ≡ 0
-  pub calm : w.seen.ledger.failed ≡ false
+  pub counted_is : w.seen.usage.limits.counted ≡ counted
+  pub idle : w.seen.usage.applied ≡ 0
+  pub calm : w.seen.usage.failed ≡ false
   pub valid : IsLayout start.geometry
 
 -- A walk that has come along a schedule, from a start.
@@ -62,6 +62,6 @@ pub record Followed (counted : Bool) (start : PowerOn) (bound : ℕ) (path : Lis
   pub path_is : w.path ≡ path
   pub stands : w.stands ≡ true
   pub allowed : tree.IsMember (boots start.rules start.geometry) start.content bound path
-  pub counted_is : w.seen.ledger.limits.counted ≡ counted
-  pub calm : w.seen.ledger.failed ≡ false
-  pub applied : w.seen.ledger.applied ≤ 2 * (bound + 1) * most_operations start.rules.grain start.geometry
+  pub counted_is : w.seen.usage.limits.counted ≡ counted
+  pub calm : w.seen.usage.failed ≡ false
+  pub applied : w.seen.usage.applied ≤ 2 * (bound + 1) * most_operations start.rules.grain start.geometry

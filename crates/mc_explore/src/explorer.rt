@@ -1,6 +1,6 @@
 //! Goes through the schedules of power cuts, one after another.
 ghost use Rattle.std.specs.Prelude.{◌≡◌, ℕ, List, [], ◌+◌, ◌*◌, ◌≤◌, true, length, IfOk, IfErr, IfSome, OnOk, OnErr, IsErrOf, ◌⊎◌};
-ghost use Rattle.mc_flash.specs.Ledger.{limits_for, most_operations};
+ghost use Rattle.mc_flash.specs.Usage.{limits_for, most_operations};
 ghost use Rattle.mc_explore.specs.Bounds.{row_cost};
 ghost use Rattle.mc_explore.specs.Rest.{cursor_of};
 ghost use Rattle.mc_explore.specs.Resume.{Resumes};
@@ -82,8 +82,8 @@ impl<'a, F: Flash + Drop> Explorer<'a, F> {
         requires { bound ≤ 16 }
         ensures ok { IfOk result (λ explorer. explorer.state ≡ at_start (begun start.now) bound) }
         // No operation is done yet, and a flash that counts has room for exactly so many boots.
-        ensures applied { IfOk result (λ explorer. explorer.ledger.applied ≡ 0) }
-        ensures exact { IfOk result (λ explorer. F.counted ≡ true → explorer.ledger.limits
+        ensures applied { IfOk result (λ explorer. explorer.usage.applied ≡ 0) }
+        ensures exact { IfOk result (λ explorer. F.counted ≡ true → explorer.usage.limits
             ≡ limits_for start.now.rules.grain start.now.geometry (bound + 1)) }
         ensures err { IfErr result (λ e. e ≡ ExploreError.Memory) }
     {
@@ -113,9 +113,9 @@ impl<'a, F: Flash + Drop> Explorer<'a, F> {
         ensures resumes { Resumes (begun start.now) bound
             (cursor_of (begun start.now) bound last.now) result }
         // It takes at most two boots a cut, and one.
-        ensures applied { IfOk result (λ explorer. explorer.ledger.applied ≤ 2 * (bound + 1)
+        ensures applied { IfOk result (λ explorer. explorer.usage.applied ≤ 2 * (bound + 1)
             * most_operations start.now.rules.grain start.now.geometry) }
-        ensures exact { IfOk result (λ explorer. F.counted ≡ true → explorer.ledger.limits
+        ensures exact { IfOk result (λ explorer. F.counted ≡ true → explorer.usage.limits
             ≡ limits_for start.now.rules.grain start.now.geometry (bound + 1)) }
     {
         let cuts = last.cuts();
@@ -152,9 +152,9 @@ impl<'a, F: Flash + Drop> Explorer<'a, F> {
         requires { bound ≤ 16 }
         ensures resumes { Resumes (begun start.now) bound cursor.now result }
         // It takes at most two boots a cut, and one.
-        ensures applied { IfOk result (λ explorer. explorer.ledger.applied ≤ 2 * (bound + 1)
+        ensures applied { IfOk result (λ explorer. explorer.usage.applied ≤ 2 * (bound + 1)
             * most_operations start.now.rules.grain start.now.geometry) }
-        ensures exact { IfOk result (λ explorer. F.counted ≡ true → explorer.ledger.limits
+        ensures exact { IfOk result (λ explorer. F.counted ≡ true → explorer.usage.limits
             ≡ limits_for start.now.rules.grain start.now.geometry (bound + 1)) }
     {
         ask(start, bound, cursor)?;
@@ -177,7 +177,7 @@ impl<'a, F: Flash + Drop> Explorer<'a, F> {
             (λ row. RowRestarts self.old.state.start (told row))) }
         // It takes at most one boot and two operations, and none where there is no row.
         ensures applied { IfOk result (λ
-            found. self.new.ledger.applied ≤ self.old.ledger.applied + row_cost
+            found. self.new.usage.applied ≤ self.old.usage.applied + row_cost
             self.old.state.start.rules self.old.state.start.geometry found) }
         // A flash that counts has enough memory. After an error the explorer has failed, and it stays so as it is.
         ensures explores { Explores F.counted self.old result self.new }
@@ -191,8 +191,8 @@ impl<'a, F: Flash + Drop> Explorer<'a, F> {
     /// The flash as it is.
     pub fn flash(&self) -> &F
         ensures content { (F.seen result.now).content ≡ self.now.content }
-        ensures ledger { (F.seen result.now).ledger ≡ self.now.ledger }
-        ensures marked { length (F.seen result.now).marks ≡ self.now.marked }
+        ensures usage { (F.seen result.now).usage ≡ self.now.usage }
+        ensures marked { length (F.seen result.now).checkpoints ≡ self.now.marked }
     {
         self.rows.flash()
     }
@@ -242,7 +242,7 @@ impl<'a, F: Flash + Drop> RowSource for Explorer<'a, F> {
 
     ghost state = { λ explorer. explorer.state };
 
-    ghost ledger = { λ explorer. explorer.ledger };
+    ghost usage = { λ explorer. explorer.usage };
 
     ghost counted = { F.counted };
 
@@ -254,21 +254,28 @@ impl<'a, F: Flash + Drop> RowSource for Explorer<'a, F> {
 
     ghost cost_stays = { λ s k. refl };
 
+    #[inline]
     fn next_before(&mut self, until: &Option<Schedule>) -> Result<Option<Row>, ExploreError> {
+        let Some(until) = until else {
+            return self.next_row();
+        };
         let found = self.next_row()?;
-        if let Some(until) = until {
-            if let Some(row) = &found {
-                if !row.schedule.is_before(until) {
-                    return Ok(None);
-                }
+        if let Some(row) = &found {
+            if !row.schedule.is_before(until) {
+                return Ok(None);
             }
         }
         Ok(found)
     }
 
-    fn write_row<W: Write>(&self, row: Row, writer: &mut W) -> Result<(), ExploreError> {
-        let mut line = Line::new();
-        row.put_into(&mut line, &self.labels);
+    fn write_row<W: Write>(
+        &self,
+        row: &Row,
+        line: &mut Line,
+        writer: &mut W,
+    ) -> Result<(), ExploreError> {
+        line.clear();
+        row.put_into(line, &self.labels);
         line.put("\n");
         write_text(writer, line.as_str().as_bytes())
     }

@@ -32,6 +32,14 @@ impl Line {
         }
     }
 
+    /// Makes it empty.
+    #[inline]
+    pub fn clear(&mut self)
+        ensures { self.new ≡ [] }
+    {
+        self.text.clear();
+    }
+
     /// The text so far.
     #[inline]
     pub fn as_str(&self) -> &str

@@ -2,7 +2,7 @@
 ghost use Rattle.std.specs.Prelude.{◌≡◌, ◌+◌, ◌≤◌, true, length, IfOk, IfErr, OnOk};
 ghost use Rattle.mc_flash.specs.Content.{size_of};
 ghost use Rattle.mc_flash.specs.declared.op.Slot.TheVariants.{Primary, Secondary};
-ghost use Rattle.mc_flash.specs.Ledger.{limits_for};
+ghost use Rattle.mc_flash.specs.Usage.{limits_for};
 ghost use Rattle.mc_explore.specs.Rest.{cursor_of};
 ghost use Rattle.mc_explore.specs.Resume.{Names, Refuses};
 ghost use Rattle.mc_explore.specs.Start.{begun};
@@ -34,7 +34,7 @@ pub fn load_for<F: Flash>(
     requires boots { (bound + 1 ≤ boots) × (boots ≤ 32) }
     ensures loaded { IfOk result (IsLoaded F.counted
         (begun_with once primary.now secondary.now) bound) }
-    ensures exact { IfOk result (λ walk. F.counted ≡ true → walk.seen.ledger.limits
+    ensures exact { IfOk result (λ walk. F.counted ≡ true → walk.seen.usage.limits
         ≡ limits_for once.rules.grain once.layout boots) }
 {
     // Each number of a layout tells that it is one.
@@ -53,7 +53,7 @@ pub fn load_for<F: Flash>(
 pub fn load<F: Flash>(alloc: Global, start: &Start, bound: u8) -> Result<Walk<F, Once>, FlashError>
     requires { bound ≤ 16 }
     ensures loaded { IfOk result (IsLoaded F.counted (begun start.now) bound) }
-    ensures exact { IfOk result (λ walk. F.counted ≡ true → walk.seen.ledger.limits
+    ensures exact { IfOk result (λ walk. F.counted ≡ true → walk.seen.usage.limits
         ≡ limits_for start.now.rules.grain start.now.geometry (bound + 1)) }
 {
     let once = Once {

@@ -29,18 +29,18 @@ fn bytes_stand(bytes: &[u8])
 
 impl Once {
     ghost use Rattle.std.specs.Prelude.{◌≡◌, Some, IfOk, IfErr, OnOk};
-    ghost use Rattle.mc_flash.specs.Ledger.{most_operations};
+    ghost use Rattle.mc_flash.specs.Usage.{most_operations};
     ghost use Rattle.mc_flash.specs.Seen.{Keeps};
     ghost use Rattle.mc_flash.specs.Spends.{Allows, HasRoom, Spends, Stays};
     ghost use Rattle.mc_walk.specs.Kind.{IsChild, TellsChild};
     ghost use Rattle.mc_explore.specs.Once.{begins, once, most_of, BeginsOn, CanPass, CountsAtMost, HasRun, IsBegun, IsTold, LeavesAlike, Passes};
 
-    /// The boot at power-on from a flash.
-    pub fn boot<F: Flash>(&self, flash: &F) -> Boot
+    /// The boot at power-on from a flash. The secondary's image is hashed where it is none that the start is known to hold.
+    pub fn boot<F: Flash>(&self, flash: &F, start: &Start) -> Boot
         ensures { IsBegun self.now.rules (F.seen flash.now) result }
     {
         bytes_stand(flash.read(Slot::Secondary));
-        Boot::cold(flash, self.rules)
+        Boot::cold_among(flash, self.rules, &start.known())
     }
 
     /// Runs the boot at power-on to its end, and tells of the flash where it began. An image that it leaves is hashed where it is
@@ -164,7 +164,7 @@ impl Branches for Once {
     }
 
     fn root<F: Flash>(self, flash: &mut F, start: &Start) -> Result<Told, FlashError> {
-        let boot = self.boot(flash);
+        let boot = self.boot(flash, start);
         self.tell(flash, boot, start)
     }
 

@@ -9,6 +9,7 @@ ghost use Rattle.mc_explore.specs.Explores.{Explores, ExploresOn, GoesOn};
 
 use crate::error::ExploreError;
 use crate::explorer::Explorer;
+use crate::line::Line;
 use crate::output::write_text;
 use crate::schedule::Schedule;
 use crate::source::RowSource;
@@ -29,18 +30,19 @@ fn write_lines<S: RowSource, W: Write>(
         (W.contents writer.new)) }
     ensures began { OnErr result (pages.ShownBegan S.listing (S.until_of until.now)
         (S.state source.old) limit (W.contents writer.old) (W.contents writer.new)) }
-    ensures applied { OnOk result ((S.ledger source.new).applied ≤ (S.ledger source.old).applied
+    ensures applied { OnOk result ((S.usage source.new).applied ≤ (S.usage source.old).applied
         + limit * S.most_for_row (S.state source.old)) }
-    ensures goes { GoesOn S.ledger (λ e. S.listing.position (S.state e) ≡ Lost) S.counted
+    ensures goes { GoesOn S.usage (λ e. S.listing.position (S.state e) ≡ Lost) S.counted
         source.old result source.new }
     ensures failed { (IsErrOf result ExploreError.Failed → writer.new ≡ writer.old)
         × IfErr result (λ e. (e ≡ ExploreError.Memory) ⊎ (e ≡ ExploreError.Failed)
         ⊎ (e ≡ ExploreError.Write)) }
 {
+    let mut line = Line::new();
     let mut room = limit;
     'fill: while room > 0 {
         match source.next_before(until)? {
-            Some(row) => source.write_row(row, writer)?,
+            Some(row) => source.write_row(&row, &mut line, writer)?,
             None => return write_text(writer, b"end\n"),
         }
         room -= 1;
@@ -66,9 +68,9 @@ pub fn write_rows<S: RowSource, W: Write>(
         (W.contents writer.new)) }
     ensures began { OnErr result (pages.ShownBegan S.listing (S.until_of until.now)
         (S.state source.old) limit (W.contents writer.old) (W.contents writer.new)) }
-    ensures applied { OnOk result ((S.ledger source.new).applied ≤ (S.ledger source.old).applied
+    ensures applied { OnOk result ((S.usage source.new).applied ≤ (S.usage source.old).applied
         + limit * S.most_for_row (S.state source.old)) }
-    ensures explores { ExploresOn S.ledger (λ e. S.listing.position (S.state e) ≡ Lost) S.counted
+    ensures explores { ExploresOn S.usage (λ e. S.listing.position (S.state e) ≡ Lost) S.counted
         source.old result source.new }
     ensures unwritten { IsErrOf result ExploreError.Failed → writer.new ≡ writer.old }
     ensures err { IfErr result (λ e. (e ≡ ExploreError.Memory) ⊎ (e ≡ ExploreError.Failed)
@@ -105,7 +107,7 @@ pub fn write_page_until<F: Flash + Drop, W: Write>(
     ensures began { OnErr result (ShownBegan until explorer.old.state limit
         (W.contents writer.old) (W.contents writer.new)) }
     // Each row takes as much as one by itself.
-    ensures applied { OnOk result (explorer.new.ledger.applied ≤ explorer.old.ledger.applied + limit
+    ensures applied { OnOk result (explorer.new.usage.applied ≤ explorer.old.usage.applied + limit
         * most_for_row explorer.old.state.start.rules explorer.old.state.start.geometry) }
     ensures explores { Explores F.counted explorer.old result explorer.new }
     ensures unwritten { IsErrOf result ExploreError.Failed → writer.new ≡ writer.old }
@@ -133,7 +135,7 @@ pub fn write_page<F: Flash + Drop, W: Write>(
     ensures began { OnErr result (PageBegan explorer.old.state limit (W.contents writer.old)
         (W.contents writer.new)) }
     // Each row takes as much as one by itself.
-    ensures applied { OnOk result (explorer.new.ledger.applied ≤ explorer.old.ledger.applied + limit
+    ensures applied { OnOk result (explorer.new.usage.applied ≤ explorer.old.usage.applied + limit
         * most_for_row explorer.old.state.start.rules explorer.old.state.start.geometry) }
     ensures explores { Explores F.counted explorer.old result explorer.new }
     ensures unwritten { IsErrOf result ExploreError.Failed → writer.new ≡ writer.old }

@@ -1,6 +1,6 @@
 //! One schedule of power cuts, replayed or followed to its last cut.
 ghost use Rattle.std.specs.Prelude.{◌≡◌, ◌+◌, ◌≤◌, true, length, Some, IfOk, IfErr, MatchResult};
-ghost use Rattle.mc_flash.specs.Ledger.{limits_for};
+ghost use Rattle.mc_flash.specs.Usage.{limits_for};
 ghost use Rattle.mc_boot.specs.Outcome.{shown};
 ghost use Rattle.mc_boot.specs.Runs.{after};
 ghost use Rattle.mc_walk.specs.Walks.{IsThere};
@@ -54,7 +54,7 @@ fn follow<F: Flash>(
     ensures told { IfOk result (λ at. IsThere
         (once at.0.branches.rules at.0.branches.layout) at.0 at.1) }
     ensures limits { IfOk result
-        (λ at. at.0.seen.ledger.limits ≡ walk.seen.ledger.limits) }
+        (λ at. at.0.seen.usage.limits ≡ walk.seen.usage.limits) }
     ensures refused { IfErr result (Refuses (begun_of walk) cuts.now) }
 {
     walk.begin(start)?;
@@ -83,7 +83,7 @@ pub fn replay_on<F: Flash>(
     ensures geometry { IfOk result
         (λ done. (F.seen done.1).geometry ≡ (begun_of walk).geometry) }
     ensures limits { IfOk result
-        (λ done. (F.seen done.1).ledger.limits ≡ walk.seen.ledger.limits) }
+        (λ done. (F.seen done.1).usage.limits ≡ walk.seen.usage.limits) }
 {
     let (there, told) = follow(walk, cuts, start)?;
     let mut flash = there.into_flash();
@@ -108,7 +108,7 @@ pub fn replay<F: Flash>(
         (λ e. Refuses (begun start.now) schedule.now e) }
     ensures geometry { IfOk result (λ done. (F.seen done.1).geometry ≡ start.now.geometry) }
     // A flash that counts has room for exactly so many boots.
-    ensures exact { IfOk result (λ done. F.counted ≡ true → (F.seen done.1).ledger.limits
+    ensures exact { IfOk result (λ done. F.counted ≡ true → (F.seen done.1).usage.limits
         ≡ limits_for start.now.rules.grain start.now.geometry (length schedule.now + 1)) }
     // The restart theorem, for the schedule that was replayed.
     ensures restarts { IfOk result (λ done. Restarts (begun start.now) schedule.now
@@ -137,7 +137,7 @@ pub fn flash_at_cut<F: Flash>(
         (λ e. Refuses (begun start.now) schedule.now e) }
     ensures geometry { IfOk result (λ flash. (F.seen flash).geometry ≡ start.now.geometry) }
     // A flash that counts has room for exactly so many boots.
-    ensures exact { IfOk result (λ flash. F.counted ≡ true → (F.seen flash).ledger.limits
+    ensures exact { IfOk result (λ flash. F.counted ≡ true → (F.seen flash).usage.limits
         ≡ limits_for start.now.rules.grain start.now.geometry (length schedule.now + 1)) }
 {
     let cuts = schedule.cuts();

@@ -8,7 +8,7 @@ ghost use Rattle.mc_boot.specs.PowerOn.{power_on};
 ghost use Rattle.mc_boot.specs.Runs.{left_by};
 ghost use Rattle.mc_boot.specs.Start.{image_bytes, filled, placed, test_flash, perm_flash, start_flash};
 
-use mc_boot::{Boot, Kind};
+use mc_boot::{Boot, Kind, KnownImage};
 use mc_flash::{Content, Flash, FlashError, Layout, Slot, SnapFlash};
 use mc_trailer::{Field, MAGIC, Rules, place};
 use std::alloc::{AllocError, Global};
@@ -106,6 +106,7 @@ fn booted<F: Flash>(
     layout: &Layout,
     primary: &[u8],
     secondary: &[u8],
+    known: &[Option<KnownImage<'_>>],
 ) -> Result<Content, FlashError>
     requires primary { length primary.now ≡ size_of layout.now Primary }
     requires secondary { length secondary.now ≡ size_of layout.now Secondary }
@@ -115,7 +116,7 @@ fn booted<F: Flash>(
     ensures err { IfErr result (λ e. e ≡ FlashError.Memory) }
 {
     let mut flash = F::load(alloc, layout, Rules::PLAIN.grain, primary, secondary, 1)?;
-    let mut boot = Boot::cold(&flash, Rules::PLAIN);
+    let mut boot = Boot::cold_among(&flash, Rules::PLAIN, known);
     boot.finish(&mut flash)?;
     Ok(Content::read(alloc, &flash)?)
 }
@@ -126,6 +127,7 @@ fn revert_slots(
     layout: &Layout,
     first: &[u8],
     second: &[u8],
+    known: &[Option<KnownImage<'_>>],
 ) -> Result<Content, FlashError>
     requires first { length first.now ≤ size_of layout.now Secondary }
     requires second { length second.now ≤ size_of layout.now Primary }
@@ -135,10 +137,10 @@ fn revert_slots(
     ensures err { IfErr result (λ e. e ≡ FlashError.Memory) }
 {
     let asked = test_slots(alloc, layout, second, first)?;
-    booted::<SnapFlash>(alloc, layout, &asked.primary, &asked.secondary)
+    booted::<SnapFlash>(alloc, layout, &asked.primary, &asked.secondary, known)
 }
 
-/// The slots of a start, of two images that fit.
+/// The slots of a start, of two images that fit. The boot before a revert hashes no image that is known.
 ///
 /// # Errors
 ///
@@ -150,6 +152,7 @@ pub(crate) fn start_slots(
     kind: Kind,
     first: &[u8],
     second: &[u8],
+    known: &[Option<KnownImage<'_>>],
 ) -> Result<Content, FlashError>
     requires first { (length first.now ≤ size_of layout.now Primary)
         × (length first.now ≤ size_of layout.now Secondary) }
@@ -164,6 +167,6 @@ pub(crate) fn start_slots(
         Kind::None => Ok(placed(alloc, layout, first, second)?),
         Kind::Test => Ok(test_slots(alloc, layout, first, second)?),
         Kind::Perm => Ok(perm_slots(alloc, layout, first, second)?),
-        Kind::Revert => revert_slots(alloc, layout, first, second),
+        Kind::Revert => revert_slots(alloc, layout, first, second, known),
     }
 }

@@ -1,12 +1,13 @@
 //! What gives rows one after another.
 use crate::error::ExploreError;
+use crate::line::Line;
 use std::io::Write;
 
 /// Gives rows, one after another and each as a line, and says where to go on behind the last: what pages are made of.
 pub trait RowSource {
     ghost use Rattle.std.specs.Prelude.{◌≡◌, ℕ, Bool, Option, Some, ◌+◌, ◌≤◌, ◌⊎◌, IfOk, IfErr, OnOk, OnErr, option_map};
     ghost use Rattle.std.specs.Io.KnownBytes.{Appends};
-    ghost use Rattle.mc_flash.specs.Ledger.{Ledger};
+    ghost use Rattle.mc_flash.specs.Usage.{Usage};
     ghost use Rattle.mc_output.specs.Fronts.{AppendsFront};
     ghost use Rattle.mc_tree.specs.Paths.{After, Lost};
     ghost use Rattle.mc_explore.specs.Explores.{ExploresOn};
@@ -33,7 +34,7 @@ pub trait RowSource {
 
     ghost state: { Self → State };
 
-    ghost ledger: { Self → Ledger };
+    ghost usage: { Self → Usage };
 
     ghost counted: { Bool };
 
@@ -55,22 +56,27 @@ pub trait RowSource {
     fn next_before(&mut self, until: &Self::Until) -> Result<Option<Self::Row>, ExploreError>
         ensures found { IfOk result (λ found. FindsBefore listing (until_of until.now)
             (state self.old) (option_map shown found) (state self.new)) }
-        ensures applied { IfOk result (λ _. (ledger self.new).applied
-            ≤ (ledger self.old).applied + most_for_row (state self.old)) }
-        ensures explores { ExploresOn ledger (λ e. listing.position (state e) ≡ Lost) counted
+        ensures applied { IfOk result (λ _. (usage self.new).applied
+            ≤ (usage self.old).applied + most_for_row (state self.old)) }
+        ensures explores { ExploresOn usage (λ e. listing.position (state e) ≡ Lost) counted
             self.old result self.new }
         ensures err { IfErr result (λ e. (e ≡ ExploreError.Memory) ⊎ (e ≡ ExploreError.Failed)) };
 
-    /// Writes the line of a row, or a prefix of it.
+    /// Writes the line of a row, or a prefix of it. It is put together in `line`, whatever that held.
     ///
     /// # Errors
     ///
     /// `Write` where a write fails or takes no bytes.
-    fn write_row<W: Write>(&self, row: Self::Row, writer: &mut W) -> Result<(), ExploreError>
+    fn write_row<W: Write>(
+        &self,
+        row: &Self::Row,
+        line: &mut Line,
+        writer: &mut W,
+    ) -> Result<(), ExploreError>
         ensures whole { OnOk result (Appends (W.contents writer.old) (W.contents writer.new)
-            (row_line listing (shown row))) }
+            (row_line listing (shown row.now))) }
         ensures front { OnErr result (AppendsFront (W.contents writer.old) (W.contents writer.new)
-            (row_line listing (shown row))) }
+            (row_line listing (shown row.now))) }
         ensures err { IfErr result (λ e. e ≡ ExploreError.Write) };
 
     /// Writes the line that says where to go on behind the last row, or a prefix of it.
@@ -90,6 +96,6 @@ pub trait RowSource {
     /// Makes it one that failed, for a caller that could not write a row.
     fn give_up(&mut self)
         ensures lost { listing.position (state self.new) ≡ Lost }
-        ensures ledger { ledger self.new ≡ ledger self.old }
+        ensures usage { usage self.new ≡ usage self.old }
         ensures still { listing.position (state self.old) ≡ Lost → self.new ≡ self.old };
 }

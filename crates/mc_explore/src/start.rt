@@ -215,13 +215,13 @@ impl Start {
         if !layout.fits(second.bytes.len() as u64) {
             return Err(StartError::DoesNotFit);
         }
-        let line = layout_line(alloc, layout)?;
-        let content = start_slots(alloc, layout, kind, first.bytes, second.bytes)?;
-        let (first, second) = (first.id(), second.id());
+        let (in_a, in_b) = (first.id(), second.id());
         let images = [
-            Some(KnownImage::new(a, first)),
-            Some(KnownImage::new(b, second)),
+            Some(KnownImage::new(a, in_a)),
+            Some(KnownImage::new(b, in_b)),
         ];
+        let line = layout_line(alloc, layout)?;
+        let content = start_slots(alloc, layout, kind, first.bytes, second.bytes, &images)?;
         Ok(Start {
             layout: *layout,
             rules: Rules::PLAIN,
@@ -229,7 +229,7 @@ impl Start {
             in_primary: known_id(content.bytes(Slot::Primary), &images),
             in_secondary: known_id(content.bytes(Slot::Secondary), &images),
             content,
-            named: Some(named_of(kind, first, second)),
+            named: Some(named_of(kind, in_a, in_b)),
         })
     }
 

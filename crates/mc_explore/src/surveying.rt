@@ -103,7 +103,7 @@ pub fn survey_until<F: Flash + Drop>(
     requires { 1 ≤ limit }
     ensures surveys { IfOk result (SurveysUntil until explorer.old.state explorer.new.state limit) }
     // Each row takes as much as one by itself.
-    ensures applied { OnOk result (explorer.new.ledger.applied ≤ explorer.old.ledger.applied + limit
+    ensures applied { OnOk result (explorer.new.usage.applied ≤ explorer.old.usage.applied + limit
         * most_for_row explorer.old.state.start.rules explorer.old.state.start.geometry) }
     ensures explores { Explores F.counted explorer.old result explorer.new }
     ensures err { IfErr result (λ e. (e ≡ ExploreError.Memory) ⊎ (e ≡ ExploreError.Failed)) }
@@ -133,7 +133,7 @@ pub fn survey<F: Flash + Drop>(
     // It is the stated function of the page's rows, and what is to come afterwards is the rest of the rows.
     ensures surveys { IfOk result (Surveys explorer.old.state explorer.new.state limit) }
     // Each row takes as much as one by itself.
-    ensures applied { OnOk result (explorer.new.ledger.applied ≤ explorer.old.ledger.applied + limit
+    ensures applied { OnOk result (explorer.new.usage.applied ≤ explorer.old.usage.applied + limit
         * most_for_row explorer.old.state.start.rules explorer.old.state.start.geometry) }
     ensures explores { Explores F.counted explorer.old result explorer.new }
     ensures err { IfErr result (λ e. (e ≡ ExploreError.Memory) ⊎ (e ≡ ExploreError.Failed)) }

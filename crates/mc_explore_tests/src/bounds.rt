@@ -7,11 +7,11 @@ use std::alloc::Global;
 use std::process::Abort;
 use std::test::Fail;
 
-/// Looks whether a journal has at most so many operations, saved bytes and marks, and so many operations were applied.
+/// Looks whether a journal has at most so many operations, saved bytes and checkpoints, and so many operations were applied.
 fn assert_bounds(rt: &impl Abort, flash: &JournalFlash, most: [u64; 4]) {
-    let [entries, saved_bytes, marks, applied] = most;
+    let [entries, saved_bytes, checkpoints, applied] = most;
     let is_short = flash.entries() <= entries && flash.saved_bytes() <= saved_bytes;
-    assert!(rt; is_short && flash.marks() <= marks && flash.applied() <= applied);
+    assert!(rt; is_short && flash.marks() <= checkpoints && flash.applied() <= applied);
 }
 
 /// How many rows an exploration has, each of which leaves it within its bounds.
@@ -39,7 +39,7 @@ fn rows_of_a_swap(rt: &impl Abort, alloc: Global) -> Result<u32, Fail> {
     rows_of(rt, alloc, &start)
 }
 
-/// Three boots of 36 operations and 2304 saved bytes leave no more in a journal; and four marks, and 38 operations a row.
+/// Three boots of 36 operations and 2304 saved bytes leave no more in a journal; and four checkpoints, and 38 operations a row.
 #[test]
 fn an_exploration_keeps_its_bounds(rt: HostRuntime) -> Result<(), Fail> {
     let rows = rows_of_a_swap(&rt, rt.alloc())?;
@@ -104,7 +104,7 @@ fn campaigns_of_a_swap(rt: &impl Abort, alloc: Global) -> Result<u32, Fail> {
     campaigns_of(rt, alloc, &start)
 }
 
-/// Four boots leave no more in a journal, and five marks. A row takes 112 operations.
+/// Four boots leave no more in a journal, and five checkpoints. A row takes 112 operations.
 #[test]
 fn an_exploration_of_campaigns_keeps_its_bounds(rt: HostRuntime) -> Result<(), Fail> {
     let rows = campaigns_of_a_swap(&rt, rt.alloc())?;

@@ -1,7 +1,7 @@
 //! Campaigns of the worked swaps, explored and replayed.
 ghost use Rattle.std.specs.Prelude.{◌≤◌};
 
-use crate::common::{start_of, swap};
+use crate::common::{bound_of, start_of, swap};
 use crate::sessions::{plays, refused};
 use mc_campaign::{Campaign, CampaignCursor, CampaignExplorer, CampaignRow, replay_campaign};
 use mc_explore::{Kind, Start};
@@ -17,7 +17,7 @@ pub fn campaign_row<F: Flash + Drop>(
     bound: &str,
     place: &str,
 ) -> Result<String, Fail> {
-    let bound = bound.parse::<u8>()?.min(16);
+    let bound = bound_of(bound)?;
     let place = place.parse::<u32>()?;
     let start = start_of(alloc, start)?;
     row_of::<F>(alloc, &start, bound, confirms == "confirm", place)
@@ -87,7 +87,7 @@ pub fn campaign_behind(
     text: &str,
 ) -> Result<String, Fail> {
     let campaign = Campaign::read(text)?;
-    let bound = bound.parse::<u8>()?.min(16);
+    let bound = bound_of(bound)?;
     let start = swap(alloc, Kind::Test)?;
     let cursor = CampaignCursor::of(&start, 1, false, &campaign);
     row_behind(alloc, &start, bound, confirms == "confirm", &cursor)

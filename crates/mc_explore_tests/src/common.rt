@@ -1,10 +1,19 @@
 //! The starts that the tests share.
+ghost use Rattle.std.specs.Prelude.{◌≤◌, IfOk};
+
 use mc_explore::{Kind, Start};
 use mc_fixtures::{FIRST_IMAGE, SECOND_IMAGE, worked};
 use mc_flash::Grain;
 use mc_trailer::{MAGIC, Profile, Rules};
 use std::alloc::Global;
 use std::test::Fail;
+
+/// The number of cuts that a word tells, at most 16.
+pub fn bound_of(told: &str) -> Result<u8, Fail>
+    ensures { IfOk result (λ bound. bound ≤ 16) }
+{
+    Ok(told.parse::<u8>()?.min(16))
+}
 
 /// A start of both images with that kind of swap.
 pub fn swap(alloc: Global, kind: Kind) -> Result<Start, Fail> {

@@ -2,7 +2,7 @@
 //! repository, and of the explorer.
 ghost use Rattle.std.specs.Prelude.{◌≤◌};
 
-use crate::common::{start_of, swap};
+use crate::common::{bound_of, start_of, swap};
 use crate::sessions::plays;
 use mc_explore::{Census, Explorer, Kind, Schedule, Start, survey, survey_until, take_census};
 use mc_flash::{Flash, JournalFlash, SnapFlash};
@@ -32,7 +32,7 @@ pub fn tally_of(alloc: Global, start: &Start, bound: u8, limit: u32) -> Result<S
 
 /// The tally of so many rows of a start at most.
 pub fn tally(alloc: Global, start: &str, bound: &str, limit: &str) -> Result<String, Fail> {
-    let bound = bound.parse::<u8>()?.min(16);
+    let bound = bound_of(bound)?;
     let limit = limit.parse::<u32>()?.max(1);
     let start = start_of(alloc, start)?;
     tally_of(alloc, &start, bound, limit)

@@ -1,7 +1,7 @@
 //! The rows of explorations of two small images.
 ghost use Rattle.std.specs.Prelude.{◌≤◌};
 
-use crate::common::{start_of, swap};
+use crate::common::{bound_of, start_of, swap};
 use crate::sessions::{plays, refused};
 use mc_explore::{Cursor, Explorer, Kind, Row, Start, replay};
 use mc_flash::SnapFlash;
@@ -10,7 +10,7 @@ use std::test::Fail;
 
 /// The row at a place, counted from 0, or how many rows there are.
 pub fn row(alloc: Global, start: &str, bound: &str, place: &str) -> Result<String, Fail> {
-    let bound = bound.parse::<u8>()?.min(16);
+    let bound = bound_of(bound)?;
     let place = place.parse::<u32>()?;
     let start = start_of(alloc, start)?;
     row_of(alloc, &start, bound, place)
@@ -97,7 +97,7 @@ fn row_behind(alloc: Global, start: &Start, bound: u8, cursor: &Cursor) -> Resul
 
 /// The same of a test swap and the text of a cursor.
 pub fn behind(alloc: Global, bound: &str, cursor: &str) -> Result<String, Fail> {
-    let bound = bound.parse::<u8>()?.min(16);
+    let bound = bound_of(bound)?;
     let cursor = match Cursor::read(cursor) {
         Ok(cursor) => cursor,
         Err(error) => return refused(alloc, error),

@@ -1,7 +1,7 @@
 //! Whole pages, as a model that shares no code with this repository computed them: of flashes that no swap left, and of a larger image.
 ghost use Rattle.std.specs.Prelude.{◌≤◌};
 
-use crate::common::start_of;
+use crate::common::{bound_of, start_of};
 use crate::counts::{census_of, tally_of};
 use crate::sessions::plays;
 use mc_explore::{Explorer, Kind, Start, write_page};
@@ -67,7 +67,7 @@ fn sums_of(alloc: Global, start: &Start, bound: u8) -> Result<String, Fail>
 
 /// The same of a start and a bound in words.
 pub fn sums(alloc: Global, told: &str, bound: &str) -> Result<String, Fail> {
-    let bound = bound.parse::<u8>()?.min(16);
+    let bound = bound_of(bound)?;
     let start = start_of(alloc, told)?;
     sums_of(alloc, &start, bound)
 }

@@ -1,7 +1,7 @@
 //! The pages of a test swap of two small images.
 ghost use Rattle.std.specs.Prelude.{◌≤◌};
 
-use crate::common::swap;
+use crate::common::{bound_of, swap};
 use crate::sessions::plays;
 use mc_explore::{Cursor, Explorer, Kind, Schedule, Start, write_page, write_page_until};
 use mc_flash::SnapFlash;
@@ -33,7 +33,7 @@ pub fn page(
     until: &str,
     limit: &str,
 ) -> Result<String, Fail> {
-    let bound = bound.parse::<u8>()?.min(16);
+    let bound = bound_of(bound)?;
     let limit = limit.parse::<u32>()?.max(1);
     let start = swap(alloc, Kind::Test)?;
     page_behind(alloc, &start, bound, behind, until, limit)

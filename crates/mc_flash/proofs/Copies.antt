@@ -5,8 +5,8 @@ use Rattle.std.proofs.lemmas.List.{map-append, length-map, take-map}
 use Rattle.mc_flash.specs.Apply.{Becomes, apply}
 use Rattle.mc_flash.specs.Content.{Content}
 use Rattle.mc_flash.specs.Geometry.{Geometry}
-use Rattle.mc_flash.specs.Ledger.{Counts, Spot}
-use Rattle.mc_flash.specs.Seen.{Seen, Does, GivesUp, Loads, Marks, no_spot, went_back}
+use Rattle.mc_flash.specs.Usage.{Counts, Checkpoint}
+use Rattle.mc_flash.specs.Seen.{Seen, Does, GivesUp, Loads, Marks, no_checkpoint, went_back}
 use Rattle.mc_flash.specs.Snap.{ample, copies_seen, copy_seen}
 use Rattle.mc_flash.specs.facts.Done.{done_as, done_not}
 use Rattle.mc_flash.specs.declared.flash.FlashError.{FlashError}
@@ -19,40 +19,42 @@ counts_nothing : (g : Geometry) → (ample g).counted ≡ true → ⊥
 unfolding ample
 counts_nothing g is = let no : false ≡ true = is in absurd cc
 
-same_seen : (g h : Geometry) (s t : Content) (ms : List Spot) (b : Bool) → g ≡ h → s ≡ t → copies_seen g s ms b ≡ copies_seen h t ms b
+same_seen : (g h : Geometry) (s t : Content) (ms : List Checkpoint) (b : Bool) → g ≡ h → s ≡ t → copies_seen g s ms b ≡ copies_seen h t ms b
 same_seen g h s t ms b p q = cc
 
-module _ (op : Op) (g h : Geometry) (s t : Content) (marks : List Spot) (failed : Bool) (same : h ≡ g) where
-  pub copies_do : apply g op s ≡ Some t → Does op (copies_seen g s marks failed) (Ok tt) (copies_seen h t marks failed)
+module _ (op : Op) (g h : Geometry) (s t : Content) (checkpoints : List Checkpoint) (failed : Bool) (same : h ≡ g) where
+  pub copies_do : apply g op s ≡ Some t → Does op (copies_seen g s checkpoints failed) (Ok tt) (copies_seen h t checkpoints failed)
   unfolding ample
   copies_do is = (
-    done_as (copies_seen g s marks failed) op t is ∙ ap (λ (z : Seen). Some z) (same_seen g h t t marks failed (sym same) refl),
+    done_as (copies_seen g s checkpoints failed) op t is ∙ ap (λ (z : Seen). Some z) (same_seen g h t t checkpoints failed (sym same) refl),
     λ counted full. counts_nothing g counted,
   )
 
-  pub copies_become : (result : Result (Unit {0}) FlashError) → Becomes (apply g op s) result s t → Does op (copies_seen g s marks failed) result (copies_seen h t marks failed)
+  pub copies_become : (result : Result (Unit {0}) FlashError) → Becomes (apply g op s) result s t → Does op (copies_seen g s checkpoints failed) result (copies_seen h t checkpoints failed)
   copies_become result becomes = by (apply g op s) refl result becomes
     where
-      by : (o : Option Content) → apply g op s ≡ o → (x : Result (Unit {0}) FlashError) → Becomes o x s t → Does op (copies_seen g s marks failed) x (copies_seen h t marks failed)
+      by : (o : Option Content) → apply g op s ≡ o → (x : Result (Unit {0}) FlashError) → Becomes o x s t → Does op (copies_seen g s checkpoints failed) x (copies_seen h t checkpoints failed)
       by (Some given) is (Ok tt) d = copies_do (is ∙ ap (λ (z : Content). Some z) (sym d))
       by (Some given) is (Err errors.NotErased) d = absurd d
       by (Some given) is (Err errors.Memory) d = absurd d
       by None is (Ok tt) d = absurd d
-      by None is (Err errors.NotErased) d = (done_not (copies_seen g s marks failed) op is, same_seen h g t s marks failed same d)
+      by None is (Err errors.NotErased) d = (done_not (copies_seen g s checkpoints failed) op is, same_seen h g t s checkpoints failed same d)
       by None is (Err errors.Memory) d = absurd d
 
-pub copies_fail : (full : Type 0) (g : Geometry) (s : Content) (marks more : List Spot) (failed : Bool) → more ≡ marks → GivesUp full (copies_seen g s marks failed) (copies_seen g s more true)
+pub copies_fail : (full : Type 0) (g : Geometry) (s : Content) (checkpoints more : List Checkpoint) (failed : Bool) → more ≡ checkpoints
+    → GivesUp full (copies_seen g s checkpoints failed) (copies_seen g s more true)
 unfolding ample
-copies_fail full g s marks more failed same = inr (refl, ap (λ (ms : List Spot). copies_seen g s ms true) same)
+copies_fail full g s checkpoints more failed same = inr (refl, ap (λ (ms : List Checkpoint). copies_seen g s ms true) same)
 
-pub copies_load : (g h : Geometry) (p q : List ℕ) (s : Content) (marks : List Content) (grain : Grain) (boots : ℕ) → h ≡ g → s ≡ record { primary = p; secondary = q } → marks ≡ [] → boots ≤ 32
-    → Loads false g p q grain boots (copies_seen h s (map copy_seen marks) false)
+pub copies_load : (g h : Geometry) (p q : List ℕ) (s : Content) (checkpoints : List Content) (grain : Grain) (boots : ℕ) → h ≡ g → s ≡ record { primary = p; secondary = q } → checkpoints ≡ []
+    → boots ≤ 32
+    → Loads false g p q grain boots (copies_seen h s (map copy_seen checkpoints) false)
 unfolding ample
-copies_load g h p q s marks grain boots is content none few = record {
+copies_load g h p q s checkpoints grain boots is content none few = record {
   geometry_is = is;
   content_is = content;
   none = ap (map copy_seen) none;
-  ledger_is = refl;
+  usage_is = refl;
   counted_is = refl;
   room = rw is (ample_allows grain g boots few);
   exact = λ e. let no : false ≡ true = e in absurd cc;
@@ -62,16 +64,16 @@ pub copies_mark : (g : Geometry) (s : Content) (items more : List Content) (copy
     → Marks (copies_seen g s (map copy_seen items) failed) (Ok place) (copies_seen g s (map copy_seen more) failed)
 copies_mark g s items more copy failed place is same at = (
   at ∙ sym (length-map items copy_seen),
-  ap (λ (ms : List Spot). copies_seen g s ms failed) (ap (map copy_seen) is ∙ map-append copy_seen items (copy ∷ []) ∙ ap (λ (x : Content). map copy_seen items ++ copy_seen x ∷ []) same),
+  ap (λ (ms : List Checkpoint). copies_seen g s ms failed) (ap (map copy_seen) is ∙ map-append copy_seen items (copy ∷ []) ∙ ap (λ (x : Content). map copy_seen items ++ copy_seen x ∷ []) same),
   λ counted full. counts_nothing g counted,
 )
 
-at_place : (items : List Content) (place : ℕ) (copy : Content) → place < length items → copy ≡ get_or items place copy → get_or (map copy_seen items) place no_spot ≡ copy_seen copy
+at_place : (items : List Content) (place : ℕ) (copy : Content) → place < length items → copy ≡ get_or items place copy → get_or (map copy_seen items) place no_checkpoint ≡ copy_seen copy
 at_place [] place copy below is = absurd (omega (arith, below))
 at_place (m ∷ ms) zero copy below is = ap copy_seen (sym is)
 at_place (m ∷ ms) (suc place) copy below is = at_place ms place copy (omega (arith, below)) is
 
-back_parts : (g h : Geometry) (s t : Content) (ms ns : List Spot) (b : Bool) → h ≡ g → s ≡ t → ms ≡ ns → copies_seen h s ms b ≡ copies_seen g t ns b
+back_parts : (g h : Geometry) (s t : Content) (ms ns : List Checkpoint) (b : Bool) → h ≡ g → s ≡ t → ms ≡ ns → copies_seen h s ms b ≡ copies_seen g t ns b
 back_parts g h s t ms ns b p q r = cc
 
 pub copies_back : (g h : Geometry) (s t : Content) (items left : List Content) (copy : Content) (failed : Bool) (place : ℕ) → h ≡ g → place < length items → copy ≡ get_or items place copy
@@ -79,9 +81,10 @@ pub copies_back : (g h : Geometry) (s t : Content) (items left : List Content) (
     → copies_seen h t (map copy_seen left) failed ≡ went_back place (copies_seen g s (map copy_seen items) failed)
 unfolding went_back
 copies_back g h s t items left copy failed place same below is rest bytes =
-    let spot = at_place items place copy below is in
-    back_parts g h t _ (map copy_seen left) _ failed same (bytes ∙ sym (ap (λ (x : Spot). x.content) spot)) (ap (map copy_seen) rest ∙ sym (take-map copy_seen place items))
-    ∙ ap (λ (counts : Counts). back_with g (get_or (map copy_seen items) place no_spot).content (take place (map copy_seen items)) failed counts) (sym (ap (λ (x : Spot). x.counts) spot))
+    let checkpoint = at_place items place copy below is in
+    back_parts g h t _ (map copy_seen left) _ failed same (bytes ∙ sym (ap (λ (x : Checkpoint). x.content) checkpoint)) (ap (map copy_seen) rest ∙ sym (take-map copy_seen place items))
+    ∙ ap (λ (counts : Counts). back_with g (get_or (map copy_seen items) place no_checkpoint).content (take place (map copy_seen items)) failed counts) (sym (ap (λ (x : Checkpoint). x.counts)
+    checkpoint))
   where
-    back_with : Geometry → Content → List Spot → Bool → Counts → Seen
-    back_with g t ms b counts = record { geometry = g; content = t; marks = ms; ledger = record { counts = counts; limits = ample g; applied = 0; failed = b } }
+    back_with : Geometry → Content → List Checkpoint → Bool → Counts → Seen
+    back_with g t ms b counts = record { geometry = g; content = t; checkpoints = ms; usage = record { counts = counts; limits = ample g; applied = 0; failed = b } }

@@ -2,7 +2,7 @@
 use Rattle.std.proofs.Common.{ℕ, ◌+◌, ◌*◌, ◌≤◌, arith}
 use Rattle.std.proofs.Math.Nat.{mul-le-mul_right}
 use Rattle.mc_flash.specs.Geometry.{Geometry}
-use Rattle.mc_flash.specs.Ledger.{IsWithin, limits_for, most_operations, most_saved}
+use Rattle.mc_flash.specs.Usage.{IsWithin, limits_for, most_operations, most_saved}
 use Rattle.mc_flash.specs.Snap.{ample}
 use Rattle.mc_flash.specs.declared.flash.Grain.{Grain}
 use Rattle.mc_flash.specs.declared.flash.Grain.TheVariants as grains
@@ -12,7 +12,7 @@ unfolding limits_for ample
 ample_allows grain g boots few = record {
   entries = enough grain;
   saved = mul-le-mul_right (most_saved g) few;
-  marks = omega arith;
+  checkpoints = omega arith;
 }
   where
     enough : (grain : Grain) → boots * most_operations grain g ≤ 32 * (most_operations grains.Call g + most_operations grains.Unit g)

@@ -5,11 +5,11 @@ use Rattle.std.specs.List.{AllByRecursion}
 use Rattle.std.proofs.lemmas.List.{take-append-le, take_all, take-append-drop, length-take-le, length-drop}
 use Rattle.mc_flash.specs.Geometry.{Geometry}
 use Rattle.mc_flash.specs.Content.{Content, bytes_of, with_bytes, put}
-use Rattle.mc_flash.specs.Journal.{changes, saved_by, all_saved, spot_after, IsInside}
+use Rattle.mc_flash.specs.Journal.{changes, saved_by, all_saved, checkpoint_after, IsInside}
 use Rattle.mc_flash.specs.declared.op.Slot.{Slot}
 use Rattle.mc_flash.specs.declared.entry.Entry.{Entry}
 use Rattle.mc_flash.specs.declared.entry.Entry.TheVariants.{Written, Erased}
-use Rattle.mc_flash.proofs.Undo.{push_written, push_erased, saves_push, spot_push}
+use Rattle.mc_flash.proofs.Undo.{push_written, push_erased, saves_push, checkpoint_push}
 use Rattle.mc_flash.proofs.Kept.{inside_pop}
 
 -- of the entries
@@ -28,10 +28,10 @@ inside_less g es es' e is all = inside_pop g es' e (subst (AllByRecursion (IsIns
 -- a write
 pub write_undone : (n : ℕ) (es es' : List Entry) (saved : List ℕ) (s t : Content) (slot : Slot) (at len : ℕ)
     → es ≡ es' ++ Written slot at len ∷ [] → t ≡ with_bytes s slot (put (bytes_of s slot) at (replicate len 255)) → n ≤ length es'
-    → spot_after es' saved t n ≡ spot_after es saved s n
+    → checkpoint_after es' saved t n ≡ checkpoint_after es saved s n
 write_undone n es es' saved s t slot at len more is early =
-    ap (λ (x : Content). spot_after es' saved x n) is
-    ∙ sym (spot_push n es' es saved saved s (Written slot at len) (record { slot = slot; at = at; old = replicate len 255 }) more
+    ap (λ (x : Content). checkpoint_after es' saved x n) is
+    ∙ sym (checkpoint_push n es' es saved saved s (Written slot at len) (record { slot = slot; at = at; old = replicate len 255 }) more
     (ap (λ (z : List Entry). changes z saved) more ∙ push_written es' saved slot at len) early)
 
 -- the bytes that were saved last
@@ -48,7 +48,7 @@ newest_length k len bytes saved same whole = let last = newest k len bytes saved
 pub erase_undone : (n k : ℕ) (es es' : List Entry) (saved saved' bytes : List ℕ) (s t : Content) (slot : Slot) (at len : ℕ)
     → es ≡ es' ++ Erased slot at len ∷ [] → length saved ≡ all_saved es → k + len ≡ length saved → bytes ≡ saved → saved' ≡ take k saved
     → t ≡ with_bytes s slot (put (bytes_of s slot) at (take (length bytes - k) (drop k bytes))) → n ≤ length es'
-    → spot_after es' saved' t n ≡ spot_after es saved s n
+    → checkpoint_after es' saved' t n ≡ checkpoint_after es saved s n
 erase_undone n k es es' saved saved' bytes s t slot at len more whole all same left is early =
     let last = newest k len bytes saved same all in
     let fewer = saves_less es es' (Erased slot at len) saved more whole in
@@ -58,5 +58,5 @@ erase_undone n k es es' saved saved' bytes s t slot at len more whole all same l
     ap (λ (z : List Entry). changes z saved) more
     ∙ ap (λ (z : List ℕ). changes (es' ++ Erased slot at len ∷ []) z) split
     ∙ push_erased es' saved' (drop k saved) slot at len (omega (arith, front, all, fewer)) last.1 in
-    ap (λ (x : Content). spot_after es' saved' x n) (is ∙ ap (λ (z : List ℕ). with_bytes s slot (put (bytes_of s slot) at z)) last.0)
-    ∙ sym (spot_push n es' es saved' saved s (Erased slot at len) (record { slot = slot; at = at; old = drop k saved }) more noted early)
+    ap (λ (x : Content). checkpoint_after es' saved' x n) (is ∙ ap (λ (z : List ℕ). with_bytes s slot (put (bytes_of s slot) at z)) last.0)
+    ∙ sym (checkpoint_push n es' es saved' saved s (Erased slot at len) (record { slot = slot; at = at; old = drop k saved }) more noted early)

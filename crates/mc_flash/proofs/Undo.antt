@@ -8,8 +8,8 @@ use Rattle.std.proofs.lemmas.List.Edits.{length-between, split_between}
 use Rattle.std.proofs.Math.Seq.{take-append_seam, drop-append_seam, drop-append-add}
 use Rattle.mc_flash.specs.Blank.{is_blank}
 use Rattle.mc_flash.specs.Content.{Content, bytes_of, with_bytes, put}
-use Rattle.mc_flash.specs.Ledger.{Spot}
-use Rattle.mc_flash.specs.Journal.{Change, changes, taken_back, all_taken_back, saved_by, all_saved, spot_after, Ascend}
+use Rattle.mc_flash.specs.Usage.{Checkpoint}
+use Rattle.mc_flash.specs.Journal.{Change, changes, taken_back, all_taken_back, saved_by, all_saved, checkpoint_after, Ascend}
 use Rattle.mc_flash.specs.declared.op.Slot.{Slot}
 use Rattle.mc_flash.specs.declared.op.Slot.TheVariants.{Primary, Secondary}
 use Rattle.mc_flash.specs.declared.entry.Entry.{Entry}
@@ -97,9 +97,10 @@ back_push [] c s = refl
 back_push (x ∷ cs) c s = ap (taken_back x) (back_push cs c s)
 
 -- what the flash held earlier is the same where the newest entry is taken back
-pub spot_push : (n : ℕ) (es es' : List Entry) (saved saved' : List ℕ) (s : Content) (e : Entry) (c : Change) → es' ≡ es ++ e ∷ [] → changes es' saved' ≡ changes es saved ++ c ∷ [] → n ≤ length es
-    → spot_after es' saved' s n ≡ spot_after es saved (taken_back c s) n
-spot_push n es es' saved saved' s e c more noted early =
+pub checkpoint_push : (n : ℕ) (es es' : List Entry) (saved saved' : List ℕ) (s : Content) (e : Entry) (c : Change) → es' ≡ es ++ e ∷ [] → changes es' saved' ≡ changes es saved ++ c ∷ []
+    → n ≤ length es
+    → checkpoint_after es' saved' s n ≡ checkpoint_after es saved (taken_back c s) n
+checkpoint_push n es es' saved saved' s e c more noted early =
     let content : all_taken_back (drop n (changes es' saved')) s ≡ all_taken_back (drop n (changes es saved)) (taken_back c s) =
     ap (λ (cs : List Change). all_taken_back (drop n cs) s) noted
     ∙ ap (λ (cs : List Change). all_taken_back cs s) (drop-append-le n (changes es saved) (c ∷ []) (omega (arith, early, length-changes es saved)))
@@ -109,14 +110,14 @@ spot_push n es es' saved saved' s e c more noted early =
     ∙ ap (λ (k : ℕ). record { content = all_taken_back (drop n (changes es saved)) (taken_back c s); counts = record { entries = n; saved = k } }) saves
 
 -- after all entries it holds what it holds now
-pub spot_now : (es : List Entry) (saved : List ℕ) (s : Content) → length saved ≡ all_saved es
-    → spot_after es saved s (length es) ≡ record { content = s; counts = record { entries = length es; saved = length saved } }
-spot_now es saved s e =
+pub checkpoint_now : (es : List Entry) (saved : List ℕ) (s : Content) → length saved ≡ all_saved es
+    → checkpoint_after es saved s (length es) ≡ record { content = s; counts = record { entries = length es; saved = length saved } }
+checkpoint_now es saved s e =
     ap (λ (cs : List Change). record { content = all_taken_back cs s; counts = record { entries = length es; saved = all_saved (take (length es) es) } })
     (drop_all (length es) (changes es saved) (omega (arith, length-changes es saved)))
     ∙ ap (λ (k : ℕ). record { content = s; counts = record { entries = length es; saved = k } }) (ap all_saved (take_all (length es) es (omega arith)) ∙ sym e)
 
--- the marks' places
+-- the checkpoints' places
 ascend_top : (low : ℕ) (ns : List ℕ) (top : ℕ) → Ascend low ns top → low ≤ top
 ascend_top low [] top a = a
 ascend_top low (n ∷ ns) top a = omega (arith, a.0, ascend_top n ns top a.1)
@@ -134,9 +135,9 @@ ascend_take low [] top i d a h = absurd (omega arith)
 ascend_take low (n ∷ ns) top zero d a h = (a.0, ascend_top n ns top a.1)
 ascend_take low (n ∷ ns) top (suc i) d a h = let r = ascend_take n ns top i d a.1 (omega arith) in ((a.0, r.0), r.1)
 
-pub same_marks : (f g : ℕ → Spot) (low : ℕ) (ns : List ℕ) (top : ℕ) → Ascend low ns top → ((n : ℕ) → n ≤ top → f n ≡ g n) → map f ns ≡ map g ns
-same_marks f g low [] top a h = refl
-same_marks f g low (n ∷ ns) top a h =
+pub same_checkpoints : (f g : ℕ → Checkpoint) (low : ℕ) (ns : List ℕ) (top : ℕ) → Ascend low ns top → ((n : ℕ) → n ≤ top → f n ≡ g n) → map f ns ≡ map g ns
+same_checkpoints f g low [] top a h = refl
+same_checkpoints f g low (n ∷ ns) top a h =
     let e : f n ≡ g n = h n (ascend_top n ns top a.1) in
-    let r : map f ns ≡ map g ns = same_marks f g n ns top a.1 h in
+    let r : map f ns ≡ map g ns = same_checkpoints f g n ns top a.1 h in
     cc

@@ -5,7 +5,7 @@ use lib.Count.{ones}
 use Rattle.mc_flash.specs.Geometry.{Geometry, trailer_bytes, trailer_sectors, greatest_count, greatest_sectors, fits, refusal_of}
 use Rattle.mc_flash.specs.Content.{Content}
 use Rattle.mc_flash.specs.Apply.{apply}
-use Rattle.mc_flash.specs.Ledger.{most_operations, most_saved}
+use Rattle.mc_flash.specs.Usage.{most_operations, most_saved}
 use Rattle.mc_flash.specs.Worked.{worked}
 use Rattle.mc_flash.specs.declared.layout.LayoutError.TheVariants as refusals
 use Rattle.mc_flash.specs.declared.flash.Grain.TheVariants as grains

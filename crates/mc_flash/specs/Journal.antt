@@ -3,7 +3,7 @@ use Rattle.std.specs.Prelude.{◌≡◌, ℕ, ◌+◌, ◌≤◌, false, List, [
 use Rattle.std.specs.List.{AllByRecursion}
 use Rattle.mc_flash.specs.Geometry.{Geometry, IsLayout}
 use Rattle.mc_flash.specs.Content.{Content, bytes_of, with_bytes, put, size_of}
-use Rattle.mc_flash.specs.Ledger.{Limits, Spot}
+use Rattle.mc_flash.specs.Usage.{Limits, Checkpoint}
 use Rattle.mc_flash.specs.Seen.{Seen}
 use Rattle.mc_flash.specs.declared.op.Slot.{Slot}
 use Rattle.mc_flash.specs.declared.entry.Entry.{Entry}
@@ -43,19 +43,19 @@ all_saved [] = 0
 all_saved (entry ∷ rest) = saved_by entry + all_saved rest
 
 -- What the flash held after so many of the entries, where it holds this after all of them, and the counts there.
-abbrev pub spot_after : List Entry → List ℕ → Content → ℕ → Spot
-spot_after entries saved s n = record {
+abbrev pub checkpoint_after : List Entry → List ℕ → Content → ℕ → Checkpoint
+checkpoint_after entries saved s n = record {
   content = all_taken_back (drop n (changes entries saved)) s;
   counts = record { entries = n; saved = all_saved (take n entries) };
 }
 
 -- A flash with a journal, as it is seen.
 abbrev pub journal_of : Geometry → Content → Limits → List Entry → List ℕ → List ℕ → ℕ → Seen
-journal_of g s limits entries saved marks applied = record {
+journal_of g s limits entries saved checkpoints applied = record {
   geometry = g;
   content = s;
-  marks = map (spot_after entries saved s) marks;
-  ledger = record {
+  checkpoints = map (checkpoint_after entries saved s) checkpoints;
+  usage = record {
     counts = record { entries = length entries; saved = length saved };
     limits = limits;
     applied = applied;
@@ -78,21 +78,21 @@ pub record IsJournal (g : Geometry) (entries : List Entry) (saved : List ℕ) : 
 pub record IsUndoneTo (count : ℕ) (entries : List Entry) (saved : List ℕ) (s : Content) (entries' : List Entry) (saved' : List ℕ) (s' : Content) : Type 0 where
   pub left : entries' ≡ take count entries
   pub saved_for : length saved' ≡ all_saved entries'
-  pub same : (n : ℕ) → n ≤ count → spot_after entries' saved' s' n ≡ spot_after entries saved s n
+  pub same : (n : ℕ) → n ≤ count → checkpoint_after entries' saved' s' n ≡ checkpoint_after entries saved s n
 
 -- Each number is at most the next, and all are between the two.
 abbrev pub Ascend : ℕ → List ℕ → ℕ → Type 0
 Ascend low [] top = low ≤ top
 Ascend low (n ∷ rest) top = (low ≤ n) × Ascend n rest top
 
--- A journal of a layout in room for the limits and at most that full, with marks in order.
-pub record IsSound (g : Geometry) (limits : Limits) (entries_room saved_room marks_room : ℕ) (entries : List Entry) (saved marks : List ℕ) : Type 0 where
+-- A journal of a layout in room for the limits and at most that full, with checkpoints in order.
+pub record IsSound (g : Geometry) (limits : Limits) (entries_room saved_room checkpoints_room : ℕ) (entries : List Entry) (saved checkpoints : List ℕ) : Type 0 where
   pub layout : IsLayout g
   pub room_entries : limits.entries ≤ entries_room
   pub room_saved : limits.saved ≤ saved_room
-  pub room_marks : limits.marks ≤ marks_room
+  pub room_checkpoints : limits.checkpoints ≤ checkpoints_room
   pub few_entries : length entries ≤ limits.entries
   pub few_saved : length saved ≤ limits.saved
-  pub few_marks : length marks ≤ limits.marks
+  pub few_checkpoints : length checkpoints ≤ limits.checkpoints
   pub journal : IsJournal g entries saved
-  pub ascend : Ascend 0 marks (length entries)
+  pub ascend : Ascend 0 checkpoints (length entries)

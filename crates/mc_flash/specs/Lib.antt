@@ -3,7 +3,7 @@ pub mod Blank
 pub mod Room
 pub mod Content
 pub mod Apply
-pub mod Ledger
+pub mod Usage
 pub mod Seen
 pub mod Reserve
 pub mod Journal

@@ -3,12 +3,12 @@ use Rattle.std.specs.Prelude.{◌+◌, ◌*◌, Bool, false, List, map}
 use Rattle.mc_flash.specs.Content.{Content}
 use Rattle.mc_flash.specs.Geometry.{Geometry}
 use Rattle.mc_flash.specs.Seen.{Seen}
-use Rattle.mc_flash.specs.Ledger.{Limits, Spot, no_counts, most_operations, most_saved}
+use Rattle.mc_flash.specs.Usage.{Limits, Checkpoint, no_counts, most_operations, most_saved}
 use Rattle.mc_flash.specs.declared.flash.Grain.TheVariants as grains
 use Rattle.mc_flash.specs.declared.snap.SnapFlash.{SnapFlash}
 
 -- a copy, as a marked content
-abbrev pub copy_seen : Content → Spot
+abbrev pub copy_seen : Content → Checkpoint
 copy_seen content = record { content = content; counts = no_counts }
 
 -- limits that no number of boots meets, for a flash that does not count
@@ -17,16 +17,16 @@ ample g = record {
   counted = false;
   entries = 32 * (most_operations grains.Call g + most_operations grains.Unit g);
   saved = 32 * most_saved g;
-  marks = 33;
+  checkpoints = 33;
 }
 
-abbrev pub copies_seen : Geometry → Content → List Spot → Bool → Seen
-copies_seen g content marks failed = record {
+abbrev pub copies_seen : Geometry → Content → List Checkpoint → Bool → Seen
+copies_seen g content checkpoints failed = record {
   geometry = g;
   content = content;
-  marks = marks;
-  ledger = record { counts = no_counts; limits = ample g; applied = 0; failed = failed };
+  checkpoints = checkpoints;
+  usage = record { counts = no_counts; limits = ample g; applied = 0; failed = failed };
 }
 
 abbrev pub snap_seen : SnapFlash → Seen
-snap_seen f = copies_seen f.slots.layout f.slots.content (map copy_seen f.marks.items) f.failed
+snap_seen f = copies_seen f.slots.layout f.slots.content (map copy_seen f.checkpoints.items) f.failed

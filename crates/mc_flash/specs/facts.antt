@@ -1,5 +1,5 @@
 -- Lemmas that the crates above cite. The definitions above them are what must be believed.
 pub mod Layouts
-pub mod Ledger
+pub mod Usage
 pub mod Done
 pub mod Spends

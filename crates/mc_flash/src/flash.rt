@@ -15,7 +15,7 @@ pub enum Grain {
     Unit,
 }
 
-/// Why a flash refuses an operation or a mark, and stays as it was.
+/// Why a flash refuses an operation or a checkpoint, and stays as it was.
 #[derive(Clone, Copy, Debug, PartialEq, Eq, Error)]
 pub enum FlashError {
     /// A byte that is to be written is not 0xff.
@@ -46,7 +46,7 @@ impl<T: Drop> From<AllocFailed<T>> for FlashError {
     }
 }
 
-/// A flash, seen as one value: its layout, its content, the contents that were marked, and its ledger of counts and limits.
+/// A flash, seen as one value: its layout, its content, the contents that were marked, and its usage: counts, and their limits.
 pub trait Flash: Sized + Drop {
     ghost use Rattle.mc_flash.specs.Content.{bytes_of, size_of};
     ghost use Rattle.mc_flash.specs.Apply.{CanTry};
@@ -60,7 +60,7 @@ pub trait Flash: Sized + Drop {
     /// All that can be seen of it.
     ghost seen: { Self → Seen };
 
-    /// A flash of these bytes, without marks. One that counts has room for so many boots, of that grain.
+    /// A flash of these bytes, without checkpoints. One that counts has room for so many boots, of that grain.
     fn load(
         alloc: Global,
         layout: &Layout,
@@ -107,12 +107,12 @@ pub trait Flash: Sized + Drop {
         requires { CanTry (seen self.old).geometry (Copy from at to offset len) }
         ensures { Does (Copy from at to offset len) (seen self.old) result (seen self.new) };
 
-    /// Marks the content, and returns the mark's place.
+    /// Marks the content, and returns the checkpoint's place.
     fn mark(&mut self) -> Result<usize, FlashError>
         ensures { Marks (seen self.old) result (seen self.new) };
 
-    /// Gives back a marked content, and gives up that mark and all later ones. It takes no memory.
+    /// Gives back a marked content, and gives up that checkpoint and all later ones. It takes no memory.
     fn back_to(&mut self, place: usize)
-        requires { place < length (seen self.old).marks }
+        requires { place < length (seen self.old).checkpoints }
         ensures { seen self.new ≡ went_back place (seen self.old) };
 }

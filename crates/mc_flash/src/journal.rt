@@ -23,7 +23,7 @@ pub struct JournalFlash {
     // The bytes that erased sectors held, the newest last.
     saved: Vec<u8>,
     // After how many entries a content was marked.
-    marks: Vec<usize>,
+    checkpoints: Vec<usize>,
     applied: u64,
 }
 
@@ -36,10 +36,11 @@ impl Model for JournalFlash {
     ghost Value = { Seen };
 
     ghost view = { λ f. journal_of f.slots.layout f.slots.content (limits_of f.reserve)
-        f.entries.items f.saved.items f.marks.items f.applied };
+        f.entries.items f.saved.items f.checkpoints.items f.applied };
 
     ghost invariant = { λ f. IsSound f.slots.layout (limits_of f.reserve) (vec_capacity f.entries)
-        (vec_capacity f.saved) (vec_capacity f.marks) f.entries.items f.saved.items f.marks.items };
+        (vec_capacity f.saved) (vec_capacity f.checkpoints) f.entries.items f.saved.items
+        f.checkpoints.items };
 }
 
 // Takes the newest entries back, until so many are left.
@@ -69,31 +70,31 @@ fn undo_to(slots: &mut Slots, entries: &mut Vec<Entry>, saved: &mut Vec<u8>, cou
 impl JournalFlash {
     /// How many operations can be taken back.
     pub fn entries(&self) -> u64
-        ensures value { result ≡ self.now.ledger.counts.entries }
-        ensures few { result ≤ self.now.ledger.limits.entries }
+        ensures value { result ≡ self.now.usage.counts.entries }
+        ensures few { result ≤ self.now.usage.limits.entries }
     {
         self.entries.len() as u64
     }
 
     /// How many bytes are saved for that.
     pub fn saved_bytes(&self) -> u64
-        ensures value { result ≡ self.now.ledger.counts.saved }
-        ensures few { result ≤ self.now.ledger.limits.saved }
+        ensures value { result ≡ self.now.usage.counts.saved }
+        ensures few { result ≤ self.now.usage.limits.saved }
     {
         self.saved.len() as u64
     }
 
     /// How many contents are marked.
     pub fn marks(&self) -> u64
-        ensures value { result ≡ length self.now.marks }
-        ensures few { result ≤ self.now.ledger.limits.marks }
+        ensures value { result ≡ length self.now.checkpoints }
+        ensures few { result ≤ self.now.usage.limits.checkpoints }
     {
-        self.marks.len() as u64
+        self.checkpoints.len() as u64
     }
 
     /// How many operations it has done since it was loaded.
     pub fn applied(&self) -> u64
-        ensures { result ≡ self.now.ledger.applied }
+        ensures { result ≡ self.now.usage.applied }
     {
         self.applied
     }
@@ -118,7 +119,7 @@ impl Flash for JournalFlash {
             reserve,
             entries: Vec::with_capacity(alloc, reserve.entries)?,
             saved: Vec::with_capacity(alloc, reserve.saved)?,
-            marks: Vec::with_capacity(alloc, reserve.marks)?,
+            checkpoints: Vec::with_capacity(alloc, reserve.checkpoints)?,
             applied: 0,
         })
     }
@@ -186,17 +187,17 @@ impl Flash for JournalFlash {
     }
 
     fn mark(&mut self) -> Result<usize, FlashError> {
-        let place = self.marks.len();
-        if place >= self.reserve.marks {
+        let place = self.checkpoints.len();
+        if place >= self.reserve.checkpoints {
             return Err(FlashError::Memory);
         }
-        self.marks.push(self.entries.len())?;
+        self.checkpoints.push(self.entries.len())?;
         Ok(place)
     }
 
     fn back_to(&mut self, place: usize) {
-        let count = self.marks[place];
-        self.marks.truncate(place);
+        let count = self.checkpoints[place];
+        self.checkpoints.truncate(place);
         undo_to(&mut self.slots, &mut self.entries, &mut self.saved, count);
     }
 }

@@ -1,17 +1,17 @@
 //! The room that a journal takes when its flash is loaded.
 ghost use Rattle.std.specs.Prelude.{◌≡◌, ◌+◌, ◌*◌, ◌≤◌};
 ghost use Rattle.mc_flash.specs.Geometry.{Geometry, IsLayout};
-ghost use Rattle.mc_flash.specs.Ledger.{limits_for, most_operations, most_saved};
+ghost use Rattle.mc_flash.specs.Usage.{limits_for, most_operations, most_saved};
 
 use crate::flash::Grain;
 use crate::layout::Layout;
 
-/// How many entries, saved bytes and marks a journal has room for.
+/// How many entries, saved bytes and checkpoints a journal has room for.
 #[derive(Clone, Copy)]
 pub struct Reserve {
     pub entries: usize,
     pub saved: usize,
-    pub marks: usize,
+    pub checkpoints: usize,
 }
 
 // The operations of three transfers for each of so many sectors, each transfer of so many pieces: at most 3,072 of 65,538.
@@ -47,7 +47,7 @@ pub fn most_operations(layout: &Layout, grain: Grain) -> u64
 }
 
 // The most bytes that a boot's erases save: at most three slots of 2^24.
-#[tactic(auto, using(crate::specs::facts::Ledger::few_saved))]
+#[tactic(auto, using(crate::specs::facts::Usage::few_saved))]
 fn most_saved(layout: &Layout) -> u64
     ensures value { result ≡ most_saved layout.now }
     ensures few { result ≤ 50331648 }
@@ -60,7 +60,7 @@ impl Reserve {
     ghost use Rattle.mc_flash.specs.Reserve.{limits_of};
 
     /// The room for so many boots.
-    #[tactic(auto, unfolding(crate::specs::Ledger::limits_for))]
+    #[tactic(auto, unfolding(crate::specs::Usage::limits_for))]
     pub fn new(layout: &Layout, grain: Grain, boots: u32) -> Reserve
         requires { boots ≤ 32 }
         ensures { limits_of result ≡ limits_for grain layout.now boots }
@@ -68,7 +68,7 @@ impl Reserve {
         Reserve {
             entries: (boots as u64 * most_operations(layout, grain)) as usize,
             saved: (boots as u64 * most_saved(layout)) as usize,
-            marks: boots as usize + 1,
+            checkpoints: boots as usize + 1,
         }
     }
 }

@@ -1,4 +1,4 @@
-//! A flash in memory that keeps a copy of its content for each mark.
+//! A flash in memory that keeps a copy of its content for each checkpoint.
 ghost use Rattle.std.specs.Prelude.{◌≡◌, ℕ, ◌+◌, ◌<◌, ◌≤◌, List, [], ◌∷◌, ◌++◌, length, true, false, All, IfOk, IfErr, map};
 ghost use Rattle.mc_flash.specs.Content.{bytes_of, size_of, IsSized};
 
@@ -9,15 +9,15 @@ use crate::op::Slot;
 use crate::slots::Slots;
 use std::alloc::Global;
 
-/// A flash in memory that keeps a copy of its content for each mark. It takes memory as it goes, and counts nothing.
+/// A flash in memory that keeps a copy of its content for each checkpoint. It takes memory as it goes, and counts nothing.
 #[derive(Drop)]
 pub struct SnapFlash {
     alloc: Global,
     slots: Slots,
-    marks: Vec<Content>,
+    checkpoints: Vec<Content>,
     // Whether an allocation failed at some time.
     failed: bool,
-    ghost marks_sized: { All (IsSized slots.layout) marks.items },
+    ghost checkpoints_sized: { All (IsSized slots.layout) checkpoints.items },
 }
 
 impl Flash for SnapFlash {
@@ -38,7 +38,7 @@ impl Flash for SnapFlash {
         Ok(SnapFlash {
             alloc,
             slots: Slots::new(alloc, *layout, primary, secondary)?,
-            marks: Vec::new(alloc),
+            checkpoints: Vec::new(alloc),
             failed: false,
         })
     }
@@ -73,12 +73,12 @@ impl Flash for SnapFlash {
     }
 
     fn mark(&mut self) -> Result<usize, FlashError> {
-        let place = self.marks.len();
+        let place = self.checkpoints.len();
         let Ok(content) = self.slots.copied(self.alloc) else {
             self.failed = true;
             return Err(FlashError::Memory);
         };
-        if self.marks.push(content).is_err() {
+        if self.checkpoints.push(content).is_err() {
             self.failed = true;
             return Err(FlashError::Memory);
         }
@@ -86,8 +86,8 @@ impl Flash for SnapFlash {
     }
 
     fn back_to(&mut self, place: usize) {
-        self.marks.truncate(place + 1);
-        if let Some(content) = self.marks.pop() {
+        self.checkpoints.truncate(place + 1);
+        if let Some(content) = self.checkpoints.pop() {
             self.slots.replace(content);
         }
     }

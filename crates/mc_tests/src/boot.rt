@@ -27,7 +27,7 @@ fn run<F: Flash>(flash: &mut F, boot: &mut Boot, steps: u32)
     requires { IsBootOf (F.seen flash.old).geometry boot.old }
     ensures boot { IsBootOf (F.seen flash.new).geometry boot.new }
     ensures geometry { (F.seen flash.new).geometry ≡ (F.seen flash.old).geometry }
-    ensures marks { (F.seen flash.new).marks ≡ (F.seen flash.old).marks }
+    ensures checkpoints { (F.seen flash.new).checkpoints ≡ (F.seen flash.old).checkpoints }
 {
     for _ in 0..steps {
         let _ = boot.step(flash);
@@ -36,7 +36,7 @@ fn run<F: Flash>(flash: &mut F, boot: &mut Boot, steps: u32)
 
 /// The outcome of a whole boot.
 fn told<F: Flash>(flash: &mut F, rules: Rules) -> Outcome
-    ensures { (F.seen flash.new).marks ≡ (F.seen flash.old).marks }
+    ensures { (F.seen flash.new).checkpoints ≡ (F.seen flash.old).checkpoints }
 {
     let mut boot = Boot::cold(flash, rules);
     run(flash, &mut boot, 200);
@@ -250,7 +250,7 @@ fn a_boot_to_its_end(rt: HostRuntime) -> Result<(), Fail> {
     Ok(())
 }
 
-/// What a boot tells, and what the same boot tells that was kept beside a mark.
+/// What a boot tells, and what the same boot tells that was kept beside a checkpoint.
 #[tactic(auto, unfolding(mc_flash::specs::Seen::went_back))]
 fn told_again(flash: &mut SnapFlash) -> Result<[Outcome; 2], FlashError> {
     let mut boot = Boot::cold(flash, Rules::PLAIN);

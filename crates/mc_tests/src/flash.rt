@@ -168,7 +168,7 @@ const UNIT: [u8; 8] = [1, 2, 3, 4, 5, 6, 7, 8];
 /// A flash of the worked layout: the primary is blank, and the secondary holds 0xaa.
 fn loaded<F: Flash>(alloc: Global) -> Result<F, Fail>
     ensures geometry { IfOk result (λ flash. (F.seen flash).geometry ≡ worked) }
-    ensures marks { IfOk result (λ flash. (F.seen flash).marks ≡ []) }
+    ensures checkpoints { IfOk result (λ flash. (F.seen flash).checkpoints ≡ []) }
 {
     let layout = worked()?;
     let flash = F::load(alloc, &layout, Grain::Call, &[0xff; 1024], &[0xaa; 768], 1)?;
@@ -211,12 +211,12 @@ fn is_copied<F: Flash>(flash: &mut F) -> Result<[bool; 3], FlashError>
     ])
 }
 
-/// Whether a sector is erased behind a mark, and given back. The places of the marks before it, behind it, and behind
+/// Whether a sector is erased behind a checkpoint, and given back. The places of the checkpoints before it, behind it, and behind
 /// the way back.
 #[tactic(auto, using(mc_flash::specs::facts::Done::does_keep), unfolding(mc_flash::specs::Seen::went_back))]
 fn is_given_back<F: Flash>(flash: &mut F) -> Result<([bool; 2], [usize; 3]), FlashError>
     requires geometry { (F.seen flash.old).geometry ≡ worked }
-    requires marks { (F.seen flash.old).marks ≡ [] }
+    requires checkpoints { (F.seen flash.old).checkpoints ≡ [] }
 {
     let before = flash.mark()?;
     flash.erase(Slot::Secondary, 1)?;
@@ -250,7 +250,7 @@ fn flashes_are_programmed_and_given_back(rt: HostRuntime) -> Result<(), Fail> {
     Ok(())
 }
 
-/// Whether a mark that is refused changes nothing.
+/// Whether a checkpoint that is refused changes nothing.
 fn is_kept(flash: &mut SnapFlash) -> Result<bool, FlashError> {
     let Err(error) = flash.mark() else {
         return Ok(true);

@@ -13,7 +13,7 @@ use std::test::Fail;
 fn loaded(alloc: Global, boots: u32) -> Result<JournalFlash, Fail>
     requires { (1 ≤ boots) × (boots ≤ 32) }
     ensures geometry { IfOk result (λ flash. flash.geometry ≡ worked) }
-    ensures marks { IfOk result (λ flash. flash.marks ≡ []) }
+    ensures checkpoints { IfOk result (λ flash. flash.checkpoints ≡ []) }
 {
     let layout = worked()?;
     let flash = JournalFlash::load(
@@ -27,7 +27,7 @@ fn loaded(alloc: Global, boots: u32) -> Result<JournalFlash, Fail>
     Ok(flash)
 }
 
-/// The entries, the saved bytes, the marks, and the operations done.
+/// The entries, the saved bytes, the checkpoints, and the operations done.
 fn counts(flash: &JournalFlash) -> [u64; 4] {
     [
         flash.entries(),
@@ -40,12 +40,12 @@ fn counts(flash: &JournalFlash) -> [u64; 4] {
 type Operated = ([usize; 2], [[u64; 4]; 3], Result<(), FlashError>);
 
 /// Marks and erases a sector; marks, writes a unit, copies it to that sector, and is refused to write it again. The places
-/// of the marks, the counts before and after each part, and the refusal.
+/// of the checkpoints, the counts before and after each part, and the refusal.
 #[tactic(auto, using(mc_flash::specs::facts::Done::does_keep))]
 fn operated(flash: &mut JournalFlash) -> Result<Operated, FlashError>
     requires geometry { flash.old.geometry ≡ worked }
-    requires marks { flash.old.marks ≡ [] }
-    ensures { IfOk result (λ told. length flash.new.marks ≡ 2) }
+    requires checkpoints { flash.old.checkpoints ≡ [] }
+    ensures { IfOk result (λ told. length flash.new.checkpoints ≡ 2) }
 {
     let before = counts(flash);
     let first = flash.mark()?;
@@ -58,11 +58,11 @@ fn operated(flash: &mut JournalFlash) -> Result<Operated, FlashError>
     Ok(([first, second], [before, erased, counts(flash)], again))
 }
 
-/// Goes back to a mark, and returns the counts then.
+/// Goes back to a checkpoint, and returns the counts then.
 #[tactic(auto, unfolding(mc_flash::specs::Seen::went_back))]
 fn counts_back(flash: &mut JournalFlash, place: usize) -> [u64; 4]
-    requires { place < length flash.old.marks }
-    ensures { length flash.new.marks ≡ place }
+    requires { place < length flash.old.checkpoints }
+    ensures { length flash.new.checkpoints ≡ place }
 {
     flash.back_to(place);
     counts(flash)
@@ -70,10 +70,10 @@ fn counts_back(flash: &mut JournalFlash, place: usize) -> [u64; 4]
 
 type GoneBack = ([[u64; 4]; 2], [bool; 3], usize);
 
-/// Goes back to the second mark, and then to the first. The counts after each, whether the slots are as they were, and the
-/// place of the next mark.
+/// Goes back to the second checkpoint, and then to the first. The counts after each, whether the slots are as they were, and the
+/// place of the next checkpoint.
 fn gone_back(flash: &mut JournalFlash) -> Result<GoneBack, FlashError>
-    requires { length flash.old.marks ≡ 2 }
+    requires { length flash.old.checkpoints ≡ 2 }
 {
     let second = counts_back(flash, 1);
     let primary = flash.read(Slot::Primary) == [0xff; 1024].as_slice();
@@ -86,7 +86,7 @@ fn gone_back(flash: &mut JournalFlash) -> Result<GoneBack, FlashError>
 /// Operates and goes back, and tells what it is to.
 fn operates_and_goes_back(rt: &impl Abort, flash: &mut JournalFlash) -> Result<(), Fail>
     requires geometry { flash.old.geometry ≡ worked }
-    requires marks { flash.old.marks ≡ [] }
+    requires checkpoints { flash.old.checkpoints ≡ [] }
 {
     let there = operated(flash)?;
     let wanted = [[0, 0, 0, 0], [1, 256, 1, 1], [3, 256, 2, 3]];
@@ -101,7 +101,7 @@ fn operations_are_counted_and_taken_back(rt: HostRuntime) -> Result<(), Fail> {
     operates_and_goes_back(&rt, &mut loaded(rt.alloc(), 3)?)
 }
 
-/// Takes the marks, erases and entries that there is room for. The places of the marks, the counts after the erases and at
+/// Takes the checkpoints, erases and entries that there is room for. The places of these, the counts after the erases and at
 /// the end, and what is refused on the way.
 #[tactic(auto, using(mc_flash::specs::facts::Done::does_keep))]
 fn filled(
@@ -128,7 +128,7 @@ fn filled(
     ))
 }
 
-/// The most erases of a boot, and the place for one mark more.
+/// The most erases of a boot, and the place for one checkpoint more.
 #[test]
 fn a_full_journal_refuses(rt: HostRuntime) -> Result<(), Fail> {
     let told = filled(&mut loaded(rt.alloc(), 1)?)?;

@@ -2,7 +2,7 @@
 use Rattle.std.specs.Prelude.{ℕ, ◌-◌, ◌*◌, List, ◌++◌, codes, decimal}
 use Rattle.mc_flash.specs.Geometry.{Geometry, trailer_bytes, trailer_sectors, greatest_sectors}
 use Rattle.mc_flash.specs.Largest.{largest_image}
-use Rattle.mc_flash.specs.Ledger.{most_operations}
+use Rattle.mc_flash.specs.Usage.{most_operations}
 use Rattle.mc_flash.specs.Texts.{grain_text, slot_text}
 use Rattle.mc_flash.specs.declared.flash.Grain.{Grain}
 use Rattle.mc_flash.specs.declared.flash.Grain.TheVariants as grains

@@ -47,7 +47,7 @@ module _ {N A T B : Type 0} (kind : B → Kind N A T) where
   along_begin path old stands member = record {
     path_is = sym (append-nil old.path);
     stands = stands;
-    same = record { branches = refl; bound = refl; start = refl };
+    same = record { branches = refl; bound = refl; origin = refl };
     member = member;
     spent = record { applied = omega arith; limits = refl; failed = refl };
   }
@@ -69,7 +69,7 @@ module _ {N A T B : Type 0} (kind : B → Kind N A T) where
       let step = subst (λ b. Spent (child_cost (kind b) (get_or path n 0)) mid.seen new.seen) a.same.branches s in
       let k : Kind N A T = kind old.branches in
       let cost : path_cost k (take n path) + child_cost k (get_or path n 0) ≡ path_cost k (take (n + 1) path) = sym (ap (path_cost k) more ∙ path_cost-push k (take n path) (get_or path n 0)) in
-      let same : IsSame old new = record { branches = d.2.branches ∙ a.same.branches; bound = d.2.bound ∙ a.same.bound; start = d.2.start ∙ a.same.start } in
+      let same : IsSame old new = record { branches = d.2.branches ∙ a.same.branches; bound = d.2.bound ∙ a.same.bound; origin = d.2.origin ∙ a.same.origin } in
       record {
         path_is = d.0 ∙ ap (λ z. z ++ get_or path n 0 ∷ []) a.path_is ∙ append_assoc old.path (take n path) (get_or path n 0 ∷ []) ∙ ap (λ z. old.path ++ z) (sym more);
         stands = d.3;

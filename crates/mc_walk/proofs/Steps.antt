@@ -6,32 +6,32 @@ use Rattle.std.proofs.lemmas.List.{map-append, length-map, get_or_at, set_at}
 use Rattle.mc_tree.specs.Tree.{Allowed, IsMember}
 use Rattle.mc_tree.specs.facts.Order.{IsNextBeyond, allowed-last, none_beyond, next_beyond}
 use Rattle.mc_flash.specs.Content.{Content}
-use Rattle.mc_flash.specs.Ledger.{Counts, Limits, Spot}
-use Rattle.mc_flash.specs.Seen.{Seen, Keeps, no_spot, spot_of, went_back, marked}
+use Rattle.mc_flash.specs.Usage.{Counts, Limits, Checkpoint}
+use Rattle.mc_flash.specs.Seen.{Seen, Keeps, no_checkpoint, checkpoint_of, went_back, marked}
 use Rattle.mc_flash.specs.Spends.{Spent, Stays, HasRoom, LeaveRoom, plus, room_of}
 use Rattle.mc_flash.specs.facts.Spends.{spent_back, spent_both, spent_more}
 use Rattle.mc_flash.specs.declared.flash.FlashError.{FlashError}
 use Rattle.mc_walk.specs.Kind.{Kind, owed_there, telling, IsAt, IsNode, HasNext, GoesOn, CanReach, Reaches}
 use Rattle.mc_walk.specs.Stack.{path_of, most_at, AreSpent, IsLastOpen, AreFrames, Stacked, node_of, Stands, Comes, CanGoOn, IsLeft, IsOneOn, IsRoomy}
-use Rattle.mc_walk.specs.Walks.{walked, start_of, IsFresh, Begins, IsThere, IsGoing, IsLastStep, IsPath, IsSound, GoesDown, Climbs}
+use Rattle.mc_walk.specs.Walks.{walked, origin_of, IsFresh, Begins, IsThere, IsGoing, IsLastStep, IsPath, IsSound, GoesDown, Climbs}
 use Rattle.mc_walk.specs.declared.frame.Frame.{Frame}
-use Rattle.mc_walk.proofs.Stacks.{path-push, no_path, frames_allowed, frames_last, among, node-push, started, length-stack, popped}
+use Rattle.mc_walk.proofs.Stacks.{path-push, no_path, frames_allowed, frames_last, among, node-push, first_is_origin, length-stack, popped}
 
 pub ok_any : {X E P : Type 0} (r : Result X E) → P → OnOk r P
 ok_any (Ok x) p = p
 ok_any (Err e) p = tt
 
 module _ {N A T : Type 0} (k : Kind N A T) where
-  pub roomy_stays : (bound : ℕ) (old new : Seen) → new.ledger.limits ≡ old.ledger.limits → IsRoomy k bound old → IsRoomy k bound new
+  pub roomy_stays : (bound : ℕ) (old new : Seen) → new.usage.limits ≡ old.usage.limits → IsRoomy k bound old → IsRoomy k bound new
   roomy_stays bound old new e r = record {
     entries = omega (arith, r.entries, ap (λ (l : Limits). l.entries) e);
     saved = omega (arith, r.saved, ap (λ (l : Limits). l.saved) e);
-    marks = omega (arith, r.marks, ap (λ (l : Limits). l.marks) e);
+    checkpoints = omega (arith, r.checkpoints, ap (λ (l : Limits). l.checkpoints) e);
   }
 
   -- Room for what is counted and owed after so many steps.
   steps_room : (bound steps : ℕ) (counts more : Counts) (seen : Seen) → IsRoomy k bound seen → steps ≤ bound → LeaveRoom counts more (most_at k steps)
-      → LeaveRoom counts more (room_of seen.ledger.limits)
+      → LeaveRoom counts more (room_of seen.usage.limits)
   steps_room bound steps counts more seen r le h =
       let entries : steps * k.most.entries ≤ bound * k.most.entries = mul-le-mul_right k.most.entries le in
       let saved : steps * k.most.saved ≤ bound * k.most.saved = mul-le-mul_right k.most.saved le in
@@ -39,7 +39,7 @@ module _ {N A T : Type 0} (k : Kind N A T) where
 
   -- And for what is owed at a child.
   child_room : (bound steps : ℕ) (counts left : Counts) (seen : Seen) → IsRoomy k bound seen → steps < bound → LeaveRoom counts left (most_at k steps)
-      → LeaveRoom counts (plus left k.most) (room_of seen.ledger.limits)
+      → LeaveRoom counts (plus left k.most) (room_of seen.usage.limits)
   child_room bound steps counts left seen r le h =
       let entries : (steps + 1) * k.most.entries ≤ bound * k.most.entries = mul-le-mul_right k.most.entries (omega (arith, le)) in
       let saved : (steps + 1) * k.most.saved ≤ bound * k.most.saved = mul-le-mul_right k.most.saved (omega (arith, le)) in
@@ -47,18 +47,18 @@ module _ {N A T : Type 0} (k : Kind N A T) where
       let one_saved : (steps + 1) * k.most.saved ≡ steps * k.most.saved + k.most.saved = omega arith in
       record { entries = omega (arith, entries, r.entries, h.entries, one); saved = omega (arith, saved, r.saved, h.saved, one_saved) }
 
-  pub enter_room : (bound : ℕ) (start : Content) (seen : Seen) (fs : List (Frame A T)) (f : Frame A T) → Comes k start seen fs f → IsRoomy k bound seen → length fs < bound
+  pub enter_room : (bound : ℕ) (origin : Content) (seen : Seen) (fs : List (Frame A T)) (f : Frame A T) → Comes k origin seen fs f → IsRoomy k bound seen → length fs < bound
       → HasRoom (owed_there k f.at) (marked seen)
-  enter_room bound start seen fs f c r few =
-      let n = length-stack k start seen.marks fs c.stacked in
+  enter_room bound origin seen fs f c r few =
+      let n = length-stack k origin seen.checkpoints fs c.stacked in
       record {
-        allows = child_room bound (length fs) seen.ledger.counts (k.left f.at) seen r few c.frame.room;
-        mark = omega (arith, n, few, r.marks, length-append seen.marks (spot_of seen ∷ []));
+        allows = child_room bound (length fs) seen.usage.counts (k.left f.at) seen r few c.frame.room;
+        mark = omega (arith, n, few, r.checkpoints, length-append seen.checkpoints (checkpoint_of seen ∷ []));
       }
 
-  pub mark_room : (bound : ℕ) (start : Content) (seen : Seen) (fs : List (Frame A T)) (f : Frame A T) → Comes k start seen fs f → IsRoomy k bound seen → length fs < bound
-      → length seen.marks < seen.ledger.limits.marks
-  mark_room bound start seen fs f c r few = omega (arith, length-stack k start seen.marks fs c.stacked, few, r.marks)
+  pub mark_room : (bound : ℕ) (origin : Content) (seen : Seen) (fs : List (Frame A T)) (f : Frame A T) → Comes k origin seen fs f → IsRoomy k bound seen → length fs < bound
+      → length seen.checkpoints < seen.usage.limits.checkpoints
+  mark_room bound origin seen fs f c r few = omega (arith, length-stack k origin seen.checkpoints fs c.stacked, few, r.checkpoints)
 
   -- A walk that stands is told where.
   pub standing : (bound : ℕ) (seen : Seen) (fs : List (Frame A T)) (told : Option T) → is_some told ≡ true → IfSome told (IsGoing k bound seen fs) → (t : T) × IsGoing k bound seen fs t
@@ -70,57 +70,57 @@ module _ {N A T : Type 0} (k : Kind N A T) where
       → IsPath k (walked b bound seen fs stood) (path_of fs)
   on_path b bound seen fs stood told going =
       let st = going.stands.stacked in
-      (omega (arith, going.few, length-map fs (λ (f : Frame A T). f.number)), frames_allowed k (k.root (start_of seen)) 0 st.above fs st.frames)
+      (omega (arith, going.few, length-map fs (λ (f : Frame A T). f.number)), frames_allowed k (k.root (origin_of seen)) 0 st.above fs st.frames)
 
   -- A walk is told of its root.
   pub begun : {B : Type 0} (b : B) (bound : ℕ) (old new : Seen) (fs : List (Frame A T)) (stood : Option T) (told : T) → IsFresh k (walked b bound old fs stood) → Stays old new
-      → k.IsTold (k.root old.content) told → new.ledger.limits ≡ old.ledger.limits
+      → k.IsTold (k.root old.content) told → new.usage.limits ≡ old.usage.limits
       → IsGoing k bound new fs told × Begins k (walked b bound old fs stood) told (walked b bound new fs (Some told))
   begun b bound old new fs stood told fresh stays told_is limits =
       let none : [] ≡ fs = sym (no_path fs fresh.path) in
-      let marks : new.marks ≡ spot_of old ∷ [] = stays.marks ∙ fresh.marks_are in
-      let start : start_of new ≡ old.content = ap (λ (ms : List Spot). (slice_index_or ms 0 no_spot).content) marks in
-      let here : start_of old ≡ old.content = ap (λ (ms : List Spot). (slice_index_or ms 0 no_spot).content) fresh.marks_are in
-      let stands : Stands k (start_of new) new [] told = record {
-        stacked = record { first = spot_of old; above = []; marks_are = marks; start_is = sym start; frames = tt };
-        content_is = stays.content ∙ sym (k.root_is old.content) ∙ ap (λ c. k.content (k.root c)) (sym start);
+      let checkpoints : new.checkpoints ≡ checkpoint_of old ∷ [] = stays.checkpoints ∙ fresh.checkpoints_are in
+      let origin : origin_of new ≡ old.content = ap (λ (ms : List Checkpoint). (slice_index_or ms 0 no_checkpoint).content) checkpoints in
+      let here : origin_of old ≡ old.content = ap (λ (ms : List Checkpoint). (slice_index_or ms 0 no_checkpoint).content) fresh.checkpoints_are in
+      let stands : Stands k (origin_of new) new [] told = record {
+        stacked = record { first = checkpoint_of old; above = []; checkpoints_are = checkpoints; origin_is = sym origin; frames = tt };
+        content_is = stays.content ∙ sym (k.root_is old.content) ∙ ap (λ c. k.content (k.root c)) (sym origin);
         layout_is = stays.geometry ∙ fresh.layout_is;
-        told_is = subst (λ c. k.IsTold (k.root c) told) (sym start) told_is;
+        told_is = subst (λ c. k.IsTold (k.root c) told) (sym origin) told_is;
         counts = record {
-          entries = omega (arith, (k.all_is (k.root (start_of new))).entries, ap (λ c. c.entries) (stays.counts ∙ fresh.counts));
-          saved = omega (arith, (k.all_is (k.root (start_of new))).saved, ap (λ c. c.saved) (stays.counts ∙ fresh.counts));
+          entries = omega (arith, (k.all_is (k.root (origin_of new))).entries, ap (λ c. c.entries) (stays.counts ∙ fresh.counts));
+          saved = omega (arith, (k.all_is (k.root (origin_of new))).saved, ap (λ c. c.saved) (stays.counts ∙ fresh.counts));
         };
       } in (
         subst (λ xs. IsGoing k bound new xs told) none (record { stands = stands; few = omega arith; roomy = roomy_stays bound old new limits fresh.roomy }),
         record {
           path = fresh.path;
           told_is = subst (λ c. k.IsTold (k.root c) told) (sym here) told_is;
-          same = record { branches = refl; bound = refl; start = start ∙ sym here };
+          same = record { branches = refl; bound = refl; origin = origin ∙ sym here };
           stands = refl;
         },
       )
 
   -- The flash is back at the last child that is not the last of its parent's.
   pub record Back (bound : ℕ) (old seen : Seen) (all fs : List (Frame A T)) (f : Frame A T) : Type 0 where
-    pub comes : Comes k (start_of old) seen fs f
-    pub in_range : length fs + 1 < length old.marks
+    pub comes : Comes k (origin_of old) seen fs f
+    pub in_range : length fs + 1 < length old.checkpoints
     pub few : length fs < bound
     pub roomy : IsRoomy k bound seen
     pub spent : Spent 0 old seen
-    pub more : f.number + 1 < k.tree.width (node_of k (start_of old) fs)
+    pub more : f.number + 1 < k.tree.width (node_of k (origin_of old) fs)
     pub has_next : HasNext k f.at seen
 
   went_up_to : (bound : ℕ) (old : Seen) (all fs : List (Frame A T)) (f : Frame A T) (told : T) → IsGoing k bound old all told → IsLastOpen k f all fs
       → Back bound old (went_back (length fs + 1) old) all fs f
   went_up_to bound old all fs f told going last =
       let seen : Seen = went_back (length fs + 1) old in
-      let p = popped k (start_of old) old all fs f last.more going.stands.stacked going.stands.layout_is last.split in
+      let p = popped k (origin_of old) old all fs f last.more going.stands.stacked going.stands.layout_is last.split in
       let spent = spent_back (length fs + 1) old in
       let roomy = roomy_stays bound old seen spent.limits going.roomy in
       let few : length fs < bound = omega (arith, going.few, ap length last.split, length-append fs (f ∷ last.more)) in
-      let here : IsAt k (node_of k (start_of old) fs) f.number f.at seen = record { on_is = p.0.frame.on_is; content_is = p.0.frame.content_is; layout_is = p.0.layout_is } in
-      let room = steps_room bound (length fs) seen.ledger.counts (k.left f.at) seen roomy (omega (arith, few)) p.0.frame.room in
-      let more : f.number + 1 < k.tree.width (node_of k (start_of old) fs) = last.open_is (node_of k (start_of old) fs) p.0.frame.told_is in
+      let here : IsAt k (node_of k (origin_of old) fs) f.number f.at seen = record { on_is = p.0.frame.on_is; content_is = p.0.frame.content_is; layout_is = p.0.layout_is } in
+      let room = steps_room bound (length fs) seen.usage.counts (k.left f.at) seen roomy (omega (arith, few)) p.0.frame.room in
+      let more : f.number + 1 < k.tree.width (node_of k (origin_of old) fs) = last.open_is (node_of k (origin_of old) fs) p.0.frame.told_is in
       record {
         comes = p.0;
         in_range = p.1;
@@ -128,7 +128,7 @@ module _ {N A T : Type 0} (k : Kind N A T) where
         roomy = roomy;
         spent = spent;
         more = more;
-        has_next = (node_of k (start_of old) fs, f.number, here, more, room);
+        has_next = (node_of k (origin_of old) fs, f.number, here, more, room);
       }
 
   pub went_up : (bound : ℕ) (old seen : Seen) (all fs : List (Frame A T)) (f : Frame A T) (told : T) → IsGoing k bound old all told → IsLastOpen k f all fs
@@ -136,13 +136,13 @@ module _ {N A T : Type 0} (k : Kind N A T) where
   went_up bound old seen all fs f told going last e = subst (λ z. Back bound old z all fs f) (sym e) (went_up_to bound old all fs f told going last)
 
   -- It goes on to the next child.
-  pub went_on : (start : Content) (seen new : Seen) (fs : List (Frame A T)) (f : Frame A T) (at : A) → Comes k start seen fs f → f.number + 1 < k.tree.width (node_of k start fs)
-      → Keeps seen new → GoesOn k {E = FlashError} f.at seen (Ok tt) at new → Comes k start new fs (record { at = at; number = f.number + 1; parent = f.parent })
-  went_on start seen new fs f at c lt keeps goes =
-      let before : IsAt k (node_of k start fs) f.number f.at seen = record { on_is = c.frame.on_is; content_is = c.frame.content_is; layout_is = c.layout_is } in
-      let here = goes.0 (node_of k start fs) f.number before lt in
+  pub went_on : (origin : Content) (seen new : Seen) (fs : List (Frame A T)) (f : Frame A T) (at : A) → Comes k origin seen fs f → f.number + 1 < k.tree.width (node_of k origin fs)
+      → Keeps seen new → GoesOn k {E = FlashError} f.at seen (Ok tt) at new → Comes k origin new fs (record { at = at; number = f.number + 1; parent = f.parent })
+  went_on origin seen new fs f at c lt keeps goes =
+      let before : IsAt k (node_of k origin fs) f.number f.at seen = record { on_is = c.frame.on_is; content_is = c.frame.content_is; layout_is = c.layout_is } in
+      let here = goes.0 (node_of k origin fs) f.number before lt in
       record {
-        stacked = subst (λ ms. Stacked k start ms fs) (sym keeps.marks) c.stacked;
+        stacked = subst (λ ms. Stacked k origin ms fs) (sym keeps.checkpoints) c.stacked;
         layout_is = here.layout_is;
         frame = record {
           some = lt;
@@ -155,27 +155,27 @@ module _ {N A T : Type 0} (k : Kind N A T) where
 
   -- A child is on its way, at that cost.
   pub record Ready (bound cost : ℕ) (old mid : Seen) (fs : List (Frame A T)) (f : Frame A T) : Type 0 where
-    pub comes : Comes k (start_of old) mid fs f
+    pub comes : Comes k (origin_of old) mid fs f
     pub few : length fs < bound
     pub roomy : IsRoomy k bound old
     pub spent : Spent cost old mid
 
   -- From the child of the last frame it went on to the next one.
-  module _ (seen mid : Seen) (all : List (Frame A T)) (c : CanGoOn k (start_of seen) seen all) (f : Frame A T) (f_is : f ≡ c.frame) (at : A) (keeps : Keeps seen mid)
+  module _ (seen mid : Seen) (all : List (Frame A T)) (c : CanGoOn k (origin_of seen) seen all) (f : Frame A T) (f_is : f ≡ c.frame) (at : A) (keeps : Keeps seen mid)
       (goes : GoesOn k {E = FlashError} f.at seen (Ok tt) at mid) (spent : Spent k.step seen mid) where
     abbrev pub next_on : Frame A T
     next_on = record { at = at; number = f.number + 1; parent = f.parent }
 
-    pub comes_on : Comes k (start_of seen) mid c.before next_on
+    pub comes_on : Comes k (origin_of seen) mid c.before next_on
     comes_on =
-        let more : f.number + 1 < k.tree.width (node_of k (start_of seen) c.before) = omega (arith, c.more, ap (λ (z : Frame A T). z.number) f_is) in
-        went_on (start_of seen) seen mid c.before f at (subst (Comes k (start_of seen) seen c.before) (sym f_is) c.comes) more keeps goes
+        let more : f.number + 1 < k.tree.width (node_of k (origin_of seen) c.before) = omega (arith, c.more, ap (λ (z : Frame A T). z.number) f_is) in
+        went_on (origin_of seen) seen mid c.before f at (subst (Comes k (origin_of seen) seen c.before) (sym f_is) c.comes) more keeps goes
 
-    pub mark_on : length mid.marks < mid.ledger.limits.marks
-    mark_on = mark_room c.bound (start_of seen) mid c.before next_on comes_on (roomy_stays c.bound seen mid spent.limits c.roomy) c.few
+    pub mark_on : length mid.checkpoints < mid.usage.limits.checkpoints
+    mark_on = mark_room c.bound (origin_of seen) mid c.before next_on comes_on (roomy_stays c.bound seen mid spent.limits c.roomy) c.few
 
     pub room_on : HasRoom (owed_there k at) (marked mid)
-    room_on = enter_room c.bound (start_of seen) mid c.before next_on comes_on (roomy_stays c.bound seen mid spent.limits c.roomy) c.few
+    room_on = enter_room c.bound (origin_of seen) mid c.before next_on comes_on (roomy_stays c.bound seen mid spent.limits c.roomy) c.few
 
   -- The last frame, and what is put in its place.
   last_now : (all before : List (Frame A T)) (f now : Frame A T) (n : ℕ) → n ≡ length all - 1 → now ≡ slice_index_or all n now → all ≡ before ++ f ∷ [] → now ≡ f
@@ -193,39 +193,39 @@ module _ {N A T : Type 0} (k : Kind N A T) where
   one_on all now next n is value number before f split =
       (next, last_set all before f next n is split, number ∙ ap (λ (z : Frame A T). z.number + 1) (last_now all before f now n is value split))
 
-  pub frames_on : (start : Content) (seen : Seen) (all : List (Frame A T)) (c : CanGoOn k start seen all) (next : Frame A T) (n : ℕ) → n ≡ length all - 1
+  pub frames_on : (origin : Content) (seen : Seen) (all : List (Frame A T)) (c : CanGoOn k origin seen all) (next : Frame A T) (n : ℕ) → n ≡ length all - 1
       → slice_set all n next ≡ c.before ++ next ∷ []
-  frames_on start seen all c next n is = last_set all c.before c.frame next n is c.frames_are
+  frames_on origin seen all c next n is = last_set all c.before c.frame next n is c.frames_are
 
-  pub last_is : (start : Content) (seen : Seen) (all : List (Frame A T)) (c : CanGoOn k start seen all) (now : Frame A T) (n : ℕ) → n ≡ length all - 1
+  pub last_is : (origin : Content) (seen : Seen) (all : List (Frame A T)) (c : CanGoOn k origin seen all) (now : Frame A T) (n : ℕ) → n ≡ length all - 1
       → now ≡ slice_index_or all n now → now ≡ c.frame
-  last_is start seen all c now n is value = last_now all c.before c.frame now n is value c.frames_are
+  last_is origin seen all c now n is value = last_now all c.before c.frame now n is value c.frames_are
 
-  here_node : (old : Seen) (fs : List (Frame A T)) (told : T) → Stands k (start_of old) old fs told → IsNode k (node_of k (start_of old) fs) told old
+  here_node : (old : Seen) (fs : List (Frame A T)) (told : T) → Stands k (origin_of old) old fs told → IsNode k (node_of k (origin_of old) fs) told old
   here_node old fs told s = record { told_is = s.told_is; content_is = s.content_is; layout_is = s.layout_is }
 
   pub can_reach : (bound number width : ℕ) (old : Seen) (fs : List (Frame A T)) (told : T) → IsGoing k bound old fs told → length fs < bound
       → ((n : N) → k.IsTold n told → width ≡ k.tree.width n) → number < width → CanReach k number told old
   can_reach bound number width old fs told go few has lt =
       let s = go.stands in
-      let n : N = node_of k (start_of old) fs in
-      (n, here_node old fs told s, omega (arith, lt, has n s.told_is), steps_room bound (length fs) old.ledger.counts (k.owed n) old go.roomy (omega (arith, few)) s.counts)
+      let n : N = node_of k (origin_of old) fs in
+      (n, here_node old fs told s, omega (arith, lt, has n s.told_is), steps_room bound (length fs) old.usage.counts (k.owed n) old go.roomy (omega (arith, few)) s.counts)
 
   pub ready_down : (bound number width cost : ℕ) (old mid : Seen) (fs : List (Frame A T)) (told : T) (at : A) → IsGoing k bound old fs told → length fs < bound
       → ((n : N) → k.IsTold n told → width ≡ k.tree.width n) → number < width → Keeps old mid → Reaches k {E = FlashError} number told old (Ok at) mid → Spent cost old mid
       → Ready bound cost old mid fs (record { at = at; number = number; parent = told })
   ready_down bound number width cost old mid fs told at go few has lt keeps reaches spent =
       let s = go.stands in
-      let n : N = node_of k (start_of old) fs in
+      let n : N = node_of k (origin_of old) fs in
       let below : number < k.tree.width n = omega (arith, lt, has n s.told_is) in
       let (here, left) = reaches n (here_node old fs told s) below in
-      let next : LeaveRoom mid.ledger.counts (k.left at) (most_at k (length fs)) = record {
+      let next : LeaveRoom mid.usage.counts (k.left at) (most_at k (length fs)) = record {
         entries = omega (arith, left.entries, s.counts.entries);
         saved = omega (arith, left.saved, s.counts.saved);
       } in
       record {
         comes = record {
-          stacked = subst (λ ms. Stacked k (start_of old) ms fs) (sym keeps.marks) s.stacked;
+          stacked = subst (λ ms. Stacked k (origin_of old) ms fs) (sym keeps.checkpoints) s.stacked;
           layout_is = here.layout_is;
           frame = record {
             some = below;
@@ -241,14 +241,14 @@ module _ {N A T : Type 0} (k : Kind N A T) where
       }
 
   module _ (bound cost : ℕ) (old mid : Seen) (fs : List (Frame A T)) (f : Frame A T) (r : Ready bound cost old mid fs f) where
-    pub ready_here : Comes k (start_of mid) mid fs f
-    ready_here = subst (λ z. Comes k z mid fs f) (sym (started k (start_of old) mid fs r.comes.stacked)) r.comes
+    pub ready_here : Comes k (origin_of mid) mid fs f
+    ready_here = subst (λ z. Comes k z mid fs f) (sym (first_is_origin k (origin_of old) mid fs r.comes.stacked)) r.comes
 
     pub ready_room : HasRoom (owed_there k f.at) (marked mid)
-    ready_room = enter_room bound (start_of old) mid fs f r.comes (roomy_stays bound old mid r.spent.limits r.roomy) r.few
+    ready_room = enter_room bound (origin_of old) mid fs f r.comes (roomy_stays bound old mid r.spent.limits r.roomy) r.few
 
-    pub ready_mark : length mid.marks < mid.ledger.limits.marks
-    ready_mark = mark_room bound (start_of old) mid fs f r.comes (roomy_stays bound old mid r.spent.limits r.roomy) r.few
+    pub ready_mark : length mid.checkpoints < mid.usage.limits.checkpoints
+    ready_mark = mark_room bound (origin_of old) mid fs f r.comes (roomy_stays bound old mid r.spent.limits r.roomy) r.few
 
   -- A walk that stands is where it was told.
   pub is_there : {B : Type 0} (b : B) (bound : ℕ) (seen : Seen) (fs : List (Frame A T)) (told : T) → IsGoing k bound seen fs told
@@ -260,8 +260,8 @@ module _ {N A T : Type 0} (k : Kind N A T) where
         content_is = s.content_is;
         layout_is = s.layout_is;
         room = record {
-          allows = steps_room bound (length fs) seen.ledger.counts (k.owed (node_of k (start_of seen) fs)) seen going.roomy going.few s.counts;
-          mark = omega (arith, going.few, going.roomy.marks, length-stack k (start_of seen) seen.marks fs s.stacked);
+          allows = steps_room bound (length fs) seen.usage.counts (k.owed (node_of k (origin_of seen) fs)) seen going.roomy going.few s.counts;
+          mark = omega (arith, going.few, going.roomy.checkpoints, length-stack k (origin_of seen) seen.checkpoints fs s.stacked);
         };
       }
 
@@ -276,13 +276,13 @@ module _ {N A T : Type 0} (k : Kind N A T) where
       → all ≡ fs ++ f ∷ [] → IsLastStep k (walked b bound seen all stood) f
   last_there b bound seen all fs f stood told going split =
       let s = going.stands in
-      let frame = (among k (k.root (start_of seen)) 0 s.stacked.above fs f [] (subst (AreFrames k (k.root (start_of seen)) 0 s.stacked.above) split s.stacked.frames)).frame in
+      let frame = (among k (k.root (origin_of seen)) 0 s.stacked.above fs f [] (subst (AreFrames k (k.root (origin_of seen)) 0 s.stacked.above) split s.stacked.frames)).frame in
       record {
         before = path_of fs;
         path_is = ap path_of split ∙ path-push fs f;
         at_is = record {
           on_is = frame.on_is;
-          content_is = s.content_is ∙ ap (λ xs. k.content (node_of k (start_of seen) xs)) split ∙ ap k.content (node-push k (start_of seen) fs f);
+          content_is = s.content_is ∙ ap (λ xs. k.content (node_of k (origin_of seen) xs)) split ∙ ap k.content (node-push k (origin_of seen) fs f);
           layout_is = s.layout_is;
         };
         some = frame.some;
@@ -292,20 +292,20 @@ module _ {N A T : Type 0} (k : Kind N A T) where
   -- It has arrived.
   pub record Arrives (bound cost : ℕ) (old new : Seen) (all : List (Frame A T)) (told : T) : Type 0 where
     pub going : IsGoing k bound new all told
-    pub start : start_of new ≡ start_of old
+    pub origin : origin_of new ≡ origin_of old
     pub spent : Spent (cost + telling k) old new
 
-  pub arrives : (bound cost : ℕ) (old mid new : Seen) (fs all : List (Frame A T)) (f : Frame A T) (told : T) → Ready bound cost old mid fs f → Stands k (start_of mid) new all told
+  pub arrives : (bound cost : ℕ) (old mid new : Seen) (fs all : List (Frame A T)) (f : Frame A T) (told : T) → Ready bound cost old mid fs f → Stands k (origin_of mid) new all told
       → all ≡ fs ++ f ∷ [] → Spent (telling k) mid new → Arrives bound cost old new all told
   arrives bound cost old mid new fs all f told r s a spent =
-      let here = started k (start_of mid) new all s.stacked in
+      let here = first_is_origin k (origin_of mid) new all s.stacked in
       record {
         going = record {
           stands = subst (λ z. Stands k z new all told) (sym here) s;
           few = omega (arith, ap length a, length-append fs (f ∷ []), r.few);
           roomy = roomy_stays bound old new (spent.limits ∙ r.spent.limits) r.roomy;
         };
-        start = here ∙ started k (start_of old) mid fs r.comes.stacked;
+        origin = here ∙ first_is_origin k (origin_of old) mid fs r.comes.stacked;
         spent = spent_both cost (telling k) old mid new r.spent spent;
       }
 
@@ -325,13 +325,13 @@ module _ {N A T : Type 0} (k : Kind N A T) where
     back_at : Back bound old seen all is.before is.frame
     back_at = went_up bound old seen all is.before is.frame l.told l.going is.last (e ∙ ap (λ n. went_back n old) last_place)
 
-    pub mark_there : length left < length old.marks
+    pub mark_there : length left < length old.checkpoints
     mark_there = omega (arith, last_place, back_at.in_range)
 
-    pub can_go_on : CanGoOn k (start_of seen) seen left
+    pub can_go_on : CanGoOn k (origin_of seen) seen left
     can_go_on =
         let b = back_at in
-        let here = started k (start_of old) seen is.before b.comes.stacked in
+        let here = first_is_origin k (origin_of old) seen is.before b.comes.stacked in
         subst (λ z. CanGoOn k z seen left) (sym here) (record {
           before = is.before;
           frame = is.frame;
@@ -345,12 +345,12 @@ module _ {N A T : Type 0} (k : Kind N A T) where
           roomy = b.roomy;
         })
 
-    pub arrives_on : (new : Seen) (next : List (Frame A T)) (told : T) → Stands k (start_of seen) new next told → IsOneOn left next → Spent (k.step + telling k) seen new
+    pub arrives_on : (new : Seen) (next : List (Frame A T)) (told : T) → Stands k (origin_of seen) new next told → IsOneOn left next → Spent (k.step + telling k) seen new
         → Arrives bound ((0 + 1) * k.step) old new next told
     arrives_on new next told s one spent =
         let b = back_at in
         let o = one is.before is.frame is.frames_are in
-        let here = started k (start_of seen) new next s.stacked in
+        let here = first_is_origin k (origin_of seen) new next s.stacked in
         let most : 0 + (k.step + telling k) ≤ (0 + 1) * k.step + telling k = omega arith in
         record {
           going = record {
@@ -358,7 +358,7 @@ module _ {N A T : Type 0} (k : Kind N A T) where
             few = omega (arith, ap length o.1, length-append is.before (o.0 ∷ []), b.few);
             roomy = roomy_stays bound seen new spent.limits b.roomy;
           };
-          start = here ∙ started k (start_of old) seen is.before b.comes.stacked;
+          origin = here ∙ first_is_origin k (origin_of old) seen is.before b.comes.stacked;
           spent = spent_more (0 + (k.step + telling k)) _ old new most (spent_both 0 (k.step + telling k) old seen new b.spent spent);
         }
 
@@ -367,41 +367,41 @@ module _ {N A T : Type 0} (k : Kind N A T) where
   gone_down b bound cost number old new fs all f told stood a e n =
       let path : path_of all ≡ path_of fs ++ number ∷ [] = ap path_of n ∙ path-push fs f ∙ ap (λ z. path_of fs ++ z ∷ []) e in
       let st = a.going.stands.stacked in
-      let allowed = subst (λ z. Allowed k.tree (k.root z) (path_of all)) a.start (frames_allowed k (k.root (start_of new)) 0 st.above all st.frames) in
-      (path, (omega (arith, a.going.few, length-map all (λ (h : Frame A T). h.number)), allowed), record { branches = refl; bound = refl; start = a.start }, refl)
+      let allowed = subst (λ z. Allowed k.tree (k.root z) (path_of all)) a.origin (frames_allowed k (k.root (origin_of new)) 0 st.above all st.frames) in
+      (path, (omega (arith, a.going.few, length-map all (λ (h : Frame A T). h.number)), allowed), record { branches = refl; bound = refl; origin = a.origin }, refl)
 
   pub not_that_child : (bound number width : ℕ) (old : Seen) (fs : List (Frame A T)) (told : T) → IsGoing k bound old fs told → ((n : N) → k.IsTold n told → width ≡ k.tree.width n)
-      → width ≤ number → IsMember k.tree (k.root (start_of old)) bound (path_of fs ++ number ∷ []) → ⊥
+      → width ≤ number → IsMember k.tree (k.root (origin_of old)) bound (path_of fs ++ number ∷ []) → ⊥
   not_that_child bound number width old fs told go has le m =
-      omega (arith, le, has (node_of k (start_of old) fs) go.stands.told_is, allowed-last k.tree (k.root (start_of old)) (path_of fs) number m.1)
+      omega (arith, le, has (node_of k (origin_of old) fs) go.stands.told_is, allowed-last k.tree (k.root (origin_of old)) (path_of fs) number m.1)
 
   -- The order of its paths.
-  climbed_to : (start : Content) (marks : List Spot) (all fs : List (Frame A T)) (f g : Frame A T) → Stacked k start marks all → IsLastOpen k f all fs → g.number ≡ f.number + 1
-      → IsNextBeyond k.tree (k.root start) (path_of all) (path_of (fs ++ g ∷ []))
-  climbed_to start marks all fs f g st last e =
-      let r = among k (k.root start) 0 st.above fs f last.more (subst (AreFrames k (k.root start) 0 st.above) last.split st.frames) in
+  climbed_to : (origin : Content) (checkpoints : List Checkpoint) (all fs : List (Frame A T)) (f g : Frame A T) → Stacked k origin checkpoints all → IsLastOpen k f all fs → g.number ≡ f.number + 1
+      → IsNextBeyond k.tree (k.root origin) (path_of all) (path_of (fs ++ g ∷ []))
+  climbed_to origin checkpoints all fs f g st last e =
+      let r = among k (k.root origin) 0 st.above fs f last.more (subst (AreFrames k (k.root origin) 0 st.above) last.split st.frames) in
       let path : path_of all ≡ path_of fs ++ f.number ∷ path_of last.more = ap path_of last.split ∙ map-append (λ (h : Frame A T). h.number) fs (f ∷ last.more) in
       let new : path_of (fs ++ g ∷ []) ≡ path_of fs ++ (f.number + 1) ∷ [] = path-push fs g ∙ ap (λ z. path_of fs ++ z ∷ []) e in
-      let allowed = frames_allowed k (k.root start) 0 st.above all st.frames in
-      let spent = frames_last k (k.tree.child (node_of k start fs) f.number) ((0 + length fs) + 1) r.after last.more r.rest last.spent in
-      let beyond = next_beyond k.tree (k.root start) (path_of fs) f.number (path_of last.more) (subst (Allowed k.tree (k.root start)) path allowed) spent
-      (last.open_is (node_of k start fs) r.frame.told_is) in
-      subst (λ z. IsNextBeyond k.tree (k.root start) z (path_of (fs ++ g ∷ []))) (sym path)
-      (subst (IsNextBeyond k.tree (k.root start) (path_of fs ++ f.number ∷ path_of last.more)) (sym new) beyond)
+      let allowed = frames_allowed k (k.root origin) 0 st.above all st.frames in
+      let spent = frames_last k (k.tree.child (node_of k origin fs) f.number) ((0 + length fs) + 1) r.after last.more r.rest last.spent in
+      let beyond = next_beyond k.tree (k.root origin) (path_of fs) f.number (path_of last.more) (subst (Allowed k.tree (k.root origin)) path allowed) spent
+      (last.open_is (node_of k origin fs) r.frame.told_is) in
+      subst (λ z. IsNextBeyond k.tree (k.root origin) z (path_of (fs ++ g ∷ []))) (sym path)
+      (subst (IsNextBeyond k.tree (k.root origin) (path_of fs ++ f.number ∷ path_of last.more)) (sym new) beyond)
 
-  pub climbed : {B : Type 0} (b : B) (bound : ℕ) (old new : Seen) (all fs next : List (Frame A T)) (f g : Frame A T) (stood : Option T) (told : T) → Stacked k (start_of old) old.marks all
-      → IsLastOpen k f all fs → g.number ≡ f.number + 1 → next ≡ fs ++ g ∷ [] → start_of new ≡ start_of old
+  pub climbed : {B : Type 0} (b : B) (bound : ℕ) (old new : Seen) (all fs next : List (Frame A T)) (f g : Frame A T) (stood : Option T) (told : T) → Stacked k (origin_of old) old.checkpoints all
+      → IsLastOpen k f all fs → g.number ≡ f.number + 1 → next ≡ fs ++ g ∷ [] → origin_of new ≡ origin_of old
       → Climbs k (walked b bound old all stood) true (walked b bound new next (Some told))
   climbed b bound old new all fs next f g stood told st last e n s = (
-    subst (λ z. IsNextBeyond k.tree (k.root (start_of old)) (path_of all) (path_of z)) (sym n) (climbed_to (start_of old) old.marks all fs f g st last e),
-    record { branches = refl; bound = refl; start = s },
+    subst (λ z. IsNextBeyond k.tree (k.root (origin_of old)) (path_of all) (path_of z)) (sym n) (climbed_to (origin_of old) old.checkpoints all fs f g st last e),
+    record { branches = refl; bound = refl; origin = s },
     refl,
   )
 
-  pub none_on : {B : Type 0} (b : B) (bound : ℕ) (old : Seen) (all fs : List (Frame A T)) (stood : Option T) → Stacked k (start_of old) old.marks all → AreSpent k all
+  pub none_on : {B : Type 0} (b : B) (bound : ℕ) (old : Seen) (all fs : List (Frame A T)) (stood : Option T) → Stacked k (origin_of old) old.checkpoints all → AreSpent k all
       → Climbs k (walked b bound old all stood) false (walked {A = A} {T = T} b bound old fs None)
   none_on b bound old all fs stood st spent = (
-    none_beyond k.tree (k.root (start_of old)) (path_of all) (frames_last k (k.root (start_of old)) 0 st.above all st.frames spent),
-    record { branches = refl; bound = refl; start = refl },
+    none_beyond k.tree (k.root (origin_of old)) (path_of all) (frames_last k (k.root (origin_of old)) 0 st.above all st.frames spent),
+    record { branches = refl; bound = refl; origin = refl },
     refl,
   )

@@ -3,7 +3,7 @@ use Rattle.std.specs.Prelude.{◌≡◌, ℕ, ◌+◌, ◌<◌, Result, Ok, Err}
 use Rattle.mc_tree.specs.Tree.{Tree}
 use Rattle.mc_flash.specs.Content.{Content}
 use Rattle.mc_flash.specs.Geometry.{Geometry}
-use Rattle.mc_flash.specs.Ledger.{Counts, no_counts}
+use Rattle.mc_flash.specs.Usage.{Counts, no_counts}
 use Rattle.mc_flash.specs.Seen.{Seen}
 use Rattle.mc_flash.specs.Spends.{Allows, LeaveRoom, plus}
 
@@ -61,7 +61,7 @@ module _ {N A T : Type 0} (k : Kind N A T) where
   abbrev pub Reaches : {E : Type 0} → ℕ → T → Seen → Result A E → Seen → Type 0
   Reaches number told old (Ok at) new =
       (n : N) → IsNode n told old → number < k.tree.width n
-      → IsAt n number at new × LeaveRoom new.ledger.counts (k.left at) (plus old.ledger.counts (k.owed n))
+      → IsAt n number at new × LeaveRoom new.usage.counts (k.left at) (plus old.usage.counts (k.owed n))
   Reaches number told old (Err _) new = Unit {0}
 
   -- There is a next child, and room for what it has left.
@@ -71,7 +71,7 @@ module _ {N A T : Type 0} (k : Kind N A T) where
   abbrev pub GoesOn : {E : Type 0} → A → Seen → Result (Unit {0}) E → A → Seen → Type 0
   GoesOn at old (Ok _) at' new =
       ((n : N) (i : ℕ) → IsAt n i at old → i + 1 < k.tree.width n → IsAt n (i + 1) at' new)
-      × LeaveRoom new.ledger.counts (k.left at') (plus old.ledger.counts (k.left at))
+      × LeaveRoom new.usage.counts (k.left at') (plus old.usage.counts (k.left at))
   GoesOn at old (Err _) at' new = Unit {0}
 
   -- The flash has the layout of the tree.

@@ -2,8 +2,8 @@
 use Rattle.std.specs.Prelude.{◌≡◌, ℕ, ◌+◌, ◌<◌, ◌≤◌, ◌^◌, Bool, true, false, List, [], ◌∷◌, ◌++◌, length, map}
 use Rattle.mc_tree.specs.Tree.{landed}
 use Rattle.mc_flash.specs.Content.{Content}
-use Rattle.mc_flash.specs.Ledger.{Counts, Spot}
-use Rattle.mc_flash.specs.Seen.{Seen, marked, spot_of}
+use Rattle.mc_flash.specs.Usage.{Counts, Checkpoint}
+use Rattle.mc_flash.specs.Seen.{Seen, marked, checkpoint_of}
 use Rattle.mc_flash.specs.Spends.{HasRoom, LeaveRoom, plus, times}
 use Rattle.mc_walk.specs.Kind.{Kind, HasNext, owed_there}
 use Rattle.mc_walk.specs.declared.frame.Frame.{Frame}
@@ -63,68 +63,68 @@ module _ {N A T : Type 0} (k : Kind N A T) where
 
   -- The child of a node after so many steps that a frame says was on its way when the flash was marked. What is counted there,
   -- with what it has left, is no more than what is counted and owed at the node.
-  pub record IsFrame (n : N) (steps : ℕ) (spot : Spot) (f : Frame A T) : Type 0 where
+  pub record IsFrame (n : N) (steps : ℕ) (checkpoint : Checkpoint) (f : Frame A T) : Type 0 where
     pub some : f.number < k.tree.width n
     pub on_is : k.IsOn n f.number f.at
-    pub content_is : spot.content ≡ k.content (k.tree.child n f.number)
+    pub content_is : checkpoint.content ≡ k.content (k.tree.child n f.number)
     pub told_is : k.IsTold n f.parent
-    pub room : LeaveRoom spot.counts (k.left f.at) (most_at steps)
+    pub room : LeaveRoom checkpoint.counts (k.left f.at) (most_at steps)
 
-  -- So it is with each frame and its mark, from a node down.
-  abbrev pub AreFrames : N → ℕ → List Spot → List (Frame A T) → Type 0
+  -- So it is with each frame and its checkpoint, from a node down.
+  abbrev pub AreFrames : N → ℕ → List Checkpoint → List (Frame A T) → Type 0
   AreFrames n steps [] [] = Unit {0}
   AreFrames n steps [] (f ∷ fs) = ⊥
-  AreFrames n steps (spot ∷ spots) [] = ⊥
-  AreFrames n steps (spot ∷ spots) (f ∷ fs) =
-      IsFrame n steps spot f × AreFrames (k.tree.child n f.number) (steps + 1) spots fs
+  AreFrames n steps (checkpoint ∷ checkpoints) [] = ⊥
+  AreFrames n steps (checkpoint ∷ checkpoints) (f ∷ fs) =
+      IsFrame n steps checkpoint f × AreFrames (k.tree.child n f.number) (steps + 1) checkpoints fs
 
-  -- The frames stand over their marks, and those over that of the start.
-  pub record Stacked (start : Content) (marks : List Spot) (fs : List (Frame A T)) : Type 0 where
-    pub first : Spot
-    pub above : List Spot
-    pub marks_are : marks ≡ first ∷ above
-    pub start_is : first.content ≡ start
-    pub frames : AreFrames (k.root start) 0 above fs
+  -- The frames stand over their checkpoints, and those over that of the origin.
+  pub record Stacked (origin : Content) (checkpoints : List Checkpoint) (fs : List (Frame A T)) : Type 0 where
+    pub first : Checkpoint
+    pub above : List Checkpoint
+    pub checkpoints_are : checkpoints ≡ first ∷ above
+    pub origin_is : first.content ≡ origin
+    pub frames : AreFrames (k.root origin) 0 above fs
 
   -- The node at the end of the frames.
   abbrev pub node_of : Content → List (Frame A T) → N
-  node_of start fs = landed k.tree (k.root start) (path_of fs)
+  node_of origin fs = landed k.tree (k.root origin) (path_of fs)
 
   -- The flash stands at that node, of which that is told.
-  pub record Stands (start : Content) (seen : Seen) (fs : List (Frame A T)) (told : T) : Type 0 where
-    pub stacked : Stacked start seen.marks fs
-    pub content_is : seen.content ≡ k.content (node_of start fs)
+  pub record Stands (origin : Content) (seen : Seen) (fs : List (Frame A T)) (told : T) : Type 0 where
+    pub stacked : Stacked origin seen.checkpoints fs
+    pub content_is : seen.content ≡ k.content (node_of origin fs)
     pub layout_is : seen.geometry ≡ k.geometry
-    pub told_is : k.IsTold (node_of start fs) told
-    pub counts : LeaveRoom seen.ledger.counts (k.owed (node_of start fs)) (most_at (length fs))
+    pub told_is : k.IsTold (node_of origin fs) told
+    pub counts : LeaveRoom seen.usage.counts (k.owed (node_of origin fs)) (most_at (length fs))
 
   -- A child of that node is on its way, and the flash stands at it.
-  pub record Comes (start : Content) (seen : Seen) (fs : List (Frame A T)) (f : Frame A T) : Type 0 where
-    pub stacked : Stacked start seen.marks fs
+  pub record Comes (origin : Content) (seen : Seen) (fs : List (Frame A T)) (f : Frame A T) : Type 0 where
+    pub stacked : Stacked origin seen.checkpoints fs
     pub layout_is : seen.geometry ≡ k.geometry
-    pub frame : IsFrame (node_of start fs) (length fs) (spot_of seen) f
+    pub frame : IsFrame (node_of origin fs) (length fs) (checkpoint_of seen) f
 
   -- So it is, and the flash can be marked there, the frame be put on, and the child be told.
-  pub record Enters (start : Content) (seen : Seen) (fs : List (Frame A T)) (capacity : ℕ) (f : Frame A T) : Type 0 where
-    pub comes : Comes start seen fs f
+  pub record Enters (origin : Content) (seen : Seen) (fs : List (Frame A T)) (capacity : ℕ) (f : Frame A T) : Type 0 where
+    pub comes : Comes origin seen fs f
     pub room : HasRoom (owed_there k f.at) (marked seen)
-    pub mark : length seen.marks < seen.ledger.limits.marks
+    pub mark : length seen.checkpoints < seen.usage.limits.checkpoints
     pub few : length fs < capacity
 
-  -- There is room for what is counted and owed after so many steps; and for their marks, that of the root, and one more.
+  -- There is room for what is counted and owed after so many steps; and for their checkpoints, that of the root, and one more.
   pub record IsRoomy (bound : ℕ) (seen : Seen) : Type 0 where
-    pub entries : (most_at bound).entries ≤ seen.ledger.limits.entries
-    pub saved : (most_at bound).saved ≤ seen.ledger.limits.saved
-    pub marks : bound + 2 ≤ seen.ledger.limits.marks
+    pub entries : (most_at bound).entries ≤ seen.usage.limits.entries
+    pub saved : (most_at bound).saved ≤ seen.usage.limits.saved
+    pub checkpoints : bound + 2 ≤ seen.usage.limits.checkpoints
 
   -- The flash stands at the child of the last frame, and its parent has a next one. There is room to go to that, to mark the flash
   -- there, and to tell of it.
-  pub record CanGoOn (start : Content) (seen : Seen) (fs : List (Frame A T)) : Type 0 where
+  pub record CanGoOn (origin : Content) (seen : Seen) (fs : List (Frame A T)) : Type 0 where
     pub before : List (Frame A T)
     pub frame : Frame A T
     pub frames_are : fs ≡ before ++ frame ∷ []
-    pub comes : Comes start seen before frame
-    pub more : frame.number + 1 < k.tree.width (node_of start before)
+    pub comes : Comes origin seen before frame
+    pub more : frame.number + 1 < k.tree.width (node_of origin before)
     pub small : frame.number + 1 < 2 ^ 32
     pub has_next : HasNext k frame.at seen
     pub bound : ℕ

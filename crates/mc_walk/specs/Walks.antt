@@ -4,8 +4,8 @@ use Rattle.mc_tree.specs.Tree.{IsMember, landed}
 use Rattle.mc_tree.specs.Paths.{After, IsNext, IsOver}
 use Rattle.mc_tree.specs.facts.Order.{IsNextBeyond, NoneBeyond}
 use Rattle.mc_flash.specs.Content.{Content}
-use Rattle.mc_flash.specs.Ledger.{no_counts}
-use Rattle.mc_flash.specs.Seen.{Seen, spot_at, spot_of}
+use Rattle.mc_flash.specs.Usage.{no_counts}
+use Rattle.mc_flash.specs.Seen.{Seen, checkpoint_at, checkpoint_of}
 use Rattle.mc_flash.specs.Spends.{HasRoom}
 use Rattle.mc_walk.specs.Kind.{Kind, IsAt, telling}
 use Rattle.mc_walk.specs.Stack.{Stands, IsRoomy, path_of}
@@ -25,18 +25,18 @@ abbrev pub walked : {A T B : Type 0} → B → ℕ → Seen → List (Frame A T)
 walked branches bound seen fs told = record { branches = branches; bound = bound; seen = seen; path = path_of fs; stands = is_some told }
 
 -- The content with which it began: the first that is marked.
-abbrev pub start_of : Seen → Content
-start_of seen = (spot_at seen 0).content
+abbrev pub origin_of : Seen → Content
+origin_of seen = (checkpoint_at seen 0).content
 
 -- The same walk, elsewhere.
 pub record IsSame {B : Type 0} (old new : Walked B) : Type 0 where
   pub branches : new.branches ≡ old.branches
   pub bound : new.bound ≡ old.bound
-  pub start : start_of new.seen ≡ start_of old.seen
+  pub origin : origin_of new.seen ≡ origin_of old.seen
 
 module _ {N A T B : Type 0} (k : Kind N A T) where
   abbrev pub root_of : Walked B → N
-  root_of w = k.root (start_of w.seen)
+  root_of w = k.root (origin_of w.seen)
 
   -- The node at the end of its path.
   abbrev pub node_at : Walked B → N
@@ -109,7 +109,7 @@ module _ {N A T : Type 0} (k : Kind N A T) where
 
   -- What holds of a walk that stands at the end of its path.
   pub record IsGoing (bound : ℕ) (seen : Seen) (fs : List (Frame A T)) (told : T) : Type 0 where
-    pub stands : Stands k (start_of seen) seen fs told
+    pub stands : Stands k (origin_of seen) seen fs told
     pub few : length fs ≤ bound
     pub roomy : IsRoomy k bound seen
 
@@ -118,18 +118,18 @@ module _ {N A T : Type 0} (k : Kind N A T) where
     pub reserved : bound ≤ capacity
     pub going : IfSome told (IsGoing bound seen fs)
 
-  -- A flash with no marks, of that layout, on which nothing was done.
+  -- A flash with no checkpoints, of that layout, on which nothing was done.
   pub record IsClear (bound : ℕ) (seen : Seen) : Type 0 where
-    pub none : seen.marks ≡ []
-    pub counts : seen.ledger.counts ≡ no_counts
+    pub none : seen.checkpoints ≡ []
+    pub counts : seen.usage.counts ≡ no_counts
     pub layout_is : seen.geometry ≡ k.geometry
     pub roomy : IsRoomy k bound seen
 
   -- A walk at its root, of which nothing is told yet.
   pub record IsFresh {B : Type 0} (walk : Walked B) : Type 0 where
     pub path : walk.path ≡ []
-    pub marks_are : walk.seen.marks ≡ spot_of walk.seen ∷ []
-    pub counts : walk.seen.ledger.counts ≡ no_counts
+    pub checkpoints_are : walk.seen.checkpoints ≡ checkpoint_of walk.seen ∷ []
+    pub counts : walk.seen.usage.counts ≡ no_counts
     pub layout_is : walk.seen.geometry ≡ k.geometry
     pub roomy : IsRoomy k walk.bound walk.seen
 
@@ -137,4 +137,4 @@ module _ {N A T : Type 0} (k : Kind N A T) where
 pub record IsOf {B : Type 0} (branches : B) (bound : ℕ) (seen : Seen) (walk : Walked B) : Type 0 where
   pub branches_are : walk.branches ≡ branches
   pub bound_is : walk.bound ≡ bound
-  pub start : start_of walk.seen ≡ seen.content
+  pub origin : origin_of walk.seen ≡ seen.content

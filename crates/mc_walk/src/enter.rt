@@ -4,7 +4,7 @@ ghost use Rattle.std.specs.Vec.{vec_capacity};
 ghost use Rattle.mc_flash.specs.Spends.{Spends};
 ghost use Rattle.mc_walk.specs.Kind.{telling};
 ghost use Rattle.mc_walk.specs.Stack.{CanGoOn, Enters, IsOneOn, Stands};
-ghost use Rattle.mc_walk.specs.Walks.{start_of};
+ghost use Rattle.mc_walk.specs.Walks.{origin_of};
 
 use crate::Branches;
 use crate::frame::Frame;
@@ -19,9 +19,9 @@ pub(crate) fn enter<F: Flash, B: Branches>(
     frame: Frame<B::At, B::Told>,
     known: &B::Known,
 ) -> Result<B::Told, FlashError>
-    requires { Enters (B.kind branches) (start_of (F.seen flash.old)) (F.seen flash.old)
+    requires { Enters (B.kind branches) (origin_of (F.seen flash.old)) (F.seen flash.old)
         frames.old.items (vec_capacity frames.old) frame }
-    ensures stands { IfOk result (Stands (B.kind branches) (start_of (F.seen flash.old))
+    ensures stands { IfOk result (Stands (B.kind branches) (origin_of (F.seen flash.old))
         (F.seen flash.new) frames.new.items) }
     ensures frames { OnOk result (frames.new.items ≡ frames.old.items ++ frame ∷ []) }
     ensures capacity { vec_capacity frames.old ≤ vec_capacity frames.new }
@@ -42,9 +42,9 @@ pub(crate) fn go_on<F: Flash, B: Branches>(
     frames: &mut Vec<Frame<B::At, B::Told>>,
     known: &B::Known,
 ) -> Result<B::Told, FlashError>
-    requires { CanGoOn (B.kind branches) (start_of (F.seen flash.old)) (F.seen flash.old)
+    requires { CanGoOn (B.kind branches) (origin_of (F.seen flash.old)) (F.seen flash.old)
         frames.old.items }
-    ensures stands { IfOk result (Stands (B.kind branches) (start_of (F.seen flash.old))
+    ensures stands { IfOk result (Stands (B.kind branches) (origin_of (F.seen flash.old))
         (F.seen flash.new) frames.new.items) }
     ensures frames { OnOk result (IsOneOn frames.old.items frames.new.items) }
     ensures capacity { vec_capacity frames.new ≡ vec_capacity frames.old }

@@ -6,7 +6,7 @@ ghost use Rattle.mc_walk.specs.Stack.{LeavesOpen};
 use crate::Branches;
 
 /// A child on its way, as it was when the flash was marked there, with its number and with what was told of its parent. Its
-/// mark is the one behind those of the frames below it and of the root.
+/// checkpoint is the one behind those of the frames below it and of the root.
 #[derive(Clone, Copy)]
 pub struct Frame<A, T> {
     pub at: A,

@@ -1,4 +1,4 @@
-//! A walk through a tree of flash contents, depth first, over one flash with marks. What the tree is stands in a trait.
+//! A walk through a tree of flash contents, depth first, over one flash with checkpoints. What the tree is stands in a trait.
 #![tactic(auto)]
 
 mod branches;

@@ -215,7 +215,7 @@ impl<F: Flash, B: Branches> Walk<F, B> {
         if !leave_spent(self.branches, &mut self.frames) {
             return Ok(false);
         }
-        // The mark of the last frame stands behind that of the root and those of the frames below it.
+        // The checkpoint of the last frame stands behind that of the root and those of the frames below it.
         self.flash.back_to(self.frames.len());
         let told = go_on(self.branches, &mut self.flash, &mut self.frames, known)?;
         self.told = Some(told);

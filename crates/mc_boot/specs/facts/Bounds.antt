@@ -11,7 +11,7 @@ use Rattle.std.proofs.lemmas.List.FromFn.{length-range_with_len}
 use Rattle.mc_flash.specs.Geometry.{Geometry, IsLayout, trailer_sectors, greatest_sectors}
 use Rattle.mc_flash.specs.Content.{Content}
 use Rattle.mc_flash.specs.Apply.{apply}
-use Rattle.mc_flash.specs.Ledger.{saves, most_operations, most_saved}
+use Rattle.mc_flash.specs.Usage.{saves, most_operations, most_saved}
 use Rattle.mc_flash.specs.Pieces.{in_pieces, pieces_layout}
 use Rattle.mc_flash.specs.declared.flash.Grain.{Grain}
 use Rattle.mc_flash.specs.declared.flash.Grain.TheVariants as grains

@@ -7,7 +7,7 @@ use Rattle.mc_flash.specs.Blank.{is_blank}
 use Rattle.mc_flash.specs.Content.{Content, put, with_bytes}
 use Rattle.mc_flash.specs.facts.Done.{did, does_keep, undefined}
 use Rattle.mc_flash.specs.Geometry.{Geometry, IsLayout}
-use Rattle.mc_flash.specs.Ledger.{Counts, IsFull, no_counts}
+use Rattle.mc_flash.specs.Usage.{Counts, IsFull, no_counts}
 use Rattle.mc_flash.specs.Seen.{Seen, Does, GivesUp, Keeps}
 use Rattle.mc_flash.specs.Spends.{Allows, LeaveRoom, Spends, Spent, plus}
 use Rattle.mc_flash.specs.facts.Spends.{done_notes, gave_up, spent_more, spent_none}
@@ -65,34 +65,34 @@ module _ (old new : Seen) where
 
   pub confirms_err : (result : Result Bool FlashError) → Confirms old result new → IfErr result (λ e. (e ≡ errors.Memory) × (new.content ≡ old.content))
   confirms_err (Ok wrote) c = tt
-  confirms_err (Err errors.Memory) c = (refl, kept_content (IsFull old.geometry (image_ok_write old.geometry Primary) old.ledger) c.1.1)
+  confirms_err (Err errors.Memory) c = (refl, kept_content (IsFull old.geometry (image_ok_write old.geometry Primary) old.usage) c.1.1)
   confirms_err (Err errors.NotErased) c = absurd c
 
   pub confirms_keeps : (result : Result Bool FlashError) → Confirms old result new → Keeps old new
   confirms_keeps (Ok true) c = does_keep (image_ok_write old.geometry Primary) old new (Ok tt) c.1
-  confirms_keeps (Ok false) c = let same = c.1 in record { geometry = ap (λ (f : Seen). f.geometry) same; marks = ap (λ (f : Seen). f.marks) same }
+  confirms_keeps (Ok false) c = let same = c.1 in record { geometry = ap (λ (f : Seen). f.geometry) same; checkpoints = ap (λ (f : Seen). f.checkpoints) same }
   confirms_keeps (Err errors.Memory) c = does_keep (image_ok_write old.geometry Primary) old new (Err errors.Memory) c.1
   confirms_keeps (Err errors.NotErased) c = absurd c
 
-  same_counts : (full : Type 0) → GivesUp full old new → LeaveRoom new.ledger.counts no_counts (plus old.ledger.counts one_write)
+  same_counts : (full : Type 0) → GivesUp full old new → LeaveRoom new.usage.counts no_counts (plus old.usage.counts one_write)
   same_counts full (inl kept) =
-      let same = ap (λ (f : Seen). f.ledger.counts) kept.2 in
+      let same = ap (λ (f : Seen). f.usage.counts) kept.2 in
       record { entries = omega (arith, ap (λ (c : Counts). c.entries) same); saved = omega (arith, ap (λ (c : Counts). c.saved) same) }
   same_counts full (inr lost) =
-      let same = ap (λ (f : Seen). f.ledger.counts) lost.1 in
+      let same = ap (λ (f : Seen). f.usage.counts) lost.1 in
       record { entries = omega (arith, ap (λ (c : Counts). c.entries) same); saved = omega (arith, ap (λ (c : Counts). c.saved) same) }
 
-  pub confirms_counts : (result : Result Bool FlashError) → Confirms old result new → LeaveRoom new.ledger.counts no_counts (plus old.ledger.counts one_write)
+  pub confirms_counts : (result : Result Bool FlashError) → Confirms old result new → LeaveRoom new.usage.counts no_counts (plus old.usage.counts one_write)
   confirms_counts (Ok true) c =
       let n = done_notes (image_ok_write old.geometry Primary) old new c.1.0 in
       record { entries = omega (arith, n.entries); saved = omega (arith, n.saved) }
   confirms_counts (Ok false) c =
-      let same = ap (λ (f : Seen). f.ledger.counts) c.1 in
+      let same = ap (λ (f : Seen). f.usage.counts) c.1 in
       record { entries = omega (arith, ap (λ (c : Counts). c.entries) same); saved = omega (arith, ap (λ (c : Counts). c.saved) same) }
-  confirms_counts (Err errors.Memory) c = same_counts (IsFull old.geometry (image_ok_write old.geometry Primary) old.ledger) c.1.1
+  confirms_counts (Err errors.Memory) c = same_counts (IsFull old.geometry (image_ok_write old.geometry Primary) old.usage) c.1.1
   confirms_counts (Err errors.NotErased) c = absurd c
 
-  not_full : Allows one_write old → IsFull old.geometry (image_ok_write old.geometry Primary) old.ledger → ⊥
+  not_full : Allows one_write old → IsFull old.geometry (image_ok_write old.geometry Primary) old.usage → ⊥
   not_full room (inl full) = omega (arith, room.entries, full)
   not_full room (inr full) = omega (arith, room.saved, full)
 
@@ -101,5 +101,5 @@ module _ (old new : Seen) where
       let n = done_notes (image_ok_write old.geometry Primary) old new c.1.0 in
       record { applied = n.applied; limits = n.limits; failed = n.failed }
   confirms_spends (Ok false) c room = let E : Seen → Type 0 = λ f. Spent 1 old f in subst E (sym c.1) (spent_more 0 1 old old (omega arith) (spent_none old))
-  confirms_spends (Err errors.Memory) c room = gave_up (IsFull old.geometry (image_ok_write old.geometry Primary) old.ledger) old new (not_full room) c.1.1
+  confirms_spends (Err errors.Memory) c room = gave_up (IsFull old.geometry (image_ok_write old.geometry Primary) old.usage) old new (not_full room) c.1.1
   confirms_spends (Err errors.NotErased) c room = absurd c

@@ -17,7 +17,7 @@ use Rattle.mc_boot.specs.Plan.{plan}
 use Rattle.mc_boot.specs.Runs.{applied, first_then, happening, ops_of, at, is_faulted, left_by}
 use Rattle.mc_boot.specs.Boot.{Progress, begun, stepped, refused, StepsAlong, Steps}
 use Rattle.mc_flash.specs.Seen.{Seen, GivesUp}
-use Rattle.mc_flash.specs.Ledger.{IsFull}
+use Rattle.mc_flash.specs.Usage.{IsFull}
 use Rattle.mc_flash.specs.facts.Done.{did, undefined}
 use Rattle.mc_boot.specs.Run.{HasCome}
 use Rattle.mc_boot.specs.Outcome.{Report, report, outcome_of}
@@ -140,7 +140,7 @@ come_steps r s p q old new result come steps = go p.to_come refl result steps
     go (op ∷ rest) to (Err errors.NotErased) done = refuses rest op to (undefined op old done.1.0) done.0 done.1.1
     go (op ∷ rest) to (Err errors.Memory) done = wanted done.0 done.1.1
       where
-        wanted : q ≡ p → GivesUp (IsFull old.geometry op old.ledger) old new → HasCome (power_on r old.geometry s) q new.content
+        wanted : q ≡ p → GivesUp (IsFull old.geometry op old.usage) old new → HasCome (power_on r old.geometry s) q new.content
         wanted a (inl kept) = stays a kept.2
         wanted a (inr lost) =
             let P : Progress → Type 0 = λ x. HasCome (power_on r old.geometry s) x new.content in

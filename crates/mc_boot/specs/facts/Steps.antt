@@ -2,7 +2,7 @@
 use Rattle.std.specs.Prelude.{◌≡◌, ◌+◌, ◌<◌, ◌≤◌, true, false, List, [], ◌∷◌, length, slice_get, is_some, Option, Result, Ok, Err, refl}
 use Rattle.std.proofs.Common.{arith, inl, inr, sym, ap, subst, ◌∙◌}
 use Rattle.mc_flash.specs.Geometry.{Geometry}
-use Rattle.mc_flash.specs.Ledger.{Counts, Limits, IsFull}
+use Rattle.mc_flash.specs.Usage.{Counts, Limits, IsFull}
 use Rattle.mc_flash.specs.Seen.{Seen, GivesUp}
 use Rattle.mc_flash.specs.Spends.{Spent, RanOut, LeaveRoom, Allows, plus, room_of}
 use Rattle.mc_flash.specs.facts.Spends.{Notes, done_notes, gave_up}
@@ -14,9 +14,9 @@ use Rattle.mc_boot.specs.Bounds.{CountsOn, all_saves, left_of}
 
 -- Operations done and operations to come are together no more than before, and memory did not fail.
 pub record StepSpends (p q : Progress) (old new : Seen) : Type 0 where
-  pub applied : new.ledger.applied + length q.to_come ≤ old.ledger.applied + length p.to_come
-  pub limits : new.ledger.limits ≡ old.ledger.limits
-  pub failed : new.ledger.failed ≡ old.ledger.failed
+  pub applied : new.usage.applied + length q.to_come ≤ old.usage.applied + length p.to_come
+  pub limits : new.usage.limits ≡ old.usage.limits
+  pub failed : new.usage.failed ≡ old.usage.failed
 
 -- ---- one after another
 
@@ -26,7 +26,7 @@ step_spends_none p f = record { applied = omega arith; limits = refl; failed = r
 -- Where the layout stays.
 pub counts_on_both : (o p q : Progress) (x y z : Seen) → y.geometry ≡ x.geometry → CountsOn o p x y → CountsOn p q y z → CountsOn o q x z
 counts_on_both o p q x y z same c d =
-    let E : Geometry → Type 0 = λ g. LeaveRoom z.ledger.counts (left_of g q) (plus y.ledger.counts (left_of g p)) in
+    let E : Geometry → Type 0 = λ g. LeaveRoom z.usage.counts (left_of g q) (plus y.usage.counts (left_of g p)) in
     let on = subst E same d in
     record { entries = omega (arith, c.entries, on.entries); saved = omega (arith, c.saved, on.saved) }
 
@@ -46,10 +46,10 @@ none_first (op ∷ rest) first is none = absurd cc
 -- ---- a step
 
 module _ (p q : Progress) (old new : Seen) where
-  stays_counted : q ≡ p → new.ledger.counts ≡ old.ledger.counts → CountsOn p q old new
+  stays_counted : q ≡ p → new.usage.counts ≡ old.usage.counts → CountsOn p q old new
   stays_counted a b =
       let P : Progress → Type 0 = λ x. CountsOn p x old new in
-      let Q : Counts → Type 0 = λ c. LeaveRoom c (left_of old.geometry p) (plus old.ledger.counts (left_of old.geometry p)) in
+      let Q : Counts → Type 0 = λ c. LeaveRoom c (left_of old.geometry p) (plus old.usage.counts (left_of old.geometry p)) in
       subst P (sym a) (subst Q (sym b) (record { entries = omega arith; saved = omega arith }))
 
   stays_spent : q ≡ p → new ≡ old → StepSpends p q old new
@@ -59,13 +59,13 @@ module _ (p q : Progress) (old new : Seen) where
       subst P (sym a) (subst Q (sym b) (step_spends_none p old))
 
   module _ (op : Op) (rest : List Op) (first : p.to_come ≡ op ∷ rest) where
-    next_counted : q.to_come ≡ rest → Notes old.geometry op old.ledger new.ledger → CountsOn p q old new
+    next_counted : q.to_come ≡ rest → Notes old.geometry op old.usage new.usage → CountsOn p q old new
     next_counted left n = record {
       entries = omega (arith, n.entries, ap (λ (ops : List Op). length ops) first, ap (λ (ops : List Op). length ops) left);
       saved = omega (arith, n.saved, ap (all_saves old.geometry) first, ap (all_saves old.geometry) left);
     }
 
-    next_spent : q.to_come ≡ rest → Notes old.geometry op old.ledger new.ledger → StepSpends p q old new
+    next_spent : q.to_come ≡ rest → Notes old.geometry op old.usage new.usage → StepSpends p q old new
     next_spent left n = record {
       applied = omega (arith, n.applied, ap (λ (ops : List Op). length ops) first, ap (λ (ops : List Op). length ops) left);
       limits = n.limits;
@@ -74,27 +74,27 @@ module _ (p q : Progress) (old new : Seen) where
 
   none_counted : q.to_come ≡ [] → new ≡ old → CountsOn p q old new
   none_counted left same = record {
-    entries = omega (arith, ap (λ (f : Seen). f.ledger.counts.entries) same, ap (λ (ops : List Op). length ops) left);
-    saved = omega (arith, ap (λ (f : Seen). f.ledger.counts.saved) same, ap (all_saves old.geometry) left);
+    entries = omega (arith, ap (λ (f : Seen). f.usage.counts.entries) same, ap (λ (ops : List Op). length ops) left);
+    saved = omega (arith, ap (λ (f : Seen). f.usage.counts.saved) same, ap (all_saves old.geometry) left);
   }
 
   none_spent : q.to_come ≡ [] → new ≡ old → StepSpends p q old new
   none_spent left same = record {
-    applied = omega (arith, ap (λ (f : Seen). f.ledger.applied) same, ap (λ (ops : List Op). length ops) left);
-    limits = ap (λ (f : Seen). f.ledger.limits) same;
-    failed = ap (λ (f : Seen). f.ledger.failed) same;
+    applied = omega (arith, ap (λ (f : Seen). f.usage.applied) same, ap (λ (ops : List Op). length ops) left);
+    limits = ap (λ (f : Seen). f.usage.limits) same;
+    failed = ap (λ (f : Seen). f.usage.failed) same;
   }
 
-  given_up : (op : Op) → GivesUp (IsFull old.geometry op old.ledger) old new → new.ledger.counts ≡ old.ledger.counts
-  given_up op (inl kept) = ap (λ (f : Seen). f.ledger.counts) kept.2
-  given_up op (inr lost) = ap (λ (f : Seen). f.ledger.counts) lost.1
+  given_up : (op : Op) → GivesUp (IsFull old.geometry op old.usage) old new → new.usage.counts ≡ old.usage.counts
+  given_up op (inl kept) = ap (λ (f : Seen). f.usage.counts) kept.2
+  given_up op (inr lost) = ap (λ (f : Seen). f.usage.counts) lost.1
 
   -- Whatever it answers.
   pub step_counts : (result : Result (Unit {0}) FlashError) → Steps p old result q new → CountsOn p q old new
   step_counts result steps = at p.to_come refl result steps
     where
       at : (ops : List Op) → p.to_come ≡ ops → (x : Result (Unit {0}) FlashError) → StepsAlong ops p old x q new → CountsOn p q old new
-      at [] is (Ok v) d = stays_counted d.0 (ap (λ (f : Seen). f.ledger.counts) d.1)
+      at [] is (Ok v) d = stays_counted d.0 (ap (λ (f : Seen). f.usage.counts) d.1)
       at [] is (Err e) d = absurd d
       at (op ∷ rest) is (Ok v) d = next_counted op rest is (ap (λ (x : Progress). x.to_come) d.0) (done_notes op old new d.1.0)
       at (op ∷ rest) is (Err errors.NotErased) d = none_counted (ap (λ (x : Progress). x.to_come) d.0) d.1.1
@@ -115,10 +115,10 @@ module _ (p q : Progress) (old new : Seen) where
 
   -- With room for all that is to come memory is wanted only where it fails a flash that does not count.
   pub step_ran_out : (result : Result (Unit {0}) FlashError) → result ≡ Err errors.Memory → Steps p old result q new
-      → LeaveRoom old.ledger.counts (left_of old.geometry p) (room_of old.ledger.limits) → RanOut old new
+      → LeaveRoom old.usage.counts (left_of old.geometry p) (room_of old.usage.limits) → RanOut old new
   step_ran_out result wanted steps room = at p.to_come refl result wanted steps
     where
-      not_full : (op : Op) (rest : List Op) → p.to_come ≡ op ∷ rest → IsFull old.geometry op old.ledger → ⊥
+      not_full : (op : Op) (rest : List Op) → p.to_come ≡ op ∷ rest → IsFull old.geometry op old.usage → ⊥
       not_full op rest is (inl full) = omega (arith, room.entries, full, ap (λ (ops : List Op). length ops) is)
       not_full op rest is (inr full) = omega (arith, room.saved, full, ap (all_saves old.geometry) is)
 
@@ -128,7 +128,7 @@ module _ (p q : Progress) (old new : Seen) where
       at [] is (Err e) memory d = absurd d
       at (op ∷ rest) is (Ok v) memory d = absurd cc
       at (op ∷ rest) is (Err errors.NotErased) memory d = absurd cc
-      at (op ∷ rest) is (Err errors.Memory) memory d = gave_up (IsFull old.geometry op old.ledger) old new (not_full op rest is) d.1.1
+      at (op ∷ rest) is (Err errors.Memory) memory d = gave_up (IsFull old.geometry op old.usage) old new (not_full op rest is) d.1.1
 
   -- There is still room for all that is to come.
   pub step_allows : (result : Result (Unit {0}) FlashError) → (result ≡ Err errors.Memory → ⊥) → Steps p old result q new
@@ -137,7 +137,7 @@ module _ (p q : Progress) (old new : Seen) where
       let c = step_counts result steps in
       let limits = (step_spends result other steps).limits in
       let P : Geometry → Type 0 = λ g. Allows (left_of g q) new in
-      let Q : Limits → Type 0 = λ l. LeaveRoom new.ledger.counts (left_of old.geometry q) (room_of l) in
+      let Q : Limits → Type 0 = λ l. LeaveRoom new.usage.counts (left_of old.geometry q) (room_of l) in
       subst P (sym same) (subst Q (sym limits) (record {
         entries = omega (arith, c.entries, allows.entries);
         saved = omega (arith, c.saved, allows.saved);

@@ -4,8 +4,8 @@ use Rattle.std.proofs.Common.{arith, inl, inr, sym, ap, subst, ◌∙◌, length
 use Rattle.std.proofs.lemmas.List.{get_or_at, take_at}
 use Rattle.mc_flash.specs.facts.Done.{did}
 use Rattle.mc_flash.specs.Geometry.{Geometry}
-use Rattle.mc_flash.specs.Ledger.{Ledger, Limits, Spot, noted_by, saves}
-use Rattle.mc_flash.specs.Seen.{Seen, GivesUp, HasNoPlace, Keeps, Marks, done, marked, no_spot, spot_at, spot_of, went_back}
+use Rattle.mc_flash.specs.Usage.{Usage, Limits, Checkpoint, noted_by, saves}
+use Rattle.mc_flash.specs.Seen.{Seen, GivesUp, HasNoPlace, Keeps, Marks, done, marked, no_checkpoint, checkpoint_at, checkpoint_of, went_back}
 use Rattle.mc_flash.specs.Spends.{Spent, RanOut, Spends, Stays}
 use Rattle.mc_flash.specs.declared.flash.FlashError.{FlashError}
 use Rattle.mc_flash.specs.declared.flash.FlashError.TheVariants as errors
@@ -26,45 +26,45 @@ pub ran_out_later : (n : ℕ) (x y z : Seen) → Spent n x y → RanOut y z → 
 ran_out_later n x y z s r = record { counted = ap (λ (l : Limits). l.counted) (sym s.limits) ∙ r.counted; limits = r.limits ∙ s.limits; failed = r.failed }
 
 pub keeps_none : (f : Seen) → Keeps f f
-keeps_none f = record { geometry = refl; marks = refl }
+keeps_none f = record { geometry = refl; checkpoints = refl }
 
 pub keeps_both : (x y z : Seen) → Keeps x y → Keeps y z → Keeps x z
-keeps_both x y z a b = record { geometry = b.geometry ∙ a.geometry; marks = b.marks ∙ a.marks }
+keeps_both x y z a b = record { geometry = b.geometry ∙ a.geometry; checkpoints = b.checkpoints ∙ a.checkpoints }
 
 -- ---- operations
 
 -- What an operation counts.
-pub record Notes (g : Geometry) (op : Op) (old new : Ledger) : Type 0 where
+pub record Notes (g : Geometry) (op : Op) (old new : Usage) : Type 0 where
   pub entries : new.counts.entries ≤ old.counts.entries + 1
   pub saved : new.counts.saved ≤ old.counts.saved + saves g op
   pub applied : new.applied ≤ old.applied + 1
   pub limits : new.limits ≡ old.limits
   pub failed : new.failed ≡ old.failed
 
-notes : (counted : Bool) (g : Geometry) (op : Op) (l : Ledger) → Notes g op l (noted_by counted g op l)
+notes : (counted : Bool) (g : Geometry) (op : Op) (l : Usage) → Notes g op l (noted_by counted g op l)
 notes true g op l = record { entries = omega arith; saved = omega arith; applied = omega arith; limits = refl; failed = refl }
 notes false g op l = record { entries = omega arith; saved = omega arith; applied = omega arith; limits = refl; failed = refl }
 
-pub done_notes : (op : Op) (old new : Seen) → done op old ≡ Some new → Notes old.geometry op old.ledger new.ledger
+pub done_notes : (op : Op) (old new : Seen) → done op old ≡ Some new → Notes old.geometry op old.usage new.usage
 done_notes op old new is =
     let made = (did op old new is).is in
-    subst (λ (f : Seen). Notes old.geometry op old.ledger f.ledger) (sym made) (notes old.ledger.limits.counted old.geometry op old.ledger)
+    subst (λ (f : Seen). Notes old.geometry op old.usage f.usage) (sym made) (notes old.usage.limits.counted old.geometry op old.usage)
 
 -- A flash with room gives up only where memory fails it.
 pub gave_up : (full : Type 0) (old new : Seen) → (full → ⊥) → GivesUp full old new → RanOut old new
 gave_up full old new room (inl g) = absurd (room g.1)
 gave_up full old new room (inr g) = record {
   counted = g.0;
-  limits = ap (λ (f : Seen). f.ledger.limits) g.1;
-  failed = ap (λ (f : Seen). f.ledger.failed) g.1;
+  limits = ap (λ (f : Seen). f.usage.limits) g.1;
+  failed = ap (λ (f : Seen). f.usage.failed) g.1;
 }
 
--- ---- marks
+-- ---- checkpoints
 
 pub spent_marked : (f : Seen) → Spent 0 f (marked f)
 spent_marked f = record { applied = omega arith; limits = refl; failed = refl }
 
-pub mark_spends : (old new : Seen) (result : Result ℕ FlashError) → length old.marks < old.ledger.limits.marks → Marks old result new → Spends 0 old result new
+pub mark_spends : (old new : Seen) (result : Result ℕ FlashError) → length old.checkpoints < old.usage.limits.checkpoints → Marks old result new → Spends 0 old result new
 mark_spends old new (Ok place) room m = subst (Spent 0 old) (sym m.1) (spent_marked old)
 mark_spends old new (Err errors.Memory) room m = gave_up (HasNoPlace old) old new (λ full. omega (arith, room, full)) m
 mark_spends old new (Err errors.NotErased) room m = absurd m
@@ -73,16 +73,16 @@ pub spent_back : (place : ℕ) (f : Seen) → Spent 0 f (went_back place f)
 unfolding went_back
 spent_back place f = record { applied = omega arith; limits = refl; failed = refl }
 
--- A flash that was marked and worked on, and is back at that mark.
-pub stays_back : (old mid end : Seen) → mid ≡ marked old → Keeps mid end → Stays old (went_back (length old.marks) end)
+-- A flash that was marked and worked on, and is back at that checkpoint.
+pub stays_back : (old mid end : Seen) → mid ≡ marked old → Keeps mid end → Stays old (went_back (length old.checkpoints) end)
 unfolding went_back
 stays_back old mid end m keeps =
-    let marks : end.marks ≡ old.marks ++ spot_of old ∷ [] = keeps.marks ∙ ap (λ (f : Seen). f.marks) m in
-    let spot : spot_at end (length old.marks) ≡ spot_of old =
-    ap (λ ms. slice_index_or ms (length old.marks) no_spot) marks ∙ get_or_at old.marks (spot_of old) [] no_spot (length old.marks) refl in
+    let checkpoints : end.checkpoints ≡ old.checkpoints ++ checkpoint_of old ∷ [] = keeps.checkpoints ∙ ap (λ (f : Seen). f.checkpoints) m in
+    let checkpoint : checkpoint_at end (length old.checkpoints) ≡ checkpoint_of old =
+    ap (λ ms. slice_index_or ms (length old.checkpoints) no_checkpoint) checkpoints ∙ get_or_at old.checkpoints (checkpoint_of old) [] no_checkpoint (length old.checkpoints) refl in
     record {
       geometry = keeps.geometry ∙ ap (λ (f : Seen). f.geometry) m;
-      content = ap (λ (s : Spot). s.content) spot;
-      marks = ap (take (length old.marks)) marks ∙ take_at old.marks (spot_of old ∷ []) (length old.marks) refl;
-      counts = ap (λ (s : Spot). s.counts) spot;
+      content = ap (λ (s : Checkpoint). s.content) checkpoint;
+      checkpoints = ap (take (length old.checkpoints)) checkpoints ∙ take_at old.checkpoints (checkpoint_of old ∷ []) (length old.checkpoints) refl;
+      counts = ap (λ (s : Checkpoint). s.counts) checkpoint;
     }

@@ -7,18 +7,18 @@ use Rattle.std.proofs.lemmas.Fmt.{decimal_is_IsNumeral}
 use Rattle.std.proofs.lemmas.Str.Parse.{digit_from_value}
 use Rattle.std.proofs.lemmas.Str.Pattern.{IsSplitOnceResult, split_parts}
 
-module _ (mark : ℕ) where
+module _ (separator : ℕ) where
   -- No separator is in these bytes.
   abbrev pub Lacks : List ℕ → Type 0
   Lacks [] = ⊤
-  Lacks (c ∷ cs) = (c ≢ mark) × Lacks cs
+  Lacks (c ∷ cs) = (c ≢ separator) × Lacks cs
 
-  pub lacks_each : (xs : List ℕ) → ((i : ℕ) → i < length xs → get_or xs i 0 ≢ mark) → Lacks xs
+  pub lacks_each : (xs : List ℕ) → ((i : ℕ) → i < length xs → get_or xs i 0 ≢ separator) → Lacks xs
   lacks_each [] each = tt
   lacks_each (x ∷ xs) each = (each 0 (omega arith), lacks_each xs (λ i lt. each (suc i) (omega (arith, lt))))
 
   -- The first separator parts a text in one way.
-  pub one_part : (xs us ys vs : List ℕ) → Lacks xs → Lacks us → xs ++ mark ∷ ys ≡ us ++ mark ∷ vs → (xs ≡ us) × (ys ≡ vs)
+  pub one_part : (xs us ys vs : List ℕ) → Lacks xs → Lacks us → xs ++ separator ∷ ys ≡ us ++ separator ∷ vs → (xs ≡ us) × (ys ≡ vs)
   one_part [] [] ys vs a b e = (refl, cc)
   one_part [] (u ∷ us) ys vs a b e = absurd (b.0 cc)
   one_part (x ∷ xs) [] ys vs a b e = absurd (a.0 cc)
@@ -27,7 +27,7 @@ module _ (mark : ℕ) where
       let rest = one_part xs us ys vs a.1 b.1 cc in
       (ap (λ y. y ∷ xs) heads ∙ ap (λ (z : List ℕ). u ∷ z) rest.0, rest.1)
 
-  pub no_part : (xs us vs : List ℕ) → Lacks xs → xs ≡ us ++ mark ∷ vs → ⊥
+  pub no_part : (xs us vs : List ℕ) → Lacks xs → xs ≡ us ++ separator ∷ vs → ⊥
   no_part [] [] vs a e = absurd cc
   no_part [] (u ∷ us) vs a e = absurd cc
   no_part (x ∷ xs) [] vs a e = a.0 cc
@@ -39,20 +39,20 @@ module _ (mark : ℕ) where
 
   -- The parts of a text at its first separator.
   pub record AreParts (rest first after : List ℕ) : Type 0 where
-    pub parts : rest ≡ first ++ (mark ∷ after)
+    pub parts : rest ≡ first ++ (separator ∷ after)
     pub lacks : Lacks first
 
-  module _ (byte : mark < 128) (rest : List ℕ) (r : Option (Bor (List ℕ) × Bor (List ℕ))) (split : IsSplitOnceResult mark rest r) where
+  module _ (byte : separator < 128) (rest : List ℕ) (r : Option (Bor (List ℕ) × Bor (List ℕ))) (split : IsSplitOnceResult separator rest r) where
     pub parted : (first after : Bor (List ℕ)) → r ≡ Some (first, after) → AreParts rest first.now after.now
     parted first after is =
-        let both = rw is at (split_parts mark rest r split byte) in
+        let both = rw is at (split_parts separator rest r split byte) in
         record { parts = both.0; lacks = lacks_each first.now both.1 }
 
     pub one_piece : r ≡ None → Lacks rest
-    one_piece is = lacks_each rest (rw is at (split_parts mark rest r split byte))
+    one_piece is = lacks_each rest (rw is at (split_parts separator rest r split byte))
 
   -- A number holds no separator that is no digit.
-  module _ (no_digit : (c : ℕ) → c ≡ mark → 48 ≤ c → c ≤ 57 → ⊥) where
+  module _ (no_digit : (c : ℕ) → c ≡ separator → 48 ≤ c → c ≤ 57 → ⊥) where
     lacks_digits : (ds : List ℕ) → AllDigits 10 ds → Lacks ds
     lacks_digits [] digits = tt
     lacks_digits (d ∷ ds) digits =

@@ -4,29 +4,29 @@ use Rattle.std.proofs.Common.{arith, sym, ap, subst, ◌∙◌, append_assoc, ap
 use Rattle.mc_output.specs.Joined.{joined, IsAdded}
 use Rattle.mc_output.specs.facts.Parting.{Lacks, one_part, no_part}
 
-module _ {A : Type 0} (mark : ℕ) (spell : A → List ℕ) where
+module _ {A : Type 0} (separator : ℕ) (spell : A → List ℕ) where
   -- The items so far, each with a separator behind it.
   abbrev pub behind : List A → List ℕ
   behind [] = []
-  behind (x ∷ xs) = spell x ++ (mark ∷ behind xs)
+  behind (x ∷ xs) = spell x ++ (separator ∷ behind xs)
 
   abbrev points : List A → List ℕ
-  points xs = flat_map (λ y. (mark ∷ []) ++ spell y) xs
+  points xs = flat_map (λ y. (separator ∷ []) ++ spell y) xs
 
   abbrev pub text_of : List A → List ℕ
-  text_of xs = joined (mark ∷ []) spell xs
+  text_of xs = joined (separator ∷ []) spell xs
 
   -- One item more, and a separator.
-  behind_push : (l : List A) (x : A) (rest : List ℕ) → behind (l ++ x ∷ []) ++ rest ≡ behind l ++ (spell x ++ (mark ∷ rest))
-  behind_push [] x rest = append_assoc (spell x) (mark ∷ []) rest
+  behind_push : (l : List A) (x : A) (rest : List ℕ) → behind (l ++ x ∷ []) ++ rest ≡ behind l ++ (spell x ++ (separator ∷ rest))
+  behind_push [] x rest = append_assoc (spell x) (separator ∷ []) rest
   behind_push (y ∷ l) x rest =
-      append_assoc (spell y) (mark ∷ behind (l ++ x ∷ [])) rest
-      ∙ ap (λ (z : List ℕ). spell y ++ (mark ∷ z)) (behind_push l x rest)
-      ∙ sym (append_assoc (spell y) (mark ∷ behind l) (spell x ++ (mark ∷ rest)))
+      append_assoc (spell y) (separator ∷ behind (l ++ x ∷ [])) rest
+      ∙ ap (λ (z : List ℕ). spell y ++ (separator ∷ z)) (behind_push l x rest)
+      ∙ sym (append_assoc (spell y) (separator ∷ behind l) (spell x ++ (separator ∷ rest)))
 
   points_push : (l : List A) (y x : A) → spell y ++ points (l ++ x ∷ []) ≡ behind (y ∷ l) ++ spell x
-  points_push [] y x = ap (λ (z : List ℕ). spell y ++ z) (append-nil (mark ∷ spell x)) ∙ sym (append_assoc (spell y) (mark ∷ []) (spell x))
-  points_push (z ∷ l) y x = ap (λ (t : List ℕ). spell y ++ (mark ∷ t)) (points_push l z x) ∙ sym (append_assoc (spell y) (mark ∷ behind (z ∷ l)) (spell x))
+  points_push [] y x = ap (λ (z : List ℕ). spell y ++ z) (append-nil (separator ∷ spell x)) ∙ sym (append_assoc (spell y) (separator ∷ []) (spell x))
+  points_push (z ∷ l) y x = ap (λ (t : List ℕ). spell y ++ (separator ∷ t)) (points_push l z x) ∙ sym (append_assoc (spell y) (separator ∷ behind (z ∷ l)) (spell x))
 
   -- The last item ends the text.
   whole_text : (l : List A) (x : A) → behind l ++ spell x ≡ text_of (l ++ x ∷ [])
@@ -44,30 +44,30 @@ module _ {A : Type 0} (mark : ℕ) (spell : A → List ℕ) where
   none_read [] text is other = absurd (other is)
   none_read (x ∷ xs) text is other = record { others = x ∷ xs; some = omega arith; split = refl; text = is }
 
-  pub text_next : {Fits : List A → A → Type 0} (l new : List A) (text rest first after : List ℕ) → text ≡ behind l ++ rest → rest ≡ first ++ (mark ∷ after)
+  pub text_next : {Fits : List A → A → Type 0} (l new : List A) (text rest first after : List ℕ) → text ≡ behind l ++ rest → rest ≡ first ++ (separator ∷ after)
       → IsAdded spell Fits l first new → text ≡ behind new ++ after
   text_next {Fits} l new text rest first after is parts added =
-      is ∙ ap (λ (z : List ℕ). behind l ++ z) (parts ∙ ap (λ (z : List ℕ). z ++ (mark ∷ after)) added.text_is)
+      is ∙ ap (λ (z : List ℕ). behind l ++ z) (parts ∙ ap (λ (z : List ℕ). z ++ (separator ∷ after)) added.text_is)
       ∙ sym (ap (λ (z : List A). behind z ++ after) added.new_is ∙ behind_push l added.item after)
 
   pub text_last : {Fits : List A → A → Type 0} (l new : List A) (text rest : List ℕ) → text ≡ behind l ++ rest → IsAdded spell Fits l rest new → text ≡ text_of new
   text_last {Fits} l new text rest is added =
       is ∙ ap (λ (z : List ℕ). behind l ++ z) added.text_is ∙ whole_text l added.item ∙ ap text_of (sym added.new_is)
 
-module _ {A : Type 0} (mark : ℕ) (spell : A → List ℕ) (Fits : List A → A → Type 0) (IsValid : List A → Type 0) where
+module _ {A : Type 0} (separator : ℕ) (spell : A → List ℕ) (Fits : List A → A → Type 0) (IsValid : List A → Type 0) where
   -- What the text of an item is, and which items go with those before them.
   pub record IsSpelling : Type 0 where
-    pub lacks : (l : List A) (x : A) → Fits l x → Lacks mark (spell x)
+    pub lacks : (l : List A) (x : A) → Fits l x → Lacks separator (spell x)
     pub no_dash : (l : List A) (x : A) (rest : List ℕ) → Fits l x → codes "-" ≡ spell x ++ rest → ⊥
     pub same : (l : List A) (x y : A) → Fits l x → Fits l y → spell x ≡ spell y → x ≡ y
     pub fits : (l : List A) (x : A) (n : List A) → IsValid (l ++ x ∷ n) → Fits l x
     pub grows : (l : List A) (x : A) → IsValid l → Fits l x → IsValid (l ++ x ∷ [])
 
-module _ {A : Type 0} {mark : ℕ} {spell : A → List ℕ} {Fits : List A → A → Type 0} {IsValid : List A → Type 0} (s : IsSpelling mark spell Fits IsValid) where
+module _ {A : Type 0} {separator : ℕ} {spell : A → List ℕ} {Fits : List A → A → Type 0} {IsValid : List A → Type 0} (s : IsSpelling separator spell Fits IsValid) where
   -- A dash tells the list of no item, and no other.
-  pub dash : (l : List A) (text : List ℕ) → IsValid l → text ≡ codes "-" → text ≡ text_of mark spell l → l ≡ []
+  pub dash : (l : List A) (text : List ℕ) → IsValid l → text ≡ codes "-" → text ≡ text_of separator spell l → l ≡ []
   dash [] text ok is told = refl
-  dash (x ∷ xs) text ok is told = absurd (s.no_dash [] x (flat_map (λ y. (mark ∷ []) ++ spell y) xs) (s.fits [] x xs ok) (sym is ∙ told))
+  dash (x ∷ xs) text ok is told = absurd (s.no_dash [] x (flat_map (λ y. (separator ∷ []) ++ spell y) xs) (s.fits [] x xs ok) (sym is ∙ told))
 
   pub added_valid : (old new : List A) (text : List ℕ) → IsValid old → IsAdded spell Fits old text new → IsValid new
   added_valid old new text ok added = subst IsValid (sym added.new_is) (s.grows old added.item ok added.fits)
@@ -80,17 +80,17 @@ module _ {A : Type 0} {mark : ℕ} {spell : A → List ℕ} {Fits : List A → A
     item : A
     fits : Fits l item
     first_is : first ≡ spell item
-    left : IsLeft mark spell (l ++ item ∷ []) m after
+    left : IsLeft separator spell (l ++ item ∷ []) m after
 
-  next_item : (l m : List A) (rest first after : List ℕ) → IsValid m → IsLeft mark spell l m rest → rest ≡ first ++ (mark ∷ after) → Lacks mark first → IsNextItem l m first after
+  next_item : (l m : List A) (rest first after : List ℕ) → IsValid m → IsLeft separator spell l m rest → rest ≡ first ++ (separator ∷ after) → Lacks separator first → IsNextItem l m first after
   next_item l m rest first after ok left parts lacks = by left.others left.some left.split (sym left.text ∙ parts)
     where
-      by : (others : List A) → 0 < length others → m ≡ l ++ others → text_of mark spell others ≡ first ++ (mark ∷ after) → IsNextItem l m first after
+      by : (others : List A) → 0 < length others → m ≡ l ++ others → text_of separator spell others ≡ first ++ (separator ∷ after) → IsNextItem l m first after
       by [] some is e = absurd (omega (arith, some))
-      by (x ∷ []) some is e = absurd (no_part mark (spell x) first after (s.lacks l x (fits_here l m [] x ok is)) (sym (append-nil (spell x)) ∙ e))
+      by (x ∷ []) some is e = absurd (no_part separator (spell x) first after (s.lacks l x (fits_here l m [] x ok is)) (sym (append-nil (spell x)) ∙ e))
       by (x ∷ y ∷ ys) some is e =
           let fits = fits_here l m (y ∷ ys) x ok is in
-          let parted = one_part mark (spell x) first (text_of mark spell (y ∷ ys)) after (s.lacks l x fits) lacks e in
+          let parted = one_part separator (spell x) first (text_of separator spell (y ∷ ys)) after (s.lacks l x fits) lacks e in
           record {
             item = x;
             fits = fits;
@@ -105,36 +105,36 @@ module _ {A : Type 0} {mark : ℕ} {spell : A → List ℕ} {Fits : List A → A
     rest_is : rest ≡ spell item
     split : m ≡ l ++ item ∷ []
 
-  last_item : (l m : List A) (rest : List ℕ) → IsValid m → IsLeft mark spell l m rest → Lacks mark rest → IsLastItem l m rest
+  last_item : (l m : List A) (rest : List ℕ) → IsValid m → IsLeft separator spell l m rest → Lacks separator rest → IsLastItem l m rest
   last_item l m rest ok left lacks = by left.others left.some left.split left.text
     where
-      by : (others : List A) → 0 < length others → m ≡ l ++ others → rest ≡ text_of mark spell others → IsLastItem l m rest
+      by : (others : List A) → 0 < length others → m ≡ l ++ others → rest ≡ text_of separator spell others → IsLastItem l m rest
       by [] some is e = absurd (omega (arith, some))
       by (x ∷ []) some is e = record { item = x; fits = fits_here l m [] x ok is; rest_is = e ∙ append-nil (spell x); split = is }
-      by (x ∷ y ∷ ys) some is e = absurd (no_part mark rest (spell x) (text_of mark spell (y ∷ ys)) lacks e)
+      by (x ∷ y ∷ ys) some is e = absurd (no_part separator rest (spell x) (text_of separator spell (y ∷ ys)) lacks e)
 
   -- No list is told where the next item, or the last, was refused.
-  pub not_next : (l m : List A) (rest first after : List ℕ) → IsValid m → IsLeft mark spell l m rest → rest ≡ first ++ (mark ∷ after) → Lacks mark first
+  pub not_next : (l m : List A) (rest first after : List ℕ) → IsValid m → IsLeft separator spell l m rest → rest ≡ first ++ (separator ∷ after) → Lacks separator first
       → ((x : A) → Fits l x → first ≡ spell x → ⊥) → ⊥
   not_next l m rest first after ok left parts lacks refused =
       let next = next_item l m rest first after ok left parts lacks in
       refused next.item next.fits next.first_is
 
-  pub not_last : (l m : List A) (rest : List ℕ) → IsValid m → IsLeft mark spell l m rest → Lacks mark rest → ((x : A) → Fits l x → rest ≡ spell x → ⊥) → ⊥
+  pub not_last : (l m : List A) (rest : List ℕ) → IsValid m → IsLeft separator spell l m rest → Lacks separator rest → ((x : A) → Fits l x → rest ≡ spell x → ⊥) → ⊥
   not_last l m rest ok left lacks refused =
       let last = last_item l m rest ok left lacks in
       refused last.item last.fits last.rest_is
 
   -- After the next item the others are left, and the text goes on behind it.
-  pub left_next : (l m new : List A) (rest first after : List ℕ) → IsValid m → IsLeft mark spell l m rest → rest ≡ first ++ (mark ∷ after) → Lacks mark first
-      → IsAdded spell Fits l first new → IsLeft mark spell new m after
+  pub left_next : (l m new : List A) (rest first after : List ℕ) → IsValid m → IsLeft separator spell l m rest → rest ≡ first ++ (separator ∷ after) → Lacks separator first
+      → IsAdded spell Fits l first new → IsLeft separator spell new m after
   left_next l m new rest first after ok left parts lacks added =
       let next = next_item l m rest first after ok left parts lacks in
       let same : added.item ≡ next.item = s.same l added.item next.item added.fits next.fits (sym added.text_is ∙ next.first_is) in
-      let P : List A → Type 0 = λ x. IsLeft mark spell x m after in
+      let P : List A → Type 0 = λ x. IsLeft separator spell x m after in
       subst P (sym (added.new_is ∙ ap (λ x. l ++ x ∷ []) same)) next.left
 
-  pub all_read : (l m new : List A) (rest : List ℕ) → IsValid m → IsLeft mark spell l m rest → Lacks mark rest → IsAdded spell Fits l rest new → new ≡ m
+  pub all_read : (l m new : List A) (rest : List ℕ) → IsValid m → IsLeft separator spell l m rest → Lacks separator rest → IsAdded spell Fits l rest new → new ≡ m
   all_read l m new rest ok left lacks added =
       let last = last_item l m rest ok left lacks in
       let same : added.item ≡ last.item = s.same l added.item last.item added.fits last.fits (sym added.text_is ∙ last.rest_is) in

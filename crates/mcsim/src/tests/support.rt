@@ -197,22 +197,28 @@ pub fn filled(alloc: Global, text: &str, names: &[&str], line: &str) -> Result<S
     Ok(whole)
 }
 
+/// Puts bytes at a place, as told in `984=02` or `0=first`.
+fn change(alloc: Global, bytes: &mut [u8], told: &str) -> Result<(), Fail> {
+    let (place, told) = told.split_once('=').ok_or("a place and bytes")?;
+    let change = match named(told) {
+        Some(file) => file.to_vec(alloc)?,
+        None => hex::decode(alloc, told)?,
+    };
+    let cells = bytes.iter_mut().skip(place.parse::<usize>()?);
+    for (cell, byte) in cells.zip(change.as_slice()) {
+        *cell = *byte;
+    }
+    Ok(())
+}
+
 /// The bytes of a file: a named one, or one of so many bytes `0xff` but for those at some places, as in `1792:0=first,984=02`.
 pub fn contents(alloc: Global, told: &str) -> Result<Vec<u8>, Fail> {
     let Some((length, changes)) = told.split_once(':') else {
         return Ok(named(told).unwrap_or_default().to_vec(alloc)?);
     };
     let mut bytes = vec![in alloc; 0xffu8; length.parse::<usize>()?]?;
-    for change in changes.split(',') {
-        let (place, told) = change.split_once('=').ok_or("a place and bytes")?;
-        let change = match named(told) {
-            Some(file) => file.to_vec(alloc)?,
-            None => hex::decode(alloc, told)?,
-        };
-        let cells = bytes.iter_mut().skip(place.parse::<usize>()?);
-        for (cell, byte) in cells.zip(change.as_slice()) {
-            *cell = *byte;
-        }
+    for told in changes.split(',') {
+        change(alloc, bytes.as_mut_slice(), told)?;
     }
     Ok(bytes)
 }

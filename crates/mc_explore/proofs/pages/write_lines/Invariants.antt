@@ -6,7 +6,7 @@ use Rattle.mc_explore.proofs.pages.write_lines.Given as goal
 abbrev pub invariant-fill : goal.invariant-fill
 invariant-fill g l =
     let state = g.S.RowSource.state in
-    let ledger = g.S.RowSource.ledger in
+    let usage = g.S.RowSource.usage in
     let cost = g.S.RowSource.most_for_row in
     let position = g.S.RowSource.listing.position in
     record {
@@ -16,8 +16,8 @@ invariant-fill g l =
       stuck : position (state l.fn.source) ≡ Lost → (position (state l.source) ≡ Lost) × (0 < l.room);
       unwritten : position (state l.source) ≡ Lost → (l.source ≡ l.fn.source) × (l.writer ≡ l.fn.writer);
       cost_is : cost (state l.source) ≡ cost (state l.fn.source);
-      limits : (ledger l.source).limits ≡ (ledger l.fn.source).limits;
-      applied : (ledger l.source).applied + l.room * cost (state l.fn.source) ≤ (ledger l.fn.source).applied + l.limit * cost (state l.fn.source);
+      limits : (usage l.source).limits ≡ (usage l.fn.source).limits;
+      applied : (usage l.source).applied + l.room * cost (state l.fn.source) ≤ (usage l.fn.source).applied + l.limit * cost (state l.fn.source);
     }
 
 abbrev pub decreases-fill : goal.decreases-fill

@@ -27,7 +27,7 @@ rows-init g c =
       still = λ e. refl;
       start = refl;
       limits = refl;
-      applied = subst (λ n. c.args.explorer.now.ledger.applied + n * cost ≤ c.args.explorer.now.ledger.applied + c.args.limit * cost) (sym all) (omega arith);
+      applied = subst (λ n. c.args.explorer.now.usage.applied + n * cost ≤ c.args.explorer.now.usage.applied + c.args.limit * cost) (sym all) (omega arith);
     }
 
 -- One row more is counted.
@@ -55,7 +55,7 @@ rows-preserved g c =
       still = λ e. let q : Lost ≡ After c.in-Some.row.schedule = sym e ∙ ap (λ (s : State). s.position) moved in absurd cc;
       start = ap (λ (s : State). s.start) moved ∙ c.rows.invariant.start;
       limits = c.next_before.ensures.explores.goes.limits ∙ c.rows.invariant.limits;
-      applied = row_paid c.rows.explorer.ledger.applied c.next_before.new.self.ledger.applied (c.args.limit - c.rows.tally.rows) (c.args.limit - c.add.new.self.rows) _ _ room
+      applied = row_paid c.rows.explorer.usage.applied c.next_before.new.self.usage.applied (c.args.limit - c.rows.tally.rows) (c.args.limit - c.add.new.self.rows) _ _ room
           (omega (arith, c.in_ok-row.ensures.applied, cost)) c.rows.invariant.applied;
     }
 

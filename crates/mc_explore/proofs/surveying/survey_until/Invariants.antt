@@ -12,8 +12,8 @@ invariant-rows g l =
       stuck : l.fn.explorer.state.position ≡ Lost → (l.explorer.state.position ≡ Lost) × (l.tally.rows < l.limit);
       still : l.explorer.state.position ≡ Lost → l.explorer ≡ l.fn.explorer;
       start : l.explorer.state.start ≡ l.fn.explorer.state.start;
-      limits : l.explorer.ledger.limits ≡ l.fn.explorer.ledger.limits;
-      applied : l.explorer.ledger.applied + (l.limit - l.tally.rows) * most_for_row l.fn.explorer.state.start.rules l.fn.explorer.state.start.geometry ≤ l.fn.explorer.ledger.applied + l.limit *
+      limits : l.explorer.usage.limits ≡ l.fn.explorer.usage.limits;
+      applied : l.explorer.usage.applied + (l.limit - l.tally.rows) * most_for_row l.fn.explorer.state.start.rules l.fn.explorer.state.start.geometry ≤ l.fn.explorer.usage.applied + l.limit *
           most_for_row l.fn.explorer.state.start.rules l.fn.explorer.state.start.geometry;
     }
 

@@ -6,5 +6,5 @@ abbrev pub invariant-loop : goal.invariant-loop
 invariant-loop g l = record {
   boot : IsBootOf (g.F.Flash.seen l.flash).geometry l.boot;
   geometry : (g.F.Flash.seen l.flash).geometry ≡ (g.F.Flash.seen l.fn.flash).geometry;
-  marks : (g.F.Flash.seen l.flash).marks ≡ (g.F.Flash.seen l.fn.flash).marks;
+  checkpoints : (g.F.Flash.seen l.flash).checkpoints ≡ (g.F.Flash.seen l.fn.flash).checkpoints;
 }

@@ -1,7 +1,7 @@
 use Rattle.std.proofs.Common.{sym, subst}
 use Rattle.mc_flash.specs.Spends.{HasRoom}
 use Rattle.mc_walk.specs.Kind.{owed_there}
-use Rattle.mc_walk.specs.Walks.{start_of}
+use Rattle.mc_walk.specs.Walks.{origin_of}
 use Rattle.mc_walk.proofs.Stacks.{child_here, entered_told}
 use Rattle.mc_walk.proofs.enter.enter.Goals as goal
 
@@ -14,5 +14,6 @@ child-requires g c = record {
 pub returns-clause-stands : goal.returns-clause-stands
 returns-clause-stands g c =
     let seen = g.F.Flash.seen c.args.flash.now in
-    entered_told (g.B.Branches.kind c.args.branches) (start_of seen) seen (g.F.Flash.seen c.mark.new.self) (g.F.Flash.seen c.child.new.flash) c.args.frames.now.items c.push.new.self.items c.args.frame
+    entered_told (g.B.Branches.kind c.args.branches) (origin_of seen) seen (g.F.Flash.seen c.mark.new.self) (g.F.Flash.seen c.child.new.flash) c.args.frames.now.items c.push.new.self.items
+    c.args.frame
     c.child.result c.requires.comes c.in_ok-mark.ensures.1 c.in_ok-push.ensures.items c.child.ensures.tells c.child.ensures.stays

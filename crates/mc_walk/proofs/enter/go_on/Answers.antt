@@ -3,7 +3,7 @@ use Rattle.std.proofs.lemmas.Result.{err_from_is_err_and}
 use Rattle.mc_flash.specs.Spends.{HasRoom}
 use Rattle.mc_flash.specs.facts.Spends.{mark_spends, ran_out_later}
 use Rattle.mc_walk.specs.Kind.{owed_there}
-use Rattle.mc_walk.specs.Walks.{start_of}
+use Rattle.mc_walk.specs.Walks.{origin_of}
 use Rattle.mc_walk.proofs.Stacks.{entered_told}
 use Rattle.mc_walk.proofs.Steps.{comes_on, frames_on, last_is, mark_on, next_on, ok_any, one_on, room_on}
 use Rattle.mc_walk.proofs.enter.go_on.Given.{Over}
@@ -38,7 +38,7 @@ returns-clause-stands g c =
     let h = c.in_ok-next.ensures in
     let a = (goal.at.returns-clause-stands g c).In_ok-next in
     let f = next_on k _ _ _ c.requires c.index_mut-last.result.now (same g a) c.next.new.at h.keeps h.goes_on h.spends in
-    entered_told k (start_of (g.F.Flash.seen c.args.flash.now)) _ _ _ c.requires.before _ f c.child.result
+    entered_told k (origin_of (g.F.Flash.seen c.args.flash.now)) _ _ _ c.requires.before _ f c.child.result
     (comes_on k _ _ _ c.requires c.index_mut-last.result.now (same g a) c.next.new.at h.keeps h.goes_on h.spends) c.in_ok-mark.ensures.1
     (frames_on k _ _ _ c.requires f (c.len-end.result - 1) (place g a)) c.child.ensures.tells c.child.ensures.stays
 

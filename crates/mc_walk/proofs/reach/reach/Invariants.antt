@@ -11,7 +11,7 @@ invariant-loop-i g l =
     let now = g.F.Flash.seen l.flash in
     record {
       here : (n : g.B.Branches.Node) → IsNode k n l.told old → l.number < k.tree.width n
-          → IsAt k n l._i l.at now × LeaveRoom now.ledger.counts (k.left l.at) (plus old.ledger.counts (k.owed n));
+          → IsAt k n l._i l.at now × LeaveRoom now.usage.counts (k.left l.at) (plus old.usage.counts (k.owed n));
       keeps : Keeps old now;
       spent : Spent ((l._i + 1) * k.step) old now;
     }

@@ -110,4 +110,4 @@ returns-then-not-branch-clause-moved g c =
 pub returns-then-not-branch-clause-applied : goal.returns-then-not-branch-clause-applied
 returns-then-not-branch-clause-applied g c =
     let v = visited g (goal.at.returns-then-not-branch-clause-applied g c).In_ok-visit false c.if-not-branch.true in
-    omega (arith, ap (λ (f : Seen). f.ledger.applied) v.visits.1, ap (λ (z : Explored). z.ledger.applied) c.self.view_is)
+    omega (arith, ap (λ (f : Seen). f.usage.applied) v.visits.1, ap (λ (z : Explored). z.usage.applied) c.self.view_is)

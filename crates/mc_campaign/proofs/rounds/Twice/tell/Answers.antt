@@ -10,7 +10,7 @@ returns-clause-stays g c =
     let old = g.F.Flash.seen c.args.flash.now in
     let end = g.F.Flash.seen c.run.new.flash in
     let back = stays_back old (g.F.Flash.seen c.mark.new.self) end c.in_ok-here.ensures.1 c.in_ok-both.ensures.keeps in
-    let is : g.F.Flash.seen c.back_to.new.self ≡ went_back (length old.marks) end = c.back_to.ensures ∙ ap (λ n. went_back n end) c.in_ok-here.ensures.0 in
+    let is : g.F.Flash.seen c.back_to.new.self ≡ went_back (length old.checkpoints) end = c.back_to.ensures ∙ ap (λ n. went_back n end) c.in_ok-here.ensures.0 in
     subst (λ (x : Seen). Stays old x) (sym is) back
 
 pub returns-clause-spends : goal.returns-clause-spends

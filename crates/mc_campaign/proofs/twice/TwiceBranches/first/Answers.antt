@@ -8,7 +8,7 @@ returns-then-ops-gt0-clause-reaches g c =
     let f = g.F.Flash.seen c.args.flash.now in
     λ p node some. (
       begins_first r l c.args.self.confirms p c.args.told.now f c.in-First.is c.if-ops-gt0.true node.told_is node.content_is node.layout_is,
-      left_first r l c.args.self.confirms p c.args.told.now f.ledger.counts c.in-First.is node.told_is,
+      left_first r l c.args.self.confirms p c.args.told.now f.usage.counts c.in-First.is node.told_is,
     )
 
 pub returns-in_ok-go_between-in-First-clause-reaches : goal.returns-in_ok-go_between-in-First-clause-reaches
@@ -20,7 +20,7 @@ returns-in_ok-go_between-in-First-clause-reaches g c =
     let e = c.in_ok-go_between-in-First.ensures in
     λ p node some. (
       begins_behind r l c.args.self.confirms p c.args.told.now f new c.in-First.is c.if-ops-gt0.false node.told_is node.content_is node.layout_is e.content e.keeps.geometry,
-      left_behind r l c.args.self.confirms p c.args.told.now f.ledger.counts new.ledger.counts c.in-First.is node.told_is e.counts,
+      left_behind r l c.args.self.confirms p c.args.told.now f.usage.counts new.usage.counts c.in-First.is node.told_is e.counts,
     )
 
 pub returns-in-Second-clause-reaches : goal.returns-in-Second-clause-reaches
@@ -30,5 +30,5 @@ returns-in-Second-clause-reaches g c =
     let f = g.F.Flash.seen c.args.flash.now in
     λ p node some. (
       begins_second r l c.args.self.confirms p c.args.told.now f c.in-Second.is node.told_is node.content_is node.layout_is,
-      left_second r l c.args.self.confirms p c.args.told.now f.ledger.counts c.in-Second.is node.told_is,
+      left_second r l c.args.self.confirms p c.args.told.now f.usage.counts c.in-Second.is node.told_is,
     )

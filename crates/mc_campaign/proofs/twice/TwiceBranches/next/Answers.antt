@@ -27,8 +27,8 @@ returns-then-count-ops-clause-goes_on g c =
       λ p i at more.
           next_first r l c.args.self.confirms p i c.in-First.boot c.pass.new.at c.in-First.ops c.in-First.later old new (subst (λ way. IsAt k p i way old) c.in-First.is at) e.passes.0
           (omega (arith, c.if-count-ops.true, c.count.ensures)),
-      subst (λ way. LeaveRoom new.ledger.counts (left_of_way r l (ways.First c.pass.new.at c.in-First.ops c.in-First.later)) (plus old.ledger.counts (left_of_way r l way))) (sym c.in-First.is)
-          (counts_first r l c.args.self.confirms c.in-First.boot c.pass.new.at c.in-First.ops c.in-First.later old.ledger.counts new.ledger.counts e.passes.1),
+      subst (λ way. LeaveRoom new.usage.counts (left_of_way r l (ways.First c.pass.new.at c.in-First.ops c.in-First.later)) (plus old.usage.counts (left_of_way r l way))) (sym c.in-First.is)
+          (counts_first r l c.args.self.confirms c.in-First.boot c.pass.new.at c.in-First.ops c.in-First.later old.usage.counts new.usage.counts e.passes.1),
     )
 
 pub returns-in_err-go_between-in-First-clause-spends : goal.returns-in_err-go_between-in-First-clause-spends
@@ -66,9 +66,9 @@ returns-in_ok-go_between-in-First-clause-goes_on g c =
       λ p i at more.
           next_between r l c.args.self.confirms p i c.in-First.boot c.pass.new.at c.in-First.ops c.in-First.later old mid new (subst (λ way. IsAt k p i way old) c.in-First.is at) e.passes.0
           (omega (arith, c.if-count-ops.false, c.count.ensures)) h.content h.keeps.geometry,
-      subst (λ way. LeaveRoom new.ledger.counts (left_of_way r l (ways.Second c.in-First.later.boot)) (plus old.ledger.counts (left_of_way r l way))) (sym c.in-First.is)
+      subst (λ way. LeaveRoom new.usage.counts (left_of_way r l (ways.Second c.in-First.later.boot)) (plus old.usage.counts (left_of_way r l way))) (sym c.in-First.is)
           (counts_between r l c.args.self.confirms has.0 has.1 c.in-First.boot c.pass.new.at c.in-First.ops c.in-First.later old
-          old.ledger.counts mid.ledger.counts new.ledger.counts has.2 e.passes.1 h.counts),
+          old.usage.counts mid.usage.counts new.usage.counts has.2 e.passes.1 h.counts),
     )
 
 pub returns-in_ok-go_between-in-First-clause-spends : goal.returns-in_ok-go_between-in-First-clause-spends
@@ -93,5 +93,5 @@ returns-in_ok-pass-in-Second-clause-goes_on g c =
     let e = c.in_ok-pass-in-Second.ensures in (
       λ p i at more.
           next_second r l c.args.self.confirms p i c.in-Second.boot c.pass-in-Second.new.at old new (subst (λ way. IsAt k p i way old) c.in-Second.is at) e.passes.0 (omega (arith, more)),
-      subst (λ way. LeaveRoom new.ledger.counts (left_of_way r l (ways.Second c.pass-in-Second.new.at)) (plus old.ledger.counts (left_of_way r l way))) (sym c.in-Second.is) e.passes.1,
+      subst (λ way. LeaveRoom new.usage.counts (left_of_way r l (ways.Second c.pass-in-Second.new.at)) (plus old.usage.counts (left_of_way r l way))) (sym c.in-Second.is) e.passes.1,
     )

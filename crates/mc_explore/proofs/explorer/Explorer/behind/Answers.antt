@@ -37,4 +37,4 @@ returns-clause-resumes g c =
     )
 
 pub returns-clause-applied : goal.returns-clause-applied
-returns-clause-applied g c = omega (arith, ap (λ (t : Rowed). t.walk.seen.ledger.applied) c.behind.ensures, (there g (goal.at.returns-clause-applied g c).In_ok-at_cuts).applied)
+returns-clause-applied g c = omega (arith, ap (λ (t : Rowed). t.walk.seen.usage.applied) c.behind.ensures, (there g (goal.at.returns-clause-applied g c).In_ok-at_cuts).applied)

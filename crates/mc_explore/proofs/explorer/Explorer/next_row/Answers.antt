@@ -37,5 +37,5 @@ returns-clause-restarts g c =
 
 pub returns-clause-applied : goal.returns-clause-applied
 returns-clause-applied g c =
-    subst (λ (z : Explored). c.next.new.self.walk.seen.ledger.applied ≤ z.ledger.applied + row_cost z.state.start.rules z.state.start.geometry c.in_ok-found.found) c.self.view_is
+    subst (λ (z : Explored). c.next.new.self.walk.seen.usage.applied ≤ z.usage.applied + row_cost z.state.start.rules z.state.start.geometry c.in_ok-found.found) c.self.view_is
     (costs_row _ _ _ _ _ c.in_ok-found.found (here g (goal.at.returns-clause-applied g c).In_ok-found) c.in_ok-found.ensures.costs.1)

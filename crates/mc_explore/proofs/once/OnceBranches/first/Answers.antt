@@ -14,5 +14,5 @@ returns-clause-reaches g c =
         content_is = node.content_is ∙ at_zero (power_on r layout s);
         layout_is = node.layout_is;
       },
-      first_left r layout s c.args.told.now node.told_is (g.F.Flash.seen c.args._flash.now).ledger.counts,
+      first_left r layout s c.args.told.now node.told_is (g.F.Flash.seen c.args._flash.now).usage.counts,
     )

@@ -1,6 +1,6 @@
 use Rattle.std.proofs.Common.{◌≡◌, ◌≤◌, ◌+◌, length, Bool, true, false, Some, None, IfSome, sym, ap, subst, ◌∙◌}
 use Rattle.mc_walk.specs.Tours.{Visits, position_of}
-use Rattle.mc_walk.specs.Walks.{Walked, IsThere, start_of}
+use Rattle.mc_walk.specs.Walks.{Walked, IsThere, origin_of}
 use Rattle.mc_explore.specs.LastCuts.{AreAtCuts, AreLastCuts, last_of}
 use Rattle.mc_explore.specs.Rowing.{FindsRow, IsRowing, Rowed, kind_of}
 use Rattle.mc_explore.specs.declared.once.Once.{Once}

@@ -18,13 +18,13 @@ start_slots-requires-clause-second c =
     let size = length c.in-Ok-read.image.bytes.now in
     (fits_inside c.args.layout.now Primary size c.fits.ensures.valid fits, fits_inside c.args.layout.now Secondary size c.fits.ensures.valid fits)
 
-pub id-first-requires : goal.id-first-requires
-id-first-requires c =
+pub id-in_a-requires : goal.id-in_a-requires
+id-in_a-requires c =
     let inside = fits_inside c.args.layout.now Primary (length c.in-Ok.image.bytes.now) c.fits.ensures.valid (sym (c.if-not-fits.ensures.value)) in
     omega (arith, inside, c.fits.ensures.valid.size, c.in-Ok.ensures.size, c.in-Ok.ensures.len)
 
-pub id-second-requires : goal.id-second-requires
-id-second-requires c =
+pub id-in_b-requires : goal.id-in_b-requires
+id-in_b-requires c =
     let inside = fits_inside c.args.layout.now Primary (length c.in-Ok-read.image.bytes.now) c.fits.ensures.valid (sym (c.if-not-fits-2.ensures.value)) in
     omega (arith, inside, c.fits.ensures.valid.size, c.in-Ok-read.ensures.size, c.in-Ok-read.ensures.len)
 
@@ -33,8 +33,8 @@ returns c =
     let first = c.in-Ok.ensures.value in
     let second = c.in-Ok-read.ensures.value in
     let told = names c.args.kind c.args.a.now c.args.b.now (identity c.in-Ok.image.view) (identity c.in-Ok-read.image.view) first.2 second.2 in
-    let ids = told_ids c.args.kind c.named_of.result c.id-first.result c.id-second.result (identity c.in-Ok.image.view) (identity c.in-Ok-read.image.view)
-    c.named_of.ensures c.id-first.ensures c.id-second.ensures in
+    let ids = told_ids c.args.kind c.named_of.result c.id-in_a.result c.id-in_b.result (identity c.in-Ok.image.view) (identity c.in-Ok-read.image.view)
+    c.named_of.ensures c.id-in_a.ensures c.id-in_b.ensures in
     (search rules, refl, refl, search rules, ap (λ (p : Identity × Identity). Some p) ids ∙ told)
 
 pub invariant_of-result : goal.invariant_of-result

@@ -7,19 +7,19 @@ use Rattle.mc_flash.proofs.snap.SnapFlashFlash.mark.Goals as goal
 pub returns-in_default : goal.returns-in_default
 returns-in_default c =
     let f = c.args.self.now in
-    copies_fail _ f.slots.layout f.slots.content (map copy_seen f.marks.items) (map copy_seen f.marks.items) f.failed refl
+    copies_fail _ f.slots.layout f.slots.content (map copy_seen f.checkpoints.items) (map copy_seen f.checkpoints.items) f.failed refl
 
 pub returns-then-is_err : goal.returns-then-is_err
 returns-then-is_err c =
     let f = c.args.self.now in
     let refused : is_ok c.push.result ≡ false = search rules in
-    let same = c.push.ensures.items ∙ ap (λ b. if b then f.marks.items ++ c.in-Ok.content ∷ [] else f.marks.items) refused in
-    copies_fail _ f.slots.layout f.slots.content (map copy_seen f.marks.items) (map copy_seen c.push.new.self.items) f.failed (ap (map copy_seen) same)
+    let same = c.push.ensures.items ∙ ap (λ b. if b then f.checkpoints.items ++ c.in-Ok.content ∷ [] else f.checkpoints.items) refused in
+    copies_fail _ f.slots.layout f.slots.content (map copy_seen f.checkpoints.items) (map copy_seen c.push.new.self.items) f.failed (ap (map copy_seen) same)
 
 pub returns : goal.returns
 returns c =
     let f = c.args.self.now in
     let done : is_ok c.push.result ≡ true = search rules in
-    let more = c.push.ensures.items ∙ ap (λ b. if b then f.marks.items ++ c.in-Ok.content ∷ [] else f.marks.items) done in
-    copies_mark f.slots.layout f.slots.content f.marks.items c.push.new.self.items c.in-Ok.content f.failed c.len-place.result more c.in-Ok.ensures
-    (omega (arith, f.marks.ok.0))
+    let more = c.push.ensures.items ∙ ap (λ b. if b then f.checkpoints.items ++ c.in-Ok.content ∷ [] else f.checkpoints.items) done in
+    copies_mark f.slots.layout f.slots.content f.checkpoints.items c.push.new.self.items c.in-Ok.content f.failed c.len-place.result more c.in-Ok.ensures
+    (omega (arith, f.checkpoints.ok.0))

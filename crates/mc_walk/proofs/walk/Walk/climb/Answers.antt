@@ -21,7 +21,7 @@ leaves g c =
       is = subst (λ b. LeavesOpen k w.frames.items b c.leave_spent.new.frames.items) c.if-not-leave_spent.false c.leave_spent.ensures.left;
     }
 
--- The mark of that frame.
+-- The checkpoint of that frame.
 place : (g : Over) (c : After-len g) → c.len.result ≡ length c.leave_spent.new.frames.items
 place g c = omega (arith, c.len.ensures, c.leave_spent.new.frames.ok.0)
 
@@ -71,7 +71,7 @@ returns-clause-step g c =
     let h = arrived g a.In_ok-told l (place g a.After-len) in
     let next = c.in_ok-told.ensures.frames l.is.before l.is.frame l.is.frames_are in
     subst (λ (z : Walked g.row.B.Denot). Climbs (g.B.Branches.kind z.branches) z true (walked w.branches w.bound new c.go_on.new.frames.items (Some c.in_ok-told.told))) c.self.view_is
-    (climbed k w.branches w.bound old new w.frames.items l.is.before c.go_on.new.frames.items l.is.frame next.0 w.told c.in_ok-told.told l.going.stands.stacked l.is.last next.2 next.1 h.start)
+    (climbed k w.branches w.bound old new w.frames.items l.is.before c.go_on.new.frames.items l.is.frame next.0 w.told c.in_ok-told.told l.going.stands.stacked l.is.last next.2 next.1 h.origin)
 
 pub returns-clause-spends : goal.returns-clause-spends
 returns-clause-spends g c =

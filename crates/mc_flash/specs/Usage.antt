@@ -14,31 +14,31 @@ pub record Counts : Type 0 where
   pub entries : ℕ
   pub saved : ℕ
 
--- Whether a flash counts; and the most of each, and the most marks.
+-- Whether a flash counts; and the most of each, and the most checkpoints.
 pub record Limits : Type 0 where
   pub counted : Bool
   pub entries : ℕ
   pub saved : ℕ
-  pub marks : ℕ
+  pub checkpoints : ℕ
 
 -- All that is counted of a flash. `applied` counts the operations since it was loaded, and stays at the greatest 64-bit
 -- number; `failed` says whether a growth was refused at some time.
-pub record Ledger : Type 0 where
+pub record Usage : Type 0 where
   pub counts : Counts
   pub limits : Limits
   pub applied : ℕ
   pub failed : Bool
 
 -- A marked content, with the counts there.
-pub record Spot : Type 0 where
+pub record Checkpoint : Type 0 where
   pub content : Content
   pub counts : Counts
 
 abbrev pub no_counts : Counts
 no_counts = record { entries = 0; saved = 0 }
 
--- the ledger of a flash that was just loaded
-abbrev pub fresh : Limits → Ledger
+-- the usage of a flash that was just loaded
+abbrev pub fresh : Limits → Usage
 fresh limits = record { counts = no_counts; limits = limits; applied = 0; failed = false }
 
 -- The most operations of a boot: 3T + 9 + 3 nmax (S / C + 2) where each call is one, and
@@ -53,20 +53,20 @@ most_operations grains.Unit g =
 abbrev pub most_saved : Geometry → ℕ
 most_saved g = (3 * trailer_sectors g + 3 * greatest_sectors g) * g.sector
 
--- The limits of a flash for so many boots: as much as that many make at most, and one mark more.
+-- The limits of a flash for so many boots: as much as that many make at most, and one checkpoint more.
 unfoldable pub limits_for : Grain → Geometry → ℕ → Limits
 limits_for grain g boots = record {
   counted = true;
   entries = boots * most_operations grain g;
   saved = boots * most_saved g;
-  marks = boots + 1;
+  checkpoints = boots + 1;
 }
 
 -- One set of limits allows all that another does.
 pub record IsWithin (least limits : Limits) : Type 0 where
   pub entries : least.entries ≤ limits.entries
   pub saved : least.saved ≤ limits.saved
-  pub marks : least.marks ≤ limits.marks
+  pub checkpoints : least.checkpoints ≤ limits.checkpoints
 
 -- the bytes that an operation saves
 abbrev pub saves : Geometry → Op → ℕ
@@ -75,27 +75,27 @@ saves g (ops.Program slot at bytes) = 0
 saves g (ops.Copy from at to offset len) = 0
 
 -- The operation would pass a limit.
-abbrev pub IsFull : Geometry → Op → Ledger → Type 0
-IsFull g op ledger =
-    (ledger.limits.entries < ledger.counts.entries + 1) ⊎ (ledger.limits.saved < ledger.counts.saved + saves g op)
+abbrev pub IsFull : Geometry → Op → Usage → Type 0
+IsFull g op usage =
+    (usage.limits.entries < usage.counts.entries + 1) ⊎ (usage.limits.saved < usage.counts.saved + saves g op)
 
--- the ledger with one operation more, which stands still where nothing is counted
-abbrev pub noted_by : Bool → Geometry → Op → Ledger → Ledger
-noted_by true g op ledger = record {
-  counts = record { entries = ledger.counts.entries + 1; saved = ledger.counts.saved + saves g op };
-  limits = ledger.limits;
-  applied = min (ledger.applied + 1) (2 ^ 64 - 1);
-  failed = ledger.failed;
+-- the usage with one operation more, which stands still where nothing is counted
+abbrev pub noted_by : Bool → Geometry → Op → Usage → Usage
+noted_by true g op usage = record {
+  counts = record { entries = usage.counts.entries + 1; saved = usage.counts.saved + saves g op };
+  limits = usage.limits;
+  applied = min (usage.applied + 1) (2 ^ 64 - 1);
+  failed = usage.failed;
 }
-noted_by false g op ledger = ledger
+noted_by false g op usage = usage
 
-abbrev pub noted : Geometry → Op → Ledger → Ledger
-noted g op ledger = noted_by ledger.limits.counted g op ledger
+abbrev pub noted : Geometry → Op → Usage → Usage
+noted g op usage = noted_by usage.limits.counted g op usage
 
--- the ledger of a flash that memory has failed
-abbrev pub run_out : Ledger → Ledger
-run_out ledger = record { counts = ledger.counts; limits = ledger.limits; applied = ledger.applied; failed = true }
+-- the usage of a flash that memory has failed
+abbrev pub run_out : Usage → Usage
+run_out usage = record { counts = usage.counts; limits = usage.limits; applied = usage.applied; failed = true }
 
--- the ledger with the counts of a mark
-abbrev pub back_at : Counts → Ledger → Ledger
-back_at counts ledger = record { counts = counts; limits = ledger.limits; applied = ledger.applied; failed = ledger.failed }
+-- the usage with the counts of a checkpoint
+abbrev pub back_at : Counts → Usage → Usage
+back_at counts usage = record { counts = counts; limits = usage.limits; applied = usage.applied; failed = usage.failed }

@@ -5,7 +5,7 @@ use Rattle.std.proofs.Common.{arith, inl, inr}
 use Rattle.std.proofs.Math.Nat.{mul-le-mul_left, mul-le-mul_right, mod-add-div'}
 use Rattle.mc_flash.specs.Geometry.{Geometry, IsLayout, trailer_sectors, greatest_sectors}
 use Rattle.mc_flash.specs.facts.Layouts.{trailer_leaves_one, small_unit}
-use Rattle.mc_flash.specs.Ledger.{most_operations, most_saved}
+use Rattle.mc_flash.specs.Usage.{most_operations, most_saved}
 use Rattle.mc_flash.specs.declared.flash.Grain.{Grain}
 use Rattle.mc_flash.specs.declared.flash.Grain.TheVariants as grains
 use Rattle.mc_flash.specs.declared.op.Slot.TheVariants.{Primary}
