@@ -40,6 +40,12 @@ length-write grains.Unit g slot f new = length-map-range_with_len (piece g slot 
 pub length-size_bytes : (g : Geometry) (size : ℕ) → length (size_bytes g size) ≡ max g.unit 4
 length-size_bytes g size = omega (arith, length-append (little_bytes 4 size) (replicate (g.unit - 4) 255), length-replicate {A = ℕ} (g.unit - 4) 255)
 
+pub length-marking : (c : Grain) (g : Geometry) (slot : Slot) (size : ℕ) → length (marking c g slot size) ≡ write_count c g (max g.unit 4) + write_count c g 16
+length-marking c g slot size =
+    length-append (write c g slot field.SwapSize (size_bytes g size)) (write c g slot field.Magic magic_bytes)
+    ∙ ap (λ n. n + length (write c g slot field.Magic magic_bytes)) (length-write c g slot field.SwapSize (size_bytes g size) ∙ ap (write_count c g) (length-size_bytes g size))
+    ∙ ap (λ n. write_count c g (max g.unit 4) + n) (length-write c g slot field.Magic magic_bytes)
+
 -- behind the size comes the magic
 pub get_magic : (c : Grain) (g : Geometry) (slot : Slot) (size k count : ℕ) → count ≡ write_count c g (max g.unit 4) → count ≤ k
     → slice_get (marking c g slot size) k ≡ slice_get (write c g slot field.Magic magic_bytes) (k - count)

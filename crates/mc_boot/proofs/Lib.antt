@@ -3,6 +3,7 @@ pub mod Rows
 pub mod TransferPlaces
 pub mod Can
 pub mod Sections
+pub mod Few
 pub mod Highest
 pub mod Grains
 pub mod ImageFacts

@@ -2,6 +2,7 @@
 -- 128, four and three sectors. The images are of 80 bytes, and valid.
 use Rattle.std.specs.Prelude.{◌≡◌, ℕ, true, List, [], ◌∷◌, ◌++◌, map, replicate, take, length, sum, unwrap_or, refl}
 use Rattle.std.specs.List.{range_with_len}
+use Rattle.std.proofs.Common.{ap}
 use Rattle.mc_flash.specs.Geometry.{Geometry, trailer_sectors, greatest_sectors}
 use Rattle.mc_flash.specs.Content.{Content, put}
 use Rattle.mc_flash.specs.Apply.{apply}
@@ -97,8 +98,7 @@ unfolding trailer_of apply plan_with
 test_types = refl
 
 sum_test : sum (lengths (test_flash q a b) tested) ≡ 203
-unfolding trailer_of apply plan_with
-sum_test = refl
+sum_test = ap sum test_cuts
 
 -- What the swap for a test leaves is reverted.
 abbrev reverting : Content

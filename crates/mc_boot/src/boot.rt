@@ -225,7 +225,6 @@ impl Boot {
 
     /// A boot at power-on. It reads images only where it begins a swap, and hashes that of the secondary where it is none of those
     /// that are known.
-    #[tactic(auto, using(crate::proofs::AfterCut::is_cold))]
     pub fn cold_among<F: Flash>(flash: &F, rules: Rules, known: &[Option<KnownImage<'_>>]) -> Boot
         ensures cold { IsCold rules (F.seen flash.now) result }
         ensures come { HasCome (powered rules (F.seen flash.now)) (progress result)
@@ -241,7 +240,6 @@ impl Boot {
     /// The boot at power-on after a power cut, by the rules of the boot that was cut: the flash stands where that one left it. It
     /// hashes nothing where that one was a swap from its start and had not come to its transfers. The secondary's image was
     /// valid then, and still is: only trailers have changed.
-    #[tactic(auto, using(crate::proofs::AfterCut::is_cold))]
     pub fn after_cut<F: Flash>(flash: &F, cut: &Boot) -> Boot
         requires { (s : Content) × IsStopped (F.seen flash.now).geometry s
             (F.seen flash.now).content cut.now }

@@ -47,7 +47,6 @@ pub fn most_operations(layout: &Layout, grain: Grain) -> u64
 }
 
 // The most bytes that a boot's erases save: at most three slots of 2^24.
-#[tactic(auto, using(crate::specs::facts::Usage::few_saved))]
 fn most_saved(layout: &Layout) -> u64
     ensures value { result ≡ most_saved layout.now }
     ensures few { result ≤ 50331648 }

@@ -16,7 +16,7 @@ fn is_written<F: Flash>(flash: &F, entry: u32) -> bool
 }
 
 // Whether eight status entries are blank together: none of them is written then.
-#[tactic(auto, using(crate::specs::facts::Entries::group_blank, crate::specs::facts::Places::group_inside))]
+#[tactic(auto, using(crate::specs::facts::Places::group_inside))]
 fn none_written<F: Flash>(flash: &F, first: u32) -> bool
     requires { first + 8 ≤ 3 * (F.seen flash.now).geometry.max_sectors }
     ensures { result ≡ true → (e : ℕ) → first ≤ e → e < first + 8

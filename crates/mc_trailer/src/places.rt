@@ -47,7 +47,6 @@ pub fn place(layout: &Layout, slot: Slot, field: Field) -> u32
 }
 
 /// The first byte of a status entry, from the start of the primary. It takes no memory.
-#[tactic(auto, using(mc_flash::specs::facts::Layouts::trailer_inside, crate::specs::facts::Places::entry_ends, crate::specs::facts::Places::entry_aligned))]
 pub fn entry_place(layout: &Layout, entry: u32) -> u32
     requires { entry < 3 * layout.now.max_sectors }
     ensures place { result ≡ entry_place layout.now entry }

@@ -101,3 +101,9 @@ module _ {N A T B : Type 0} (kind : B → Kind N A T) where
   along_none_spent path n old mid new false a e d =
       let k : Kind N A T = kind old.branches in
       subst (λ z. Spent (path_cost k path) old.seen z.seen) (sym d.1) (spent_more (path_cost k (take n path)) (path_cost k path) old.seen mid.seen (path_cost-take k path n) a.spent)
+
+  pub along_all : (path : List ℕ) (n : ℕ) (old now : Walked B) → IsAlong path n old now → length path ≤ n
+      → Follows (kind old.branches) path old true now × Spent (path_cost (kind old.branches) path) old.seen now.seen
+  along_all path n old now a le =
+      let all : take n path ≡ path = take_all n path le in
+      ((a.path_is ∙ ap (λ z. old.path ++ z) all, a.member, a.same, a.stands), subst (λ z. Spent (path_cost (kind old.branches) z) old.seen now.seen) all a.spent)

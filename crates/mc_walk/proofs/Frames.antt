@@ -4,7 +4,7 @@ use Rattle.std.proofs.Common.{sym, ap, subst, ◌∙◌, append_assoc, arith}
 use Rattle.std.proofs.lemmas.List.{append-nil}
 use Rattle.std.proofs.lemmas.Option.{same_Some, slice_get_within}
 use Rattle.mc_walk.specs.Kind.{Kind}
-use Rattle.mc_walk.specs.Stack.{IsSpent, IsOpen, AreSpent, AreOff, IsLastOpen, IsLeft}
+use Rattle.mc_walk.specs.Stack.{IsSpent, IsOpen, AreOff, IsLastOpen, IsLeft}
 use Rattle.mc_walk.specs.declared.frame.Frame.{Frame}
 
 -- The last of a list stands behind the others.

@@ -13,7 +13,7 @@ use Rattle.mc_flash.specs.facts.Spends.{spent_back, spent_both, spent_more}
 use Rattle.mc_flash.specs.declared.flash.FlashError.{FlashError}
 use Rattle.mc_walk.specs.Kind.{Kind, owed_there, telling, IsAt, IsNode, HasNext, GoesOn, CanReach, Reaches}
 use Rattle.mc_walk.specs.Stack.{path_of, most_at, AreSpent, IsLastOpen, AreFrames, Stacked, node_of, Stands, Comes, CanGoOn, IsLeft, IsOneOn, IsRoomy}
-use Rattle.mc_walk.specs.Walks.{walked, origin_of, IsFresh, Begins, IsThere, IsGoing, IsLastStep, IsPath, IsSound, GoesDown, Climbs}
+use Rattle.mc_walk.specs.Walks.{walked, origin_of, IsFresh, Begins, IsThere, IsGoing, IsLastStep, IsPath, GoesDown, Climbs}
 use Rattle.mc_walk.specs.declared.frame.Frame.{Frame}
 use Rattle.mc_walk.proofs.Stacks.{path-push, no_path, frames_allowed, frames_last, among, node-push, first_is_origin, length-stack, popped}
 

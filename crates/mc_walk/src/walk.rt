@@ -250,7 +250,6 @@ impl<F: Flash, B: Branches> Walk<F, B> {
     /// # Errors
     ///
     /// `Memory` where the flash was refused memory; then the walk stands nowhere.
-    #[tactic(auto, using(crate::proofs::Along::along_more, crate::proofs::Along::along_none, crate::proofs::Along::along_none_spent))]
     pub fn follow(&mut self, path: &[u32], known: &B::Known) -> Result<bool, FlashError>
         requires { self.old.stands ≡ true }
         ensures step { IfOk result (λ went. Follows (B.kind self.old.branches) path.now self.old

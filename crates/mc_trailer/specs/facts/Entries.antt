@@ -12,7 +12,7 @@ use Rattle.mc_flash.specs.facts.Layouts.{small_unit}
 use Rattle.mc_flash.specs.Changes.{Changed, changed_sized, blank_range, range_blank, program_changes}
 use Rattle.mc_flash.specs.Apply.{apply}
 use Rattle.mc_flash.specs.declared.op.Op.TheVariants as ops
-use Rattle.mc_flash.specs.declared.op.Slot.TheVariants.{Primary, Secondary}
+use Rattle.mc_flash.specs.declared.op.Slot.TheVariants.{Primary}
 use Rattle.mc_trailer.specs.Places.{entry_place}
 use Rattle.mc_trailer.specs.facts.Places.{entry_behind, entry_inside, group_inside, entry_ends, entries_apart, one_unit_len}
 use Rattle.mc_trailer.specs.Fields.{bytes_at, one_unit}

@@ -12,10 +12,13 @@ use Rattle.mc_boot.proofs.confirmation.confirm.Given.{Over}
 use Rattle.mc_boot.proofs.confirmation.confirm.Goals.{In_ok-perform}
 use Rattle.mc_boot.proofs.confirmation.confirm.Goals as goal
 
+-- nothing was written
+kept : (g : Over) (c : goal.Then-not-may_confirm g) → Confirms (g.F.Flash.seen c.args.flash.now) (Ok false) (g.F.Flash.seen c.args.flash.now)
+kept g c = (sym c.may_confirm.ensures.may ∙ c.if-not-may_confirm.true, refl)
+
 pub returns-then-not-may_confirm-clause-content : goal.returns-then-not-may_confirm-clause-content
 returns-then-not-may_confirm-clause-content g c =
-    let old = g.F.Flash.seen c.args.flash.now in
-    confirms_content old old c.may_confirm.ensures.valid (Ok false) (sym c.may_confirm.ensures.may ∙ c.if-not-may_confirm.true, refl)
+    let old = g.F.Flash.seen c.args.flash.now in confirms_content old old c.may_confirm.ensures.valid (Ok false) (kept g c)
 
 -- the write that was made
 wrote : (g : Over) (c : In_ok-perform g) → Confirms (g.F.Flash.seen c.args.flash.now) (Ok true) (g.F.Flash.seen c.perform.new.flash)
@@ -52,3 +55,31 @@ returns-clause-spends g c = confirms_spends (g.F.Flash.seen c.args.flash.now) (g
 
 pub returns-clause-counts : goal.returns-clause-counts
 returns-clause-counts g c = confirms_counts (g.F.Flash.seen c.args.flash.now) (g.F.Flash.seen c.perform.new.flash) (Ok true) (wrote g c)
+
+pub returns-then-not-may_confirm-clause-does : goal.returns-then-not-may_confirm-clause-does
+returns-then-not-may_confirm-clause-does g c = kept g c
+
+pub returns-then-not-may_confirm-clause-keeps : goal.returns-then-not-may_confirm-clause-keeps
+returns-then-not-may_confirm-clause-keeps g c = let old = g.F.Flash.seen c.args.flash.now in confirms_keeps old old (Ok false) (kept g c)
+
+pub returns-then-not-may_confirm-clause-spends : goal.returns-then-not-may_confirm-clause-spends
+returns-then-not-may_confirm-clause-spends g c = let old = g.F.Flash.seen c.args.flash.now in confirms_spends old old (Ok false) (kept g c)
+
+pub returns-then-not-may_confirm-clause-counts : goal.returns-then-not-may_confirm-clause-counts
+returns-then-not-may_confirm-clause-counts g c = let old = g.F.Flash.seen c.args.flash.now in confirms_counts old old (Ok false) (kept g c)
+
+pub perform-requires : goal.perform-requires
+perform-requires g c = rw c.layout.ensures at c.image_ok_write-write.ensures.inside
+
+pub returns-in_err-perform-clause-content : goal.returns-in_err-perform-clause-content
+returns-in_err-perform-clause-content g c =
+    confirms_content (g.F.Flash.seen c.args.flash.now) (g.F.Flash.seen c.perform.new.flash) c.may_confirm.ensures.valid c.from_residual.result (returns-in_err-perform-clause-does g c)
+
+pub returns-in_err-perform-clause-keeps : goal.returns-in_err-perform-clause-keeps
+returns-in_err-perform-clause-keeps g c = confirms_keeps (g.F.Flash.seen c.args.flash.now) (g.F.Flash.seen c.perform.new.flash) c.from_residual.result (returns-in_err-perform-clause-does g c)
+
+pub returns-in_err-perform-clause-counts : goal.returns-in_err-perform-clause-counts
+returns-in_err-perform-clause-counts g c = confirms_counts (g.F.Flash.seen c.args.flash.now) (g.F.Flash.seen c.perform.new.flash) c.from_residual.result (returns-in_err-perform-clause-does g c)
+
+pub returns-clause-does : goal.returns-clause-does
+returns-clause-does g c = wrote g c

@@ -1,9 +1,27 @@
-use Rattle.std.proofs.Common.{◌≡◌, ◌++◌, true, false, ◌∙◌, sym, arith, length-append}
+use Rattle.std.proofs.Common.{◌≡◌, ℕ, ◌+◌, ◌≤◌, ◌++◌, true, false, ◌∙◌, sym, arith, length-append, Fits, w32}
 use Rattle.mc_flash.specs.declared.op.Slot.TheVariants.{Secondary}
 use Rattle.mc_boot.specs.Course.{swap_list}
 use Rattle.mc_boot.specs.Writes.{preparation_writes, is_revert}
 use Rattle.mc_boot.proofs.Sections.{length-erases, length-swap_list}
+use Rattle.mc_boot.proofs.Few.{few_told}
 use Rattle.mc_boot.proofs.course.new_len.Goals as goal
+
+-- each sum of the parts is small
+fits : (t o r p : ℕ) → t ≤ 262144 → o ≤ 34 → r ≤ 202000000 → p ≤ 33 → t + (p + (t + (o + r))) ≤ 204000000
+fits t o r p few opens resumes prepares = omega arith
+
+small : (n : ℕ) → n ≤ 204000000 → Fits w32 n
+small n few = omega arith
+
+part : (a b n : ℕ) → a + b ≤ n → b ≤ n
+part a b n h = omega arith
+
+whole : (c : goal.After-preparation_len)
+    → c.trailer_sectors-count.result + (c.preparation_len.result + (c.trailer_sectors-count.result + (c.opening_len-opening.result + c.resumed_len.result))) ≤ 204000000
+whole c =
+    fits c.trailer_sectors-count.result c.opening_len-opening.result c.resumed_len.result c.preparation_len.result
+    (few_told c.args.layout.now c.trailer_sectors-count.result c.trailer_sectors-count.ensures.value c.trailer_sectors-count.ensures.valid)
+    c.opening_len-opening.ensures.few c.resumed_len.ensures.few c.preparation_len.ensures.few
 
 pub returns-then-is_revert-clause-len : goal.returns-then-is_revert-clause-len
 returns-then-is_revert-clause-len c size =
@@ -27,3 +45,18 @@ returns-else-is_revert-clause-len c size =
     let swap = length-swap_list c.args.grain c.args.layout.now c.args.kind size c.args.sectors in
     let opens = c.opening_len-opening.ensures.len size in
     rw (other, c.trailer_sectors-count.ensures.value, c.resumed_len.ensures.len) (omega (arith, swap, opens))
+
+pub resumed_len-requires : goal.resumed_len-requires
+resumed_len-requires c = c.requires
+
+pub overflow_add-swap : goal.overflow_add-swap
+overflow_add-swap c = omega (arith, c.opening_len-opening.ensures.few, c.resumed_len.ensures.few)
+
+pub overflow_add-result : goal.overflow_add-result
+overflow_add-result c = small _ (part c.trailer_sectors-count.result _ _ (whole c))
+
+pub overflow_add-result-then-is_revert : goal.overflow_add-result-then-is_revert
+overflow_add-result-then-is_revert c = small _ (whole c)
+
+pub returns-then-is_revert-clause-few : goal.returns-then-is_revert-clause-few
+returns-then-is_revert-clause-few c = whole c

@@ -1,6 +1,7 @@
 use Rattle.std.proofs.Common.{subst}
 use Rattle.mc_flash.specs.Geometry.{Geometry, IsLayout}
 use Rattle.mc_boot.proofs.StillValid.{still_valid}
+use Rattle.mc_boot.proofs.AfterCut.{is_cold}
 use Rattle.mc_boot.proofs.boot.Boot.after_cut.Goals as goal
 
 pub read_valid-requires : goal.read_valid-requires
@@ -9,3 +10,12 @@ read_valid-requires g c =
     let before = c.if-cut-setup_len.true in
     still_valid f.geometry c.requires.0 f.content c.args.cut.now c.in-Some.course (record { begins = c.one_reading.ensures.begins; same = c.same_front.ensures.id })
     (subst (λ (x : Geometry). IsLayout x) c.layout.ensures c.sector-sector.ensures.valid) c.requires.1 c.in-Some.is (rw c.setup_len.ensures at before)
+
+pub returns : goal.returns
+returns g c =
+    is_cold c.args.cut.now.rules (g.F.Flash.seen c.args.flash.now) c.begin.result (rw c.layout.ensures at c.sector-sector.ensures.valid)
+    (record {
+      primary = rw c.read-primary.ensures.value at c.read-primary.ensures.len;
+      secondary = rw c.read-secondary.ensures.value at c.read-secondary.ensures.len;
+    })
+    c.begin.ensures.progress c.begin.ensures.layout

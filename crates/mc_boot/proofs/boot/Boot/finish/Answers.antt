@@ -24,3 +24,12 @@ steps-preserved-in-Ok-1 g c =
 
 pub returns-clause-end : goal.returns-clause-end
 returns-clause-end g c = none_first (to_come c.steps.self) c.peek.result c.peek.ensures.first cc
+
+pub step-requires : goal.step-requires
+step-requires g c = c.steps.invariant.goes.layout
+
+pub returns-clause-goes : goal.returns-clause-goes
+returns-clause-goes g c = c.steps.invariant.goes
+
+pub returns-clause-counts : goal.returns-clause-counts
+returns-clause-counts g c = c.steps.invariant.counts

@@ -1,6 +1,8 @@
-use Rattle.std.proofs.Common.{rules, ap, subst, ◌∙◌}
+use Rattle.std.proofs.Common.{ap, subst, ◌∙◌}
+use Rattle.std.proofs.lemmas.Result.{err_from_is_err_and}
+use Rattle.mc_flash.specs.facts.Spends.{ran_out_later}
 use Rattle.mc_walk.specs.Walks.{Walked, IsPath}
-use Rattle.mc_walk.proofs.Along.{along_begin, along_more}
+use Rattle.mc_walk.proofs.Along.{along_all, along_begin, along_more, along_none, along_none_spent}
 use Rattle.mc_walk.proofs.Steps.{on_path, standing}
 use Rattle.mc_walk.proofs.walk.Walk.follow.Goals as goal
 
@@ -16,4 +18,26 @@ loop-number-init g c =
 pub loop-number-preserved : goal.loop-number-preserved
 loop-number-preserved g c =
     along_more g.B.Branches.kind c.args.path.now c.loop-number.number-index c.args.self.now c.loop-number.self c.go_down.new.self c.in_ok-go_down.field-0 c.loop-number.invariant
-    (search rules) (search rules) (search rules) (search rules)
+    c.loop-number-test.true c.if-not-branch.false c.in_ok-go_down.ensures.step c.in_ok-go_down.ensures.spends
+
+pub returns-in_err-go_down-clause-spends : goal.returns-in_err-go_down-clause-spends
+returns-in_err-go_down-clause-spends g c =
+    rw (err_from_is_err_and c.from_residual.result c.from_residual.ensures.1).1 (ran_out_later _ _ _ _ c.loop-number.invariant.spent c.in_err-go_down.ensures.spends)
+
+pub returns-then-not-branch-clause-step : goal.returns-then-not-branch-clause-step
+returns-then-not-branch-clause-step g c =
+    along_none g.B.Branches.kind c.args.path.now c.loop-number.number-index c.args.self.now c.loop-number.self c.go_down.new.self c.in_ok-go_down.field-0 c.loop-number.invariant
+    c.loop-number-test.true c.if-not-branch.true c.in_ok-go_down.ensures.step
+
+pub returns-then-not-branch-clause-spends : goal.returns-then-not-branch-clause-spends
+returns-then-not-branch-clause-spends g c =
+    along_none_spent g.B.Branches.kind c.args.path.now c.loop-number.number-index c.args.self.now c.loop-number.self c.go_down.new.self c.in_ok-go_down.field-0 c.loop-number.invariant
+    c.if-not-branch.true c.in_ok-go_down.ensures.step
+
+pub returns-clause-step : goal.returns-clause-step
+returns-clause-step g c =
+    (along_all g.B.Branches.kind c.args.path.now c.loop-number.number-index c.args.self.now c.loop-number.self c.loop-number.invariant c.loop-number-test.false).0
+
+pub returns-clause-spends : goal.returns-clause-spends
+returns-clause-spends g c =
+    (along_all g.B.Branches.kind c.args.path.now c.loop-number.number-index c.args.self.now c.loop-number.self c.loop-number.invariant c.loop-number-test.false).1
