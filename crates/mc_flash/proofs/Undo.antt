@@ -1,5 +1,5 @@
 -- What a journal takes back.
-use Rattle.std.proofs.Common.{◌≡◌, ℕ, zero, suc, ◌+◌, ◌<◌, ◌≤◌, Bool, true, false, List, [], ◌∷◌, ◌++◌, length, map, take, drop, get_or, refl, sym, ap, ◌∙◌, arith}
+use Rattle.std.proofs.Common.{◌≡◌, ℕ, zero, suc, ◌+◌, ◌<◌, ◌≤◌, Bool, true, List, [], ◌∷◌, ◌++◌, length, length-append, map, take, drop, get_or, refl, sym, ap, ◌∙◌, arith}
 use Rattle.std.specs.Prelude.{◌==◌, ◌&&◌, replicate}
 use Rattle.std.specs.List.{between}
 use Rattle.std.proofs.lemmas.Bool.Decides.{nat_tests}
@@ -9,7 +9,7 @@ use Rattle.std.proofs.Math.Seq.{take-append_seam, drop-append_seam, drop-append-
 use Rattle.mc_flash.specs.Blank.{is_blank}
 use Rattle.mc_flash.specs.Content.{Content, bytes_of, with_bytes, put}
 use Rattle.mc_flash.specs.Usage.{Checkpoint}
-use Rattle.mc_flash.specs.Journal.{Change, changes, taken_back, all_taken_back, saved_by, all_saved, checkpoint_after, Ascend}
+use Rattle.mc_flash.specs.Journal.{Change, changes, taken_back, all_taken_back, saved_by, all_saved, Journal, checkpoint_after, Ascend}
 use Rattle.mc_flash.specs.declared.op.Slot.{Slot}
 use Rattle.mc_flash.specs.declared.op.Slot.TheVariants.{Primary, Secondary}
 use Rattle.mc_flash.specs.declared.entry.Entry.{Entry}
@@ -65,18 +65,18 @@ write_back s t slot at len new is same fits blank =
     ap (λ (l : List ℕ). taken_back (record { slot = slot; at = at; old = l }) t) (sym old) ∙ erase_back s t slot at len new is same fits
 
 -- one entry more
-pub length-changes : (es : List Entry) (saved : List ℕ) → length (changes es saved) ≡ length es
+length-changes : (es : List Entry) (saved : List ℕ) → length (changes es saved) ≡ length es
 length-changes [] saved = refl
 length-changes (Written slot at len ∷ es) saved = ap suc (length-changes es saved)
 length-changes (Erased slot at len ∷ es) saved = ap suc (length-changes es (drop len saved))
 
-pub push_written : (es : List Entry) (saved : List ℕ) (slot : Slot) (at len : ℕ)
+push_written : (es : List Entry) (saved : List ℕ) (slot : Slot) (at len : ℕ)
     → changes (es ++ Written slot at len ∷ []) saved ≡ changes es saved ++ record { slot = slot; at = at; old = replicate len 255 } ∷ []
 push_written [] saved slot at len = refl
 push_written (Written o a l ∷ es) saved slot at len = ap (λ (cs : List Change). record { slot = o; at = a; old = replicate l 255 } ∷ cs) (push_written es saved slot at len)
 push_written (Erased o a l ∷ es) saved slot at len = ap (λ (cs : List Change). record { slot = o; at = a; old = take l saved } ∷ cs) (push_written es (drop l saved) slot at len)
 
-pub push_erased : (es : List Entry) (saved old : List ℕ) (slot : Slot) (at len : ℕ) → length saved ≡ all_saved es → length old ≡ len
+push_erased : (es : List Entry) (saved old : List ℕ) (slot : Slot) (at len : ℕ) → length saved ≡ all_saved es → length old ≡ len
     → changes (es ++ Erased slot at len ∷ []) (saved ++ old) ≡ changes es saved ++ record { slot = slot; at = at; old = old } ∷ []
 push_erased [] [] old slot at len e l = ap (λ (z : List ℕ). record { slot = slot; at = at; old = z } ∷ []) (take_all len old (omega (arith, l)))
 push_erased [] (x ∷ xs) old slot at len e l = absurd (omega (arith, e))
@@ -96,26 +96,55 @@ back_push : (cs : List Change) (c : Change) (s : Content) → all_taken_back (cs
 back_push [] c s = refl
 back_push (x ∷ cs) c s = ap (taken_back x) (back_push cs c s)
 
--- what the flash held earlier is the same where the newest entry is taken back
-pub checkpoint_push : (n : ℕ) (es es' : List Entry) (saved saved' : List ℕ) (s : Content) (e : Entry) (c : Change) → es' ≡ es ++ e ∷ [] → changes es' saved' ≡ changes es saved ++ c ∷ []
-    → n ≤ length es
-    → checkpoint_after es' saved' s n ≡ checkpoint_after es saved (taken_back c s) n
-checkpoint_push n es es' saved saved' s e c more noted early =
-    let content : all_taken_back (drop n (changes es' saved')) s ≡ all_taken_back (drop n (changes es saved)) (taken_back c s) =
-    ap (λ (cs : List Change). all_taken_back (drop n cs) s) noted
-    ∙ ap (λ (cs : List Change). all_taken_back cs s) (drop-append-le n (changes es saved) (c ∷ []) (omega (arith, early, length-changes es saved)))
-    ∙ back_push (drop n (changes es saved)) c s in
-    let saves : all_saved (take n es') ≡ all_saved (take n es) = ap (λ (xs : List Entry). all_saved (take n xs)) more ∙ ap all_saved (take-append-le n es (e ∷ []) early) in
-    ap (λ (x : Content). record { content = x; counts = record { entries = n; saved = all_saved (take n es') } }) content
-    ∙ ap (λ (k : ℕ). record { content = all_taken_back (drop n (changes es saved)) (taken_back c s); counts = record { entries = n; saved = k } }) saves
+-- A journal with one entry more, and the change that this stands for.
+pub record Grown (j j' : Journal) (e : Entry) (c : Change) : Type 0 where
+  pub entries : j'.entries ≡ j.entries ++ e ∷ []
+  pub saved : length j'.saved ≡ length j.saved + saved_by e
+  pub change : changes j'.entries j'.saved ≡ changes j.entries j.saved ++ c ∷ []
+
+module _ (j j' : Journal) (slot : Slot) (at len : ℕ) where
+  pub by_write : j'.entries ≡ j.entries ++ Written slot at len ∷ [] → j'.saved ≡ j.saved
+      → Grown j j' (Written slot at len) (record { slot = slot; at = at; old = replicate len 255 })
+  by_write more same = record {
+    entries = more;
+    saved = omega (arith, ap length same);
+    change = ap (λ (z : List ℕ). changes j'.entries z) same
+        ∙ ap (λ (z : List Entry). changes z j.saved) more ∙ push_written j.entries j.saved slot at len;
+  }
+
+  pub by_erase : (old : List ℕ) → j'.entries ≡ j.entries ++ Erased slot at len ∷ [] → j'.saved ≡ j.saved ++ old → length j.saved ≡ all_saved j.entries → length old ≡ len
+      → Grown j j' (Erased slot at len) (record { slot = slot; at = at; old = old })
+  by_erase old more kept whole long = record {
+    entries = more;
+    saved = omega (arith, ap length kept, length-append j.saved old, long);
+    change = ap (λ (z : List ℕ). changes j'.entries z) kept
+        ∙ ap (λ (z : List Entry). changes z (j.saved ++ old)) more ∙ push_erased j.entries j.saved old slot at len whole long;
+  }
+
+-- What the flash held earlier is the same where the newest entry is taken back.
+module _ (j j' : Journal) (e : Entry) (c : Change) (grown : Grown j j' e c) where
+  pub one_more : length j'.entries ≡ length j.entries + 1
+  one_more = ap length grown.entries ∙ length-append j.entries (e ∷ [])
+
+  pub same_earlier : (s t : Content) (n : ℕ) → taken_back c t ≡ s → n ≤ length j.entries → checkpoint_after j' t n ≡ checkpoint_after j s n
+  same_earlier s t n back early =
+      let content : all_taken_back (drop n (changes j'.entries j'.saved)) t ≡ all_taken_back (drop n (changes j.entries j.saved)) s =
+      ap (λ (cs : List Change). all_taken_back (drop n cs) t) grown.change
+      ∙ ap (λ (cs : List Change). all_taken_back cs t) (drop-append-le n (changes j.entries j.saved) (c ∷ []) (omega (arith, early, length-changes j.entries j.saved)))
+      ∙ back_push (drop n (changes j.entries j.saved)) c t
+      ∙ ap (all_taken_back (drop n (changes j.entries j.saved))) back in
+      let saves : all_saved (take n j'.entries) ≡ all_saved (take n j.entries) =
+      ap (λ (xs : List Entry). all_saved (take n xs)) grown.entries ∙ ap all_saved (take-append-le n j.entries (e ∷ []) early) in
+      ap (λ (x : Content). record { content = x; counts = record { entries = n; saved = all_saved (take n j'.entries) } }) content
+      ∙ ap (λ (k : ℕ). record { content = all_taken_back (drop n (changes j.entries j.saved)) s; counts = record { entries = n; saved = k } }) saves
 
 -- after all entries it holds what it holds now
-pub checkpoint_now : (es : List Entry) (saved : List ℕ) (s : Content) → length saved ≡ all_saved es
-    → checkpoint_after es saved s (length es) ≡ record { content = s; counts = record { entries = length es; saved = length saved } }
-checkpoint_now es saved s e =
-    ap (λ (cs : List Change). record { content = all_taken_back cs s; counts = record { entries = length es; saved = all_saved (take (length es) es) } })
-    (drop_all (length es) (changes es saved) (omega (arith, length-changes es saved)))
-    ∙ ap (λ (k : ℕ). record { content = s; counts = record { entries = length es; saved = k } }) (ap all_saved (take_all (length es) es (omega arith)) ∙ sym e)
+pub checkpoint_now : (j : Journal) (s : Content) → length j.saved ≡ all_saved j.entries
+    → checkpoint_after j s (length j.entries) ≡ record { content = s; counts = record { entries = length j.entries; saved = length j.saved } }
+checkpoint_now j s whole =
+    ap (λ (cs : List Change). record { content = all_taken_back cs s; counts = record { entries = length j.entries; saved = all_saved (take (length j.entries) j.entries) } })
+    (drop_all (length j.entries) (changes j.entries j.saved) (omega (arith, length-changes j.entries j.saved)))
+    ∙ ap (λ (k : ℕ). record { content = s; counts = record { entries = length j.entries; saved = k } }) (ap all_saved (take_all (length j.entries) j.entries (omega arith)) ∙ sym whole)
 
 -- the checkpoints' places
 ascend_top : (low : ℕ) (ns : List ℕ) (top : ℕ) → Ascend low ns top → low ≤ top

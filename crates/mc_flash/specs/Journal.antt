@@ -3,7 +3,7 @@ use Rattle.std.specs.Prelude.{◌≡◌, ℕ, ◌+◌, ◌≤◌, false, List, [
 use Rattle.std.specs.List.{AllByRecursion}
 use Rattle.mc_flash.specs.Geometry.{Geometry, IsLayout}
 use Rattle.mc_flash.specs.Content.{Content, bytes_of, with_bytes, put, size_of}
-use Rattle.mc_flash.specs.Usage.{Limits, Checkpoint}
+use Rattle.mc_flash.specs.Usage.{Limits, Checkpoint, IsWithin, room_for}
 use Rattle.mc_flash.specs.Seen.{Seen}
 use Rattle.mc_flash.specs.declared.op.Slot.{Slot}
 use Rattle.mc_flash.specs.declared.entry.Entry.{Entry}
@@ -42,21 +42,29 @@ abbrev pub all_saved : List Entry → ℕ
 all_saved [] = 0
 all_saved (entry ∷ rest) = saved_by entry + all_saved rest
 
+-- What can be taken back: the entries, and the bytes that those of erases saved, one behind the other.
+pub record Journal : Type 0 where
+  pub entries : List Entry
+  pub saved : List ℕ
+
+abbrev pub journal_with : List Entry → List ℕ → Journal
+journal_with entries saved = record { entries = entries; saved = saved }
+
 -- What the flash held after so many of the entries, where it holds this after all of them, and the counts there.
-abbrev pub checkpoint_after : List Entry → List ℕ → Content → ℕ → Checkpoint
-checkpoint_after entries saved s n = record {
-  content = all_taken_back (drop n (changes entries saved)) s;
-  counts = record { entries = n; saved = all_saved (take n entries) };
+abbrev pub checkpoint_after : Journal → Content → ℕ → Checkpoint
+checkpoint_after j s n = record {
+  content = all_taken_back (drop n (changes j.entries j.saved)) s;
+  counts = record { entries = n; saved = all_saved (take n j.entries) };
 }
 
--- A flash with a journal, as it is seen.
-abbrev pub journal_of : Geometry → Content → Limits → List Entry → List ℕ → List ℕ → ℕ → Seen
-journal_of g s limits entries saved checkpoints applied = record {
+-- A flash with a journal, as it is seen; each checkpoint is a number of entries.
+abbrev pub seen_of : Geometry → Content → Limits → Journal → List ℕ → ℕ → Seen
+seen_of g s limits j checkpoints applied = record {
   geometry = g;
   content = s;
-  checkpoints = map (checkpoint_after entries saved s) checkpoints;
+  checkpoints = map (checkpoint_after j s) checkpoints;
   usage = record {
-    counts = record { entries = length entries; saved = length saved };
+    counts = record { entries = length j.entries; saved = length j.saved };
     limits = limits;
     applied = applied;
     failed = false;
@@ -69,30 +77,26 @@ IsInside g (Written slot at len) = at + len ≤ size_of g slot
 IsInside g (Erased slot at len) = at + len ≤ size_of g slot
 
 -- Entries whose bytes lie in their slots, with as many saved bytes as they saved.
-pub record IsJournal (g : Geometry) (entries : List Entry) (saved : List ℕ) : Type 0 where
-  pub saved_for : length saved ≡ all_saved entries
-  pub inside : AllByRecursion (IsInside g) entries
+pub record IsJournal (g : Geometry) (j : Journal) : Type 0 where
+  pub saved_for : length j.saved ≡ all_saved j.entries
+  pub inside : AllByRecursion (IsInside g) j.entries
 
 -- Of a journal the first entries are left, so many of them, with as many saved bytes as they saved: what the flash held after
 -- each of them is the same by what is left as by all.
-pub record IsUndoneTo (count : ℕ) (entries : List Entry) (saved : List ℕ) (s : Content) (entries' : List Entry) (saved' : List ℕ) (s' : Content) : Type 0 where
-  pub left : entries' ≡ take count entries
-  pub saved_for : length saved' ≡ all_saved entries'
-  pub same : (n : ℕ) → n ≤ count → checkpoint_after entries' saved' s' n ≡ checkpoint_after entries saved s n
+pub record IsUndoneTo (count : ℕ) (j : Journal) (s : Content) (j' : Journal) (s' : Content) : Type 0 where
+  pub left : j'.entries ≡ take count j.entries
+  pub saved_for : length j'.saved ≡ all_saved j'.entries
+  pub same : (n : ℕ) → n ≤ count → checkpoint_after j' s' n ≡ checkpoint_after j s n
 
 -- Each number is at most the next, and all are between the two.
 abbrev pub Ascend : ℕ → List ℕ → ℕ → Type 0
 Ascend low [] top = low ≤ top
 Ascend low (n ∷ rest) top = (low ≤ n) × Ascend n rest top
 
--- A journal of a layout in room for the limits and at most that full, with checkpoints in order.
-pub record IsSound (g : Geometry) (limits : Limits) (entries_room saved_room checkpoints_room : ℕ) (entries : List Entry) (saved checkpoints : List ℕ) : Type 0 where
+-- A journal of a layout with checkpoints in order, within the limits, which lie within the room that was taken.
+pub record IsSound (g : Geometry) (limits taken : Limits) (j : Journal) (checkpoints : List ℕ) : Type 0 where
   pub layout : IsLayout g
-  pub room_entries : limits.entries ≤ entries_room
-  pub room_saved : limits.saved ≤ saved_room
-  pub room_checkpoints : limits.checkpoints ≤ checkpoints_room
-  pub few_entries : length entries ≤ limits.entries
-  pub few_saved : length saved ≤ limits.saved
-  pub few_checkpoints : length checkpoints ≤ limits.checkpoints
-  pub journal : IsJournal g entries saved
-  pub ascend : Ascend 0 checkpoints (length entries)
+  pub room : IsWithin limits taken
+  pub few : IsWithin (room_for (length j.entries) (length j.saved) (length checkpoints)) limits
+  pub journal : IsJournal g j
+  pub ascend : Ascend 0 checkpoints (length j.entries)

@@ -1,7 +1,6 @@
 -- The room of a journal, as limits.
-use Rattle.std.specs.Prelude.{true}
-use Rattle.mc_flash.specs.Usage.{Limits}
+use Rattle.mc_flash.specs.Usage.{Limits, room_for}
 use Rattle.mc_flash.specs.declared.reserve.Reserve.{Reserve}
 
 abbrev pub limits_of : Reserve → Limits
-limits_of reserve = record { counted = true; entries = reserve.entries; saved = reserve.saved; checkpoints = reserve.checkpoints }
+limits_of reserve = room_for reserve.entries reserve.saved reserve.checkpoints

@@ -21,6 +21,10 @@ pub record Limits : Type 0 where
   pub saved : ℕ
   pub checkpoints : ℕ
 
+-- Limits of a flash that counts.
+abbrev pub room_for : ℕ → ℕ → ℕ → Limits
+room_for entries saved checkpoints = record { counted = true; entries = entries; saved = saved; checkpoints = checkpoints }
+
 -- All that is counted of a flash. `applied` counts the operations since it was loaded, and stays at the greatest 64-bit
 -- number; `failed` says whether a growth was refused at some time.
 pub record Usage : Type 0 where

@@ -2,7 +2,7 @@
 ghost use Rattle.std.specs.Prelude.{◌≡◌, ℕ, ◌≤◌, ◌+◌, [], length, true, take};
 ghost use Rattle.std.specs.Vec.{vec_capacity};
 ghost use Rattle.std.specs.List.{AllByRecursion};
-ghost use Rattle.mc_flash.specs.Journal.{IsJournal, IsUndoneTo};
+ghost use Rattle.mc_flash.specs.Journal.{journal_with, IsJournal, IsUndoneTo};
 
 use crate::entry::Entry;
 use crate::flash::{Flash, FlashError, Grain};
@@ -30,25 +30,26 @@ pub struct JournalFlash {
 impl Model for JournalFlash {
     ghost use Rattle.std.specs.Vec.{vec_capacity};
     ghost use Rattle.mc_flash.specs.Reserve.{limits_of};
-    ghost use Rattle.mc_flash.specs.Journal.{journal_of, IsSound};
+    ghost use Rattle.mc_flash.specs.Usage.{room_for};
+    ghost use Rattle.mc_flash.specs.Journal.{journal_with, seen_of, IsSound};
     ghost use Rattle.mc_flash.specs.Seen.{Seen};
 
     ghost Value = { Seen };
 
-    ghost view = { λ f. journal_of f.slots.layout f.slots.content (limits_of f.reserve)
-        f.entries.items f.saved.items f.checkpoints.items f.applied };
+    ghost view = { λ f. seen_of f.slots.layout f.slots.content (limits_of f.reserve)
+        (journal_with f.entries.items f.saved.items) f.checkpoints.items f.applied };
 
-    ghost invariant = { λ f. IsSound f.slots.layout (limits_of f.reserve) (vec_capacity f.entries)
-        (vec_capacity f.saved) (vec_capacity f.checkpoints) f.entries.items f.saved.items
-        f.checkpoints.items };
+    ghost invariant = { λ f. IsSound f.slots.layout (limits_of f.reserve)
+        (room_for (vec_capacity f.entries) (vec_capacity f.saved) (vec_capacity f.checkpoints))
+        (journal_with f.entries.items f.saved.items) f.checkpoints.items };
 }
 
 // Takes the newest entries back, until so many are left.
 fn undo_to(slots: &mut Slots, entries: &mut Vec<Entry>, saved: &mut Vec<u8>, count: usize)
     requires above { count ≤ length entries.old.items }
-    requires journal { IsJournal slots.old.layout entries.old.items saved.old.items }
-    ensures undone { IsUndoneTo count entries.old.items saved.old.items slots.old.content
-        entries.new.items saved.new.items slots.new.content }
+    requires journal { IsJournal slots.old.layout (journal_with entries.old.items saved.old.items) }
+    ensures undone { IsUndoneTo count (journal_with entries.old.items saved.old.items)
+        slots.old.content (journal_with entries.new.items saved.new.items) slots.new.content }
     ensures layout { slots.new.layout ≡ slots.old.layout }
     ensures room_entries { vec_capacity entries.new ≡ vec_capacity entries.old }
     ensures room_saved { vec_capacity saved.new ≡ vec_capacity saved.old }

@@ -1,6 +1,6 @@
 -- What follows for what calls spend. Proved here, so that the crates above can cite it.
 use Rattle.std.specs.Prelude.{◌≡◌, ℕ, ◌+◌, ◌<◌, ◌≤◌, Bool, true, false, [], ◌∷◌, ◌++◌, length, take, slice_index_or, Some, Result, Ok, Err, refl}
-use Rattle.std.proofs.Common.{arith, inl, inr, sym, ap, subst, ◌∙◌, length-append}
+use Rattle.std.proofs.Common.{arith, inl, inr, sym, ap, subst, ◌∙◌}
 use Rattle.std.proofs.lemmas.List.{get_or_at, take_at}
 use Rattle.mc_flash.specs.facts.Done.{did}
 use Rattle.mc_flash.specs.Geometry.{Geometry}

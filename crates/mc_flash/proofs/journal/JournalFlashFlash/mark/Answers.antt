@@ -1,32 +1,31 @@
-use Rattle.std.proofs.Common.{List, ◌++◌, [], ◌∷◌, subst, ap, ◌∙◌, arith}
+use Rattle.std.proofs.Common.{◌++◌, [], ◌∷◌, subst, ap, ◌∙◌, arith}
 use Rattle.std.specs.Prelude.{Ok}
-use Rattle.std.proofs.lemmas.List.{length-map}
 use Rattle.std.specs.Vec.{vec_capacity}
-use Rattle.mc_flash.specs.Usage.{Checkpoint}
+use Rattle.std.proofs.lemmas.List.{length-map}
+use Rattle.mc_flash.specs.Usage.{room_for}
 use Rattle.mc_flash.specs.Reserve.{limits_of}
 use Rattle.mc_flash.specs.Seen.{Seen, Marks}
-use Rattle.mc_flash.specs.Journal.{journal_of, checkpoint_after}
-use Rattle.mc_flash.proofs.Kept.{sound_mark, mark_more, with_checkpoints}
+use Rattle.mc_flash.specs.Journal.{Journal, journal_with, seen_of, checkpoint_after}
+use Rattle.mc_flash.proofs.Kept.{sound_marked, marks_more}
 use Rattle.mc_flash.proofs.journal.JournalFlashFlash.mark.Goals as goal
 
 pub invariant_of-self-2 : goal.invariant_of-self-2
 invariant_of-self-2 c =
     let f = c.self.inside in
-    sound_mark f.slots.layout (limits_of f.reserve) (vec_capacity f.entries) (vec_capacity f.saved) (vec_capacity f.checkpoints) _ f.entries.items f.saved.items f.checkpoints.items
-    c.push.new.self.items
-    c.self.invariant
-    (c.in_ok-push.ensures.items ∙ ap (λ z. f.checkpoints.items ++ z ∷ []) (omega (arith, f.entries.ok.0))) (omega (arith, f.checkpoints.ok.0)) c.push.ensures.capacity
+    sound_marked f.slots.layout (limits_of f.reserve) _ (journal_with f.entries.items f.saved.items) f.checkpoints.items c.self.invariant
+    (room_for (vec_capacity f.entries) (vec_capacity f.saved) (vec_capacity c.push.new.self)) c.push.new.self.items
+    (c.in_ok-push.ensures.items ∙ ap (λ z. f.checkpoints.items ++ z ∷ []) (omega (arith, f.entries.ok.0)))
+    (record { entries = omega arith; saved = omega arith; checkpoints = c.push.ensures.capacity }) (omega (arith, f.checkpoints.ok.0))
 
 pub returns : goal.returns
 returns c =
     let f = c.self.inside in
-    let checkpoints = checkpoint_after f.entries.items f.saved.items f.slots.content in
-    let kept = mark_more f.entries.items f.saved.items f.checkpoints.items c.push.new.self.items f.slots.content c.self.invariant.journal.saved_for
-    (c.in_ok-push.ensures.items ∙ ap (λ z. f.checkpoints.items ++ z ∷ []) (omega (arith, f.entries.ok.0))) in
-    let after : Seen = journal_of f.slots.layout f.slots.content (limits_of f.reserve) f.entries.items f.saved.items c.push.new.self.items f.applied in
-    let long = length-map f.checkpoints.items (checkpoint_after f.entries.items f.saved.items f.slots.content) in
-    subst (λ (j : Seen). Marks j (Ok c.len-place.result) after) c.self.view_is (
+    let j : Journal = journal_with f.entries.items f.saved.items in
+    let long = length-map f.checkpoints.items (checkpoint_after j f.slots.content) in
+    let after : Seen = seen_of f.slots.layout f.slots.content (limits_of f.reserve) j c.push.new.self.items f.applied in
+    subst (λ (old : Seen). Marks old (Ok c.len-place.result) after) c.self.view_is (
       omega (arith, long, f.checkpoints.ok.0),
-      ap (λ (ms : List Checkpoint). with_checkpoints f.slots.layout f.slots.content ms after.usage) kept,
+      marks_more f.slots.layout f.slots.content f.reserve j f.checkpoints.items f.applied c.args.self.now c.self.view_is c.push.new.self.items c.self.invariant.journal.saved_for
+          (c.in_ok-push.ensures.items ∙ ap (λ z. f.checkpoints.items ++ z ∷ []) (omega (arith, f.entries.ok.0))),
       λ _ full. omega (arith, full, long, f.checkpoints.ok.0),
     )
