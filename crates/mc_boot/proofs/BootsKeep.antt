@@ -51,13 +51,13 @@ waiting_swaps from size n whole keeps w s is =
     let F : Geometry → Type 0 = λ x. Keeps g (Phase (Waiting c g from.content n) g from.content size n false) (new_list c x kinds.Revert size n) s (Ended g from.content size n false) in
     by_plan (Waiting c g from.content n) from size n false s (starting c g kinds.Revert size n) (plan_waiting from size n s keeps w (sees_start g from.content size n s w is.data_) is) refl
     refl
-    (subst F (sym whole) (revert_keeps c g from.content size n s w is))
+    (subst F (sym whole) (revert_keeps g from.content size n w c s is))
 
 -- from where a swap is asked for
 asked_keeps : (R : Content → Type 0) (c : Grain) (g : Geometry) (start : Content) (size n : ℕ) (b : Bool) (s : Content) → Swap g start size n → Asked g start n b s
     → Keeps g (Phase R g start size n b) (new_list c g (kind_asked b) size n) s (Ended g start size n b)
-asked_keeps R c g start size n true s w is = swap_keeps R c g start size n true kinds.Test s w refl is
-asked_keeps R c g start size n false s w is = swap_keeps R c g start size n false kinds.Perm s w refl is
+asked_keeps R c g start size n true s w is = swap_keeps g start size n w true R c kinds.Test s refl is
+asked_keeps R c g start size n false s w is = swap_keeps g start size n w false R c kinds.Perm s refl is
 
 of_asked : (b : Bool) → IsSwapOf b (kind_asked b)
 of_asked true = refl
@@ -76,10 +76,10 @@ asked_swaps R from size n b whole w s is =
 -- from where it runs
 running_keeps : (R : Content → Type 0) (g : Geometry) (start : Content) (size n : ℕ) (b : Bool) (kind : SwapType) (k : ℕ) (s : Content) → Swap g start size n → IsSwapOf b kind → k ≤ 3 * n
     → Under g start size n kind k s → Keeps g (Phase R g start size n b) (running g kind n k (k == 0)).list s (Ended g start size n b)
-running_keeps R g start size n b kind zero s w of most is = resumed_keeps R g start size n b kind s w of is
+running_keeps R g start size n b kind zero s w of most is = resumed_keeps g start size n w b R kind s of is
 running_keeps R g start size n b kind (suc j) s w of most is =
     let E : Bool → Type 0 = λ c. Keeps g (Phase R g start size n b) (running g kind n (suc j) c).list s (Ended g start size n b) in
-    subst E (sym (other_number (suc j) 0 (λ e. omega (arith, e)))) (rest_keeps R g start size n b kind (suc j) s w of most is)
+    subst E (sym (other_number (suc j) 0 (λ e. omega (arith, e)))) (rest_keeps g start size n w R b kind of (suc j) s most is)
 
 running_swaps : (R : Content → Type 0) (x : PowerOn) (size n : ℕ) (b : Bool) (kind : SwapType) (k : ℕ) → in_pieces x.rules.grain x.geometry ≡ x.geometry → Swap x.geometry x.content size n
     → IsSwapOf b kind

@@ -17,6 +17,7 @@ use Rattle.mc_trailer.specs.facts.Fields.{FieldsAre}
 use Rattle.mc_trailer.specs.Fields.{trailer_of}
 use Rattle.mc_trailer.specs.declared.places.Field.{Field}
 use Rattle.mc_trailer.specs.declared.tables.Profile.{Profile}
+use Rattle.mc_trailer.specs.declared.tables.Rules.{Rules}
 use Rattle.mc_trailer.specs.declared.places.Field.TheVariants as field
 use Rattle.mc_flash.specs.declared.flash.Grain.TheVariants as grains
 use Rattle.mc_flash.specs.declared.op.Slot.TheVariants.{Primary, Secondary}
@@ -27,11 +28,13 @@ pub pieces_again : (c : Grain) (g : Geometry) → in_pieces c (in_pieces c g) �
 pieces_again grains.Call g = refl
 pieces_again grains.Unit g = refl
 
-pub plan_in_pieces : (c : Grain) (p : Profile) (g : Geometry) (s : Content)
-    → plan (power_on (record { grain = c; profile = p }) (in_pieces c g) s) ≡ plan (power_on (record { grain = c; profile = p }) g s)
+pub plan_in_pieces : (r : Rules) (g : Geometry) (s : Content) → plan (power_on r (in_pieces r.grain g) s) ≡ plan (power_on r g s)
 unfolding plan plan_with trailer_of
-plan_in_pieces grains.Call p g s = refl
-plan_in_pieces grains.Unit p g s = refl
+plan_in_pieces r g s = by_grain r.grain r.profile
+  where
+    by_grain : (c : Grain) (p : Profile) → plan (power_on (record { grain = c; profile = p }) (in_pieces c g) s) ≡ plan (power_on (record { grain = c; profile = p }) g s)
+    by_grain grains.Call p = refl
+    by_grain grains.Unit p = refl
 
 -- the chunk plays no part in what an operation does
 apply_pieces : (c : Grain) (g : Geometry) (op : Op) (s : Content) → apply (in_pieces c g) op s ≡ apply g op s

@@ -272,21 +272,21 @@ same_fault n m a b j p q = grind (arith, nat_tests)
 calm_result : (k l : SwapType) (faulted boots : Bool) → is_panic k ≡ false → is_panic l ≡ false → result_of k faulted boots ≡ result_of l faulted boots
 calm_result k l faulted boots one two = rw (one, two) refl
 
-less_report : (r : Rules) (g : Geometry) (k l : SwapType) (n m j : ℕ) (faulted : Bool) (z : Content) → is_panic k ≡ false → is_panic l ≡ false → n + j ≡ m
-    → report r g k n faulted z ≡ less k j (report r g l m faulted z)
-unfolding report
-less_report r g k l n m j faulted z one two count =
-    let here : BootResult → ℕ → Report = λ x i. record { result = x; kind = k; ops = i; primary = id_of z.primary; secondary = id_of z.secondary; next = (plan (power_on r g z)).kind } in
-    ap (λ x. here x n) (calm_result k l faulted (is_valid z.primary) one two)
-    ∙ ap (λ i. here (result_of l faulted (is_valid z.primary)) i) (omega (arith, count))
+module _ (r : Rules) (g : Geometry) (k l : SwapType) (n m j : ℕ) (one : is_panic k ≡ false) (two : is_panic l ≡ false) (count : n + j ≡ m) where
+  less_report : (faulted : Bool) (z : Content) → report r g k n faulted z ≡ less k j (report r g l m faulted z)
+  unfolding report
+  less_report faulted z =
+      let here : BootResult → ℕ → Report = λ x i. record { result = x; kind = k; ops = i; primary = id_of z.primary; secondary = id_of z.secondary; next = (plan (power_on r g z)).kind } in
+      ap (λ x. here x n) (calm_result k l faulted (is_valid z.primary) one two)
+      ∙ ap (λ i. here (result_of l faulted (is_valid z.primary)) i) (omega (arith, count))
 
-told_less : (r : Rules) (g : Geometry) (k l : SwapType) (n m j : ℕ) (f h : Bool) (a b : Option Content) (z : Content) → is_panic k ≡ false → is_panic l ≡ false → n + j ≡ m → f ≡ h → a ≡ b → b ≡ Some z
-    → option_map (λ x. report r g k n f x) a ≡ option_map (less k j) (option_map (λ x. report r g l m h x) b)
-told_less r g k l n m j f h a b z calm_k calm_l count faults same left =
-    ap (option_map (λ x. report r g k n f x)) (same ∙ left)
-    ∙ ap (λ (x : Bool). Some (report r g k n x z)) faults
-    ∙ ap (λ (o : Report). Some o) (less_report r g k l n m j h z calm_k calm_l count)
-    ∙ ap (λ (x : Option Content). option_map (less k j) (option_map (λ y. report r g l m h y) x)) (sym left)
+  told_less : (f h : Bool) (a b : Option Content) (z : Content) → f ≡ h → a ≡ b → b ≡ Some z
+      → option_map (λ x. report r g k n f x) a ≡ option_map (less k j) (option_map (λ x. report r g l m h x) b)
+  told_less f h a b z faults same left =
+      ap (option_map (λ x. report r g k n f x)) (same ∙ left)
+      ∙ ap (λ (x : Bool). Some (report r g k n x z)) faults
+      ∙ ap (λ (o : Report). Some o) (less_report h z)
+      ∙ ap (λ (x : Option Content). option_map (less k j) (option_map (λ y. report r g l m h y) x)) (sym left)
 
 -- After a cut that joins, the next boot ends as the one that was cut would have.
 pub joined : (x : PowerOn) (u : Content) (c j : ℕ) (es : List Sector) → Joins x u c j es → IsJoined x u j
@@ -333,4 +333,4 @@ joined x u c j es joins = record { count = count; faulted = faulted; left = left
     outcome : outcome_of (again x u) ≡ option_map (less (plan (again x u)).kind j) (outcome_of x)
     outcome =
         let z = left_defined x in
-        told_less x.rules x.geometry (plan (again x u)).kind (plan x).kind _ _ j _ _ (left_by (again x u)) (left_by x) z.0 calm_u calm_s count faulted left z.1
+        told_less x.rules x.geometry (plan (again x u)).kind (plan x).kind _ _ j calm_u calm_s count _ _ (left_by (again x u)) (left_by x) z.0 faulted left z.1

@@ -31,14 +31,11 @@ use Rattle.mc_image.specs.Valid.{is_valid}
 use Rattle.mc_trailer.specs.facts.Fields.{FieldsAre, blank_fields, fields_front, reads_absent}
 use Rattle.mc_trailer.specs.Fields.{one_unit}
 use Rattle.mc_trailer.specs.declared.places.Field.{Field}
-use Rattle.mc_trailer.specs.declared.tables.Profile.{Profile}
 use Rattle.mc_trailer.specs.declared.tables.Rules.{Rules}
 use Rattle.mc_trailer.specs.declared.tables.SwapType.{SwapType}
 use Rattle.mc_boot.specs.declared.outcome.BootResult.TheVariants as results
 use Rattle.mc_trailer.specs.declared.places.Field.TheVariants as field
 use Rattle.mc_trailer.specs.declared.tables.SwapType.TheVariants as kinds
-use Rattle.mc_flash.specs.declared.flash.Grain.TheVariants as grains
-use Rattle.mc_trailer.specs.declared.tables.Profile.TheVariants as profiles
 use Rattle.mc_flash.specs.declared.op.Slot.TheVariants.{Primary, Secondary}
 use Rattle.mc_boot.specs.PowerOn.{PowerOn, again, power_on}
 
@@ -137,31 +134,31 @@ pub record Law (r : Rules) (g : Geometry) (b : Bool) (n : ℕ) (x y : List ℕ) 
 pub by_start : (r : Rules) (g : Geometry) (n : ℕ) (s z : Content) → (plan (power_on r g s)).sectors ≡ n → AreExchanged g n s z → AreExchanged g (plan (power_on r g s)).sectors s z
 by_start r g n s z count are = let E : ℕ → Type 0 = λ m. AreExchanged g m s z in subst E (sym count) are
 
-trailer_at_end : (c : Grain) (p : Profile) (g : Geometry) (s : Content) (size n : ℕ) (b : Bool) (z : Content) → Swap (in_pieces c g) s size n → Ended (in_pieces c g) s size n b z
-    → AtEnd b (record { grain = c; profile = p }) g z
-trailer_at_end c p g s size n true z w e = tested_on c p g z (tested_end (power_on (record { grain = c; profile = p }) (in_pieces c g) s) size n z w e)
-trailer_at_end c p g s size n false z w e = settled_on c p g z (settled_end (power_on (record { grain = c; profile = p }) (in_pieces c g) s) size n z w e)
+trailer_at_end : (r : Rules) (g : Geometry) (s : Content) (size n : ℕ) (b : Bool) (z : Content) → Swap (in_pieces r.grain g) s size n → Ended (in_pieces r.grain g) s size n b z → AtEnd b r g z
+trailer_at_end r g s size n true z w e = tested_on r g z (tested_end (power_on r (in_pieces r.grain g) s) size n z w e)
+trailer_at_end r g s size n false z w e = settled_on r g z (settled_end (power_on r (in_pieces r.grain g) s) size n z w e)
 
-law : (R : Content → Type 0) (c : Grain) (p : Profile) (g : Geometry) (b : Bool) (x y : List ℕ) (s u : Content) (size n : ℕ) (cuts : List ℕ) → Swap g s size n → BootsSwap R c p g s size n b
-    → Phase R (in_pieces c g) s size n b s
-    → SameImage x s.secondary → SameImage y s.primary → after (power_on (record { grain = c; profile = p }) g s) cuts ≡ Some u → (z : Content) × Law (record { grain = c; profile = p }) g b n x y s u z
-law R c p g b x y s u size n cuts w boots begin at_x at_y is =
-    let end = swap_ends R c p g s size n b cuts u boots begin is in
-    let made = end.1.ends.so in
-    let pieces = swap_pieces c g s size n w in
-    let held = crossed (in_pieces c g) s size n end.0 pieces made.2.data_ in (
-      end.0,
-      record {
-        end = end.1.ends.end;
-        whole = end.1.ends.whole;
-        calm = end.1.calm;
-        primary = same_then x s.secondary end.0.primary at_x held.primary;
-        secondary = same_then y s.primary end.0.secondary at_y held.secondary;
-        sectors = end.1.sectors;
-        exchange = exchanged_pieces c g n s end.0 (exchanges (in_pieces c g) s size n end.0 pieces made.2.data_);
-        trailer = trailer_at_end c p g s size n b end.0 pieces made;
-      },
-    )
+-- A swap of the images x and y that a start holds.
+module _ (R : Content → Type 0) (r : Rules) (g : Geometry) (b : Bool) (s : Content) (size n : ℕ) (w : Swap g s size n) (boots : BootsSwap R r g s size n b) where
+  law : (x y : List ℕ) (u : Content) (cuts : List ℕ) → Phase R (in_pieces r.grain g) s size n b s → SameImage x s.secondary → SameImage y s.primary → after (power_on r g s) cuts ≡ Some u
+      → (z : Content) × Law r g b n x y s u z
+  law x y u cuts begin at_x at_y is =
+      let end = swap_ends R r g s size n b boots cuts u begin is in
+      let made = end.1.ends.so in
+      let pieces = swap_pieces r.grain g s size n w in
+      let held = crossed (in_pieces r.grain g) s size n end.0 pieces made.2.data_ in (
+        end.0,
+        record {
+          end = end.1.ends.end;
+          whole = end.1.ends.whole;
+          calm = end.1.calm;
+          primary = same_then x s.secondary end.0.primary at_x held.primary;
+          secondary = same_then y s.primary end.0.secondary at_y held.secondary;
+          sectors = end.1.sectors;
+          exchange = exchanged_pieces r.grain g n s end.0 (exchanges (in_pieces r.grain g) s size n end.0 pieces made.2.data_);
+          trailer = trailer_at_end r g s size n b end.0 pieces made;
+        },
+      )
 
 pub ended : (r : Rules) (g : Geometry) (kind : Kind) (c : Bool) (n : ℕ) (a b : List ℕ) (s u z : Content) → named kind a b ≡ b → other kind a b ≡ a → Law r g c n b a s u z
     → IsSwapped (power_on r g s) kind u z
@@ -181,17 +178,8 @@ ended r g kind c n a b s u z is_named is_other l swapped = record {
 abbrev Nothing : Content → Type 0
 Nothing s = ⊥
 
-asked_boots : (c : Grain) (p : Profile) (g : Geometry) (s : Content) (size n : ℕ) (b : Bool) → Swap g s size n → BootsSwap Nothing c p g s size n b
-asked_boots c p g s size n b w = phase_swaps Nothing (power_on (record { grain = c; profile = p }) (in_pieces c g) s) size n b (pieces_again c g) (swap_pieces c g s size n w) (λ t none. absurd none)
-
-asked_law : (c : Grain) (p : Profile) (g : Geometry) (e : Bool) (a b : List ℕ) (s u : Content) (cuts : List ℕ) → ImageLaws → IsLayout g → BeginsImage g a → BeginsImage g b → Holding g a b s
-    → FieldsAre g s Secondary (asked e)
-    → after (power_on (record { grain = c; profile = p }) g s) cuts ≡ Some u → (z : Content) × Law (record { grain = c; profile = p }) g e (count_of g s) b a s u z
-asked_law c p g e a b s u cuts laws ok at_a at_b h are is =
-    let w = swap_held g a b s laws ok at_a at_b h in
-    law Nothing c p g e b a s u (larger_size s) (count_of g s) cuts w (asked_boots c p g s (larger_size s) (count_of g s) e w)
-    (asks Nothing (in_pieces c g) s (larger_size s) (count_of g s) e s (asked_pieces c g s (count_of g s) e h.sized are))
-    (secondary_image g a b s laws ok at_b h) (primary_image g a b s laws ok at_a h) is
+asked_boots : (r : Rules) (g : Geometry) (s : Content) (size n : ℕ) (b : Bool) → Swap g s size n → BootsSwap Nothing r g s size n b
+asked_boots r g s size n b w = phase_swaps Nothing (power_on r (in_pieces r.grain g) s) size n b (pieces_again r.grain g) (swap_pieces r.grain g s size n w) (λ t none. absurd none)
 
 -- a revert: from what a test of the images exchanged leaves
 pub record Reverts (g : Geometry) (a b : List ℕ) (size n : ℕ) (s : Content) : Type 0 where
@@ -229,103 +217,104 @@ swapped_back c g start size n z w e =
     }
 
 -- What a test leaves after every list of cuts, from where it was asked for.
-pub record Tested (c : Grain) (p : Profile) (g : Geometry) (a b : List ℕ) (s t z : Content) : Type 0 where
-  pub end : left_by (power_on (record { grain = c; profile = p }) g t) ≡ Some z
+pub record Tested (r : Rules) (g : Geometry) (a b : List ℕ) (s t z : Content) : Type 0 where
+  pub end : left_by (power_on r g t) ≡ Some z
   pub swap : Swap g s (larger_size s) (count_of g s)
-  pub sectors : (plan (power_on (record { grain = c; profile = p }) g s)).sectors ≡ count_of g s
-  pub made : Ended (in_pieces c g) s (larger_size s) (count_of g s) true z
+  pub sectors : (plan (power_on r g s)).sectors ≡ count_of g s
+  pub made : Ended (in_pieces r.grain g) s (larger_size s) (count_of g s) true z
   pub reverts : Reverts g a b (larger_size s) (count_of g s) z
 
-pub test_leaves : (c : Grain) (p : Profile) (g : Geometry) (a b : List ℕ) (s t : Content) (cuts : List ℕ) → ImageLaws → IsLayout g → BeginsImage g a → BeginsImage g b → Holding g b a s
-    → FieldsAre g s Secondary (asked true)
-    → after (power_on (record { grain = c; profile = p }) g s) cuts ≡ Some t → (z : Content) × Tested c p g a b s t z
-test_leaves c p g a b s t cuts laws ok at_a at_b h are is =
-    let w = swap_held g b a s laws ok at_b at_a h in
-    let end = swap_ends Nothing c p g s (larger_size s) (count_of g s) true cuts t (asked_boots c p g s (larger_size s) (count_of g s) true w)
-    (asks Nothing (in_pieces c g) s (larger_size s) (count_of g s) true s (asked_pieces c g s (count_of g s) true h.sized are)) is in
-    let made = end.1.ends.so in
-    let held = crossed (in_pieces c g) s (larger_size s) (count_of g s) end.0 (swap_pieces c g s (larger_size s) (count_of g s) w) made.2.data_ in (
-      end.0,
-      record {
-        end = end.1.ends.end;
-        swap = w;
-        sectors = end.1.sectors;
-        made = made;
-        reverts = record {
-          swap = swapped_back c g s (larger_size s) (count_of g s) end.0 w made;
-          tested_is = primary_whole c g end.0 tested (tested_fields (in_pieces c g) s (larger_size s) (count_of g s) end.0 made);
-          unasked_is = secondary_whole c g end.0 unasked made.2.secondary;
-          primary = same_then a s.secondary end.0.primary (secondary_image g b a s laws ok at_a h) held.primary;
-          secondary = same_then b s.primary end.0.secondary (primary_image g b a s laws ok at_b h) held.secondary;
-        };
-      },
-    )
+module _ (r : Rules) (g : Geometry) (a b : List ℕ) (s : Content) (size n : ℕ) (from : Reverts g a b size n s) where
+  pub revert_law : (u : Content) (cuts : List ℕ) → forgets_reverts r.grain r.profile ≡ false → after (power_on r g s) cuts ≡ Some u → (z : Content) × Law r g false n b a s u z
+  revert_law u cuts keeps is =
+      let R : Content → Type 0 = Waiting r.grain (in_pieces r.grain g) s n in
+      let x : PowerOn = power_on r (in_pieces r.grain g) s in
+      let again = pieces_again r.grain g in
+      let pieces = swap_pieces r.grain g s size n from.swap in
+      law R r g false s size n from.swap (phase_swaps R x size n false again pieces (waiting_swaps x size n again keeps pieces)) b a u cuts
+      (waits R (in_pieces r.grain g) s size n false s (waiting_pieces r.grain g s n from.swap.sized from.tested_is from.unasked_is)) from.secondary from.primary is
 
-pub revert_law : (c : Grain) (p : Profile) (g : Geometry) (a b : List ℕ) (s u : Content) (size n : ℕ) (cuts : List ℕ) → forgets_reverts c p ≡ false → Reverts g a b size n s
-    → after (power_on (record { grain = c; profile = p }) g s) cuts ≡ Some u
-    → (z : Content) × Law (record { grain = c; profile = p }) g false n b a s u z
-revert_law c p g a b s u size n cuts keeps from is =
-    let w = from.swap in
-    let R : Content → Type 0 = Waiting c (in_pieces c g) s n in
-    let pieces = swap_pieces c g s size n w in
-    law (Waiting c (in_pieces c g) s n) c p g false b a s u size n cuts w
-    (phase_swaps (Waiting c (in_pieces c g) s n) (power_on (record { grain = c; profile = p }) (in_pieces c g) s) size n false (pieces_again c g) pieces
-    (waiting_swaps (power_on (record { grain = c; profile = p }) (in_pieces c g) s) size n (pieces_again c g) keeps pieces))
-    (waits (Waiting c (in_pieces c g) s n) (in_pieces c g) s size n false s (waiting_pieces c g s n w.sized from.tested_is from.unasked_is))
-    from.secondary from.primary is
+-- The start of two images, of every kind.
+module _ (laws : ImageLaws) (r : Rules) (g : Geometry) (a b : List ℕ) (ok : IsLayout g) (at_a : BeginsImage g a) (at_b : BeginsImage g b) where
+  asked_law : (e : Bool) (s u : Content) (cuts : List ℕ) → Holding g a b s → FieldsAre g s Secondary (asked e) → after (power_on r g s) cuts ≡ Some u
+      → (z : Content) × Law r g e (count_of g s) b a s u z
+  asked_law e s u cuts h are is =
+      let w = swap_held g a b s laws ok at_a at_b h in
+      law Nothing r g e s (larger_size s) (count_of g s) w (asked_boots r g s (larger_size s) (count_of g s) e w) b a u cuts
+      (asks Nothing (in_pieces r.grain g) s (larger_size s) (count_of g s) e s (asked_pieces r.grain g s (count_of g s) e h.sized are))
+      (secondary_image g a b s laws ok at_b h) (primary_image g a b s laws ok at_a h) is
 
--- for every kind
-law_none : (r : Rules) (g : Geometry) (a b : List ℕ) (s u : Content) (cuts : List ℕ) → ImageLaws → IsLayout g → BeginsImage g a → BeginsImage g b → placed g (image_bytes a) (image_bytes b) ≡ s
-    → after (power_on r g s) cuts ≡ Some u → (z : Content) × EndsIn (power_on r g s) starts.None a b u z
-law_none r g a b s u cuts laws ok at_a at_b start is =
-    let h = placed_holds g a b laws ok at_a at_b in
-    let E : Content → Type 0 = λ t. (plan (power_on r g t) ≡ nothing kinds.None) × SameImage a t.primary × SameImage b t.secondary in
-    let there = subst E start (
-      idle_at r g a b laws ok at_a at_b,
-      primary_image g a b (placed g (image_bytes a) (image_bytes b)) laws ok at_a h,
-      secondary_image g a b (placed g (image_bytes a) (image_bytes b)) laws ok at_b h,
-    ) in
-    stays_idle r g a b s u cuts there.0 there.1 there.2 is
+  -- A test of the images exchanged.
+  pub test_leaves : (s t : Content) (cuts : List ℕ) → Holding g b a s → FieldsAre g s Secondary (asked true) → after (power_on r g s) cuts ≡ Some t → (z : Content) × Tested r g a b s t z
+  test_leaves s t cuts h are is =
+      let size = larger_size s in
+      let n = count_of g s in
+      let w = swap_held g b a s laws ok at_b at_a h in
+      let end = swap_ends Nothing r g s size n true (asked_boots r g s size n true w) cuts t
+      (asks Nothing (in_pieces r.grain g) s size n true s (asked_pieces r.grain g s n true h.sized are)) is in
+      let made = end.1.ends.so in
+      let held = crossed (in_pieces r.grain g) s size n end.0 (swap_pieces r.grain g s size n w) made.2.data_ in (
+        end.0,
+        record {
+          end = end.1.ends.end;
+          swap = w;
+          sectors = end.1.sectors;
+          made = made;
+          reverts = record {
+            swap = swapped_back r.grain g s size n end.0 w made;
+            tested_is = primary_whole r.grain g end.0 tested (tested_fields (in_pieces r.grain g) s size n end.0 made);
+            unasked_is = secondary_whole r.grain g end.0 unasked made.2.secondary;
+            primary = same_then a s.secondary end.0.primary (secondary_image g b a s laws ok at_a h) held.primary;
+            secondary = same_then b s.primary end.0.secondary (primary_image g b a s laws ok at_b h) held.secondary;
+          };
+        },
+      )
 
-law_test : (r : Rules) (g : Geometry) (a b : List ℕ) (s u : Content) (cuts : List ℕ) → ImageLaws → IsLayout g → BeginsImage g a → BeginsImage g b → test_flash g (image_bytes a) (image_bytes b) ≡ s
-    → after (power_on r g s) cuts ≡ Some u → (z : Content) × EndsIn (power_on r g s) starts.Test a b u z
-law_test r g a b s u cuts laws ok at_a at_b start is =
-    let E : Content → Type 0 = λ t. Holding g a b t × FieldsAre g t Secondary (asked true) in
-    let there = subst E start (test_holds g a b laws ok at_a at_b, test_asked g a b laws ok at_b) in
-    let end = asked_law r.grain r.profile g true a b s u cuts laws ok at_a at_b there.0 there.1 is in
-    (end.0, ended r g starts.Test true (count_of g s) a b s u end.0 refl refl end.1 (by_start r g (count_of g s) s end.0 end.1.sectors end.1.exchange, end.1.trailer))
+  module _ (s u : Content) (cuts : List ℕ) (is : after (power_on r g s) cuts ≡ Some u) where
+    law_none : placed g (image_bytes a) (image_bytes b) ≡ s → (z : Content) × EndsIn (power_on r g s) starts.None a b u z
+    law_none start =
+        let h = placed_holds g a b laws ok at_a at_b in
+        let E : Content → Type 0 = λ t. (plan (power_on r g t) ≡ nothing kinds.None) × SameImage a t.primary × SameImage b t.secondary in
+        let there = subst E start (
+          idle_at r g a b laws ok at_a at_b,
+          primary_image g a b (placed g (image_bytes a) (image_bytes b)) laws ok at_a h,
+          secondary_image g a b (placed g (image_bytes a) (image_bytes b)) laws ok at_b h,
+        ) in
+        stays_idle r g a b s u cuts there.0 there.1 there.2 is
 
-law_perm : (r : Rules) (g : Geometry) (a b : List ℕ) (s u : Content) (cuts : List ℕ) → ImageLaws → IsLayout g → BeginsImage g a → BeginsImage g b → perm_flash g (image_bytes a) (image_bytes b) ≡ s
-    → after (power_on r g s) cuts ≡ Some u → (z : Content) × EndsIn (power_on r g s) starts.Perm a b u z
-law_perm r g a b s u cuts laws ok at_a at_b start is =
-    let E : Content → Type 0 = λ t. Holding g a b t × FieldsAre g t Secondary (asked false) in
-    let there = subst E start (perm_holds g a b laws ok at_a at_b, perm_asked g a b laws ok at_b) in
-    let end = asked_law r.grain r.profile g false a b s u cuts laws ok at_a at_b there.0 there.1 is in
-    (end.0, ended r g starts.Perm false (count_of g s) a b s u end.0 refl refl end.1 (by_start r g (count_of g s) s end.0 end.1.sectors end.1.exchange, end.1.trailer))
+    law_test : test_flash g (image_bytes a) (image_bytes b) ≡ s → (z : Content) × EndsIn (power_on r g s) starts.Test a b u z
+    law_test start =
+        let E : Content → Type 0 = λ t. Holding g a b t × FieldsAre g t Secondary (asked true) in
+        let there = subst E start (test_holds g a b laws ok at_a at_b, test_asked g a b laws ok at_b) in
+        let end = asked_law true s u cuts there.0 there.1 is in
+        (end.0, ended r g starts.Test true (count_of g s) a b s u end.0 refl refl end.1 (by_start r g (count_of g s) s end.0 end.1.sectors end.1.exchange, end.1.trailer))
 
-law_revert : (r : Rules) (g : Geometry) (a b : List ℕ) (s u : Content) (cuts : List ℕ) → ImageLaws → IsLayout g → BeginsImage g a → BeginsImage g b → forgets_reverts r.grain r.profile ≡ false
-    → left_by (power_on plain g (test_flash g (image_bytes b) (image_bytes a))) ≡ Some s → after (power_on r g s) cuts ≡ Some u → (z : Content) × EndsIn (power_on r g s) starts.Revert a b u z
-law_revert r g a b s u cuts laws ok at_a at_b keeps start is =
+    law_perm : perm_flash g (image_bytes a) (image_bytes b) ≡ s → (z : Content) × EndsIn (power_on r g s) starts.Perm a b u z
+    law_perm start =
+        let E : Content → Type 0 = λ t. Holding g a b t × FieldsAre g t Secondary (asked false) in
+        let there = subst E start (perm_holds g a b laws ok at_a at_b, perm_asked g a b laws ok at_b) in
+        let end = asked_law false s u cuts there.0 there.1 is in
+        (end.0, ended r g starts.Perm false (count_of g s) a b s u end.0 refl refl end.1 (by_start r g (count_of g s) s end.0 end.1.sectors end.1.exchange, end.1.trailer))
+
+-- A revert: from what a test of the images exchanged leaves.
+law_revert : (laws : ImageLaws) (r : Rules) (g : Geometry) (a b : List ℕ) (s u : Content) (cuts : List ℕ) → IsLayout g → BeginsImage g a → BeginsImage g b
+    → forgets_reverts r.grain r.profile ≡ false → left_by (power_on plain g (test_flash g (image_bytes b) (image_bytes a))) ≡ Some s → after (power_on r g s) cuts ≡ Some u
+    → (z : Content) × EndsIn (power_on r g s) starts.Revert a b u z
+law_revert laws r g a b s u cuts ok at_a at_b keeps start is =
     let from : Content = test_flash g (image_bytes b) (image_bytes a) in
-    let left = test_leaves grains.Call profiles.One g a b (test_flash g (image_bytes b) (image_bytes a)) (test_flash g (image_bytes b) (image_bytes a)) [] laws ok at_a at_b
-    (test_holds g b a laws ok at_b at_a) (test_asked g b a laws ok at_a) refl in
+    let n = count_of g from in
+    let left = test_leaves laws plain g a b ok at_a at_b from from [] (test_holds g b a laws ok at_b at_a) (test_asked g b a laws ok at_a) refl in
     let same : left.0 ≡ s = same_content left.0 s (sym left.1.end ∙ start) in
-    let size : ℕ = larger_size (test_flash g (image_bytes b) (image_bytes a)) in
-    let n : ℕ = count_of g (test_flash g (image_bytes b) (image_bytes a)) in
-    let E : Content → Type 0 = λ t. Reverts g a b (larger_size (test_flash g (image_bytes b) (image_bytes a))) (count_of g (test_flash g (image_bytes b) (image_bytes a))) t in
-    let end = revert_law r.grain r.profile g a b s u (larger_size (test_flash g (image_bytes b) (image_bytes a))) (count_of g (test_flash g (image_bytes b) (image_bytes a))) cuts keeps
-    (subst E same left.1.reverts) is in (
-      end.0,
-      ended r g starts.Revert false (count_of g (test_flash g (image_bytes b) (image_bytes a))) a b s u end.0 refl refl end.1
-          (by_start r g (count_of g (test_flash g (image_bytes b) (image_bytes a))) s end.0 end.1.sectors end.1.exchange, end.1.trailer),
-    )
+    let E : Content → Type 0 = λ t. Reverts g a b (larger_size from) (count_of g from) t in
+    let end = revert_law r g a b s (larger_size from) n (subst E same left.1.reverts) u cuts keeps is in
+    (end.0, ended r g starts.Revert false n a b s u end.0 refl refl end.1 (by_start r g n s end.0 end.1.sectors end.1.exchange, end.1.trailer))
 
 pub restart_law : ImageLaws → (r : Rules) → RestartLaw r
 unfolding start_flash
-restart_law laws r g starts.None a b s u cuts ok at_a at_b keeps start is = law_none r g a b s u cuts laws ok at_a at_b (same_content (placed g (image_bytes a) (image_bytes b)) s start) is
-restart_law laws r g starts.Test a b s u cuts ok at_a at_b keeps start is = law_test r g a b s u cuts laws ok at_a at_b (same_content (test_flash g (image_bytes a) (image_bytes b)) s start) is
-restart_law laws r g starts.Perm a b s u cuts ok at_a at_b keeps start is = law_perm r g a b s u cuts laws ok at_a at_b (same_content (perm_flash g (image_bytes a) (image_bytes b)) s start) is
-restart_law laws r g starts.Revert a b s u cuts ok at_a at_b keeps start is = law_revert r g a b s u cuts laws ok at_a at_b (keeps refl) start is
+restart_law laws r g starts.None a b s u cuts ok at_a at_b keeps start is = law_none laws r g a b ok at_a at_b s u cuts is (same_content (placed g (image_bytes a) (image_bytes b)) s start)
+restart_law laws r g starts.Test a b s u cuts ok at_a at_b keeps start is = law_test laws r g a b ok at_a at_b s u cuts is (same_content (test_flash g (image_bytes a) (image_bytes b)) s start)
+restart_law laws r g starts.Perm a b s u cuts ok at_a at_b keeps start is = law_perm laws r g a b ok at_a at_b s u cuts is (same_content (perm_flash g (image_bytes a) (image_bytes b)) s start)
+restart_law laws r g starts.Revert a b s u cuts ok at_a at_b keeps start is = law_revert laws r g a b s u cuts ok at_a at_b (keeps refl) start is
 
 pub starts_exist : StartsExist
 unfolding start_flash

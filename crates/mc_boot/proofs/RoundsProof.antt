@@ -49,15 +49,14 @@ module _ (r : Rules) (g : Geometry) (kind : Kind) (confirms : Bool) (a b : List 
         (x, (subst E (sym there) (idle_ends (power_on r g x) idle kind a b s none valid one two swapped), record { idle = idle; uncut = there }, same))
 
 -- A swap that stays.
-stays_round : (r : Rules) (g : Geometry) (kind : Kind) (confirms : Bool) (a b : List ℕ) (s t x u y : Content) (second : List ℕ) → IsLayout g
-    → EndsIn (power_on r g s) kind a b t y → IsSettled (power_on r g y) → IsSwapped (power_on r g s) kind y y → left_by (power_on r g t) ≡ Some x
-    → after (power_on r g (confirmed_if confirms g x)) second ≡ Some u
-    → (z : Content) × IsStill r g kind confirms a b s x u second z
-stays_round r g kind confirms a b s t x u y second ok e settled swapped left occurs =
-    let E : Content → Type 0 = λ m. after (power_on r g (confirmed_if confirms g m)) second ≡ Some u → (z : Content) × IsStill r g kind confirms a b s m u second z in
-    subst E (same_content y x (sym e.end ∙ left))
-    (λ at_y. still_round r g kind confirms a b s y u second settled.idle settled.next (settled_stays (power_on r g y) ok settled) at_y e.boots e.primary e.secondary swapped)
-    occurs
+module _ (r : Rules) (g : Geometry) (kind : Kind) (confirms : Bool) (a b : List ℕ) (s : Content) (second : List ℕ) where
+  stays_round : (t x u y : Content) → IsLayout g → EndsIn (power_on r g s) kind a b t y → IsSettled (power_on r g y) → IsSwapped (power_on r g s) kind y y → left_by (power_on r g t) ≡ Some x
+      → after (power_on r g (confirmed_if confirms g x)) second ≡ Some u → (z : Content) × IsStill r g kind confirms a b s x u second z
+  stays_round t x u y ok e settled swapped left occurs =
+      let E : Content → Type 0 = λ m. after (power_on r g (confirmed_if confirms g m)) second ≡ Some u → (z : Content) × IsStill r g kind confirms a b s m u second z in
+      let stays = settled_stays (power_on r g y) ok settled in
+      subst E (same_content y x (sym e.end ∙ left))
+      (λ at. still_round r g kind confirms a b s y u second settled.idle settled.next stays at e.boots e.primary e.secondary swapped) occurs
 
 module _ (laws : ImageLaws) (r : Rules) (g : Geometry) (a b : List ℕ) (ok : IsLayout g) (at_a : BeginsImage g a) (at_b : BeginsImage g b) where
   -- No swap: it stays as it was placed.
@@ -93,10 +92,10 @@ module _ (laws : ImageLaws) (r : Rules) (g : Geometry) (a b : List ℕ) (ok : Is
   -- A test.
   module _ (s : Content) (h : Holding g a b s) (are : FieldsAre g s Secondary (asked true)) where
     module _ (t x : Content) (first : List ℕ) (is : after (power_on r g s) first ≡ Some t) (left : left_by (power_on r g t) ≡ Some x) where
-      round : Tested r.grain r.profile g b a s t x
+      round : Tested r g b a s t x
       round =
-          let one = test_leaves r.grain r.profile g b a s t first laws ok at_b at_a h are is in
-          let E : Content → Type 0 = λ y. Tested r.grain r.profile g b a s t y in
+          let one = test_leaves laws r g b a ok at_b at_a s t first h are is in
+          let E : Content → Type 0 = λ y. Tested r g b a s t y in
           subst E (same_content one.0 x (sym one.1.end ∙ left)) one.1
 
       pieces : Swap (in_pieces r.grain g) s (larger_size s) (count_of g s)
@@ -109,7 +108,7 @@ module _ (laws : ImageLaws) (r : Rules) (g : Geometry) (a b : List ℕ) (ok : Is
       left_round : (u : Content) (second : List ℕ) → forgets_reverts r.grain r.profile ≡ false → after (power_on r g x) second ≡ Some u → (z : Content)
           × EndsAgain (power_on r g s) starts.Test false a b x u z
       left_round u second keeps occurs =
-          let end = revert_law r.grain r.profile g b a x u (larger_size s) (count_of g s) second keeps round.reverts occurs in
+          let end = revert_law r g b a x (larger_size s) (count_of g s) round.reverts u second keeps occurs in
           let back = by_start r g (count_of g s) x end.0 end.1.sectors end.1.exchange in
           let E : ℕ → Type 0 = λ m. AreBack g m s end.0 in (
             end.0,
@@ -127,7 +126,7 @@ module _ (laws : ImageLaws) (r : Rules) (g : Geometry) (a b : List ℕ) (ok : Is
 
       kept_ends : EndsIn (power_on r g s) starts.Perm a b (confirmed g x) (confirmed g x)
       kept_ends =
-          let settled = settled_on r.grain r.profile g (confirmed g x) kept.settled in
+          let settled = settled_on r g (confirmed g x) kept.settled in
           let held = crossed (in_pieces r.grain g) s (larger_size s) (count_of g s) (confirmed g x) pieces kept.data_ in
           let upper = same_then b s.secondary (confirmed g x).primary (secondary_image g a b s laws ok at_b h) held.primary in
           let lower = same_then a s.primary (confirmed g x).secondary (primary_image g a b s laws ok at_a h) held.secondary in
@@ -137,7 +136,7 @@ module _ (laws : ImageLaws) (r : Rules) (g : Geometry) (a b : List ℕ) (ok : Is
 
       confirmed_round : (u : Content) (second : List ℕ) → after (power_on r g (confirmed g x)) second ≡ Some u → (z : Content) × EndsAgain (power_on r g s) starts.Test true a b x u z
       confirmed_round u second occurs =
-          let settled = settled_on r.grain r.profile g (confirmed g x) kept.settled in
+          let settled = settled_on r g (confirmed g x) kept.settled in
           let there = uncut (power_on r g (confirmed g x)) settled.idle u second occurs in
           let E : Content → Type 0 = λ y. EndsIn (power_on r g s) starts.Perm a b y (confirmed g x) in
           (confirmed g x, (subst E (sym there) kept_ends, record { idle = settled.idle; uncut = there }))
@@ -162,7 +161,7 @@ rounds_law laws r g starts.Test true a b s t x u first second ok at_a at_b keeps
     confirmed_round laws r g a b ok at_a at_b s from.0 from.1 t x first is left u second occurs
 rounds_law laws r g starts.Perm confirms a b s t x u first second ok at_a at_b keeps start is left occurs =
     let e = restart_law laws r g starts.Perm a b s t first ok at_a at_b (λ same. absurd cc) start is in
-    stays_round r g starts.Perm confirms a b s t x u e.0 second ok e.1 e.1.swapped.1 e.1.swapped left occurs
+    stays_round r g starts.Perm confirms a b s second t x u e.0 ok e.1 e.1.swapped.1 e.1.swapped left occurs
 rounds_law laws r g starts.Revert confirms a b s t x u first second ok at_a at_b keeps start is left occurs =
     let e = restart_law laws r g starts.Revert a b s t first ok at_a at_b (λ same. keeps refl) start is in
-    stays_round r g starts.Revert confirms a b s t x u e.0 second ok e.1 e.1.swapped.1 e.1.swapped left occurs
+    stays_round r g starts.Revert confirms a b s second t x u e.0 ok e.1 e.1.swapped.1 e.1.swapped left occurs

@@ -16,10 +16,9 @@ use Rattle.mc_boot.specs.Runs.{after}
 use Rattle.mc_flash.specs.Content.{Content}
 use Rattle.mc_flash.specs.Geometry.{Geometry}
 use Rattle.mc_flash.specs.Pieces.{in_pieces}
-use Rattle.mc_flash.specs.declared.flash.Grain.{Grain}
 use Rattle.mc_trailer.specs.facts.Fields.{reads_absent, reads_copy_done, reads_good}
 use Rattle.mc_trailer.specs.Fields.{trailer_of}
-use Rattle.mc_trailer.specs.declared.tables.Profile.{Profile}
+use Rattle.mc_trailer.specs.declared.tables.Rules.{Rules}
 use Rattle.mc_trailer.specs.declared.tables.SwapType.{SwapType}
 use Rattle.mc_trailer.specs.declared.trailer.Trailer.{Trailer}
 use Rattle.mc_trailer.specs.declared.places.Field.TheVariants as field
@@ -28,41 +27,42 @@ use Rattle.mc_flash.specs.declared.op.Slot.TheVariants.{Primary, Secondary}
 use Rattle.mc_boot.specs.PowerOn.{PowerOn, again, power_on}
 
 -- Each boot by the rules, on any layout: the phases are of the layout in pieces.
-abbrev pub BootsSwap : (Content → Type 0) → Grain → Profile → Geometry → Content → ℕ → ℕ → Bool → Type 0
-BootsSwap R c p g start size n b = (s : Content) → Phase R (in_pieces c g) start size n b s → Swaps R (power_on (record { grain = c; profile = p }) (in_pieces c g) start) size n b s
+abbrev pub BootsSwap : (Content → Type 0) → Rules → Geometry → Content → ℕ → ℕ → Bool → Type 0
+BootsSwap R r g start size n b = (s : Content) → Phase R (in_pieces r.grain g) start size n b s → Swaps R (power_on r (in_pieces r.grain g) start) size n b s
 
 no_panic : (b : Bool) (kind : SwapType) → IsSwapOf b kind → kind ≢ kinds.Panic
 no_panic b kind of same = let E : SwapType → Type 0 = λ k. IsSwapOf b k in subst E same of
 
-keeps_on : (R : Content → Type 0) (c : Grain) (p : Profile) (g : Geometry) (start : Content) (size n : ℕ) (b : Bool) → BootsSwap R c p g start size n b → (s : Content)
-    → Phase R (in_pieces c g) start size n b s
-    → Keeps g (Phase R (in_pieces c g) start size n b) (plan (power_on (record { grain = c; profile = p }) g s)).list s (Ended (in_pieces c g) start size n b)
-keeps_on R c p g start size n b boots s is =
-    keeps_pieces c g (Phase R (in_pieces c g) start size n b) (Ended (in_pieces c g) start size n b) (plan (power_on (record { grain = c; profile = p }) g s)).list s
-    (let E : Plan → Type 0 = λ q. Keeps (in_pieces c g) (Phase R (in_pieces c g) start size n b) q.list s (Ended (in_pieces c g) start size n b) in
-    subst E (plan_in_pieces c p g s) (boots s is).keeps)
-
 -- after every list of cuts the boot ends the swap
-pub record SwapEnds (c : Grain) (p : Profile) (g : Geometry) (start : Content) (size n : ℕ) (b : Bool) (u z : Content) : Type 0 where
-  pub ends : Ends (record { grain = c; profile = p }) g (Ended (in_pieces c g) start size n b) u z
-  pub calm : (plan (power_on (record { grain = c; profile = p }) g u)).kind ≢ kinds.Panic
-  pub sectors : (plan (power_on (record { grain = c; profile = p }) g start)).sectors ≡ n
+pub record SwapEnds (r : Rules) (g : Geometry) (start : Content) (size n : ℕ) (b : Bool) (u z : Content) : Type 0 where
+  pub ends : Ends r g (Ended (in_pieces r.grain g) start size n b) u z
+  pub calm : (plan (power_on r g u)).kind ≢ kinds.Panic
+  pub sectors : (plan (power_on r g start)).sectors ≡ n
 
-pub swap_ends : (R : Content → Type 0) (c : Grain) (p : Profile) (g : Geometry) (start : Content) (size n : ℕ) (b : Bool) (cuts : List ℕ) (u : Content) → BootsSwap R c p g start size n b
-    → Phase R (in_pieces c g) start size n b start → after (power_on (record { grain = c; profile = p }) g start) cuts ≡ Some u
-    → (z : Content) × SwapEnds c p g start size n b u z
-swap_ends R c p g start size n b cuts u boots begin is =
-    let at_u = restart (record { grain = c; profile = p }) g (Phase R (in_pieces c g) start size n b) (Ended (in_pieces c g) start size n b) (keeps_on R c p g start size n b boots) cuts start u begin
-    is in
-    let end = ends (record { grain = c; profile = p }) g (Phase R (in_pieces c g) start size n b) (Ended (in_pieces c g) start size n b) u (keeps_on R c p g start size n b boots u at_u) in
-    let planned = (boots u at_u).planned in (
-      end.0,
-      record {
-        ends = end.1;
-        calm = λ same. no_panic b planned.kind planned.of (sym planned.is ∙ ap (λ (q : Plan). q.kind) (plan_in_pieces c p g u) ∙ same);
-        sectors = ap (λ (q : Plan). q.sectors) (sym (plan_in_pieces c p g start)) ∙ (boots start begin).planned.sectors;
-      },
-    )
+module _ (R : Content → Type 0) (r : Rules) (g : Geometry) (start : Content) (size n : ℕ) (b : Bool) (boots : BootsSwap R r g start size n b) where
+  abbrev Bears : Content → Type 0
+  Bears = Phase R (in_pieces r.grain g) start size n b
+
+  abbrev End : Content → Type 0
+  End = Ended (in_pieces r.grain g) start size n b
+
+  keeps_on : (s : Content) → Bears s → Keeps g Bears (plan (power_on r g s)).list s End
+  keeps_on s is =
+      keeps_pieces r.grain g Bears End (plan (power_on r g s)).list s
+      (let E : Plan → Type 0 = λ q. Keeps (in_pieces r.grain g) Bears q.list s End in subst E (plan_in_pieces r g s) (boots s is).keeps)
+
+  pub swap_ends : (cuts : List ℕ) (u : Content) → Bears start → after (power_on r g start) cuts ≡ Some u → (z : Content) × SwapEnds r g start size n b u z
+  swap_ends cuts u begin is =
+      let at_u = restart r g Bears End keeps_on cuts start u begin is in
+      let end = ends r g Bears End u (keeps_on u at_u) in
+      let planned = (boots u at_u).planned in (
+        end.0,
+        record {
+          ends = end.1;
+          calm = λ same. no_panic b planned.kind planned.of (sym planned.is ∙ ap (λ (q : Plan). q.kind) (plan_in_pieces r g u) ∙ same);
+          sectors = ap (λ (q : Plan). q.sectors) (sym (plan_in_pieces r g start)) ∙ (boots start begin).planned.sectors;
+        },
+      )
 
 -- the images at the end
 pub record Crossed (start z : Content) : Type 0 where
@@ -106,19 +106,18 @@ settled_end x size n z w e =
     record { image_ok = set; copy_done = copied; next = ap (λ (q : Plan). q.kind) stays; idle = ap (λ (q : Plan). q.list) stays }
 
 -- the same on the layout itself
-pub tested_on : (c : Grain) (p : Profile) (g : Geometry) (z : Content) → IsTested (power_on (record { grain = c; profile = p }) (in_pieces c g) z)
-    → IsTested (power_on (record { grain = c; profile = p }) g z)
-tested_on c p g z is = record {
-  image_ok = ap (λ (t : Trailer). t.image_ok) (sym (trailer_pieces c g z)) ∙ is.image_ok;
-  copy_done = ap (λ (t : Trailer). t.copy_done) (sym (trailer_pieces c g z)) ∙ is.copy_done;
-  next = ap (λ (q : Plan). q.kind) (sym (plan_in_pieces c p g z)) ∙ is.next;
-}
+module _ (r : Rules) (g : Geometry) (z : Content) where
+  pub tested_on : IsTested (power_on r (in_pieces r.grain g) z) → IsTested (power_on r g z)
+  tested_on is = record {
+    image_ok = ap (λ (t : Trailer). t.image_ok) (sym (trailer_pieces r.grain g z)) ∙ is.image_ok;
+    copy_done = ap (λ (t : Trailer). t.copy_done) (sym (trailer_pieces r.grain g z)) ∙ is.copy_done;
+    next = ap (λ (q : Plan). q.kind) (sym (plan_in_pieces r g z)) ∙ is.next;
+  }
 
-pub settled_on : (c : Grain) (p : Profile) (g : Geometry) (z : Content) → IsSettled (power_on (record { grain = c; profile = p }) (in_pieces c g) z)
-    → IsSettled (power_on (record { grain = c; profile = p }) g z)
-settled_on c p g z is = record {
-  image_ok = ap (λ (t : Trailer). t.image_ok) (sym (trailer_pieces c g z)) ∙ is.image_ok;
-  copy_done = ap (λ (t : Trailer). t.copy_done) (sym (trailer_pieces c g z)) ∙ is.copy_done;
-  next = ap (λ (q : Plan). q.kind) (sym (plan_in_pieces c p g z)) ∙ is.next;
-  idle = ap (λ (q : Plan). q.list) (sym (plan_in_pieces c p g z)) ∙ is.idle;
-}
+  pub settled_on : IsSettled (power_on r (in_pieces r.grain g) z) → IsSettled (power_on r g z)
+  settled_on is = record {
+    image_ok = ap (λ (t : Trailer). t.image_ok) (sym (trailer_pieces r.grain g z)) ∙ is.image_ok;
+    copy_done = ap (λ (t : Trailer). t.copy_done) (sym (trailer_pieces r.grain g z)) ∙ is.copy_done;
+    next = ap (λ (q : Plan). q.kind) (sym (plan_in_pieces r g z)) ∙ is.next;
+    idle = ap (λ (q : Plan). q.list) (sym (plan_in_pieces r g z)) ∙ is.idle;
+  }

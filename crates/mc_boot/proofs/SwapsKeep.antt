@@ -1,7 +1,6 @@
 -- A swap from its start, by either grain: the primary's trailer is made, then the secondary's is erased.
-use Rattle.std.specs.Prelude.{◌≡◌, ◌⊎◌, ℕ, zero, suc, ◌+◌, ◌-◌, ◌*◌, ◌%◌, ◌<◌, ◌≤◌, Bool, true, false, if◌then◌else◌, List, [], ◌∷◌, ◌++◌, length, take, replicate, refl}
+use Rattle.std.specs.Prelude.{◌≡◌, ◌⊎◌, ℕ, ◌+◌, ◌-◌, ◌*◌, ◌%◌, ◌<◌, ◌≤◌, Bool, true, false, if◌then◌else◌, List, [], ◌∷◌, ◌++◌, length, take, replicate, refl}
 use Rattle.std.proofs.Common.{arith, sym, ap, subst, ◌∙◌, inl, inr}
-use Rattle.std.proofs.Math.Nat.{zero-mul}
 use Rattle.std.proofs.lemmas.List.{get_or-replicate, length-replicate}
 use Rattle.mc_boot.proofs.EntryNumbers.{Entries, entries_kept, entries_none}
 use Rattle.mc_boot.proofs.ErasesKeep.{Erased, erase_behind_data, erased_here, erased_still, erases_keep}
@@ -14,8 +13,8 @@ use Rattle.mc_boot.specs.Course.{from_transfer, resumed_list, swap_list}
 use Rattle.mc_boot.specs.Writes.{image_ok_write, info_write, is_test, marking, number_of, opening_writes, trailer_erases, write}
 use Rattle.mc_flash.specs.Changes.{Changed, changed_sized}
 use Rattle.mc_flash.specs.Content.{Content, IsSized, byte, sectors_of, size_of}
-use Rattle.mc_flash.specs.facts.Layouts.{data_before_trailer, data_end, trailer_covered, trailer_leaves_one}
-use Rattle.mc_flash.specs.Geometry.{Geometry, IsLayout, trailer_bytes, trailer_sectors}
+use Rattle.mc_flash.specs.facts.Layouts.{data_before_trailer, data_end, trailer_leaves_one}
+use Rattle.mc_flash.specs.Geometry.{Geometry, trailer_sectors}
 use Rattle.mc_flash.specs.declared.flash.Grain.{Grain}
 use Rattle.mc_flash.specs.declared.op.Slot.{Slot}
 use Rattle.mc_trailer.specs.facts.Fields.{FieldIs, FieldsAre, blank_fields, field_as, fields_as, fields_same, set_field, write_field}
@@ -57,192 +56,187 @@ pub record Ready (g : Geometry) (start : Content) (size n : ℕ) (b : Bool) (kin
 abbrev Clearing : Geometry → Content → ℕ → ℕ → Bool → SwapType → ℕ → Content → Type 0
 Clearing g start size n b kind i s = ((i ≡ 0) × Ready g start size n b kind s) ⊎ Under g start size n kind 0 s
 
-clears : (g : Geometry) (start : Content) (size n : ℕ) (b : Bool) (kind : SwapType) (i : ℕ) (t u : Content) → Swap g start size n → i < trailer_sectors g → Clearing g start size n b kind i t
-    → Erased g Secondary i t u → Under g start size n kind 0 u
-clears g start size n b kind i t u w below (inl first) ch = record {
-  primary = fields_same g t u Primary (opened g kind size) w.ok (λ p h. ch.other Primary p (λ e. cc)) first.1.primary;
-  entries = let few = w.few in entries_kept g n 0 t u w.ok (omega (arith, few)) (omega arith) (λ p h l. ch.other Primary p (λ e. cc)) first.1.entries;
-  secondary = unasked_from g u Secondary (λ p h. erased_here g Secondary i t u (place g Secondary field.Magic + p) ch (last.0 p) (last.1 p h));
-  data_ = data_erased g Secondary n start 0 i t u below ch first.1.is_asked.data_;
-}
-  where
-    last : ((p : ℕ) → (sectors_of g Secondary - 1 - i) * g.sector ≤ place g Secondary field.Magic + p)
-        × ((p : ℕ) → p < 16 → place g Secondary field.Magic + p < (sectors_of g Secondary - 1 - i) * g.sector + g.sector)
-    last = at (sectors_of g Secondary - 1 - i) (let leaves = trailer_leaves_one g Secondary w.ok in let zero_ = first.0 in omega arith)
-      where
-        at : (k : ℕ) → sectors_of g Secondary ≡ k + 1 → ((p : ℕ) → k * g.sector ≤ place g Secondary field.Magic + p) × ((p : ℕ) → p < 16 → place g Secondary field.Magic + p < k * g.sector + g.sector)
-        at k e =
-            let rows : sectors_of g Secondary * g.sector ≡ (k + 1) * g.sector = ap (λ n. n * g.sector) e in
-            let inside = place_inside g Secondary field.Magic w.ok in
-            let wide = w.ok.least_sector in
-            (λ p. omega (arith, rows, inside, wide), λ p h. omega (arith, rows, inside, h))
-clears g start size n b kind i t u w below (inr under) ch = record {
-  primary = fields_same g t u Primary (opened g kind size) w.ok (λ p h. ch.other Primary p (λ e. cc)) under.primary;
-  entries = let few = w.few in entries_kept g n 0 t u w.ok (omega (arith, few)) (omega arith) (λ p h l. ch.other Primary p (λ e. cc)) under.entries;
-  secondary = unasked_from g u Secondary (λ p h. erased_still g Secondary i t u (place g Secondary field.Magic + p) ch (unasked_is g t p under.secondary h));
-  data_ = data_erased g Secondary n start 0 i t u below ch under.data_;
-}
-
-clearing_bears : (R : Content → Type 0) (g : Geometry) (start : Content) (size n : ℕ) (b : Bool) (kind : SwapType) (i : ℕ) (t : Content) → IsSwapOf b kind → Clearing g start size n b kind i t
-    → Phase R g start size n b t × IsSized g t
-clearing_bears R g start size n b kind i t of (inl first) = (asks R g start size n b t first.1.is_asked, first.1.is_asked.data_.sized)
-clearing_bears R g start size n b kind i t of (inr under) = (runs R g start size n b kind 0 t of (omega arith) under, under.data_.sized)
-
-pub clearing_keeps : (R : Content → Type 0) (g : Geometry) (start : Content) (size n : ℕ) (b : Bool) (kind : SwapType) (s : Content) → Swap g start size n → IsSwapOf b kind
-    → Clearing g start size n b kind 0 s
-    → Keeps g (Phase R g start size n b) (resumed_list g n 0 true false) s (Ended g start size n b)
-clearing_keeps R g start size n b kind s w of is =
-    keeps_append g (Phase R g start size n b) _ (Ended g start size n b) (trailer_erases g Secondary) (from_transfer g n 0 false) s
-    (erases_keep g Secondary (Phase R g start size n b) (Clearing g start size n b kind) s w.ok
-    (λ i t k. clearing_bears R g start size n b kind i t of k)
-    (λ i t u h k ch. inr (clears g start size n b kind i t u w h k ch)) is)
-    (λ t k. rest_keeps R g start size n b kind 0 t w of (omega arith) (cleared t k.0))
-  where
-    cleared : (t : Content) → Clearing g start size n b kind (trailer_sectors g) t → Under g start size n kind 0 t
-    cleared t (inl none) = absurd (omega (arith, none.0, some_trailer g w.ok))
-    cleared t (inr under) = under
-
--- no transfer made: the secondary's trailer is erased again
-pub resumed_keeps : (R : Content → Type 0) (g : Geometry) (start : Content) (size n : ℕ) (b : Bool) (kind : SwapType) (s : Content) → Swap g start size n → IsSwapOf b kind
-    → Under g start size n kind 0 s
-    → Keeps g (Phase R g start size n b) (resumed_list g n 0 true false) s (Ended g start size n b)
-resumed_keeps R g start size n b kind s w of is = clearing_keeps R g start size n b kind s w of (inr is)
-
 -- the writes of the primary's trailer
 pub record Opening (g : Geometry) (start : Content) (n : ℕ) (b : Bool) (v : Field → List ℕ) (s : Content) : Type 0 where
   pub primary : FieldsAre g s Primary v
   pub entries : Entries g n 0 s
   pub is_asked : Asked g start n b s
 
--- A swap that is asked for bears any change of the primary's trailer, so a field of it may be written in part.
-asked_after : (g : Geometry) (start : Content) (size n : ℕ) (b : Bool) (f : Field) (new : List ℕ) (s t : Content) → Swap g start size n → Asked g start n b s
-    → Changed s t Primary (place g Primary f) new → Asked g start n b t
-asked_after g start size n b f new s t w is ch = record {
-  secondary = fields_same g s t Secondary (asked b) w.ok (λ i _. ch.other Secondary i (λ e. cc)) is.secondary;
-  data_ = data_same g n start 0 s t (changed_sized g s t Primary _ _ ch is.data_.sized) (kept_below g s t Primary (place g Primary f) new ch (place_behind_data g Primary f w.ok)) is.data_;
-}
-
-pub opening_field_keeps : (R : Content → Type 0) (g : Geometry) (start : Content) (size n : ℕ) (b : Bool) (c : Grain) (v : Field → List ℕ) (f : Field) (new : List ℕ) (s : Content)
-    → Swap g start size n → Opening g start n b v s → FieldIs g s Primary f (replicate (room f) 255) → length new ≤ room f → length new % g.unit ≡ 0
-    → Keeps g (Phase R g start size n b) (write c g Primary f new) s (Opening g start n b (set_field v f new))
-opening_field_keeps R g start size n b c v f new s w is free short whole =
-    keeps_then g (Phase R g start size n b) (λ t. Changed s t Primary (place g Primary f) new) (Opening g start n b (set_field v f new)) (write c g Primary f new) s
-    (λ t ch. let few = w.few in record {
-      primary = write_field g s t Primary v f new w.ok short is.primary ch;
-      entries = entries_kept g n 0 s t w.ok (omega (arith, few)) (omega arith) (λ i _ h. ch.before i (omega (arith, h, place_inside g Primary f w.ok, most_before_end f))) is.entries;
-      is_asked = asked_after g start size n b f new s t w is.is_asked ch;
-    })
-    (field_write_keeps g (Phase R g start size n b) s c Primary f new w.ok is.is_asked.data_.sized free short whole
-    (asks R g start size n b s is.is_asked)
-    (λ k t fine h part. asks R g start size n b t (asked_after g start size n b f (take k new) s t w is.is_asked part)))
-
 abbrev pub marked_by : Geometry → ℕ → (Field → List ℕ) → Field → List ℕ
 marked_by g size v = set_field (set_field v field.SwapSize (size_bytes g size)) field.Magic magic_bytes
-
-pub marking_keeps : (R : Content → Type 0) (c : Grain) (g : Geometry) (start : Content) (size n : ℕ) (b : Bool) (v : Field → List ℕ) (s : Content) → Swap g start size n → Opening g start n b v s
-    → v field.SwapSize ≡ replicate 8 255 → v field.Magic ≡ replicate 16 255
-    → Keeps g (Phase R g start size n b) (marking c g Primary size) s (Opening g start n b (marked_by g size v))
-marking_keeps R c g start size n b v s w is free_size free_magic =
-    keeps_append g (Phase R g start size n b) (Opening g start n b (set_field v field.SwapSize (size_bytes g size))) (Opening g start n b (marked_by g size v))
-    (write c g Primary field.SwapSize (size_bytes g size)) (write c g Primary field.Magic magic_bytes) s
-    (opening_field_keeps R g start size n b c v field.SwapSize (size_bytes g size) s w is (field_as g s Primary field.SwapSize (v field.SwapSize) (replicate 8 255) free_size
-    (is.primary field.SwapSize)) (size_bytes_fit g size w.ok) (size_bytes_whole g size w.ok))
-    (λ t k. opening_field_keeps R g start size n b c (set_field v field.SwapSize (size_bytes g size)) field.Magic magic_bytes t w k
-    (field_as g t Primary field.Magic (v field.Magic) (replicate 16 255) free_magic (k.primary field.Magic)) (omega arith) (magic_range g Primary w.ok).units)
-
--- a field of one unit, before other operations
-first_keeps : (R : Content → Type 0) (g : Geometry) (start : Content) (size n : ℕ) (b : Bool) (v : Field → List ℕ) (f : Field) (m : ℕ) (s : Content) → Swap g start size n → Opening g start n b v s
-    → v f ≡ replicate (room f) 255
-    → Keeps g (Phase R g start size n b) (write grains.Call g Primary f (one_unit g m)) s (Opening g start n b (set_field v f (one_unit g m)))
-first_keeps R g start size n b v f m s w is free =
-    opening_field_keeps R g start size n b grains.Call v f (one_unit g m) s w is (field_as g s Primary f (v f) (replicate (room f) 255) free (is.primary f)) (one_unit_fits g m f w.ok)
-    (one_unit_whole g m w.ok)
-
-is_ready : (g : Geometry) (start : Content) (size n : ℕ) (b : Bool) (kind : SwapType) (v : Field → List ℕ) (t : Content) → ((f : Field) → v f ≡ opened g kind size f) → Opening g start n b v t
-    → Ready g start size n b kind t
-is_ready g start size n b kind v t same is = record { primary = fields_as g t Primary v (opened g kind size) same is.primary; entries = is.entries; is_asked = is.is_asked }
-
-opening_test : (R : Content → Type 0) (c : Grain) (g : Geometry) (start : Content) (size n : ℕ) (b : Bool) (s : Content) → Swap g start size n → Opening g start n b blank_fields s
-    → Keeps g (Phase R g start size n b) (opening_writes c g kinds.Test size) s (Ready g start size n b kinds.Test)
-opening_test R c g start size n b s w is =
-    keeps_append g (Phase R g start size n b) (Opening g start n b (set_field blank_fields field.SwapInfo (one_unit g 2))) (Ready g start size n b kinds.Test) (info_write g kinds.Test ∷ [])
-    (marking c g Primary size) s
-    (first_keeps R g start size n b blank_fields field.SwapInfo 2 s w is refl)
-    (λ t k. keeps_then g (Phase R g start size n b) (Opening g start n b (marked_by g size (set_field blank_fields field.SwapInfo (one_unit g 2)))) (Ready g start size n b kinds.Test)
-    (marking c g Primary size) t
-    (λ u k. is_ready g start size n b kinds.Test (marked_by g size (set_field blank_fields field.SwapInfo (one_unit g 2))) u same k)
-    (marking_keeps R c g start size n b (set_field blank_fields field.SwapInfo (one_unit g 2)) t w k refl refl))
-  where
-    same : (f : Field) → marked_by g size (set_field blank_fields field.SwapInfo (one_unit g 2)) f ≡ opened g kinds.Test size f
-    same field.Magic = refl
-    same field.ImageOk = refl
-    same field.CopyDone = refl
-    same field.SwapInfo = refl
-    same field.SwapSize = refl
 
 abbrev staying : Geometry → ℕ → Field → List ℕ
 staying g m = set_field (set_field blank_fields field.SwapInfo (one_unit g m)) field.ImageOk (one_unit g 1)
 
-opening_stays : (R : Content → Type 0) (c : Grain) (g : Geometry) (start : Content) (size n : ℕ) (b : Bool) (kind : SwapType) (s : Content) → Swap g start size n → Opening g start n b blank_fields s
-    → is_test kind ≡ false
-    → Keeps g (Phase R g start size n b) (opening_writes c g kind size) s (Ready g start size n b kind)
-opening_stays R c g start size n b kind s w is stays =
-    let E : Bool → Type 0 = λ e. Keeps g (Phase R g start size n b) (info_write g kind ∷ (if e then marking c g Primary size else image_ok_write g Primary ∷ marking c g Primary size)) s
-    (Ready g start size n b kind) in
-    subst E (sym stays)
-    (keeps_append g (Phase R g start size n b) (Opening g start n b (set_field blank_fields field.SwapInfo (one_unit g (number_of kind)))) (Ready g start size n b kind) (info_write g kind ∷ [])
-    (image_ok_write g Primary ∷ marking c g Primary size) s
-    (first_keeps R g start size n b blank_fields field.SwapInfo (number_of kind) s w is refl)
-    (λ t k. keeps_append g (Phase R g start size n b) (Opening g start n b (staying g (number_of kind))) (Ready g start size n b kind) (image_ok_write g Primary ∷ []) (marking c g Primary size) t
-    (first_keeps R g start size n b (set_field blank_fields field.SwapInfo (one_unit g (number_of kind))) field.ImageOk 1 t w k refl)
-    (λ u k. keeps_then g (Phase R g start size n b) (Opening g start n b (marked_by g size (staying g (number_of kind)))) (Ready g start size n b kind) (marking c g Primary size) u
-    (λ x k. is_ready g start size n b kind (marked_by g size (staying g (number_of kind))) x same k)
-    (marking_keeps R c g start size n b (staying g (number_of kind)) u w k refl refl))))
-  where
-    same : (f : Field) → marked_by g size (staying g (number_of kind)) f ≡ opened g kind size f
-    same field.Magic = refl
-    same field.ImageOk = ap (λ (e : Bool). if e then blank_fields field.ImageOk else one_unit g 1) (sym stays)
-    same field.CopyDone = refl
-    same field.SwapInfo = refl
-    same field.SwapSize = refl
+-- Of a swap, at its start.
+module _ (g : Geometry) (start : Content) (size n : ℕ) (w : Swap g start size n) (b : Bool) where
+  clears : (kind : SwapType) (i : ℕ) (t u : Content) → i < trailer_sectors g → Clearing g start size n b kind i t
+      → Erased g Secondary i t u → Under g start size n kind 0 u
+  clears kind i t u below (inl first) ch = record {
+    primary = fields_same g t u Primary (opened g kind size) w.ok (λ p h. ch.other Primary p (λ e. cc)) first.1.primary;
+    entries = let few = w.few in entries_kept g n 0 t u w.ok (omega (arith, few)) (omega arith) (λ p h l. ch.other Primary p (λ e. cc)) first.1.entries;
+    secondary = unasked_from g u Secondary (λ p h. erased_here g Secondary i t u (place g Secondary field.Magic + p) ch (last.0 p) (last.1 p h));
+    data_ = data_erased g Secondary n start 0 i t u below ch first.1.is_asked.data_;
+  }
+    where
+      last : ((p : ℕ) → (sectors_of g Secondary - 1 - i) * g.sector ≤ place g Secondary field.Magic + p)
+          × ((p : ℕ) → p < 16 → place g Secondary field.Magic + p < (sectors_of g Secondary - 1 - i) * g.sector + g.sector)
+      last = at (sectors_of g Secondary - 1 - i) (let leaves = trailer_leaves_one g Secondary w.ok in let zero_ = first.0 in omega arith)
+        where
+          at : (k : ℕ) → sectors_of g Secondary ≡ k + 1 → ((p : ℕ) → k * g.sector ≤ place g Secondary field.Magic + p) × ((p : ℕ) → p < 16 → place g Secondary field.Magic + p < k * g.sector + g.sector)
+          at k e =
+              let rows : sectors_of g Secondary * g.sector ≡ (k + 1) * g.sector = ap (λ n. n * g.sector) e in
+              let inside = place_inside g Secondary field.Magic w.ok in
+              let wide = w.ok.least_sector in
+              (λ p. omega (arith, rows, inside, wide), λ p h. omega (arith, rows, inside, h))
+  clears kind i t u below (inr under) ch = record {
+    primary = fields_same g t u Primary (opened g kind size) w.ok (λ p h. ch.other Primary p (λ e. cc)) under.primary;
+    entries = let few = w.few in entries_kept g n 0 t u w.ok (omega (arith, few)) (omega arith) (λ p h l. ch.other Primary p (λ e. cc)) under.entries;
+    secondary = unasked_from g u Secondary (λ p h. erased_still g Secondary i t u (place g Secondary field.Magic + p) ch (unasked_is g t p under.secondary h));
+    data_ = data_erased g Secondary n start 0 i t u below ch under.data_;
+  }
 
-pub opening_keeps : (R : Content → Type 0) (c : Grain) (g : Geometry) (start : Content) (size n : ℕ) (b : Bool) (kind : SwapType) (s : Content) → Swap g start size n → IsSwapOf b kind
-    → Opening g start n b blank_fields s
-    → Keeps g (Phase R g start size n b) (opening_writes c g kind size) s (Ready g start size n b kind)
-opening_keeps R c g start size n b kinds.Test s w of is = opening_test R c g start size n b s w is
-opening_keeps R c g start size n b kinds.Perm s w of is = opening_stays R c g start size n b kinds.Perm s w is refl
-opening_keeps R c g start size n b kinds.Revert s w of is = opening_stays R c g start size n b kinds.Revert s w is refl
-opening_keeps R c g start size n b kinds.None s w of is = absurd of
-opening_keeps R c g start size n b kinds.Fail s w of is = absurd of
-opening_keeps R c g start size n b kinds.Panic s w of is = absurd of
+  -- A swap that is asked for bears any change of the primary's trailer, so a field of it may be written in part.
+  asked_after : (f : Field) (new : List ℕ) (s t : Content) → Asked g start n b s → Changed s t Primary (place g Primary f) new → Asked g start n b t
+  asked_after f new s t is ch = record {
+    secondary = fields_same g s t Secondary (asked b) w.ok (λ i _. ch.other Secondary i (λ e. cc)) is.secondary;
+    data_ = data_same g n start 0 s t (changed_sized g s t Primary _ _ ch is.data_.sized) (kept_below g s t Primary (place g Primary f) new ch (place_behind_data g Primary f w.ok)) is.data_;
+  }
 
--- after the primary's trailer is erased
-pub freed : (g : Geometry) (start : Content) (size n : ℕ) (b : Bool) (s : Content) → Swap g start size n → Asked g start n b s
-    → ((p : ℕ) → data_end g Primary ≤ p → p < size_of g Primary → byte s Primary p ≡ 255) → Opening g start n b blank_fields s
-freed g start size n b s w is free = record {
-  primary = λ f i h within.
-      free (place g Primary f + i) (omega (arith, place_behind_data g Primary f w.ok)) (omega (arith, within, field_ends g Primary f w.ok))
-      ∙ sym (get_or-replicate (room f) i 255 0 within);
-  entries = entries_none g n s (λ e i below h. free (entry_place g e + i) (omega (arith, entry_inside g e w.ok below, data_before_trailer g Primary w.ok))
-      (omega (arith, h, entry_ends g e w.ok below)));
-  is_asked = is;
-}
+  is_ready : (kind : SwapType) (v : Field → List ℕ) (t : Content) → ((f : Field) → v f ≡ opened g kind size f) → Opening g start n b v t
+      → Ready g start size n b kind t
+  is_ready kind v t same is = record { primary = fields_as g t Primary v (opened g kind size) same is.primary; entries = is.entries; is_asked = is.is_asked }
 
-pub asked_erased : (g : Geometry) (start : Content) (size n : ℕ) (b : Bool) (i : ℕ) (t u : Content) → Swap g start size n → i < trailer_sectors g → Asked g start n b t → Erased g Primary i t u
-    → Asked g start n b u
-asked_erased g start size n b i t u w below is ch = record {
-  secondary = fields_same g t u Secondary (asked b) w.ok (λ p h. ch.other Secondary p (λ e. cc)) is.secondary;
-  data_ = data_erased g Primary n start 0 i t u below ch is.data_;
-}
+  -- after the primary's trailer is erased
+  pub freed : (s : Content) → Asked g start n b s
+      → ((p : ℕ) → data_end g Primary ≤ p → p < size_of g Primary → byte s Primary p ≡ 255) → Opening g start n b blank_fields s
+  freed s is free = record {
+    primary = λ f i h within.
+        free (place g Primary f + i) (omega (arith, place_behind_data g Primary f w.ok)) (omega (arith, within, field_ends g Primary f w.ok))
+        ∙ sym (get_or-replicate (room f) i 255 0 within);
+    entries = entries_none g n s (λ e i below h. free (entry_place g e + i) (omega (arith, entry_inside g e w.ok below, data_before_trailer g Primary w.ok))
+        (omega (arith, h, entry_ends g e w.ok below)));
+    is_asked = is;
+  }
 
-pub swap_keeps : (R : Content → Type 0) (c : Grain) (g : Geometry) (start : Content) (size n : ℕ) (b : Bool) (kind : SwapType) (s : Content) → Swap g start size n → IsSwapOf b kind
-    → Asked g start n b s
-    → Keeps g (Phase R g start size n b) (swap_list c g kind size n) s (Ended g start size n b)
-swap_keeps R c g start size n b kind s w of is =
-    keeps_append g (Phase R g start size n b) _ (Ended g start size n b) (trailer_erases g Primary) (opening_writes c g kind size ++ resumed_list g n 0 true false) s
-    (erases_keep g Primary (Phase R g start size n b) (λ i t. Asked g start n b t) s w.ok
-    (λ i t k. (asks R g start size n b t k, k.data_.sized))
-    (λ i t u h k ch. asked_erased g start size n b i t u w h k ch) is)
-    (λ t k. keeps_append g (Phase R g start size n b) (Ready g start size n b kind) (Ended g start size n b) (opening_writes c g kind size) (resumed_list g n 0 true false) t
-    (opening_keeps R c g start size n b kind t w of (freed g start size n b t w k.0 k.1))
-    (λ u ready. clearing_keeps R g start size n b kind u w of (inl (refl, ready))))
+  pub asked_erased : (i : ℕ) (t u : Content) → i < trailer_sectors g → Asked g start n b t → Erased g Primary i t u → Asked g start n b u
+  asked_erased i t u below is ch = record {
+    secondary = fields_same g t u Secondary (asked b) w.ok (λ p h. ch.other Secondary p (λ e. cc)) is.secondary;
+    data_ = data_erased g Primary n start 0 i t u below ch is.data_;
+  }
+
+  module _ (R : Content → Type 0) where
+    clearing_bears : (kind : SwapType) (i : ℕ) (t : Content) → IsSwapOf b kind → Clearing g start size n b kind i t
+        → Phase R g start size n b t × IsSized g t
+    clearing_bears kind i t of (inl first) = (asks R g start size n b t first.1.is_asked, first.1.is_asked.data_.sized)
+    clearing_bears kind i t of (inr under) = (runs R g start size n b kind 0 t of (omega arith) under, under.data_.sized)
+
+    pub clearing_keeps : (kind : SwapType) (s : Content) → IsSwapOf b kind → Clearing g start size n b kind 0 s
+        → Keeps g (Phase R g start size n b) (resumed_list g n 0 true false) s (Ended g start size n b)
+    clearing_keeps kind s of is =
+        keeps_append g (Phase R g start size n b) _ (Ended g start size n b) (trailer_erases g Secondary) (from_transfer g n 0 false) s
+        (erases_keep g Secondary (Phase R g start size n b) (Clearing g start size n b kind) s w.ok
+        (λ i t k. clearing_bears kind i t of k)
+        (λ i t u h k ch. inr (clears kind i t u h k ch)) is)
+        (λ t k. rest_keeps g start size n w R b kind of 0 t (omega arith) (cleared t k.0))
+      where
+        cleared : (t : Content) → Clearing g start size n b kind (trailer_sectors g) t → Under g start size n kind 0 t
+        cleared t (inl none) = absurd (omega (arith, none.0, some_trailer g w.ok))
+        cleared t (inr under) = under
+
+    -- no transfer made: the secondary's trailer is erased again
+    pub resumed_keeps : (kind : SwapType) (s : Content) → IsSwapOf b kind → Under g start size n kind 0 s
+        → Keeps g (Phase R g start size n b) (resumed_list g n 0 true false) s (Ended g start size n b)
+    resumed_keeps kind s of is = clearing_keeps kind s of (inr is)
+
+    pub opening_field_keeps : (c : Grain) (v : Field → List ℕ) (f : Field) (new : List ℕ) (s : Content)
+        → Opening g start n b v s → FieldIs g s Primary f (replicate (room f) 255) → length new ≤ room f → length new % g.unit ≡ 0
+        → Keeps g (Phase R g start size n b) (write c g Primary f new) s (Opening g start n b (set_field v f new))
+    opening_field_keeps c v f new s is free short whole =
+        keeps_then g (Phase R g start size n b) (λ t. Changed s t Primary (place g Primary f) new) (Opening g start n b (set_field v f new)) (write c g Primary f new) s
+        (λ t ch. let few = w.few in record {
+          primary = write_field g s t Primary v f new w.ok short is.primary ch;
+          entries = entries_kept g n 0 s t w.ok (omega (arith, few)) (omega arith) (λ i _ h. ch.before i (omega (arith, h, place_inside g Primary f w.ok, most_before_end f))) is.entries;
+          is_asked = asked_after f new s t is.is_asked ch;
+        })
+        (field_write_keeps g (Phase R g start size n b) s c Primary f new w.ok is.is_asked.data_.sized free short whole
+        (asks R g start size n b s is.is_asked)
+        (λ k t fine h part. asks R g start size n b t (asked_after f (take k new) s t is.is_asked part)))
+
+    pub marking_keeps : (c : Grain) (v : Field → List ℕ) (s : Content) → Opening g start n b v s
+        → v field.SwapSize ≡ replicate 8 255 → v field.Magic ≡ replicate 16 255
+        → Keeps g (Phase R g start size n b) (marking c g Primary size) s (Opening g start n b (marked_by g size v))
+    marking_keeps c v s is free_size free_magic =
+        keeps_append g (Phase R g start size n b) (Opening g start n b (set_field v field.SwapSize (size_bytes g size))) (Opening g start n b (marked_by g size v))
+        (write c g Primary field.SwapSize (size_bytes g size)) (write c g Primary field.Magic magic_bytes) s
+        (opening_field_keeps c v field.SwapSize (size_bytes g size) s is (field_as g s Primary field.SwapSize (v field.SwapSize) (replicate 8 255) free_size
+        (is.primary field.SwapSize)) (size_bytes_fit g size w.ok) (size_bytes_whole g size w.ok))
+        (λ t k. opening_field_keeps c (set_field v field.SwapSize (size_bytes g size)) field.Magic magic_bytes t k
+        (field_as g t Primary field.Magic (v field.Magic) (replicate 16 255) free_magic (k.primary field.Magic)) (omega arith) (magic_range g Primary w.ok).units)
+
+    -- a field of one unit, before other operations
+    first_keeps : (v : Field → List ℕ) (f : Field) (m : ℕ) (s : Content) → Opening g start n b v s → v f ≡ replicate (room f) 255
+        → Keeps g (Phase R g start size n b) (write grains.Call g Primary f (one_unit g m)) s (Opening g start n b (set_field v f (one_unit g m)))
+    first_keeps v f m s is free =
+        opening_field_keeps grains.Call v f (one_unit g m) s is (field_as g s Primary f (v f) (replicate (room f) 255) free (is.primary f)) (one_unit_fits g m f w.ok)
+        (one_unit_whole g m w.ok)
+
+    opening_test : (c : Grain) (s : Content) → Opening g start n b blank_fields s
+        → Keeps g (Phase R g start size n b) (opening_writes c g kinds.Test size) s (Ready g start size n b kinds.Test)
+    opening_test c s is =
+        keeps_append g (Phase R g start size n b) (Opening g start n b (set_field blank_fields field.SwapInfo (one_unit g 2))) (Ready g start size n b kinds.Test) (info_write g kinds.Test ∷ [])
+        (marking c g Primary size) s
+        (first_keeps blank_fields field.SwapInfo 2 s is refl)
+        (λ t k. keeps_then g (Phase R g start size n b) (Opening g start n b (marked_by g size (set_field blank_fields field.SwapInfo (one_unit g 2)))) (Ready g start size n b kinds.Test)
+        (marking c g Primary size) t
+        (λ u k. is_ready kinds.Test (marked_by g size (set_field blank_fields field.SwapInfo (one_unit g 2))) u same k)
+        (marking_keeps c (set_field blank_fields field.SwapInfo (one_unit g 2)) t k refl refl))
+      where
+        same : (f : Field) → marked_by g size (set_field blank_fields field.SwapInfo (one_unit g 2)) f ≡ opened g kinds.Test size f
+        same field.Magic = refl
+        same field.ImageOk = refl
+        same field.CopyDone = refl
+        same field.SwapInfo = refl
+        same field.SwapSize = refl
+
+    opening_stays : (c : Grain) (kind : SwapType) (s : Content) → Opening g start n b blank_fields s → is_test kind ≡ false
+        → Keeps g (Phase R g start size n b) (opening_writes c g kind size) s (Ready g start size n b kind)
+    opening_stays c kind s is stays =
+        let E : Bool → Type 0 = λ e. Keeps g (Phase R g start size n b) (info_write g kind ∷ (if e then marking c g Primary size else image_ok_write g Primary ∷ marking c g Primary size)) s
+        (Ready g start size n b kind) in
+        subst E (sym stays)
+        (keeps_append g (Phase R g start size n b) (Opening g start n b (set_field blank_fields field.SwapInfo (one_unit g (number_of kind)))) (Ready g start size n b kind) (info_write g kind ∷ [])
+        (image_ok_write g Primary ∷ marking c g Primary size) s
+        (first_keeps blank_fields field.SwapInfo (number_of kind) s is refl)
+        (λ t k. keeps_append g (Phase R g start size n b) (Opening g start n b (staying g (number_of kind))) (Ready g start size n b kind) (image_ok_write g Primary ∷ []) (marking c g Primary size) t
+        (first_keeps (set_field blank_fields field.SwapInfo (one_unit g (number_of kind))) field.ImageOk 1 t k refl)
+        (λ u k. keeps_then g (Phase R g start size n b) (Opening g start n b (marked_by g size (staying g (number_of kind)))) (Ready g start size n b kind) (marking c g Primary size) u
+        (λ x k. is_ready kind (marked_by g size (staying g (number_of kind))) x same k)
+        (marking_keeps c (staying g (number_of kind)) u k refl refl))))
+      where
+        same : (f : Field) → marked_by g size (staying g (number_of kind)) f ≡ opened g kind size f
+        same field.Magic = refl
+        same field.ImageOk = ap (λ (e : Bool). if e then blank_fields field.ImageOk else one_unit g 1) (sym stays)
+        same field.CopyDone = refl
+        same field.SwapInfo = refl
+        same field.SwapSize = refl
+
+    pub opening_keeps : (c : Grain) (kind : SwapType) (s : Content) → IsSwapOf b kind → Opening g start n b blank_fields s
+        → Keeps g (Phase R g start size n b) (opening_writes c g kind size) s (Ready g start size n b kind)
+    opening_keeps c kinds.Test s of is = opening_test c s is
+    opening_keeps c kinds.Perm s of is = opening_stays c kinds.Perm s is refl
+    opening_keeps c kinds.Revert s of is = opening_stays c kinds.Revert s is refl
+    opening_keeps c kinds.None s of is = absurd of
+    opening_keeps c kinds.Fail s of is = absurd of
+    opening_keeps c kinds.Panic s of is = absurd of
+
+    pub swap_keeps : (c : Grain) (kind : SwapType) (s : Content) → IsSwapOf b kind → Asked g start n b s
+        → Keeps g (Phase R g start size n b) (swap_list c g kind size n) s (Ended g start size n b)
+    swap_keeps c kind s of is =
+        keeps_append g (Phase R g start size n b) _ (Ended g start size n b) (trailer_erases g Primary) (opening_writes c g kind size ++ resumed_list g n 0 true false) s
+        (erases_keep g Primary (Phase R g start size n b) (λ i t. Asked g start n b t) s w.ok
+        (λ i t k. (asks R g start size n b t k, k.data_.sized))
+        (λ i t u h k ch. asked_erased i t u h k ch) is)
+        (λ t k. keeps_append g (Phase R g start size n b) (Ready g start size n b kind) (Ended g start size n b) (opening_writes c g kind size) (resumed_list g n 0 true false) t
+        (opening_keeps c kind t of (freed t k.0 k.1))
+        (λ u ready. clearing_keeps kind u of (inl (refl, ready))))

@@ -1,5 +1,5 @@
 -- The boot that swaps the largest images for a test: its plan, all of whose operations happen.
-use Rattle.std.specs.Prelude.{◌≡◌, ℕ, ◌≤◌, max, true, false, List, [], ◌∷◌, length, Option, Some, None, refl}
+use Rattle.std.specs.Prelude.{◌≡◌, ℕ, max, true, false, List, [], length, refl}
 use Rattle.std.specs.Int.{div_ceil}
 use Rattle.std.proofs.Common.{arith, ap, subst, ◌∙◌}
 use Rattle.std.proofs.lemmas.Bool.Decides.{nat_tests}
@@ -14,17 +14,15 @@ use Rattle.mc_boot.specs.Course.{new_list}
 use Rattle.mc_boot.specs.Image.{image_size}
 use Rattle.mc_boot.specs.Plan.{Plan, plan}
 use Rattle.mc_boot.specs.Restart.{BeginsImage}
-use Rattle.mc_boot.specs.Runs.{first_then, happening, is_faulted, ops_of}
+use Rattle.mc_boot.specs.Runs.{is_faulted, ops_of}
 use Rattle.mc_boot.specs.Start.{image_bytes, start_flash, test_flash}
 use Rattle.mc_boot.specs.declared.kind.Kind.TheVariants as starts
 use Rattle.mc_boot.specs.WholeSwap.{MakesSwap}
-use Rattle.mc_flash.specs.Apply.{apply}
 use Rattle.mc_flash.specs.Changes.{same_content}
 use Rattle.mc_flash.specs.Content.{Content}
 use Rattle.mc_flash.specs.Geometry.{Geometry, IsLayout, greatest_sectors}
 use Rattle.mc_flash.specs.Pieces.{in_pieces}
 use Rattle.mc_flash.specs.declared.flash.Grain.{Grain}
-use Rattle.mc_flash.specs.declared.op.Op.{Op}
 use Rattle.mc_trailer.specs.facts.Fields.{FieldsAre}
 use Rattle.mc_trailer.specs.declared.tables.Rules.{Rules}
 use Rattle.mc_trailer.specs.declared.tables.SwapType.TheVariants as kinds

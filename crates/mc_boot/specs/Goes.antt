@@ -1,10 +1,10 @@
 -- How a boot goes on, by steps.
 use Rattle.std.specs.Prelude.{◌≡◌}
-use Rattle.std.proofs.Common.{refl, sym, subst, ◌∙◌}
+use Rattle.std.proofs.Common.{sym, subst, ◌∙◌}
 use Rattle.mc_flash.specs.Content.{Content}
 use Rattle.mc_flash.specs.Geometry.{Geometry}
 use Rattle.mc_flash.specs.Seen.{Seen, Keeps}
-use Rattle.mc_flash.specs.facts.Spends.{keeps_both, keeps_none}
+use Rattle.mc_flash.specs.facts.Spends.{keeps_both}
 use Rattle.mc_trailer.specs.declared.tables.Rules.{Rules}
 use Rattle.mc_boot.specs.Boot.{IsBootOf, all_of, progress}
 use Rattle.mc_boot.specs.Run.{HasCome}

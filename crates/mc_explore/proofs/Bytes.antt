@@ -98,17 +98,11 @@ schedule l = record { all = All-weaker (IsBetween 45 57) (λ c. c ≢ 10) (λ c 
 
 result : (r : BootResult) → NoFeed (result_text r)
 result results.Boot = literal (codes "boot") refl
-result results.None = literal (codes "none") refl
-result results.Panic = literal (codes "panic") refl
-result results.Fault = literal (codes "fault") refl
+result r = literal (result_text r) refl
 
 kind : (t : SwapType) → NoFeed (type_text t)
 kind types.None = literal (codes "none") refl
-kind types.Test = literal (codes "test") refl
-kind types.Perm = literal (codes "perm") refl
-kind types.Revert = literal (codes "revert") refl
-kind types.Fail = literal (codes "fail") refl
-kind types.Panic = literal (codes "panic") refl
+kind t = literal (type_text t) refl
 
 slot : (o : Option Identity) → NoFeed (slot_text o)
 slot None = literal (codes "none") refl

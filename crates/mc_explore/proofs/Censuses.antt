@@ -1,29 +1,16 @@
 -- Totals that are cut off, one after another.
-use Rattle.std.proofs.Common.{◌≡◌, ℕ, zero, suc, List, [], ◌∷◌, take, Option, Some, None, option_map, refl, ap, ◌∙◌}
+use Rattle.std.proofs.Common.{◌≡◌, ℕ, List, [], ◌∷◌, take, Option, Some, None, option_map, refl, ap, ◌∙◌, arith}
+use Rattle.std.proofs.lemmas.List.{take-take}
 use Rattle.mc_explore.specs.Totals.{Totals, cut_off, lowered, totals}
 use Rattle.mc_explore.specs.declared.census.Census.{Census}
 
 -- The census with another first schedule.
 abbrev pub with_schedule : Census → Option (List ℕ) → Census
-with_schedule c first = record {
-  schedules = c.schedules;
-  boot = c.boot;
-  none = c.none;
-  panic = c.panic;
-  fault = c.fault;
-  most_operations = c.most_operations;
-  first_not_boot = first;
-}
+with_schedule c first = record c { first_not_boot = first }
 
 -- The first ones of the first ones.
-take_first : (n : ℕ) (xs : List ℕ) → take n (take (suc n) xs) ≡ take n xs
-take_first zero [] = refl
-take_first zero (x ∷ xs) = refl
-take_first (suc n) [] = refl
-take_first (suc n) (x ∷ xs) = ap (λ (l : List ℕ). x ∷ l) (take_first n xs)
-
 take_front : (i : ℕ) (xs : List ℕ) → take 16 (i ∷ take 16 xs) ≡ take 16 (i ∷ xs)
-take_front i xs = ap (λ (l : List ℕ). i ∷ l) (take_first 15 xs)
+take_front i xs = ap (λ (l : List ℕ). i ∷ l) (take-take 15 16 xs (omega arith))
 
 take_lowered : (j : ℕ) (xs : List ℕ) → lowered j (take 16 xs) ≡ take 16 (lowered j xs)
 take_lowered j [] = refl

@@ -1,8 +1,7 @@
 -- A boot that is stepped through, with what is told of the flashes on its way.
-use Rattle.std.proofs.Common.{◌≡◌, ℕ, ◌+◌, ◌-◌, ◌*◌, ◌<◌, ◌≤◌, List, [], ◌∷◌, ◌++◌, length, inl, inr, refl, sym, ap, subst, ◌∙◌, arith}
-use Rattle.std.proofs.lemmas.Bool.{cases_lt}
+use Rattle.std.proofs.Common.{◌≡◌, ℕ, ◌+◌, ◌-◌, ◌*◌, ◌<◌, ◌≤◌, List, [], ◌∷◌, ◌++◌, length, refl, sym, ap, subst, ◌∙◌, arith}
 use Rattle.std.proofs.lemmas.List.{length-append}
-use Rattle.std.proofs.lemmas.Option.{same_Some, slice_get_within}
+use Rattle.std.proofs.lemmas.Option.{slice_get_within}
 use Rattle.std.proofs.Math.Nat.{mul-le-mul_right}
 use Rattle.mc_boot.specs.After.{IsCut}
 use Rattle.mc_boot.specs.Boot.{begun, progress}
@@ -31,7 +30,7 @@ use Rattle.mc_explore.specs.declared.table.Position.{Position}
 use Rattle.mc_explore.specs.facts.Occurring.{at_zero}
 use Rattle.mc_explore.specs.facts.Telling.{first_left, first_on, width_is}
 use Rattle.mc_explore.proofs.Onwards.{cut_here}
-use Rattle.mc_explore.proofs.Tables.{get_before, get_last}
+use Rattle.mc_explore.proofs.Tables.{each_more}
 use Rattle.mc_boot.specs.PowerOn.{power_on, powered}
 
 one_more : (b n : ℕ) → (b + 1) * n ≡ b * n + n
@@ -70,9 +69,6 @@ module _ (r : Rules) (g : Geometry) where
   module _ (old now : Seen) (left : Counts) (bound : ℕ) (room : HasRoomFor r g (bound + 1) old) (some : 1 ≤ bound) (u : IsUnder old left now) where
     checkpoints_are : length now.checkpoints ≡ length old.checkpoints + 1
     checkpoints_are = omega (arith, ap length u.keeps.checkpoints, length-append old.checkpoints (checkpoint_of old ∷ []))
-
-    most : Counts
-    most = most_of r g
 
     pub child_room : HasRoom (plus left (most_of r g)) now
     child_room =
@@ -202,10 +198,6 @@ module _ (r : Rules) (g : Geometry) where
 
     pub more_positions : (ps : List Position) (p : Position) (n : ℕ) → ArePositions r g s bound ps → length ps ≡ n → IsPosition r g s bound (at_cut (power_on r g s) n) p
         → ArePositions r g s bound (ps ++ p ∷ [])
-    more_positions ps p n are many here c q is = elim (cases_lt c (length ps)) [
-      | inl before ↦ are c q (sym (get_before ps (p ∷ []) c before) ∙ is)
-      | inr le ↦
-          let e : c ≡ length ps = omega (arith, le, slice_get_within (ps ++ p ∷ []) c q is, length-append ps (p ∷ [])) in
-          let same : p ≡ q = same_Some p q (sym (get_last ps p c e) ∙ is) in
-          subst (λ m. IsPosition r g s bound (at_cut (power_on r g s) m) q) (sym (e ∙ many)) (subst (IsPosition r g s bound (at_cut (power_on r g s) n)) same here)
-    ]
+    more_positions ps p n are many here =
+        let P : ℕ → Position → Type 0 = λ m. IsPosition r g s bound (at_cut (power_on r g s) m) in
+        each_more P ps p are (subst (λ m. P m p) (sym many) here)

@@ -34,43 +34,43 @@ module _ (until : Option (List ℕ)) (old : State) (limit : ℕ) where
         few = omega arith;
       }
 
-  module _ (now : State) (tally : Tally) (p : AreCounted now tally) where
-    pub one_counted : (row : Told) (tally' : Tally) → tally' ≡ tally_so_far (p.some ++ row ∷ []) → tally'.rows ≡ tally.rows + 1
-    one_counted row tally' is =
-        let now : tally.rows ≡ length p.some = ap (λ (t : Tally). t.rows) p.tally_is in
-        let then : tally'.rows ≡ length (p.some ++ row ∷ []) = ap (λ (t : Tally). t.rows) is in
-        omega (arith, now, then, length-append p.some (row ∷ []))
+module _ {until : Option (List ℕ)} {old : State} {limit : ℕ} {now : State} {tally : Tally} (p : AreCounted until old limit now tally) where
+  pub one_counted : (row : Told) (tally' : Tally) → tally' ≡ tally_so_far (p.some ++ row ∷ []) → tally'.rows ≡ tally.rows + 1
+  one_counted row tally' is =
+      let now : tally.rows ≡ length p.some = ap (λ (t : Tally). t.rows) p.tally_is in
+      let then : tally'.rows ≡ length (p.some ++ row ∷ []) = ap (λ (t : Tally). t.rows) is in
+      omega (arith, now, then, length-append p.some (row ∷ []))
 
-    -- One row more.
-    pub count_on : (new : State) (row : Told) (tally' : Tally) (room : limit - tally.rows ≡ suc (limit - tally'.rows)) → FindsBefore schedules until now (Some row) new
-        → ((rows : List Told) → tally ≡ tally_so_far rows → tally' ≡ tally_so_far (rows ++ row ∷ [])) → tally'.rows ≤ limit → AreCounted new tally'
-    count_on new row tally' room f more few = record {
-      some = p.some ++ row ∷ [];
-      so_far = one_more schedules schedules_are_lawful until old limit now (limit - tally.rows) p.some p.so_far (limit - tally'.rows) room new row f;
-      last_is = λ _. ap (λ (s : State). s.position) f.2 ∙ ap (λ m. After m) (sym (last_on (λ (row : Told). row.schedule) [] p.some row));
-      tally_is = more p.some p.tally_is;
-      few = few;
-    }
+  -- One row more.
+  pub count_on : (new : State) (row : Told) (tally' : Tally) (room : limit - tally.rows ≡ suc (limit - tally'.rows)) → FindsBefore schedules until now (Some row) new
+      → ((rows : List Told) → tally ≡ tally_so_far rows → tally' ≡ tally_so_far (rows ++ row ∷ [])) → tally'.rows ≤ limit → AreCounted until old limit new tally'
+  count_on new row tally' room f more few = record {
+    some = p.some ++ row ∷ [];
+    so_far = one_more schedules schedules_are_lawful until old limit now (limit - tally.rows) p.some p.so_far (limit - tally'.rows) room new row f;
+    last_is = λ _. ap (λ (s : State). s.position) f.2 ∙ ap (λ m. After m) (sym (last_on (λ (row : Told). row.schedule) [] p.some row));
+    tally_is = more p.some p.tally_is;
+    few = few;
+  }
 
-    -- Where no further row is shown.
-    pub counted_short : (new : State) (k : ℕ) → limit - tally.rows ≡ suc k → FindsBefore schedules until now None new → SurveysUntil until old new limit tally
-    counted_short new k room f =
-        (page_with schedules old p.some false, page_short schedules schedules_are_lawful until old limit now (limit - tally.rows) p.some p.so_far k room new f, p.tally_is)
+  -- Where no further row is shown.
+  pub counted_short : (new : State) (k : ℕ) → limit - tally.rows ≡ suc k → FindsBefore schedules until now None new → SurveysUntil until old new limit tally
+  counted_short new k room f =
+      (page_with schedules old p.some false, page_short schedules schedules_are_lawful until old limit now (limit - tally.rows) p.some p.so_far k room new f, p.tally_is)
 
-    -- Where the page is full.
-    pub last_counted : 1 ≤ limit → limit - tally.rows ≡ 0 → now.position ≡ After (last_schedule [] p.some)
-    last_counted some full = p.last_is (omega (arith, some, full, p.few, ap (λ (t : Tally). t.rows) p.tally_is))
+  -- Where the page is full.
+  pub last_counted : 1 ≤ limit → limit - tally.rows ≡ 0 → now.position ≡ After (last_schedule [] p.some)
+  last_counted some full = p.last_is (omega (arith, some, full, p.few, ap (λ (t : Tally). t.rows) p.tally_is))
 
-    pub counted_full : (cursor : Cursor) → limit - tally.rows ≡ 0 → cursor ≡ cursor_of now.start now.bound (last_schedule [] p.some)
-        → SurveysUntil until old now limit (record { rows = tally.rows; boot = tally.boot; none = tally.none; panic = tally.panic; fault = tally.fault; most_ops = tally.most_ops; next = Some cursor })
-    counted_full cursor full is =
-        let so_far = tally_so_far p.some in
-        let next = cursor_is schedules schedules_are_lawful until old limit now (limit - tally.rows) p.some p.so_far cursor is in (
-          page_with schedules old p.some true,
-          page_full schedules schedules_are_lawful until old limit now (limit - tally.rows) p.some p.so_far full,
-          ap (λ (t : Tally). record { rows = t.rows; boot = t.boot; none = t.none; panic = t.panic; fault = t.fault; most_ops = t.most_ops; next = Some cursor }) p.tally_is
-              ∙ ap (λ n. record { rows = so_far.rows; boot = so_far.boot; none = so_far.none; panic = so_far.panic; fault = so_far.fault; most_ops = so_far.most_ops; next = n }) next,
-        )
+  pub counted_full : (cursor : Cursor) → limit - tally.rows ≡ 0 → cursor ≡ cursor_of now.start now.bound (last_schedule [] p.some)
+      → SurveysUntil until old now limit (record { rows = tally.rows; boot = tally.boot; none = tally.none; panic = tally.panic; fault = tally.fault; most_ops = tally.most_ops; next = Some cursor })
+  counted_full cursor full is =
+      let so_far = tally_so_far p.some in
+      let next = cursor_is schedules schedules_are_lawful until old limit now (limit - tally.rows) p.some p.so_far cursor is in (
+        page_with schedules old p.some true,
+        page_full schedules schedules_are_lawful until old limit now (limit - tally.rows) p.some p.so_far full,
+        ap (λ (t : Tally). record { rows = t.rows; boot = t.boot; none = t.none; panic = t.panic; fault = t.fault; most_ops = t.most_ops; next = Some cursor }) p.tally_is
+            ∙ ap (λ n. record { rows = so_far.rows; boot = so_far.boot; none = so_far.none; panic = so_far.panic; fault = so_far.fault; most_ops = so_far.most_ops; next = n }) next,
+      )
 
 -- A survey of all rows to come.
 pub surveyed_whole : (old new : State) (limit : ℕ) (tally : Tally) → SurveysUntil None old new limit tally → Surveys old new limit tally

@@ -1,7 +1,8 @@
 -- What the one list of rows comes to is what the tree of boots does.
-use Rattle.std.proofs.Common.{◌≡◌, ℕ, zero, suc, ◌+◌, ◌≤◌, max, Bool, true, false, not, if◌then◌else◌, List, [], ◌∷◌, length, map, take, Option, Some, None, option_map, refl, sym, ap, ◌∙◌, arith}
+use Rattle.std.proofs.Common.{◌≡◌, ℕ, ◌+◌, ◌≤◌, max, Bool, true, false, not, if◌then◌else◌, List, [], ◌∷◌, length, map, take, Option, Some, None, option_map, refl, sym, ap, ◌∙◌, arith}
 use Rattle.std.specs.Prelude.{Contains}
 use Rattle.std.specs.List.{find, fold}
+use Rattle.std.proofs.lemmas.List.{take_all}
 use Rattle.std.proofs.lemmas.List.Recursion.{is_count_by}
 use Rattle.std.specs.Option.{option_or}
 use Rattle.mc_boot.specs.Outcome.{Report}
@@ -14,7 +15,7 @@ use Rattle.mc_tree.specs.facts.Existence.{all_from}
 use Rattle.mc_tree.specs.facts.Lists as lists
 use Rattle.mc_tree.specs.facts.Weighed.{AreWeighed, rows_weigh}
 use Rattle.mc_explore.specs.Boots.{at_cut, boots}
-use Rattle.mc_explore.specs.Census.{IsCensus, census_of, cut_number, first_not_boot}
+use Rattle.mc_explore.specs.Census.{IsCensus, census_of, first_not_boot}
 use Rattle.mc_boot.specs.PowerOn.{PowerOn, power_on}
 use Rattle.mc_explore.specs.State.{Told}
 use Rattle.mc_explore.specs.Survey.{is_boot, is_none, is_panic, is_fault, most_ops_of, rows_with}
@@ -60,16 +61,10 @@ most_from n (row ∷ rows) =
 most_is : (rows : List Told) → (sum_of rows).most ≡ most_ops_of rows
 most_is rows = let e : (sum_of rows).most ≡ max 0 (sum_of rows).most = omega arith in e ∙ most_from 0 rows
 
-take_few : (n : ℕ) (xs : List ℕ) → length xs ≤ n → take n xs ≡ xs
-take_few zero [] few = refl
-take_few (suc n) [] few = refl
-take_few zero (x ∷ xs) few = absurd (omega (arith, few))
-take_few (suc n) (x ∷ xs) few = ap (λ (l : List ℕ). x ∷ l) (take_few n xs (omega (arith, few)))
-
 first_more : (b : Bool) (row : Told) (o : Option (List ℕ)) (found : Option Told) → length row.schedule ≤ 16 → option_map (take 16) o ≡ option_map (λ row. row.schedule) found
     → option_map (take 16) (option_or (if b then None else Some row.schedule) o) ≡ option_map (λ row. row.schedule) (if not b then Some row else found)
 first_more true row o found few is = is
-first_more false row o found few is = ap (λ (l : List ℕ). Some l) (take_few 16 row.schedule few)
+first_more false row o found few is = ap (λ (l : List ℕ). Some l) (take_all 16 row.schedule few)
 
 first_is : (rows : List Told) → ((row : Told) → Contains rows row → length row.schedule ≤ 16) → option_map (take 16) (sum_of rows).first ≡ first_not_boot rows
 first_is [] few = refl
@@ -77,28 +72,10 @@ first_is (row ∷ rows) few =
     first_more (is_boot row.outcome.result) row (sum_of rows).first (find (λ row. not (is_boot row.outcome.result)) rows) (few row (lists.at_front row rows))
     (first_is rows (λ x i. few x (lists.behind row x rows i)))
 
-census_with : (a b c d e m : ℕ) → Option (List ℕ) → Census
-census_with a b c d e m first = record {
-  schedules = cut_number a;
-  boot = cut_number b;
-  none = cut_number c;
-  panic = cut_number d;
-  fault = cut_number e;
-  most_operations = m;
-  first_not_boot = first;
-}
-
-same_census : (a b c d e m a' b' c' d' e' m' : ℕ) (x x' : Option (List ℕ)) → a ≡ a' → b ≡ b' → c ≡ c' → d ≡ d' → e ≡ e' → m ≡ m' → x ≡ x' → census_with a b c d e m x ≡ census_with a' b' c' d' e' m' x'
-same_census a b c d e m a' b' c' d' e' m' x x' pa pb pc pd pe pm px = cc
-
 -- The rows' totals, cut off, are their census.
 rows_census : (rows : List Told) → ((row : Told) → Contains rows row → length row.schedule ≤ 16) → cut_off (sum_of rows) ≡ census_of rows
-unfolding cut_off census_with
-rows_census rows few =
-    same_census (sum_of rows).schedules (sum_of rows).boot (sum_of rows).none (sum_of rows).panic (sum_of rows).fault (sum_of rows).most
-    (length rows) (rows_with is_boot rows) (rows_with is_none rows) (rows_with is_panic rows) (rows_with is_fault rows) (most_ops_of rows)
-    (option_map (take 16) (sum_of rows).first) (first_not_boot rows)
-    (many_are rows) (boots_are rows) (nones_are rows) (panics_are rows) (faults_are rows) (most_is rows) (first_is rows few)
+unfolding cut_off
+rows_census rows few = cc (many_are rows, boots_are rows, nones_are rows, panics_are rows, faults_are rows, most_is rows, first_is rows few)
 
 -- ---- the tree
 

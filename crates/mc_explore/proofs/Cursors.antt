@@ -93,7 +93,5 @@ pub cursor_is : {E : Type 0} (told : Rules) (start : StartField) (schedule : Lis
     → ◌≡◌ {A = Result (List ℕ) E} (Ok schedule) (Ok c.schedule)
     → record { rules = told; digest = start.digest; bound = start.bound; schedule = schedule } ≡ c
 cursor_is told start schedule c a b d =
-    let schedules : schedule ≡ c.schedule = cc in
-    ap (λ (x : Rules). record { rules = x; digest = start.digest; bound = start.bound; schedule = schedule }) a
-    ∙ ap (λ (x : StartField). record { rules = c.rules; digest = x.digest; bound = x.bound; schedule = schedule }) b
-    ∙ ap (λ (x : List ℕ). record { rules = c.rules; digest = c.digest; bound = c.bound; schedule = x }) schedules
+    let all : record { rules = told; digest = start.digest; bound = start.bound; schedule = schedule } ≡ record { rules = c.rules; digest = c.digest; bound = c.bound; schedule = c.schedule } = cc in
+    all

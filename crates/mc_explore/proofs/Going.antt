@@ -13,7 +13,6 @@ use Rattle.mc_flash.specs.Usage.{Limits, most_operations}
 use Rattle.mc_flash.specs.Seen.{Seen}
 use Rattle.mc_flash.specs.Spends.{Allows, LeaveRoom, Spent, room_of}
 use Rattle.mc_flash.specs.declared.op.Op.{Op}
-use Rattle.mc_trailer.specs.declared.tables.Rules.{Rules}
 use Rattle.mc_walk.specs.Kind.{telling}
 use Rattle.mc_walk.specs.Walks.{Walked, Begins, Follows, IsThere, path_cost, origin_of}
 use Rattle.mc_boot.specs.Boot.{Progress, progress}
@@ -39,6 +38,7 @@ use Rattle.mc_explore.specs.Once.{begun_of}
 use Rattle.mc_explore.specs.declared.once.Once.{Once}
 use Rattle.mc_explore.specs.declared.once.Told.{Told}
 use Rattle.mc_explore.proofs.Moving.{same_begun}
+use Rattle.mc_explore.proofs.Onwards.{ComesOn}
 use Rattle.mc_explore.specs.facts.Occurring.{allowed_after, occurs_allowed, member_of, path_of}
 
 -- ---- what a path costs
@@ -158,10 +158,7 @@ pub started : (counted : Bool) (start : PowerOn) (bound : ℕ) (w : Walked Once)
 started counted start bound w l few = λ _. record { start_is = l.start_is; bound_is = l.bound_is; few = few; counted_is = l.counted_is }
 
 pub behind_it : (counted : Bool) (start : PowerOn) (bound : ℕ) (path : List ℕ) (w : Walked Once) → Followed counted start bound path w → state_of w (After path) ≡ behind start bound path
-behind_it counted start bound path w f =
-    ap (λ (s : PowerOn). record { start = s; bound = w.bound; position = After path; failed = w.seen.usage.failed }) f.start_is
-    ∙ ap (λ (n : ℕ). record { start = start; bound = n; position = After path; failed = w.seen.usage.failed }) f.bound_is
-    ∙ ap (λ (b : Bool). record { start = start; bound = bound; position = After path; failed = b }) f.calm
+behind_it counted start bound path w f = cc (f.start_is, f.bound_is, f.calm)
 
 -- The start of an explorer behind a schedule is the one that it tells.
 pub same_digest : (counted : Bool) (start : PowerOn) (bound : ℕ) (rows : Rowed) (told : PowerOn) (many : ℕ) (path d : List ℕ) → IsSound counted start bound rows
@@ -213,9 +210,7 @@ module _ (counted : Bool) (start : PowerOn) (bound : ℕ) (path : List ℕ) (w :
       subst (λ (x : Geometry). LeaveRoom w.seen.usage.counts (left_of x (progress told.boot)) (room_of w.seen.usage.limits)) (sym layout_here) few
 
   -- What it leaves is what the replay leaves.
-  pub replayed : (q : Progress) (new : Seen)
-      → ((r : Rules) (s : Content) → HasCome (power_on r w.seen.geometry s) (progress told.boot) w.seen.content → HasCome (power_on r w.seen.geometry s) q new.content)
-      → q.to_come ≡ []
+  pub replayed : (q : Progress) (new : Seen) → ComesOn w.seen (progress told.boot) new q → q.to_come ≡ []
       → IsReplayed start path (shown told.outcome) new.content
   replayed q new come end =
       let t = told_here in

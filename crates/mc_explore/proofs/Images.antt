@@ -36,19 +36,12 @@ read_front b v size fine is begins size_is =
 -- The identities of two valid images, the named one first.
 pub names : (kind : Kind) (a b : List ℕ) (x y : Identity) → id_of a ≡ Some x → id_of b ≡ Some y → Some (in_order kind x y) ≡ named_ids kind a b
 names kinds.None a b x y first second = rw first (rw second refl)
-names kinds.Test a b x y first second = rw first (rw second refl)
-names kinds.Perm a b x y first second = rw first (rw second refl)
-names kinds.Revert a b x y first second = rw first (rw second refl)
+names kind a b x y first second = rw first (rw second refl)
 
 abbrev pub pair : Identity → Identity → Identity × Identity
 pair x y = (x, y)
 
-two : (a b x y : Identity) → a ≡ x → b ≡ y → pair a b ≡ pair x y
-two a b x y first second = ap (λ z. pair z b) first ∙ ap (pair x) second
-
 pub told_ids : (kind : Kind) (p : ImageId × ImageId) (i j : ImageId) (x y : Identity) → p ≡ in_order kind i j → identity_of i ≡ x → identity_of j ≡ y
     → pair (identity_of p.0) (identity_of p.1) ≡ in_order kind x y
-told_ids kinds.None p i j x y is first second = ap (λ (q : ImageId × ImageId). pair (identity_of q.0) (identity_of q.1)) is ∙ two (identity_of i) (identity_of j) x y first second
-told_ids kinds.Test p i j x y is first second = ap (λ (q : ImageId × ImageId). pair (identity_of q.0) (identity_of q.1)) is ∙ two (identity_of j) (identity_of i) y x second first
-told_ids kinds.Perm p i j x y is first second = ap (λ (q : ImageId × ImageId). pair (identity_of q.0) (identity_of q.1)) is ∙ two (identity_of j) (identity_of i) y x second first
-told_ids kinds.Revert p i j x y is first second = ap (λ (q : ImageId × ImageId). pair (identity_of q.0) (identity_of q.1)) is ∙ two (identity_of j) (identity_of i) y x second first
+told_ids kinds.None p i j x y is first second = cc
+told_ids kind p i j x y is first second = cc

@@ -1,8 +1,7 @@
 -- The outcomes at the cuts of one boot, and the rows of the boots that go on with it.
 use Rattle.std.specs.Prelude.{◌≡◌, ℕ, ◌<◌, ◌≤◌, ◌^◌, refl, Bool, true, false, if◌then◌else◌, List, [], ◌∷◌, ◌++◌, length, Some}
-use Rattle.std.proofs.Common.{arith, sym, ap, subst, ◌∙◌, inl, inr, length-append}
-use Rattle.std.proofs.lemmas.Bool.{cases_lt}
-use Rattle.std.proofs.lemmas.Option.{same_Some, slice_get_within}
+use Rattle.std.proofs.Common.{arith, sym, ap, subst, ◌∙◌}
+use Rattle.std.proofs.lemmas.Option.{slice_get_within}
 use Rattle.mc_boot.specs.Outcome.{outcome_of, shown}
 use Rattle.mc_boot.specs.declared.outcome.Outcome.{Outcome}
 use Rattle.mc_flash.specs.Content.{Content}
@@ -13,7 +12,7 @@ use Rattle.mc_walk.specs.Kind.{IsAt}
 use Rattle.mc_walk.specs.Walks.{IsLastStep, IsThere, Walked, origin_of}
 use Rattle.mc_walk.specs.declared.frame.Frame.{Frame}
 use Rattle.mc_boot.specs.After.{IsCut}
-use Rattle.mc_boot.specs.Boot.{IsBootOf, begun, progress}
+use Rattle.mc_boot.specs.Boot.{begun, progress}
 use Rattle.mc_boot.specs.Outcome.{Report}
 use Rattle.mc_boot.specs.Plan.{plan}
 use Rattle.mc_boot.specs.Rejoin.{IsRejoined}
@@ -28,7 +27,7 @@ use Rattle.mc_explore.specs.facts.Telling.{width_is}
 use Rattle.mc_explore.proofs.Columns.{joined_here}
 use Rattle.mc_explore.specs.LastCuts.{AreAtCuts, AreLastCuts, flash_at}
 use Rattle.mc_explore.specs.facts.Occurring.{at_zero}
-use Rattle.mc_explore.proofs.Tables.{get_before, get_last}
+use Rattle.mc_explore.proofs.Tables.{each_more}
 use Rattle.mc_boot.specs.PowerOn.{PowerOn, again, power_on, powered}
 
 module _ (from : PowerOn) where
@@ -41,16 +40,6 @@ module _ (from : PowerOn) where
   pub none_kept : (of : List ℕ) (outcomes : List Outcome) → outcomes ≡ [] → AreAtCuts from of outcomes
   none_kept of outcomes none i o is = absurd (omega (arith, slice_get_within outcomes i o is, ap length none))
 
-  one_kept : (of : List ℕ) (outcomes : List Outcome) (o : Outcome) → AreAtCuts from of outcomes
-      → outcome_of (again from (at_cut (again from (flash_at from of)) (length outcomes))) ≡ Some (shown o) → AreAtCuts from of (outcomes ++ o ∷ [])
-  one_kept of outcomes o are told i p is = elim (cases_lt i (length outcomes)) [
-    | inl before ↦ are i p (sym (get_before outcomes (o ∷ []) i before) ∙ is)
-    | inr le ↦
-        let e : i ≡ length outcomes = omega (arith, le, slice_get_within (outcomes ++ o ∷ []) i p is, length-append outcomes (o ∷ [])) in
-        let same : o ≡ p = same_Some o p (sym (get_last outcomes o i e) ∙ is) in
-        ap (λ n. outcome_of (again from (at_cut (again from (flash_at from of)) n))) e ∙ told ∙ ap (λ x. Some (shown x)) same
-  ]
-
   -- One outcome more, where there is room for it.
   pub kept_more : (of schedule before : List ℕ) (outcomes new : List Outcome) (o : Outcome) (last first : ℕ) (fits : Bool) → AreAtCuts from of outcomes
       → outcome_of (again from (flash_at from schedule)) ≡ Some (shown o) → schedule ≡ before ++ last ∷ [] → before ≡ of ++ first ∷ [] → first ≡ 0 → length outcomes ≡ last
@@ -61,7 +50,7 @@ module _ (from : PowerOn) where
       let here : outcome_of (again from (at_cut (again from (flash_at from of)) (length outcomes))) ≡ Some (shown o) =
       ap (λ n. outcome_of (again from (at_cut (again from (flash_at from of)) n))) count
       ∙ sym (ap (λ l. outcome_of (again from (flash_at from l))) path ∙ ap (λ s. outcome_of (again from s)) (flash_twice of last)) ∙ told in
-      subst (AreAtCuts from of) (sym is) (one_kept of outcomes o are here)
+      subst (AreAtCuts from of) (sym is) (each_more (λ i p. outcome_of (again from (at_cut (again from (flash_at from of)) i)) ≡ Some (shown p)) outcomes o are here)
 
 -- The last element of a list, and those before it.
 last_alike : (xs ys : List ℕ) (x y : ℕ) → xs ++ x ∷ [] ≡ ys ++ y ∷ [] → xs ≡ ys

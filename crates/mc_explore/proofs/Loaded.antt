@@ -1,12 +1,12 @@
--- A flash that was just loaded, and a walk on it.
+-- A flash that was just loaded.
 use Rattle.std.specs.Prelude.{◌≡◌, ℕ, ◌+◌, ◌*◌, ◌≤◌, Bool, List, [], length, Some}
-use Rattle.std.proofs.Common.{arith, sym, ap, subst, ◌∙◌}
+use Rattle.std.proofs.Common.{arith, sym, ap, ◌∙◌}
 use Rattle.std.proofs.Math.Nat.{mul-le-mul_right}
 use Rattle.mc_flash.specs.Content.{Content}
-use Rattle.mc_flash.specs.Geometry.{Geometry, IsLayout}
-use Rattle.mc_flash.specs.Usage.{Usage, Limits, most_operations, most_saved}
+use Rattle.mc_flash.specs.Geometry.{Geometry}
+use Rattle.mc_flash.specs.Usage.{Usage, most_operations, most_saved}
 use Rattle.mc_flash.specs.Seen.{Seen, Loads}
-use Rattle.mc_flash.specs.Spends.{Allows, Spent}
+use Rattle.mc_flash.specs.Spends.{Allows}
 use Rattle.mc_trailer.specs.declared.tables.Rules.{Rules}
 use Rattle.mc_boot.specs.Boot.{Progress}
 use Rattle.mc_boot.specs.Bounds.{left_of}
@@ -14,13 +14,13 @@ use Rattle.mc_boot.specs.Plan.{plain}
 use Rattle.mc_boot.specs.Run.{HasCome}
 use Rattle.mc_boot.specs.facts.Run.{come_left}
 use Rattle.mc_boot.specs.Runs.{left_by}
-use Rattle.mc_walk.specs.Walks.{IsClear, IsFresh, IsOf, Walked, origin_of}
+use Rattle.mc_walk.specs.Walks.{IsClear}
 use Rattle.mc_explore.specs.Once.{once}
 use Rattle.mc_explore.specs.facts.Room.{limits_are}
 use Rattle.mc_explore.specs.Start.{Started, begun}
-use Rattle.mc_boot.specs.PowerOn.{PowerOn, power_on, powered}
+use Rattle.mc_boot.specs.PowerOn.{power_on, powered}
 use Rattle.mc_explore.specs.Table.{HasRoomFor}
-use Rattle.mc_explore.specs.View.{IsLoaded, begun_with}
+use Rattle.mc_explore.specs.View.{begun_with}
 use Rattle.mc_explore.specs.declared.once.Once.{Once}
 
 module _ (counted : Bool) (g : Geometry) (primary secondary : List ℕ) (f : Seen) where
@@ -76,27 +76,6 @@ room_for counted g primary secondary f r boots l =
 pub same_start : (start : Started) (once : Once) (primary secondary : List ℕ) → once.rules ≡ start.rules → once.layout ≡ start.geometry → primary ≡ start.content.primary
     → secondary ≡ start.content.secondary → begun_with once primary secondary ≡ begun start
 same_start start once primary secondary rules layout one two =
-    ap (λ (x : Rules). record { geometry = once.layout; rules = x; content = record { primary = primary; secondary = secondary } }) rules
-    ∙ ap (λ (x : Geometry). record { geometry = x; rules = start.rules; content = record { primary = primary; secondary = secondary } }) layout
-    ∙ ap (λ (x : List ℕ). record { geometry = start.geometry; rules = start.rules; content = record { primary = x; secondary = secondary } }) one
-    ∙ ap (λ (x : List ℕ). record { geometry = start.geometry; rules = start.rules; content = record { primary = start.content.primary; secondary = x } }) two
-
--- A walk from there.
-pub loaded : (counted : Bool) (start : PowerOn) (primary secondary : List ℕ) (bound many : ℕ) (f : Seen) (b : Once) (w : Walked Once)
-    → Loads counted start.geometry primary secondary start.rules.grain many f
-    → b ≡ record { rules = start.rules; layout = start.geometry } → start.content ≡ record { primary = primary; secondary = secondary } → IsOf b bound f w → IsFresh (once b.rules b.layout) w
-    → Spent 0 f w.seen → IsLayout start.geometry
-    → IsLoaded counted start bound w
-loaded counted start primary secondary bound many f b w l is content of fresh spent valid =
-    let at : origin_of w.seen ≡ start.content = of.origin ∙ l.content_is ∙ sym content in
-    let branches : w.branches ≡ record { rules = start.rules; layout = start.geometry } = of.branches_are ∙ is in
-    record {
-      start_is = ap (λ (x : Once). record { geometry = x.layout; rules = x.rules; content = origin_of w.seen }) branches ∙ ap
-          (λ (x : Content). record { geometry = start.geometry; rules = start.rules; content = x }) at;
-      bound_is = of.bound_is;
-      fresh = subst (λ (x : Once). IsFresh (once x.rules x.layout) w) (sym of.branches_are) fresh;
-      counted_is = ap (λ (x : Limits). x.counted) spent.limits ∙ l.counted_is;
-      idle = omega (arith, spent.applied, ap (λ (x : Usage). x.applied) l.usage_is);
-      calm = spent.failed ∙ ap (λ (x : Usage). x.failed) l.usage_is;
-      valid = valid;
-    }
+    let content : Content = record { primary = start.content.primary; secondary = start.content.secondary } in
+    let same : begun_with once primary secondary ≡ record { rules = start.rules; geometry = start.geometry; content = content } = cc in
+    same

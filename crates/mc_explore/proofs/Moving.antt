@@ -1,12 +1,11 @@
 -- The row that is found is the next one of the schedules.
 use Rattle.std.specs.Prelude.{◌≡◌, ◌≢◌, ◌+◌, ◌≤◌, Bool, List, ℕ, [], Option, Some, None, IfSome, refl}
-use Rattle.std.proofs.Common.{arith, ap, subst, ◌∙◌}
+use Rattle.std.proofs.Common.{arith, sym, ap, ◌∙◌}
 use Rattle.mc_boot.specs.Restart.{RestartLaw}
 use Rattle.mc_tree.specs.Tree as tree
 use Rattle.mc_tree.specs.Paths as paths
 use Rattle.mc_tree.specs.Paths.{Position, After, IsOver}
 use Rattle.mc_tree.specs.facts.Past.{same_next, same_over}
-use Rattle.mc_flash.specs.Content.{Content}
 use Rattle.mc_flash.specs.Usage.{Limits}
 use Rattle.mc_flash.specs.Seen.{Seen}
 use Rattle.mc_flash.specs.Spends.{Spent}
@@ -32,29 +31,31 @@ use Rattle.mc_explore.specs.facts.Occurring.{member_of, path_of}
 use Rattle.mc_explore.proofs.Restarts.{row_restarts}
 
 -- The paths of a walk are the schedules to go through.
-module _ (w : Walked Once) (position : Position (List ℕ)) where
-  pub next_listed : (l : List ℕ) → paths.IsNext (IsPath (kind_of w.branches) w) position l → states.IsNext (state_of w position) l
-  next_listed =
+module _ (w : Walked Once) where
+  pub next_listed : (position : Position (List ℕ)) (l : List ℕ) → paths.IsNext (IsPath (kind_of w.branches) w) position l → states.IsNext (state_of w position) l
+  next_listed position =
       same_next (tree.IsMember (boots w.branches.rules w.branches.layout) (origin_of w.seen) w.bound) (IsMember (begun_of w) w.bound)
       (member_of (begun_of w) w.bound) (path_of (begun_of w) w.bound) position
 
-  pub over_listed : paths.IsOver (IsPath (kind_of w.branches) w) position → states.IsOver (state_of w position)
-  over_listed =
+  pub over_listed : (position : Position (List ℕ)) → paths.IsOver (IsPath (kind_of w.branches) w) position → states.IsOver (state_of w position)
+  over_listed position =
       same_over (tree.IsMember (boots w.branches.rules w.branches.layout) (origin_of w.seen) w.bound) (IsMember (begun_of w) w.bound)
       (member_of (begun_of w) w.bound) (path_of (begun_of w) w.bound) position
+
+  -- Where no further path is, the position is behind its last one.
+  pub over_behind : (p : Phase) (l : List ℕ) → IsOver (IsPath (kind_of w.branches) w) (position_of p l) → p ≢ phases.Broken → position_of p l ≡ After l
+  over_behind phases.Fresh l over works = absurd (over [] (omega arith, tt) tt)
+  over_behind phases.Going l over works = refl
+  over_behind phases.Done l over works = refl
+  over_behind phases.Broken l over works = absurd (works refl)
 
 -- ---- the same start
 
 pub same_begun : (old new : Walked Once) → IsSame old new → begun_of new ≡ begun_of old
-same_begun old new s =
-    ap (λ (b : Once). record { geometry = b.layout; rules = b.rules; content = origin_of new.seen }) s.branches
-    ∙ ap (λ (c : Content). record { geometry = old.branches.layout; rules = old.branches.rules; content = c }) s.origin
+same_begun old new s = cc (s.branches, s.origin)
 
 same_state : (old new : Walked Once) (position : Position (List ℕ)) → IsSame old new → new.seen.usage.failed ≡ old.seen.usage.failed → state_of new position ≡ state_of old position
-same_state old new position s calm =
-    ap (λ (b : PowerOn). record { start = b; bound = new.bound; position = position; failed = new.seen.usage.failed }) (same_begun old new s)
-    ∙ ap (λ (n : ℕ). record { start = begun_of old; bound = n; position = position; failed = new.seen.usage.failed }) s.bound
-    ∙ ap (λ (f : Bool). record { start = begun_of old; bound = old.bound; position = position; failed = f }) calm
+same_state old new position s calm = cc (same_begun old new s, s.bound, calm)
 
 -- ---- what is found
 
@@ -80,18 +81,6 @@ module _ (counted : Bool) (start : PowerOn) (bound : ℕ) (old new : Rowed) wher
         counted_is = ap (λ (l : Limits). l.counted) f.limits ∙ ours.counted_is;
       }
 
-  -- Where there is none the position stays.
-  stays_there : IsOver (IsPath (kind_of old.walk.branches) old.walk) (position_in old) → old.phase ≢ phases.Broken → After old.last ≡ position_in old
-  stays_there over works = by old.phase refl
-    where
-      by : (p : Phase) → old.phase ≡ p → After old.last ≡ position_of p old.last
-      by phases.Fresh is =
-          let none = subst (λ q. IsOver (IsPath (kind_of old.walk.branches) old.walk) (position_of q old.last)) is over in
-          absurd (none [] (omega arith, tt) tt)
-      by phases.Going is = refl
-      by phases.Done is = refl
-      by phases.Broken is = absurd (works is)
-
   pub finds_it : (found : Option Row) → Found counted start bound old new found → Finds here found
   finds_it (Some row) f = (next_listed old.walk (position_in old) row.schedule f.finds.0, lands_told (begun_of old.walk) row.schedule f.finds.0.listed.1 ∙ f.finds.1)
   finds_it None f = over_listed old.walk (position_in old) f.finds.0
@@ -102,7 +91,7 @@ module _ (counted : Bool) (start : PowerOn) (bound : ℕ) (old new : Rowed) wher
       ∙ same_state old.walk new.walk (After row.schedule) f.finds.2 f.failed
   moved_on None f =
       ap (λ p. state_of new.walk (position_of p new.last)) f.finds.3 ∙ ap (λ l. state_of new.walk (After l)) f.finds.4
-      ∙ ap (state_of new.walk) (stays_there f.finds.0 f.works) ∙ same_state old.walk new.walk (position_in old) f.finds.2 f.failed
+      ∙ ap (state_of new.walk) (sym (over_behind old.walk old.phase old.last f.finds.0 f.works)) ∙ same_state old.walk new.walk (position_in old) f.finds.2 f.failed
 
   pub sound_on : (found : Option Row) → Found counted start bound old new found → IsSound counted start bound new
   sound_on (Some row) f = λ _. ours_there (Some row) f f.finds.2

@@ -43,9 +43,12 @@ others_left p q old new v steps = at p.to_come refl steps
     at [] is d = omega (arith, ap (λ (ops : List Op). length ops) is)
     at (op ∷ rest) is d = omega (arith, ap (λ (ops : List Op). length ops) is, ap (λ (x : Progress). length x.to_come) d.0)
 
+-- Where a boot has come there, it has come on to here.
+abbrev pub ComesOn : Seen → Progress → Seen → Progress → Type 0
+ComesOn f p new q = (x : Rules) (s : Content) → HasCome (power_on x f.geometry s) p f.content → HasCome (power_on x f.geometry s) q new.content
+
 -- What is asked of a boot that was run to its end.
-pub ends_with : (f new : Seen) (p q : Progress) (outcome : Outcome) → Keeps f new
-    → ((x : Rules) (s : Content) → HasCome (power_on x f.geometry s) p f.content → HasCome (power_on x f.geometry s) q new.content) → q.to_come ≡ []
+pub ends_with : (f new : Seen) (p q : Progress) (outcome : Outcome) → Keeps f new → ComesOn f p new q → q.to_come ≡ []
     → ((x : Rules) (s : Content) → HasCome (power_on x new.geometry s) q new.content → q.to_come ≡ [] → outcome_of (power_on x new.geometry s) ≡ Some (shown outcome)) → EndsWith f p outcome
 ends_with f new p q outcome keeps come end told = λ x s here.
     let P : Geometry → Type 0 = λ y. HasCome (power_on x y s) q new.content in
@@ -72,11 +75,11 @@ module _ (r : Rules) (g : Geometry) where
     early_here = omega (arith, early, at.on_is.count_is, ap (λ (x : Geometry). length (ops_of (power_on r x s))) at.layout_is)
 
     -- The operation is not refused.
-    pub not_refused : (result : Result (Unit {0}) FlashError) → Steps (progress b) old result (progress b') new → HasCome (power_on r old.geometry s) (progress b') new.content
+    pub not_refused : (result : Result (Unit {0}) FlashError) → Steps (progress b) old result (progress b') new → ComesOn old (progress b) new (progress b')
         → result ≡ Err errors.NotErased → ⊥
     not_refused result steps come refused =
         let h = refused_here (progress b) (progress b') old new result refused steps in
-        omega (arith, early_here, h.1, come_ops (power_on r old.geometry s) (progress b') new.content come h.0)
+        omega (arith, early_here, h.1, come_ops (power_on r old.geometry s) (progress b') new.content (come r s come_here) h.0)
 
     -- It happens, and the boot has made one more.
     pub went_on : (v : Unit {0}) → Steps (progress b) old (Ok v) (progress b') new → HasCome (power_on r old.geometry s) (progress b') new.content → all_of b' ≡ all_of b → IsBootOf new.geometry b'
@@ -105,8 +108,7 @@ module _ (r : Rules) (g : Geometry) where
 
   -- What a step leaves on the way to the next cut.
   pub passes : (b b' : Boot) (old new : Seen) (result : Result (Unit {0}) FlashError) → CanPass r g b old
-      → Steps (progress b) old result (progress b') new
-      → ((x : Rules) (s : Content) → HasCome (power_on x old.geometry s) (progress b) old.content → HasCome (power_on x old.geometry s) (progress b') new.content)
+      → Steps (progress b) old result (progress b') new → ComesOn old (progress b) new (progress b')
       → all_of b' ≡ all_of b → IsBootOf new.geometry b' → Keeps old new → Passes r g b old result b' new
   passes b b' old new (Err e) has steps come whole layout keeps = tt
   passes b b' old new (Ok v) has steps come whole layout keeps =
@@ -117,8 +119,7 @@ module _ (r : Rules) (g : Geometry) where
 
   -- And what it spends.
   pub pass_spends : (b b' : Boot) (old new : Seen) (result : Result (Unit {0}) FlashError) → CanPass r g b old → Steps (progress b) old result (progress b') new
-      → ((x : Rules) (s : Content) → HasCome (power_on x old.geometry s) (progress b) old.content → HasCome (power_on x old.geometry s) (progress b') new.content)
-      → Spends 1 old result new
+      → ComesOn old (progress b) new (progress b') → Spends 1 old result new
   pass_spends b b' old new (Ok v) has steps come =
       let other : Ok v ≡ Err errors.Memory → ⊥ = λ e. absurd cc in
       let s = step_spends (progress b) (progress b') old new (Ok v) other steps in
@@ -127,22 +128,17 @@ module _ (r : Rules) (g : Geometry) where
         limits = s.limits;
         failed = s.failed;
       }
-  pass_spends b b' old new (Err errors.NotErased) has steps come =
-      let came = come r has.0 (come_here has.0 has.1 b b' old new has.2 has.3) in
-      absurd (not_refused has.0 has.1 b b' old new has.2 has.3 (Err errors.NotErased) steps came refl)
+  pass_spends b b' old new (Err errors.NotErased) has steps come = absurd (not_refused has.0 has.1 b b' old new has.2 has.3 (Err errors.NotErased) steps come refl)
   pass_spends b b' old new (Err errors.Memory) has steps come =
       let P : Geometry → Type 0 = λ x. LeaveRoom old.usage.counts (left_of x (progress b)) (room_of old.usage.limits) in
       step_ran_out (progress b) (progress b') old new (Err errors.Memory) refl steps (subst P (sym has.2.layout_is) has.4)
 
   -- A step that fails has wanted memory.
   pub pass_wants : (b b' : Boot) (old new : Seen) (result : Result (Unit {0}) FlashError) → CanPass r g b old → Steps (progress b) old result (progress b') new
-      → ((x : Rules) (s : Content) → HasCome (power_on x old.geometry s) (progress b) old.content → HasCome (power_on x old.geometry s) (progress b') new.content)
-      → IfErr result (λ e. e ≡ errors.Memory)
+      → ComesOn old (progress b) new (progress b') → IfErr result (λ e. e ≡ errors.Memory)
   pass_wants b b' old new (Ok v) has steps come = tt
   pass_wants b b' old new (Err errors.Memory) has steps come = refl
-  pass_wants b b' old new (Err errors.NotErased) has steps come =
-      let came = come r has.0 (come_here has.0 has.1 b b' old new has.2 has.3) in
-      absurd (not_refused has.0 has.1 b b' old new has.2 has.3 (Err errors.NotErased) steps came refl)
+  pass_wants b b' old new (Err errors.NotErased) has steps come = absurd (not_refused has.0 has.1 b b' old new has.2 has.3 (Err errors.NotErased) steps come refl)
 
   -- A child has one more before it.
   pub can_pass : (b : Boot) (seen : Seen) → HasNext (once r g) b seen → CanPass r g b seen
@@ -155,7 +151,7 @@ module _ (r : Rules) (g : Geometry) where
   -- ---- what is told of a flash
 
   -- And that it was run.
-  told_of : (s : Content) (f : Seen) (b : Boot) (outcome : Outcome) → f.geometry ≡ g → f.content ≡ s → IsBegun r f b → outcome_of (power_on r g s) ≡ Some (shown outcome)
+  pub told_of : (s : Content) (f : Seen) (b : Boot) (outcome : Outcome) → f.geometry ≡ g → f.content ≡ s → IsBegun r f b → outcome_of (power_on r g s) ≡ Some (shown outcome)
       → IsTold (power_on r g s) (record { boot = b; outcome = outcome })
   told_of s f b outcome layout content begins is =
       let plans : plan (powered r f) ≡ plan (power_on r g s) = ap (λ (x : Geometry). plan (power_on r x f.content)) layout ∙ ap (λ s. plan (power_on r g s)) content in
@@ -215,25 +211,14 @@ module _ (r : Rules) (g : Geometry) where
         let is : outcome_of (power_on r g f.content) ≡ Some (shown outcome) = ap (λ (x : Geometry). outcome_of (power_on r x f.content)) (sym layout) ∙ ends r f.content comes in
         told_of f.content f b outcome layout refl begins is
 
-    pub left_run : (q : Progress) (new : Seen) → ((x : Rules) (s : Content) → HasCome (power_on x f.geometry s) (progress b) f.content → HasCome (power_on x f.geometry s) q new.content)
-        → q.to_come ≡ []
-        → left_by (power_on r g f.content) ≡ Some new.content
+    pub left_run : (q : Progress) (new : Seen) → ComesOn f (progress b) new q → q.to_come ≡ [] → left_by (power_on r g f.content) ≡ Some new.content
     left_run q new come end = ap (λ (x : Geometry). left_by (power_on r x f.content)) (sym layout) ∙ come_left (powered r f) q new.content (come r f.content comes) end
 
-    plans : (s : Content) (i : ℕ) (at : Boot) → IsAt (once r g) s i at f → plan (powered r f) ≡ plan (power_on r g (at_cut (power_on r g s) i))
-    plans s i at here = ap (λ (x : Geometry). plan (power_on r x f.content)) layout ∙ ap (λ s. plan (power_on r g s)) here.content_is
-
-    pub told_derived : (s : Content) (i : ℕ) (at : Boot) (parent : Told) (outcome : Outcome) → IsAt (once r g) s i at f → i < length (ops_of (power_on r g s)) → IsTold (power_on r g s) parent
-        → ((x : PowerOn) (u : Content) → IsCut x u at (shown parent.outcome) → IsBootOf x.geometry b → progress b ≡ begun x.rules (plan (again x u)) → outcome_of (again x u) ≡ Some (shown outcome))
-        → IsTold (power_on r g (at_cut (power_on r g s) i)) (record { boot = b; outcome = outcome })
-    told_derived s i at parent outcome here early told after =
-        let is = after (power_on r g s) (at_cut (power_on r g s) i) (cut_here s i at f parent here early told) (subst (λ (x : Geometry). IsBootOf x b) layout begins.cold.layout)
-        (begins.cold.boot ∙ ap (begun r) (plans s i at here)) in
-        told_of (at_cut (power_on r g s) i) f b outcome layout here.content_is begins is
-
-    pub left_derived : (s : Content) (i : ℕ) (at : Boot) (parent : Told) → IsAt (once r g) s i at f → i < length (ops_of (power_on r g s)) → IsTold (power_on r g s) parent
-        → ((x : PowerOn) (u : Content) → IsCut x u at (shown parent.outcome) → IsBootOf x.geometry b → progress b ≡ begun x.rules (plan (again x u)) → left_by (again x u) ≡ left_by x)
-        → left_by (power_on r g (at_cut (power_on r g s) i)) ≡ left_by (power_on r g s)
-    left_derived s i at parent here early told after =
-        after (power_on r g s) (at_cut (power_on r g s) i) (cut_here s i at f parent here early told) (subst (λ (x : Geometry). IsBootOf x b) layout begins.cold.layout) (begins.cold.boot
-        ∙ ap (begun r) (plans s i at here))
+    -- What holds of each boot that was cut so holds of this one.
+    pub cut_so : (P : PowerOn → Content → Type 0) (s : Content) (i : ℕ) (at : Boot) (parent : Told) → IsAt (once r g) s i at f → i < length (ops_of (power_on r g s)) → IsTold (power_on r g s) parent
+        → ((x : PowerOn) (u : Content) → IsCut x u at (shown parent.outcome) → IsBootOf x.geometry b → progress b ≡ begun x.rules (plan (again x u)) → P x u)
+        → P (power_on r g s) (at_cut (power_on r g s) i)
+    cut_so P s i at parent here early told holds =
+        let plans = ap (λ (x : Geometry). plan (power_on r x f.content)) layout ∙ ap (λ s. plan (power_on r g s)) here.content_is in
+        holds (power_on r g s) (at_cut (power_on r g s) i) (cut_here s i at f parent here early told) (subst (λ (x : Geometry). IsBootOf x b) layout begins.cold.layout)
+        (begins.cold.boot ∙ ap (begun r) plans)

@@ -3,6 +3,7 @@ use Rattle.std.specs.Prelude.{flat_map, Bool, true, false, ◌∷◌, ◌<◌, �
 use Rattle.std.proofs.Common.{◌≡◌, ℕ, suc, ◌+◌, List, [], ◌++◌, length, take, drop, Some, None, Option, refl, sym, ap, subst, ◌∙◌, append_assoc, append-nil, arith}
 use Rattle.std.proofs.lemmas.List.{take_at, take-append-drop}
 use Rattle.std.proofs.lemmas.List.Concat.{flat_map-append}
+use Rattle.std.proofs.Math.Seq.{take-append-add}
 use Rattle.std.specs.Io.KnownBytes.{Appends}
 use Rattle.mc_tree.specs.Chain.{last_key}
 use Rattle.mc_tree.specs.Paths.{After}
@@ -33,13 +34,6 @@ front_none : (a b : Option (List ℕ)) (page text more : List ℕ) → page ≡ 
 front_none a b page text more e p =
     (length text, subst (Appends a b) (sym (ap (take (length text)) e ∙ take_at text more (length text) refl)) p)
 
--- The rows of a page, of which the first are known.
-known_first : {R : Type 0} (some left : List R) (room : ℕ) → take (length some + room) (some ++ left) ≡ some ++ take room left
-known_first {R} [] left room = let n : length {A = R} [] + room ≡ room = omega arith in ap (λ n. take n left) n
-known_first (row ∷ some) left room =
-    let n : length (row ∷ some) + room ≡ suc (length some + room) = omega arith in
-    ap (λ n. take n (row ∷ (some ++ left))) n ∙ ap (λ z. row ∷ z) (known_first some left room)
-
 -- The last of some rows.
 pub last_on : {K R : Type 0} (key : R → K) (k : K) (some : List R) (row : R) → last_key key k (some ++ row ∷ []) ≡ key row
 last_on key k [] row = refl
@@ -56,7 +50,7 @@ module _ {S K R C : Type 0} (l : Listing S K R C) where
       → page_text l (page_at l state limit shown) ≡ lines some ++ (lines (take room left) ++ last_line l (page_at l state limit shown).goes_on)
   known_text state limit room some left shown is room_is =
       let last : List ℕ = last_line l (page_at l state limit shown).goes_on in
-      let rows : take limit shown ≡ some ++ take room left = ap (λ z. take limit z) is ∙ ap (λ n. take n (some ++ left)) room_is ∙ known_first some left room in
+      let rows : take limit shown ≡ some ++ take room left = ap (λ z. take limit z) is ∙ ap (λ n. take n (some ++ left)) room_is ∙ take-append-add some left room in
       ap (λ z. lines z ++ last) rows ∙ ap (λ z. z ++ last) (flat_map-append (row_line l) some (take room left)) ∙ append_assoc (lines some) (lines (take room left)) last
 
 module _ {S K R C : Type 0} (l : Listing S K R C) (laws : IsLawful l) (until : Option K) (old : S) (limit : ℕ) (before : Option (List ℕ)) where
@@ -87,8 +81,8 @@ pub page_begin : {S K R C : Type 0} (l : Listing S K R C) (laws : IsLawful l) (u
 page_begin l laws until old limit out =
     record { some = []; so_far = none_so_far l laws until old limit; last_is = λ some. absurd (omega (arith, some)); out = Appends_none out }
 
-module _ {S K R C : Type 0} (l : Listing S K R C) (laws : IsLawful l) (until : Option K) (old : S) (limit : ℕ) (before : Option (List ℕ))
-    (now : S) (room : ℕ) (after : Option (List ℕ)) (p : AreOut l laws until old limit before now room after) where
+module _ {S K R C : Type 0} {l : Listing S K R C} {laws : IsLawful l} {until : Option K} {old : S} {limit : ℕ} {before : Option (List ℕ)}
+    {now : S} {room : ℕ} {after : Option (List ℕ)} (p : AreOut l laws until old limit before now room after) where
   -- Nothing of the next line is out.
   pub began_before : ShownBegan l until old limit before after
   began_before =
@@ -127,17 +121,34 @@ module _ {S K R C : Type 0} (l : Listing S K R C) (laws : IsLawful l) (until : O
         ∙ ap (λ z. lines l p.some ++ z) (append_assoc (row_line l row) others last) in
         record { of = of; out = front_of before after more page (lines l p.some) (row_line l row) (others ++ last) text p.out a }
 
-    -- Where no further row is shown, the last line says so.
-    pub at_end : (new : S) → FindsBefore l until now None new → TakesPage l until old new limit (page_with l old p.some false)
-    at_end = page_short l laws until old limit now room p.some p.so_far k is
+    -- Where no further row is shown, the last line says so: it is out, or a front of it.
+    module _ (new : S) (none : FindsBefore l until now None new) (out : Option (List ℕ)) where
+      end_taken : TakesPage l until old new limit (page_with l old p.some false)
+      end_taken = page_short l laws until old limit now room p.some p.so_far k is new none
 
-  -- Where the page is full, the last line goes on behind its last row.
+      pub end_out : Appends after out (last_line l None) → ShownIsOut l until old new limit before out
+      end_out = page_out l until old limit before new false p.some after out _ end_taken refl p.out
+
+      pub end_began : AppendsFront after out (last_line l None) → ShownBegan l until old limit before out
+      end_began = page_began l until old limit before new false p.some after out _ end_taken refl p.out
+
+  -- Where the page is full, the last line goes on behind its last row: it is out, or a front of it.
   module _ (full : room ≡ 0) where
-    pub when_full : TakesPage l until old now limit (page_with l old p.some true)
-    when_full = page_full l laws until old limit now room p.some p.so_far full
-
     pub last_place : 1 ≤ limit → l.position now ≡ After (last_key l.key l.no_key p.some)
     last_place some = let q = p.so_far (some_shown l laws until old) in p.last_is (omega (arith, some, full, q.room_is))
 
-  pub next_line : last_line l (Some (l.cursor now (last_key l.key l.no_key p.some))) ≡ last_line l (page_with l old p.some true).goes_on
-  next_line = ap (last_line l) (cursor_is l laws until old limit now room p.some p.so_far _ refl)
+    module _ (out : Option (List ℕ)) where
+      full_taken : TakesPage l until old now limit (page_with l old p.some true)
+      full_taken = page_full l laws until old limit now room p.some p.so_far full
+
+      abbrev next : List ℕ
+      next = last_line l (Some (l.cursor now (last_key l.key l.no_key p.some)))
+
+      next_is : next ≡ last_line l (page_with l old p.some true).goes_on
+      next_is = ap (last_line l) (cursor_is l laws until old limit now room p.some p.so_far _ refl)
+
+      pub full_out : Appends after out next → ShownIsOut l until old now limit before out
+      full_out = page_out l until old limit before now true p.some after out next full_taken next_is p.out
+
+      pub full_began : AppendsFront after out next → ShownBegan l until old limit before out
+      full_began = page_began l until old limit before now true p.some after out next full_taken next_is p.out

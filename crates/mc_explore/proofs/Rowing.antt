@@ -1,7 +1,7 @@
 -- The next row, by how a tour stands with the last one.
-use Rattle.std.specs.Prelude.{◌≡◌, ◌≢◌, ℕ, zero, suc, ◌+◌, ◌<◌, ◌≤◌, ◌^◌, Bool, true, false, is_some, List, [], ◌∷◌, ◌++◌, length, slice_get, Option, Some, None, IfSome, refl}
+use Rattle.std.specs.Prelude.{◌≡◌, ◌≢◌, ℕ, zero, suc, ◌+◌, ◌<◌, ◌≤◌, Bool, true, false, is_some, List, [], ◌∷◌, ◌++◌, length, slice_get, Option, Some, None, IfSome, refl}
 use Rattle.std.proofs.Common.{arith, sym, ap, subst, ◌∙◌, add-one, length-append}
-use Rattle.mc_boot.specs.Outcome.{outcome_of, shown}
+use Rattle.mc_boot.specs.Outcome.{outcome_of}
 use Rattle.mc_boot.specs.Rejoin.{place_of}
 use Rattle.mc_boot.specs.Runs.{ops_of}
 use Rattle.mc_boot.specs.declared.outcome.Outcome.{Outcome}
@@ -12,7 +12,7 @@ use Rattle.mc_tree.specs.Tree.{IsMember}
 use Rattle.mc_tree.specs.Paths.{Position, After, IsNext, IsOver}
 use Rattle.mc_tree.specs.facts.Order.{allowed-push, landed-push, next_after, next_below}
 use Rattle.mc_walk.specs.Tours.{Toured, Visits, position_of}
-use Rattle.mc_walk.specs.Walks.{IsPath, IsThere, origin_of}
+use Rattle.mc_walk.specs.Walks.{IsPath, IsThere, Walked, origin_of}
 use Rattle.mc_walk.specs.declared.tour.Phase.{Phase}
 use Rattle.mc_walk.specs.declared.tour.Phase.TheVariants.{Fresh, Going, Done, Broken}
 use Rattle.mc_walk.specs.facts.Same.{over_there, path_back, same_back}
@@ -23,6 +23,7 @@ use Rattle.mc_explore.specs.Rowing.{AreBehind, FindsRow, IsAtPhase, IsInStep, Is
 use Rattle.mc_explore.specs.declared.last_cuts.LastCuts.{LastCuts}
 use Rattle.mc_explore.specs.declared.once.Once.{Once}
 use Rattle.mc_explore.specs.declared.once.Told.{Told}
+use Rattle.mc_explore.proofs.Moving.{over_behind, same_begun}
 use Rattle.mc_explore.proofs.Weighing.{placed_at}
 use Rattle.mc_boot.specs.PowerOn.{again, power_on}
 use Rattle.mc_explore.specs.Once.{begun_of}
@@ -86,6 +87,14 @@ module _ (t : Toured Once) (of : List ℕ) (outcomes : List Outcome) (path : Lis
         last_more path x.next ∙ sym s,
       )
 
+-- A walk stands at that path, and these last cuts are behind it; and what was kept of a boot goes over.
+pub record HasArrived (w : Walked Once) (of : List ℕ) (outcomes : List Outcome) (of' : List ℕ) (outcomes' : List Outcome) (path : List ℕ) (cuts : Option LastCuts) : Type 0 where
+  pub path_is : path ≡ w.path
+  pub keeps : AreAtCuts (begun_of w) of outcomes → AreAtCuts (begun_of w) of' outcomes'
+  pub are : IfSome cuts (AreLastCuts (begun_of w) of' path outcomes')
+  pub deep : IfSome cuts (λ x. length path + 1 ≡ w.bound)
+  pub fresh : IfSome cuts (λ x. x.next ≡ 0)
+
 -- No last cut is to come.
 module _ (t : Toured Once) (of : List ℕ) (outcomes : List Outcome) (path : List ℕ) (cuts : Option LastCuts) (inv : IsRowing t of outcomes path cuts) (spent : IfSome cuts IsSpent)
     (works : t.phase ≢ Broken) where
@@ -128,35 +137,21 @@ module _ (t : Toured Once) (of : List ℕ) (outcomes : List Outcome) (path : Lis
     told_next : (told : Told) → IsThere (kind_of new.walk.branches) new.walk told
         → IsTold (again (begun_of t.walk) (flash_at (begun_of t.walk) new.walk.path)) told
     told_next told there =
-        let b : Once = t.walk.branches in
-        let P : Once → Type 0 = λ x. IsTold (power_on x.rules x.layout (flash_at (power_on x.rules x.layout (origin_of new.walk.seen)) new.walk.path)) told in
-        let Q : Content → Type 0 = λ x. IsTold (power_on b.rules b.layout (flash_at (power_on b.rules b.layout x) new.walk.path)) told in
-        subst Q v.1.origin (subst P v.1.branches there.told_is)
-
-    pub told_there : (told : Told) (schedule : List ℕ) → IsThere (kind_of new.walk.branches) new.walk told → schedule ≡ new.walk.path
-        → outcome_of (again (begun_of new.walk) (flash_at (begun_of new.walk) schedule)) ≡ Some (shown told.outcome)
-    told_there told schedule there s =
-        ap (λ l. outcome_of (again (begun_of new.walk) (flash_at (begun_of new.walk) l))) s ∙ there.told_is.outcome_is
+        subst (λ x. IsTold (again x (flash_at x new.walk.path)) told) (same_begun t.walk new.walk v.1) there.told_is
 
     -- What was kept serves there.
-    pub kept_there : AreAtCuts (begun_of new.walk) of outcomes
-    kept_there =
-        let P : Once → Type 0 = λ b. AreAtCuts (power_on b.rules b.layout (origin_of new.walk.seen)) of outcomes in
-        let Q : Content → Type 0 = λ s. AreAtCuts (power_on t.walk.branches.rules t.walk.branches.layout s) of outcomes in
-        subst P (sym v.1.branches) (subst Q (sym v.1.origin) (inv.sound works).at_cuts)
+    kept_there : AreAtCuts (begun_of new.walk) of outcomes
+    kept_there = subst (λ x. AreAtCuts x of outcomes) (sym (same_begun t.walk new.walk v.1)) (inv.sound works).at_cuts
 
     listed_there : IsPath (kind_of new.walk.branches) new.walk new.walk.path
     listed_there = path_back kind_of new.walk t.walk new.walk.path (same_back kind_of t.walk new.walk v.1) v.0.listed
 
     -- The last cuts that are told behind that node.
-    module _ (of' : List ℕ) (outcomes' : List Outcome) (path' : List ℕ) (cuts' : Option LastCuts) (path_is : path' ≡ new.walk.path)
-        (at_cuts : AreAtCuts (begun_of new.walk) of' outcomes')
-        (are : IfSome cuts' (AreLastCuts (begun_of new.walk) of' path' outcomes')) (deep : IfSome cuts' (λ x. length path' + 1 ≡ new.walk.bound))
-        (fresh : IfSome cuts' (λ x. x.next ≡ 0)) where
+    module _ (of' : List ℕ) (outcomes' : List Outcome) (path' : List ℕ) (cuts' : Option LastCuts) (a : HasArrived new.walk of outcomes of' outcomes' path' cuts') where
       behind : (o : Option LastCuts) → IfSome o (AreLastCuts (begun_of new.walk) of' path' outcomes')
           → IfSome o (λ x. length path' + 1 ≡ new.walk.bound) → IfSome o (AreBehind new.walk of' outcomes' path' cuts')
-      behind None a d = tt
-      behind (Some x) a d = record { deep = d; listed = subst (IsPath (kind_of new.walk.branches) new.walk) (sym path_is) listed_there; are = a }
+      behind None are d = tt
+      behind (Some x) are d = record { deep = d; listed = subst (IsPath (kind_of new.walk.branches) new.walk) (sym a.path_is) listed_there; are = are }
 
       short : (o : Option LastCuts) → IfSome o (λ x. length path' + 1 ≡ new.walk.bound) → IfSome o (λ x. length path' < 16)
       short None d = tt
@@ -168,12 +163,12 @@ module _ (t : Toured Once) (of : List ℕ) (outcomes : List Outcome) (path : Lis
 
       pub in_step_next : IsRowing new of' outcomes' path' cuts'
       in_step_next = record {
-        short = short cuts' deep;
+        short = short cuts' a.deep;
         spent = λ is. absurd (let e : Broken ≡ Going = sym is ∙ v.2 in cc);
         sound = λ w. record {
           few = few_next;
-          at_cuts = at_cuts;
-          stands = subst (IsAtPhase new.walk of' outcomes' path' cuts') (sym v.2) (path_is, behind cuts' are deep);
+          at_cuts = a.keeps kept_there;
+          stands = subst (IsAtPhase new.walk of' outcomes' path' cuts') (sym v.2) (a.path_is, behind cuts' a.are a.deep);
         };
       }
 
@@ -183,42 +178,29 @@ module _ (t : Toured Once) (of : List ℕ) (outcomes : List Outcome) (path : Lis
       finds_next told there =
           let r : Rules = t.walk.branches.rules in
           let g : Geometry = t.walk.branches.layout in (
-            subst (IsNext (IsPath (kind_of t.walk.branches) t.walk) here) (sym path_is) v.0,
-            ap (λ l. outcome_of (power_on r g (flash_at (power_on r g (origin_of t.walk.seen)) l))) path_is ∙ (told_next told there).outcome_is,
+            subst (IsNext (IsPath (kind_of t.walk.branches) t.walk) here) (sym a.path_is) v.0,
+            ap (λ l. outcome_of (power_on r g (flash_at (power_on r g (origin_of t.walk.seen)) l))) a.path_is ∙ (told_next told there).outcome_is,
             v.1,
             v.2,
-            none_taken cuts' fresh,
+            none_taken cuts' a.fresh,
           )
 
   -- Or there is none.
   module _ (new : Toured Once) (v : Visits (kind_of t.walk.branches) t here false new) where
-    over_here : here ≡ After (last_of path cuts)
-    over_here = by t.phase refl
-      where
-        by : (p : Phase) → t.phase ≡ p → position_of p (last_of path cuts) ≡ After (last_of path cuts)
-        by Fresh is =
-            let over = subst (λ q. IsOver (IsPath (kind_of t.walk.branches) t.walk) (position_of q (last_of path cuts))) is v.0 in
-            absurd (over [] (omega arith, tt) tt)
-        by Going is = refl
-        by Done is = refl
-        by Broken is = absurd (works is)
-
     pub in_step_over : IsRowing new of outcomes path cuts
-    in_step_over =
-        let P : Once → Type 0 = λ b. AreAtCuts (power_on b.rules b.layout (origin_of new.walk.seen)) of outcomes in
-        let Q : Content → Type 0 = λ s. AreAtCuts (power_on t.walk.branches.rules t.walk.branches.layout s) of outcomes in
-        record {
-          short = inv.short;
-          spent = λ is. spent;
-          sound = λ w. record {
-            few = omega (arith, (inv.sound works).few, v.2.bound);
-            at_cuts = subst P (sym v.2.branches) (subst Q (sym v.2.origin) (inv.sound works).at_cuts);
-            stands = subst (IsAtPhase new.walk of outcomes path cuts) (sym v.3) (
-              over_there kind_of t.walk new.walk (After (last_of path cuts)) v.2 (subst (IsOver (IsPath (kind_of t.walk.branches) t.walk)) over_here v.0),
-              spent,
-            );
-          };
-        }
+    in_step_over = record {
+      short = inv.short;
+      spent = λ is. spent;
+      sound = λ w. record {
+        few = omega (arith, (inv.sound works).few, v.2.bound);
+        at_cuts = subst (λ x. AreAtCuts x of outcomes) (sym (same_begun t.walk new.walk v.2)) (inv.sound works).at_cuts;
+        stands = subst (IsAtPhase new.walk of outcomes path cuts) (sym v.3) (
+          over_there kind_of t.walk new.walk (After (last_of path cuts)) v.2
+              (subst (IsOver (IsPath (kind_of t.walk.branches) t.walk)) (over_behind t.walk t.phase (last_of path cuts) v.0 works) v.0),
+          spent,
+        );
+      };
+    }
 
     pub finds_over : FindsRow (record { walk = t.walk; phase = t.phase; last = last_of path cuts }) None (record { walk = new.walk; phase = new.phase; last = last_of path cuts })
     finds_over = (v.0, v.1, v.2, v.3, refl)

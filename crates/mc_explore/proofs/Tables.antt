@@ -1,8 +1,7 @@
 -- Lists of totals that are cut off.
-use Rattle.std.proofs.Common.{◌≡◌, ℕ, zero, suc, ◌+◌, ◌-◌, ◌<◌, List, [], ◌∷◌, ◌++◌, length, Some, inl, inr, refl, sym, ap, ◌∙◌, arith}
+use Rattle.std.proofs.Common.{◌≡◌, ℕ, zero, suc, ◌+◌, ◌-◌, ◌<◌, List, [], ◌∷◌, ◌++◌, length, Some, sym, ap, subst, ◌∙◌, arith}
 use Rattle.std.specs.List.{slice_get}
-use Rattle.std.proofs.lemmas.Bool.{cases_lt}
-use Rattle.std.proofs.lemmas.List.{length-append}
+use Rattle.std.proofs.lemmas.Option.{same_Some}
 use Rattle.mc_tree.specs.Weights.{from}
 use Rattle.mc_tree.specs.facts.Weighed.{from_more}
 use Rattle.mc_boot.specs.Runs.{ops_of}
@@ -13,28 +12,25 @@ use Rattle.mc_explore.specs.declared.census.Census.{Census}
 use Rattle.mc_explore.proofs.Weighing.{totals_weigh, weigh_is}
 use Rattle.mc_boot.specs.PowerOn.{PowerOn}
 
-module _ {X : Type 0} where
-  pub get_before : (xs ys : List X) (i : ℕ) → i < length xs → slice_get (xs ++ ys) i ≡ slice_get xs i
-  get_before [] ys i lt = absurd (omega (arith, lt))
-  get_before (x ∷ xs) ys zero lt = refl
-  get_before (x ∷ xs) ys (suc i) lt = get_before xs ys i (omega (arith, lt))
+-- What holds of each element of a list, and of one more behind them, holds of each of those.
+pub each_more : {X : Type 0} (P : ℕ → X → Type 0) (xs : List X) (x : X) → ((i : ℕ) (y : X) → slice_get xs i ≡ Some y → P i y) → P (length xs) x
+    → (i : ℕ) (y : X) → slice_get (xs ++ x ∷ []) i ≡ Some y → P i y
+each_more P [] x are last zero y is = subst (P 0) (same_Some x y is) last
+each_more P [] x are last (suc i) y is = absurd cc
+each_more P (z ∷ xs) x are last zero y is = are 0 y is
+each_more P (z ∷ xs) x are last (suc i) y is = each_more (λ i. P (suc i)) xs x (λ i. are (suc i)) last i y is
 
-  pub get_last : (xs : List X) (y : X) (i : ℕ) → i ≡ length xs → slice_get (xs ++ y ∷ []) i ≡ Some y
-  get_last [] y zero e = refl
-  get_last [] y (suc i) e = absurd (omega (arith, e))
-  get_last (x ∷ xs) y zero e = absurd (omega (arith, e))
-  get_last (x ∷ xs) y (suc i) e = get_last xs y i (omega (arith, e))
+-- One more.
+one_cut_off : (under : ℕ → Totals) (xs : List Census) (y : Census) → AreCutOff under xs → y ≡ cut_off (under (length xs)) → AreCutOff under (xs ++ y ∷ [])
+one_cut_off under [] y are is zero lt = ap (λ (c : Census). Some c) is
+one_cut_off under [] y are is (suc i) lt = absurd (omega (arith, lt))
+one_cut_off under (x ∷ xs) y are is zero lt = are 0 (omega arith)
+one_cut_off under (x ∷ xs) y are is (suc i) lt = one_cut_off (λ i. under (suc i)) xs y (λ i lt. are (suc i) (omega (arith, lt))) is i (omega (arith, lt))
+
+pub more_cut_off : (under : ℕ → Totals) (xs all : List Census) (y : Census) (n : ℕ) → all ≡ xs ++ y ∷ [] → length xs ≡ n → AreCutOff under xs → y ≡ cut_off (under n) → AreCutOff under all
+more_cut_off under xs all y n pushed many are is = subst (AreCutOff under) (sym pushed) (one_cut_off under xs y are (is ∙ ap (λ k. cut_off (under k)) (sym many)))
 
 module _ (under : ℕ → Totals) where
-  -- One more.
-  pub more_cut_off : (xs : List Census) (y : Census) → AreCutOff under xs → y ≡ cut_off (under (length xs)) → AreCutOff under (xs ++ y ∷ [])
-  more_cut_off xs y are is i lt = elim (cases_lt i (length xs)) [
-    | inl before ↦ get_before xs (y ∷ []) i before ∙ are i before
-    | inr le ↦
-        let e : i ≡ length xs = omega (arith, le, lt, length-append xs (y ∷ [])) in
-        get_last xs y i e ∙ ap (λ (c : Census). Some c) is ∙ ap (λ n. Some (cut_off (under n))) (sym e)
-  ]
-
   -- The sums of one more of the last ones.
   pub more_sums : (n later number : ℕ) → number + 1 + later ≡ n → both (totals.behind number (under number)) (from totals under later (n - later)) ≡ from totals under (later + 1) (n - (later + 1))
   more_sums n later number e =

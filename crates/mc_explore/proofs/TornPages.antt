@@ -128,9 +128,6 @@ pub record IsLastSoFar (text rest : List ℕ) (last : Option (List ℕ)) : Type 
   pub rows : AreRowLines lines found
   pub ends : IsOfLast found last
 
-pub none_read : (text : List ℕ) → IsLastSoFar text text None
-none_read text = record { lines = []; found = []; on = λ more are. are; rows = refl; ends = refl }
-
 row_pushed : (lines found : List (List ℕ)) (line l : List ℕ) → IsRowLine l line → AreRowLines lines found → AreRowLines (lines ++ line ∷ []) (found ++ line ∷ [])
 row_pushed [] found line l row p = inl (l, [], row, ap (λ z. z ++ line ∷ []) p, refl)
 row_pushed (x ∷ lines) found line l row (inl (m, more, is_row, is, p)) = inl (m, more ++ line ∷ [], is_row, ap (λ z. z ++ line ∷ []) is, row_pushed lines more line l row p)

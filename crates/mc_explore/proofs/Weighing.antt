@@ -18,13 +18,9 @@ use Rattle.mc_boot.specs.PowerOn.{power_on}
 
 same_totals : (x y : Totals) → x.schedules ≡ y.schedules → x.boot ≡ y.boot → x.none ≡ y.none → x.panic ≡ y.panic → x.fault ≡ y.fault → x.most ≡ y.most → x.first ≡ y.first → x ≡ y
 same_totals x y a b c d e f h =
-    ap (λ n. record { schedules = n; boot = x.boot; none = x.none; panic = x.panic; fault = x.fault; most = x.most; first = x.first }) a
-    ∙ ap (λ n. record { schedules = y.schedules; boot = n; none = x.none; panic = x.panic; fault = x.fault; most = x.most; first = x.first }) b
-    ∙ ap (λ n. record { schedules = y.schedules; boot = y.boot; none = n; panic = x.panic; fault = x.fault; most = x.most; first = x.first }) c
-    ∙ ap (λ n. record { schedules = y.schedules; boot = y.boot; none = y.none; panic = n; fault = x.fault; most = x.most; first = x.first }) d
-    ∙ ap (λ n. record { schedules = y.schedules; boot = y.boot; none = y.none; panic = y.panic; fault = n; most = x.most; first = x.first }) e
-    ∙ ap (λ n. record { schedules = y.schedules; boot = y.boot; none = y.none; panic = y.panic; fault = y.fault; most = n; first = x.first }) f
-    ∙ ap (λ o. record { schedules = y.schedules; boot = y.boot; none = y.none; panic = y.panic; fault = y.fault; most = y.most; first = o }) h
+    let same : ◌≡◌ {A = Totals} (record { schedules = x.schedules; boot = x.boot; none = x.none; panic = x.panic; fault = x.fault; most = x.most; first = x.first })
+    (record { schedules = y.schedules; boot = y.boot; none = y.none; panic = y.panic; fault = y.fault; most = y.most; first = y.first }) = cc in
+    same
 
 module _ {X : Type 0} where
   or_none : (o : Option X) → option_or o None ≡ o

@@ -5,7 +5,7 @@ use Rattle.mc_flash.specs.Content.{Content, IsSized}
 use Rattle.mc_flash.specs.Geometry.{Geometry}
 use Rattle.mc_flash.specs.Usage.{Counts, most_operations, most_saved, no_counts}
 use Rattle.mc_flash.specs.Seen.{Keeps, Seen}
-use Rattle.mc_flash.specs.Spends.{Allows, HasRoom, LeaveRoom, plus}
+use Rattle.mc_flash.specs.Spends.{Allows, LeaveRoom, plus}
 use Rattle.mc_image.specs.Bytes.{IsBytes}
 use Rattle.mc_trailer.specs.declared.tables.Rules.{Rules}
 use Rattle.mc_boot.specs.Boot.{IsBootOf, all_of, begun, progress}

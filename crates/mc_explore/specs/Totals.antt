@@ -41,15 +41,7 @@ both a b = record {
 
 -- The totals with another first schedule.
 abbrev pub with_first : (List ℕ → List ℕ) → Totals → Totals
-with_first f a = record {
-  schedules = a.schedules;
-  boot = a.boot;
-  none = a.none;
-  panic = a.panic;
-  fault = a.fault;
-  most = a.most;
-  first = option_map f a.first;
-}
+with_first f a = record a { first = option_map f a.first }
 
 -- Rows whose schedules have a cut in front, or whose first cut is that much earlier.
 abbrev pub totals : Weighing Totals

@@ -37,8 +37,6 @@ use Rattle.mc_boot.specs.Writes.{trailer_erase, trailer_erases, piece, write, wr
 use Rattle.mc_boot.specs.Course.{closing, from_transfer, resumed_list, swap_list, new_list}
 use Rattle.mc_boot.specs.Plan.{Plan, nothing, first_left, new_swap, new_plan, resumed_from, resumed_swap, resumed_plan, plan_with, plan}
 use Rattle.mc_boot.specs.Runs.{first_then, happening, ops_of}
-use Rattle.mc_boot.specs.Boot.{Progress}
-use Rattle.mc_boot.specs.Run.{HasCome}
 use Rattle.mc_boot.specs.PowerOn.{PowerOn}
 use Rattle.mc_boot.specs.Bounds.{IsBounded, all_saves}
 

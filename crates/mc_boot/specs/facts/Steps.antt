@@ -1,10 +1,10 @@
 -- What a step of a boot spends. Proved here, so that the crates above can cite it.
-use Rattle.std.specs.Prelude.{◌≡◌, ◌+◌, ◌<◌, ◌≤◌, true, false, List, [], ◌∷◌, length, slice_get, is_some, Option, Result, Ok, Err, refl}
+use Rattle.std.specs.Prelude.{◌≡◌, ◌+◌, ◌<◌, ◌≤◌, false, List, [], ◌∷◌, length, slice_get, is_some, Option, Result, Ok, Err, refl}
 use Rattle.std.proofs.Common.{arith, inl, inr, sym, ap, subst, ◌∙◌}
 use Rattle.mc_flash.specs.Geometry.{Geometry}
 use Rattle.mc_flash.specs.Usage.{Counts, Limits, IsFull}
 use Rattle.mc_flash.specs.Seen.{Seen, GivesUp}
-use Rattle.mc_flash.specs.Spends.{Spent, RanOut, LeaveRoom, Allows, plus, room_of}
+use Rattle.mc_flash.specs.Spends.{RanOut, LeaveRoom, Allows, plus, room_of}
 use Rattle.mc_flash.specs.facts.Spends.{Notes, done_notes, gave_up}
 use Rattle.mc_flash.specs.declared.op.Op.{Op}
 use Rattle.mc_flash.specs.declared.flash.FlashError.{FlashError}

@@ -28,14 +28,6 @@ told_slots from z o is left =
     ap (option_map (λ x. report from.rules from.geometry (plan from).kind (length (ops_of from)) (is_faulted from) x)) (sym left) ∙ is in
     (cc, cc, cc)
 
--- The result and the slots of the last boot are those that the law names.
-pub told_end : (r : Rules) (g : Geometry) (kind : Kind) (a b : List ℕ) (s u z : Content) (o : Report) → outcome_of (power_on r g u) ≡ Some o → EndsIn (power_on r g s) kind a b u z
-    → (o.result ≡ results.Boot) × (o.primary ≡ id_of (named kind a b)) × (o.secondary ≡ id_of (other kind a b))
-told_end r g kind a b s u z o is ends =
-    let slots = told_slots (power_on r g u) z o is ends.end in
-    let result : Some o.result ≡ Some results.Boot = ap (option_map (λ (x : Report). x.result)) (sym is) ∙ ends.result in
-    (cc, slots.0 ∙ ends.primary.id, slots.1 ∙ ends.secondary.id)
-
 -- Where nothing is planned, nothing happens.
 pub idle_ops : (x : PowerOn) → (plan x).list ≡ [] → length (ops_of x) ≡ 0
 unfolding ops_of
@@ -50,18 +42,26 @@ uncut x u (cut ∷ cuts) none is =
     let both : Some u ≡ None = sym is ∙ never in
     absurd cc
 
-idle_start : (r : Rules) (g : Geometry) (kind : Kind) (s u z : Content) → IsSwapped (power_on r g s) kind u z → kind ≡ starts.None → length (ops_of (power_on r g u)) ≡ 0
-idle_start r g kind s u z swapped none = let P : Kind → Type 0 = λ k. IsSwapped (power_on r g s) k u z in idle_ops (power_on r g u) (subst P none swapped)
+module _ (r : Rules) (g : Geometry) (kind : Kind) (a b : List ℕ) (s : Content) where
+  -- The result and the slots of the last boot are those that the law names.
+  pub told_end : (u z : Content) (o : Report) → outcome_of (power_on r g u) ≡ Some o → EndsIn (power_on r g s) kind a b u z
+      → (o.result ≡ results.Boot) × (o.primary ≡ id_of (named kind a b)) × (o.secondary ≡ id_of (other kind a b))
+  told_end u z o is ends =
+      let slots = told_slots (power_on r g u) z o is ends.end in
+      let result : Some o.result ≡ Some results.Boot = ap (option_map (λ (x : Report). x.result)) (sym is) ∙ ends.result in
+      (cc, slots.0 ∙ ends.primary.id, slots.1 ∙ ends.secondary.id)
 
--- What the law says of the boot after the cuts, and of the first one, is what is told of them.
-pub swap_outcome : (r : Rules) (g : Geometry) (kind : Kind) (a b : List ℕ) (s u y z : Content) (cuts : List ℕ) (o : Report) → outcome_of (power_on r g u) ≡ Some o
-    → after (power_on r g s) cuts ≡ Some u
-    → EndsIn (power_on r g s) kind a b s y → EndsIn (power_on r g s) kind a b u z → IsSwapOutcome kind a b cuts o
-swap_outcome r g kind a b s u y z cuts o is occurs first ends =
-    let told = told_end r g kind a b s u z o is ends in
-    record {
-      result = told.0;
-      primary = told.1;
-      secondary = told.2;
-      idle = λ none. (outcome_ops (power_on r g u) o is ∙ idle_start r g kind s u z ends.swapped none, uncut (power_on r g s) u cuts (idle_start r g kind s s y first.swapped none) occurs);
-    }
+  idle_start : (u z : Content) → IsSwapped (power_on r g s) kind u z → kind ≡ starts.None → length (ops_of (power_on r g u)) ≡ 0
+  idle_start u z swapped none = idle_ops (power_on r g u) (subst (λ k. IsSwapped (power_on r g s) k u z) none swapped)
+
+  -- What the law says of the boot after the cuts, and of the first one, is what is told of them.
+  pub swap_outcome : (u y z : Content) (cuts : List ℕ) (o : Report) → outcome_of (power_on r g u) ≡ Some o → after (power_on r g s) cuts ≡ Some u
+      → EndsIn (power_on r g s) kind a b s y → EndsIn (power_on r g s) kind a b u z → IsSwapOutcome kind a b cuts o
+  swap_outcome u y z cuts o is occurs first ends =
+      let told = told_end u z o is ends in
+      record {
+        result = told.0;
+        primary = told.1;
+        secondary = told.2;
+        idle = λ none. (outcome_ops (power_on r g u) o is ∙ idle_start u z ends.swapped none, uncut (power_on r g s) u cuts (idle_start s y first.swapped none) occurs);
+      }

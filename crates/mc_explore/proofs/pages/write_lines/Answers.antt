@@ -1,41 +1,33 @@
-use Rattle.std.proofs.Common.{◌≡◌, ◌-◌, suc, true, false, Ok, Err, refl, sym, ap, ◌∙◌, arith}
+use Rattle.std.proofs.Common.{◌≡◌, ◌-◌, suc, Ok, Err, sym, ap, ◌∙◌, arith}
 use Rattle.std.proofs.lemmas.Result.{err_from_is_err_and}
 use Rattle.mc_tree.specs.Paths.{Lost, After}
 use Rattle.mc_explore.specs.declared.error.ExploreError.TheVariants as errors
 use Rattle.mc_explore.proofs.PageRows.{row_paid}
-use Rattle.mc_explore.proofs.PageText.{at_end, began_before, began_in_row, last_place, next_line, page_began, page_on, page_out, when_full}
+use Rattle.mc_explore.proofs.PageText.{began_before, began_in_row, end_began, end_out, full_began, full_out, last_place, page_on}
 use Rattle.mc_output.specs.facts.Results.{on_err, on_ok}
 use Rattle.mc_explore.proofs.pages.write_lines.Goals as goal
 
 pub returns-in_err-row-clause-began : goal.returns-in_err-row-clause-began
 returns-in_err-row-clause-began g c =
     let p = err_from_is_err_and c.from_residual.result c.from_residual.ensures.1 in
-    rw p.1 (began_before _ _ _ _ _ _ _ _ _ c.fill.invariant.page)
+    rw p.1 (began_before c.fill.invariant.page)
 
 pub returns-in_err-write_row-in-Some-clause-began : goal.returns-in_err-write_row-in-Some-clause-began
 returns-in_err-write_row-in-Some-clause-began g c =
     let p = err_from_is_err_and c.from_residual-in_err-write_row-in-Some.result c.from_residual-in_err-write_row-in-Some.ensures.1 in
     let found = rw c.in-Some.is at c.in_ok-row.ensures.found in
     let room : c.fill.room ≡ suc (c.fill.room - 1) = omega arith in
-    rw p.1 (began_in_row _ _ _ _ _ _ _ _ _ c.fill.invariant.page (c.fill.room - 1) room _ _ _ found c.in_err-write_row-in-Some.ensures.front)
+    rw p.1 (began_in_row c.fill.invariant.page (c.fill.room - 1) room _ _ _ found c.in_err-write_row-in-Some.ensures.front)
 
 pub returns-in-None-clause-page : goal.returns-in-None-clause-page
 returns-in-None-clause-page g c =
-    let p = c.fill.invariant.page in
     let found = rw c.in-None.is at c.in_ok-row.ensures.found in
-    let room : c.fill.room ≡ suc (c.fill.room - 1) = omega arith in
-    let new = g.S.RowSource.state c.next_before.new.self in
-    let taken = at_end _ _ _ _ _ _ _ _ _ p (c.fill.room - 1) room new found in
-    on_ok c.write_text.result _ _ (page_out _ _ _ _ _ new false p.some _ (g.W.Write.contents c.write_text.new.writer) _ taken refl p.out) c.write_text.ensures.whole
+    on_ok c.write_text.result _ _ (end_out c.fill.invariant.page (c.fill.room - 1) (omega arith) _ found _) c.write_text.ensures.whole
 
 pub returns-in-None-clause-began : goal.returns-in-None-clause-began
 returns-in-None-clause-began g c =
-    let p = c.fill.invariant.page in
     let found = rw c.in-None.is at c.in_ok-row.ensures.found in
-    let room : c.fill.room ≡ suc (c.fill.room - 1) = omega arith in
-    let new = g.S.RowSource.state c.next_before.new.self in
-    let taken = at_end _ _ _ _ _ _ _ _ _ p (c.fill.room - 1) room new found in
-    on_err c.write_text.result _ _ (page_began _ _ _ _ _ new false p.some _ (g.W.Write.contents c.write_text.new.writer) _ taken refl p.out) c.write_text.ensures.front
+    on_err c.write_text.result _ _ (end_began c.fill.invariant.page (c.fill.room - 1) (omega arith) _ found _) c.write_text.ensures.front
 
 pub fill-preserved : goal.fill-preserved
 fill-preserved g c =
@@ -46,7 +38,7 @@ fill-preserved g c =
     let room : c.fill.room ≡ suc (c.fill.room - 1) = omega arith in
     let cost = ap g.S.RowSource.most_for_row found.2 ∙ g.S.RowSource.cost_stays (g.S.RowSource.state c.fill.source) key ∙ c.fill.invariant.cost_is in
     record {
-      page = page_on _ _ _ _ _ _ _ _ _ c.fill.invariant.page (c.fill.room - 1) room _ _ _ found c.in_ok-write_row-in-Some.ensures.whole;
+      page = page_on c.fill.invariant.page (c.fill.room - 1) room _ _ _ found c.in_ok-write_row-in-Some.ensures.whole;
       not_lost = λ e. let q : Lost ≡ After key = sym e ∙ at in absurd cc;
       stuck = λ e. let q : Ok c.in_ok-row.field-0 ≡ Err errors.Failed = rw c.in_ok-row.was at (c.next_before.ensures.explores.goes.stays_lost (c.fill.invariant.stuck e).0) in absurd cc;
       unwritten = λ e. let q : Lost ≡ After key = sym e ∙ at in absurd cc;
@@ -57,18 +49,10 @@ fill-preserved g c =
 
 pub returns-clause-page : goal.returns-clause-page
 returns-clause-page g c =
-    let p = c.fill.invariant.page in
     let none : c.fill.room ≡ 0 = omega arith in
-    let place = last_place _ _ _ _ _ _ _ _ _ p none c.requires in
-    let taken = when_full _ _ _ _ _ _ _ _ _ p none in
-    let line = next_line _ _ _ _ _ _ _ _ _ p in
-    on_ok c.write_next.result _ _ (page_out _ _ _ _ _ _ true p.some _ (g.W.Write.contents c.write_next.new.writer) _ taken line p.out) (c.write_next.ensures.whole _ place)
+    on_ok c.write_next.result _ _ (full_out c.fill.invariant.page none _) (c.write_next.ensures.whole _ (last_place c.fill.invariant.page none c.requires))
 
 pub returns-clause-began : goal.returns-clause-began
 returns-clause-began g c =
-    let p = c.fill.invariant.page in
     let none : c.fill.room ≡ 0 = omega arith in
-    let place = last_place _ _ _ _ _ _ _ _ _ p none c.requires in
-    let taken = when_full _ _ _ _ _ _ _ _ _ p none in
-    let line = next_line _ _ _ _ _ _ _ _ _ p in
-    on_err c.write_next.result _ _ (page_began _ _ _ _ _ _ true p.some _ (g.W.Write.contents c.write_next.new.writer) _ taken line p.out) (c.write_next.ensures.front _ place)
+    on_err c.write_next.result _ _ (full_began c.fill.invariant.page none _) (c.write_next.ensures.front _ (last_place c.fill.invariant.page none c.requires))

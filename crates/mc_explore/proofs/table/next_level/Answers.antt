@@ -1,9 +1,8 @@
-use Rattle.std.proofs.Common.{◌≡◌, ℕ, suc, ◌+◌, List, [], ◌∷◌, ◌++◌, length, refl, sym, ap, subst, ◌∙◌, arith}
+use Rattle.std.proofs.Common.{◌≡◌, ℕ, suc, ◌+◌, List, [], ◌∷◌, ◌++◌, length, refl, ap, subst, arith}
 use Rattle.std.proofs.lemmas.List.{length-append}
 use Rattle.std.proofs.lemmas.Option.{slice_get_read}
 use Rattle.mc_explore.specs.Boots.{at_cut}
 use Rattle.mc_explore.specs.Table.{AreCutOff, weigh, weigh_fewer}
-use Rattle.mc_explore.specs.Totals.{Totals, cut_off}
 use Rattle.mc_explore.specs.declared.census.Census.{Census}
 use Rattle.mc_explore.proofs.Tables.{more_cut_off}
 use Rattle.mc_explore.proofs.table.next_level.Goals as goal
@@ -20,9 +19,8 @@ loop-position-preserved c =
     record {
       many = omega (arith, ap length pushed, length-append old (one ∷ []), i.many);
       cut_off = λ r g s most positions all level sums lt.
-          let at : ℕ → Totals = λ k. weigh r g c.args.bound (at_cut (power_on r g s) k) in
           let here = c.census.ensures r g s (at_cut (power_on r g s) index) most (positions index c.position-item.result item) level sums lt in
-          subst (AreCutOff at) (sym pushed) (more_cut_off at old one (i.cut_off r g s most positions all level sums lt) (here ∙ ap (λ k. cut_off (at k)) (sym i.many)));
+          more_cut_off (λ k. weigh r g c.args.bound (at_cut (power_on r g s) k)) old _ one index pushed i.many (i.cut_off r g s most positions all level sums lt) here;
     }
 
 pub returns : goal.returns

@@ -1,4 +1,4 @@
-use Rattle.std.proofs.Common.{◌≡◌, ℕ, ◌+◌, ◌-◌, ◌∷◌, ◌++◌, [], length, List, sym, ap, subst, ◌∙◌, arith}
+use Rattle.std.proofs.Common.{◌≡◌, ℕ, ◌+◌, ◌-◌, ◌∷◌, ◌++◌, [], length, List, ap, ◌∙◌, arith}
 use Rattle.std.proofs.lemmas.List.{length-append}
 use Rattle.mc_tree.specs.Weights.{from}
 use Rattle.mc_explore.specs.Table.{AreCutOff}
@@ -24,8 +24,5 @@ loop-later-preserved c =
     record {
       many = omega (arith, ap length pushed, length-append old (one ∷ []), i.many);
       sum = sum_is;
-      sums = λ under are all.
-          let at : ℕ → Totals = λ k. from totals under k (n - k) in
-          let last : one ≡ cut_off (at (length old)) = sum_is under are all ∙ ap (λ k. cut_off (at k)) (sym i.many) in
-          subst (AreCutOff at) (sym pushed) (more_cut_off at old one (i.sums under are all) last);
+      sums = λ under are all. more_cut_off (λ k. from totals under k (n - k)) old _ one (later + 1) pushed i.many (i.sums under are all) (sum_is under are all);
     }

@@ -1,11 +1,10 @@
-use Rattle.std.proofs.Common.{◌≡◌, ◌+◌, List, sym, ap, subst, ◌∙◌, arith}
+use Rattle.std.proofs.Common.{◌≡◌, ◌+◌, sym, ap, ◌∙◌, arith}
 use Rattle.mc_flash.specs.Content.{Content}
 use Rattle.mc_explore.specs.Start.{begun}
 use Rattle.mc_boot.specs.PowerOn.{PowerOn}
-use Rattle.mc_explore.specs.Table.{IsColumn, weigh}
+use Rattle.mc_explore.specs.Table.{weigh}
 use Rattle.mc_explore.specs.Totals.{cut_off}
 use Rattle.mc_explore.specs.View.{begun_with}
-use Rattle.mc_explore.specs.declared.census.Census.{Census}
 use Rattle.mc_explore.specs.declared.once.Once.{Once}
 use Rattle.mc_explore.proofs.Columns.{one_room, still_room}
 use Rattle.mc_explore.proofs.Counting.{is_census}
@@ -13,19 +12,12 @@ use Rattle.mc_explore.proofs.Loaded.{room_for, same_start}
 use Rattle.mc_explore.proofs.taking.take_census.Goals as goal
 
 pub root-requires-clause-room : goal.root-requires-clause-room
-root-requires-clause-room g c =
-    let f = g.F.Flash.seen c.in_ok-flash.flash in
-    let layout = c.layout.result.now in
-    one_room c.rules.result layout f (c.args.bound + 1) (omega arith)
-    (room_for g.F.Flash.counted layout c.primary-primary.result.now c.secondary-secondary.result.now f c.rules.result (c.args.bound + 1) c.in_ok-flash.ensures.loads)
+root-requires-clause-room g c = one_room c.rules.result c.layout.result.now _ (c.args.bound + 1) (omega arith) (room_for _ _ _ _ _ _ _ c.in_ok-flash.ensures.loads)
 
 pub census_column-requires-clause-room : goal.census_column-requires-clause-room
 census_column-requires-clause-room g c =
-    let f = g.F.Flash.seen c.in_ok-flash.flash in
-    let layout = c.layout.result.now in
     let e = c.in_ok-told.ensures in
-    still_room c.rules.result layout f (g.F.Flash.seen c.root.new.flash) (c.args.bound + 1) (record { stays = e.stays; limits = e.spends.limits })
-    (room_for g.F.Flash.counted layout c.primary-primary.result.now c.secondary-secondary.result.now f c.rules.result (c.args.bound + 1) c.in_ok-flash.ensures.loads)
+    still_room _ _ (g.F.Flash.seen c.in_ok-flash.flash) _ _ (record { stays = e.stays; limits = e.spends.limits }) (room_for _ _ _ _ _ _ _ c.in_ok-flash.ensures.loads)
 
 pub returns-clause-census : goal.returns-clause-census
 returns-clause-census g c =
@@ -33,9 +25,8 @@ returns-clause-census g c =
     let first = c.primary-primary.result.now in
     let second = c.secondary-secondary.result.now in
     let content : Content = record { primary = first; secondary = second } in
-    let there : (g.F.Flash.seen c.root.new.flash).content ≡ content = c.in_ok-told.ensures.stays.content ∙ c.in_ok-flash.ensures.loads.content_is in
-    let column = subst (λ (s : Content). IsColumn once.rules once.layout s (c.args.bound + 1) c.in_ok-column.column.items) there c.in_ok-column.ensures.column in
-    let seen = subst (λ (xs : List Census). IsColumn once.rules once.layout content (c.args.bound + 1) xs) (sym c.deref.ensures.value) column in
+    let there = c.in_ok-told.ensures.stays.content ∙ c.in_ok-flash.ensures.loads.content_is in
+    let seen = rw (sym c.deref.ensures.value) at (rw there at c.in_ok-column.ensures.column) in
     let is = c.census_at.ensures (λ d. weigh once.rules once.layout d content) seen.1 (omega (arith, seen.0)) in
     let same : begun_with once first second ≡ begun c.args.start.now =
     same_start c.args.start.now once first second c.rules.ensures c.layout.ensures.value c.primary-primary.ensures.value c.secondary-secondary.ensures.value in

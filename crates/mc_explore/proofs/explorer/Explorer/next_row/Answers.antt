@@ -1,8 +1,6 @@
-use Rattle.std.proofs.Common.{subst, ap, ◌∙◌, ◌+◌, ◌≤◌, IfSome}
-use Rattle.mc_explore.specs.Bounds.{row_cost}
-use Rattle.mc_explore.specs.Restarts.{RowRestarts}
+use Rattle.std.proofs.Common.{sym, ap, ◌∙◌}
 use Rattle.mc_explore.specs.Start.{begun}
-use Rattle.mc_explore.specs.State.{Explored, Finds, state_after, told}
+use Rattle.mc_explore.specs.State.{Explored, state_after}
 use Rattle.mc_explore.proofs.Moving.{Found, costs_row, finds_it, moved_on, restarts_it, sound_on}
 use Rattle.mc_explore.proofs.explorer.Explorer.next_row.Given.{Over}
 use Rattle.mc_explore.proofs.explorer.Explorer.next_row.Goals as goal
@@ -24,7 +22,7 @@ invariant_of-self-2 g c = (sound_on _ _ _ _ _ c.in_ok-found.found (here g (goal.
 
 pub returns-clause-found : goal.returns-clause-found
 returns-clause-found g c =
-    subst (λ (z : Explored). Finds z.state c.in_ok-found.found) c.self.view_is (finds_it _ _ _ _ _ c.in_ok-found.found (here g (goal.at.returns-clause-found g c).In_ok-found))
+    rw (sym c.self.view_is) (finds_it _ _ _ _ _ c.in_ok-found.found (here g (goal.at.returns-clause-found g c).In_ok-found))
 
 pub returns-clause-moved : goal.returns-clause-moved
 returns-clause-moved g c =
@@ -32,10 +30,8 @@ returns-clause-moved g c =
 
 pub returns-clause-restarts : goal.returns-clause-restarts
 returns-clause-restarts g c =
-    subst (λ (z : Explored). IfSome c.in_ok-found.found (λ row. RowRestarts z.state.start (told row))) c.self.view_is
-    (restarts_it _ _ _ _ _ c.in_ok-found.found c.restart_law.ensures.restart (here g (goal.at.returns-clause-restarts g c).In_ok-found))
+    rw (sym c.self.view_is) (restarts_it _ _ _ _ _ c.in_ok-found.found c.restart_law.ensures.restart (here g (goal.at.returns-clause-restarts g c).In_ok-found))
 
 pub returns-clause-applied : goal.returns-clause-applied
 returns-clause-applied g c =
-    subst (λ (z : Explored). c.next.new.self.walk.seen.usage.applied ≤ z.usage.applied + row_cost z.state.start.rules z.state.start.geometry c.in_ok-found.found) c.self.view_is
-    (costs_row _ _ _ _ _ c.in_ok-found.found (here g (goal.at.returns-clause-applied g c).In_ok-found) c.in_ok-found.ensures.costs.1)
+    rw (sym c.self.view_is) (costs_row _ _ _ _ _ c.in_ok-found.found (here g (goal.at.returns-clause-applied g c).In_ok-found) c.in_ok-found.ensures.costs.1)

@@ -15,7 +15,8 @@ use Rattle.mc_explore.specs.facts.Telling.{width_is}
 use Rattle.mc_explore.proofs.Columns as columns
 use Rattle.mc_explore.proofs.Columns.{Reached, reached, reached_still, stays_none}
 use Rattle.mc_explore.proofs.once.Once.+census_column.Goals as goal
-use Rattle.mc_explore.proofs.once.Once.+census_column.Goals.{in-Some, in-None+in_ok-census_column-in-None}
+use Rattle.mc_explore.proofs.once.Once.+census_column.Given.{Over}
+use Rattle.mc_explore.proofs.once.Once.+census_column.Goals.{In_ok-child, Joined-find, in-Some, in-None+in_ok-census_column-in-None}
 use Rattle.mc_boot.specs.PowerOn.{power_on}
 
 pub loop-number-init : goal.loop-number-init
@@ -50,61 +51,44 @@ child-requires-clause-room g t c =
     let some : 1 ≤ c.args.bound = omega (arith, c.if-bound-eq0.false) in
     columns.child_room r layout old (g.F.Flash.seen c.loop-number.flash) (left_of layout (progress c.loop-number.at)) c.args.bound c.requires.room some i.under
 
+-- The flash stands at a child, of which that is told.
+told_there : (g : Over) (t : ℕ) (c : In_ok-child g t) → Reached c.args.self.now.rules c.args.self.now.layout (g.F.Flash.seen c.args.flash.now).content c.loop-number._number
+    c.loop-number.at (g.F.Flash.seen c.args.flash.now) (g.F.Flash.seen c.child.new.flash) c.in_ok-child.child
+told_there g t c =
+    let i = c.loop-number.invariant in
+    let e = c.in_ok-child.ensures in
+    reached _ _ _ _ _ _ _ _ _ _ c.requires.told.told_is c.loop-number-test.true i.here i.under e.tells (record { stays = e.stays; limits = e.spends.limits })
+
+-- It stays so while its further schedules are looked at.
+stays_there : (g : Over) (t : ℕ) (c : Joined-find g t) → StaysSo (g.F.Flash.seen c.child.new.flash) (g.F.Flash.seen c.match-find.flash)
+stays_there g t c =
+    let after = g.F.Flash.seen c.child.new.flash in
+    elim c.match-find.branch [
+      | in-Some w ↦ subst (StaysSo after) (sym (ap g.F.Flash.seen w.flash-is)) (stays_none after)
+      | in-None+in_ok-census_column-in-None w ↦ subst (StaysSo after) (sym (ap g.F.Flash.seen w.flash-is)) w.in_ok-census_column-in-None.ensures.stays
+    ]
+
 pub find-requires : goal.find-requires
 find-requires g t c =
-    let r = c.args.self.now.rules in
-    let layout = c.args.self.now.layout in
-    let old = g.F.Flash.seen c.args.flash.now in
-    let i = c.loop-number.invariant in
-    let n : ℕ = c.loop-number._number in
-    let before = g.F.Flash.seen c.loop-number.flash in
-    let after = g.F.Flash.seen c.child.new.flash in
-    let child = c.in_ok-child.child in
-    let e = c.in_ok-child.ensures in
-    let x = reached r layout old.content n c.loop-number.at old before after c.args.told.now child c.requires.told.told_is c.loop-number-test.true i.here i.under e.tells
-    (record { stays = e.stays; limits = e.spends.limits }) in
-    subst (λ (x : Geometry). IsBootOf x child.boot) (sym x.here.layout_is) x.told.layout_is
+    let x = told_there g t (goal.at.find-requires g t c).In_ok-child in
+    subst (λ (x : Geometry). IsBootOf x c.in_ok-child.child.boot) (sym x.here.layout_is) x.told.layout_is
 
 pub census_column-requires : goal.census_column-requires
 census_column-requires g t c κs within =
     let r = c.args.self.now.rules in
     let layout = c.args.self.now.layout in
-    let old = g.F.Flash.seen c.args.flash.now in
-    let i = c.loop-number.invariant in
-    let n : ℕ = c.loop-number._number in
-    let before = g.F.Flash.seen c.loop-number.flash in
-    let after = g.F.Flash.seen c.child.new.flash in
-    let child = c.in_ok-child.child in
-    let e = c.in_ok-child.ensures in
-    let x = reached r layout old.content n c.loop-number.at old before after c.args.told.now child c.requires.told.told_is c.loop-number-test.true i.here i.under e.tells
-    (record { stays = e.stays; limits = e.spends.limits }) in
+    let x = told_there g t (goal.at.census_column-requires g t c).In_ok-child in
     let some : 1 ≤ c.args.bound = omega (arith, c.if-bound-eq0.false) in
-    let room = columns.column_room r layout old after (left_of layout (progress c.loop-number.at)) c.args.bound c.requires.room some x.under in
-    let told = subst (λ (s : Content). IsTold (power_on r layout s) child) (sym x.here.content_is) x.told in
+    let room = columns.column_room r layout _ _ _ c.args.bound c.requires.room some x.under in
+    let told = subst (λ (s : Content). IsTold (power_on r layout s) c.in_ok-child.child) (sym x.here.content_is) x.told in
     (omega (arith, c.decreases, some), (within, (record { layout_is = x.here.layout_is; told_is = told }, (room, omega (arith, c.requires.few)))))
 
 pub pass-requires : goal.pass-requires
 pass-requires g t c =
-    let r = c.args.self.now.rules in
-    let layout = c.args.self.now.layout in
-    let old = g.F.Flash.seen c.args.flash.now in
-    let i = c.loop-number.invariant in
-    let n : ℕ = c.loop-number._number in
-    let before = g.F.Flash.seen c.loop-number.flash in
-    let after = g.F.Flash.seen c.child.new.flash in
-    let child = c.in_ok-child.child in
-    let e = c.in_ok-child.ensures in
-    let x = reached r layout old.content n c.loop-number.at old before after c.args.told.now child c.requires.told.told_is c.loop-number-test.true i.here i.under e.tells
-    (record { stays = e.stays; limits = e.spends.limits }) in
+    let a = goal.at.pass-requires g t c in
+    let y = reached_still _ _ _ _ _ _ _ _ _ (told_there g t a.In_ok-child) (stays_there g t a.Joined-find) in
     let some : 1 ≤ c.args.bound = omega (arith, c.if-bound-eq0.false) in
-    let mid = g.F.Flash.seen c.match-find.flash in
-    let stays : StaysSo after mid = elim c.match-find.branch [
-      | in-Some w ↦ subst (StaysSo after) (sym (ap g.F.Flash.seen w.flash-is)) (stays_none after)
-      | in-None+in_ok-census_column-in-None w ↦ subst (StaysSo after) (sym (ap g.F.Flash.seen w.flash-is)) w.in_ok-census_column-in-None.ensures.stays
-    ] in
-    let y = reached_still r layout old.content n c.loop-number.at old after mid child x stays in
-    let room = columns.pass_room r layout old mid (left_of layout (progress c.loop-number.at)) c.args.bound c.requires.room some y.under in
-    (old.content, n, y.here, y.early, room)
+    ((g.F.Flash.seen c.args.flash.now).content, c.loop-number._number, y.here, y.early, columns.pass_room _ _ _ _ _ c.args.bound c.requires.room some y.under)
 
 pub loop-number-preserved : goal.loop-number-preserved
 loop-number-preserved g t c =
@@ -113,19 +97,12 @@ loop-number-preserved g t c =
     let old = g.F.Flash.seen c.args.flash.now in
     let i = c.loop-number.invariant in
     let n : ℕ = c.loop-number._number in
-    let before = g.F.Flash.seen c.loop-number.flash in
     let after = g.F.Flash.seen c.child.new.flash in
     let child = c.in_ok-child.child in
-    let e = c.in_ok-child.ensures in
-    let x = reached r layout old.content n c.loop-number.at old before after c.args.told.now child c.requires.told.told_is c.loop-number-test.true i.here i.under e.tells
-    (record { stays = e.stays; limits = e.spends.limits }) in
     let some : 1 ≤ c.args.bound = omega (arith, c.if-bound-eq0.false) in
-    let mid = g.F.Flash.seen c.match-find.flash in
-    let stays : StaysSo after mid = elim c.match-find.branch [
-      | in-Some w ↦ subst (StaysSo after) (sym (ap g.F.Flash.seen w.flash-is)) (stays_none after)
-      | in-None+in_ok-census_column-in-None w ↦ subst (StaysSo after) (sym (ap g.F.Flash.seen w.flash-is)) w.in_ok-census_column-in-None.ensures.stays
-    ] in
-    let y = reached_still r layout old.content n c.loop-number.at old after mid child x stays in
+    let a = goal.at.loop-number-preserved g t c in
+    let x = told_there g t a.In_ok-child in
+    let y = reached_still _ _ _ _ _ _ _ _ _ x (stays_there g t a.Joined-find) in
     let s : Content = old.content in
     let u : Content = at_cut (power_on r layout s) n in
     let P : Below → Type 0 = λ b. IsBelow r layout s c.args.bound u b in
@@ -141,12 +118,10 @@ loop-number-preserved g t c =
     let pushed : c.push.new.self.items ≡ old_ps ++ p ∷ [] = c.in_ok-push.ensures.items in
     let own_is : p.own ≡ cut_off (own_totals r layout u) = c.of.ensures ∙ ap cut_off (columns.own_told r layout u child x.told) in
     let more = columns.more_positions r layout s c.args.bound old_ps p n i.positions i.many (record { own_is = own_is; below = below }) in
-    let left = left_of layout (progress c.loop-number.at) in
-    let left' = left_of layout (progress c.pass.new.at) in
     let pass = c.in_ok-pass.ensures in
     record {
       here = pass.passes.0 s n y.here y.early;
-      under = columns.passed_under r layout old mid (g.F.Flash.seen c.pass.new.flash) left left' y.under pass.keeps pass.spends.limits pass.passes.1;
+      under = columns.passed_under r layout old _ _ _ _ y.under pass.keeps pass.spends.limits pass.passes.1;
       many = omega (arith, ap length pushed, length-append old_ps (p ∷ []), i.many);
       positions = subst (ArePositions r layout s c.args.bound) (sym pushed) more;
     }

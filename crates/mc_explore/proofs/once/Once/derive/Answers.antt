@@ -1,8 +1,10 @@
-use Rattle.std.proofs.Common.{◌≡◌, ℕ, List, arith, subst}
-use Rattle.mc_image.specs.Bytes.{IsBytes}
+use Rattle.std.proofs.Common.{◌≡◌, Some, arith, subst}
+use Rattle.mc_boot.specs.Outcome.{outcome_of, shown}
+use Rattle.mc_boot.specs.PowerOn.{again}
+use Rattle.mc_boot.specs.Runs.{left_by}
 use Rattle.mc_trailer.specs.declared.tables.Rules.{Rules}
 use Rattle.mc_explore.specs.Once.{IsBegun}
-use Rattle.mc_explore.proofs.Onwards.{left_derived, left_still, stopped_here, told_derived, told_still}
+use Rattle.mc_explore.proofs.Onwards.{cut_so, left_still, stopped_here, told_of, told_still}
 use Rattle.mc_explore.proofs.once.Once.derive.Given.{Over}
 use Rattle.mc_explore.proofs.once.Once.derive.Goals as goal
 use Rattle.mc_explore.proofs.once.Once.derive.Goals.{After-after_cut-boot}
@@ -23,32 +25,21 @@ returns-then-count-eq0-clause-left g c = λ s i here early told.
     left_still c.args.self.now.rules c.args.self.now.layout s i none
 
 -- The boot at power-on from there.
-begins : (g : Over) (c : After-after_cut-boot g) → IsBegun c.args.at.now.rules (g.F.Flash.seen c.args.flash.now) c.after_cut-boot.result
-begins g c = record { cold = c.after_cut-boot.ensures; bytes = subst (λ (x : List ℕ). IsBytes x) c.read.ensures.value c.bytes_stand.ensures }
+begins : (g : Over) (c : After-after_cut-boot g) → IsBegun c.args.self.now.rules (g.F.Flash.seen c.args.flash.now) c.after_cut-boot.result
+begins g c =
+    let bytes = rw c.read.ensures.value at c.bytes_stand.ensures in
+    subst (λ (x : Rules). IsBegun x (g.F.Flash.seen c.args.flash.now) c.after_cut-boot.result) (c.requires.2).on_is.come.rules (record { cold = c.after_cut-boot.ensures; bytes = bytes })
 
 pub returns-in-Some-clause-told : goal.returns-in-Some-clause-told
-returns-in-Some-clause-told g c =
-    let r = c.args.self.now.rules in
-    let f = g.F.Flash.seen c.args.flash.now in
-    let boot = c.after_cut-boot.result in
+returns-in-Some-clause-told g c = λ s i here early told.
     let begun = begins g (goal.at.returns-in-Some-clause-told g c).After-after_cut-boot in
-    λ s i here early told.
-    told_derived r c.args.self.now.layout f boot here.layout_is (subst (λ (x : Rules). IsBegun x f boot) here.on_is.come.rules begun) s i c.args.at.now c.args.parent.now c.in-Some.outcome
-    here early told
-    c.in-Some.ensures.outcome
+    let is = cut_so _ _ _ _ here.layout_is begun (λ x u. outcome_of (again x u) ≡ Some (shown c.in-Some.outcome)) s i _ _ here early told c.in-Some.ensures.outcome in
+    told_of _ _ _ _ _ _ here.layout_is here.content_is begun is
 
 pub returns-in-Some-clause-left : goal.returns-in-Some-clause-left
-returns-in-Some-clause-left g c =
-    let r = c.args.self.now.rules in
-    let f = g.F.Flash.seen c.args.flash.now in
-    let boot = c.after_cut-boot.result in
+returns-in-Some-clause-left g c = λ s i here early told.
     let begun = begins g (goal.at.returns-in-Some-clause-left g c).After-after_cut-boot in
-    λ s i here early told.
-    left_derived r c.args.self.now.layout f boot here.layout_is (subst (λ (x : Rules). IsBegun x f boot) here.on_is.come.rules begun) s i c.args.at.now c.args.parent.now here early told
-    c.in-Some.ensures.left
+    cut_so _ _ _ _ here.layout_is begun (λ x u. left_by (again x u) ≡ left_by x) s i _ _ here early told c.in-Some.ensures.left
 
 pub returns-in-None-clause-begun : goal.returns-in-None-clause-begun
-returns-in-None-clause-begun g c =
-    let f = g.F.Flash.seen c.args.flash.now in
-    let begun = begins g (goal.at.returns-in-None-clause-begun g c).After-after_cut-boot in
-    subst (λ (x : Rules). IsBegun x f c.after_cut-boot.result) (c.requires.2).on_is.come.rules begun
+returns-in-None-clause-begun g c = begins g (goal.at.returns-in-None-clause-begun g c).After-after_cut-boot

@@ -1,8 +1,7 @@
-use Rattle.std.proofs.Common.{rules, ℕ, List, Some, length, arith, refl, sym, ap, subst, ◌∙◌}
+use Rattle.std.proofs.Common.{rules, Some, length, arith, refl, sym, ap, ◌∙◌}
 use Rattle.mc_flash.specs.facts.Layouts.{fits_inside}
 use Rattle.mc_flash.specs.declared.op.Slot.TheVariants.{Primary, Secondary}
 use Rattle.mc_image.specs.Valid.{Identity, identity}
-use Rattle.mc_explore.specs.Slots.{IsKnown}
 use Rattle.mc_explore.proofs.Images.{names, told_ids}
 use Rattle.mc_explore.proofs.start.Start.from_images.Goals as goal
 
@@ -42,6 +41,6 @@ invariant_of-result c = (
   c.fits.ensures.valid,
   c.in_ok-content.ensures.sized,
   c.in_ok-line.ensures,
-  subst (λ (x : List ℕ). IsKnown x c.known_id.result) c.bytes.ensures c.known_id.ensures,
-  subst (λ (x : List ℕ). IsKnown x c.known_id-2.result) c.bytes-2.ensures c.known_id-2.ensures,
+  rw c.bytes.ensures at c.known_id.ensures,
+  rw c.bytes-2.ensures at c.known_id-2.ensures,
 )

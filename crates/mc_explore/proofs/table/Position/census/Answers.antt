@@ -1,11 +1,9 @@
-use Rattle.std.proofs.Common.{ℕ, List, length, sym, ap, subst, ◌∙◌, arith}
-use Rattle.mc_boot.specs.Rejoin.{IsRejoined, place_of}
+use Rattle.std.proofs.Common.{ℕ, length, sym, ap, ◌∙◌, arith}
+use Rattle.mc_boot.specs.Rejoin.{place_of}
 use Rattle.mc_tree.specs.Weights.{placed_below}
 use Rattle.mc_explore.specs.Boots.{at_cut}
-use Rattle.mc_explore.specs.Table.{IsBelow, IsColumn, IsInside, own_totals, weigh, weigh_fewer}
+use Rattle.mc_explore.specs.Table.{IsColumn, IsInside, own_totals, weigh, weigh_fewer}
 use Rattle.mc_explore.specs.Totals.{Totals, both, cut_off, totals}
-use Rattle.mc_explore.specs.declared.census.Census.{Census}
-use Rattle.mc_explore.specs.declared.table.Below.{Below}
 use Rattle.mc_explore.proofs.Weighing.{inside, rejoined_weigh}
 use Rattle.mc_explore.proofs.table.Position.census.Goals as goal
 use Rattle.mc_boot.specs.PowerOn.{power_on}
@@ -15,8 +13,8 @@ returns-in-Joined c = λ r g s u most here level sums lt.
     let x = c.in-Joined.rejoin in
     let own : Totals = own_totals r g u in
     let under : ℕ → Totals = λ i. weigh_fewer r g c.args.bound (at_cut (power_on r g s) i) in
-    let joined : IsRejoined (power_on r g s) u x = subst (λ (b : Below). IsBelow r g s most u b) c.in-Joined.is here.below in
-    let inside_here : IsInside x (length c.args.level.now) = subst (λ n. IsInside x n) (sym level.0) (inside r g s u x joined) in
+    let joined = rw c.in-Joined.is at here.below in
+    let inside_here : IsInside x (length c.args.level.now) = rw level.0 (inside r g s u x joined) in
     let children = c.rejoined.ensures under level.1 sums inside_here in
     c.both.ensures own (placed_below totals under (length c.args.level.now) x.kept x.erases (place_of x)) here.own_is children
     ∙ ap (λ n. cut_off (both own (placed_below totals under n x.kept x.erases (place_of x)))) level.0
@@ -24,6 +22,5 @@ returns-in-Joined c = λ r g s u most here level sums lt.
 
 pub returns-in-Apart : goal.returns-in-Apart
 returns-in-Apart c = λ r g s u most here level sums lt.
-    let column : IsColumn r g u most c.in-Apart.column.items = subst (λ (b : Below). IsBelow r g s most u b) c.in-Apart.is here.below in
-    let there : IsColumn r g u most c.deref.result.now = subst (λ (xs : List Census). IsColumn r g u most xs) (sym c.deref.ensures.value) column in
+    let there : IsColumn r g u most c.deref.result.now = rw c.deref.ensures.value (rw c.in-Apart.is at here.below) in
     c.census_at.ensures (λ d. weigh r g d u) there.1 (omega (arith, lt, there.0))
