@@ -1,5 +1,5 @@
 -- Areas that come in pieces.
-use Rattle.std.proofs.Common.{◌≡◌, ℕ, ◌+◌, ◌-◌, ◌≤◌, Bool, true, false, List, [], ◌++◌, length, take, drop, refl, sym, ap, ◌∙◌, arith, inl, inr, eq-eqb, Option, None, Some, subst, length-drop}
+use Rattle.std.proofs.Common.{◌≡◌, ℕ, ◌-◌, ◌≤◌, Bool, true, false, List, ◌++◌, length, take, drop, refl, sym, ap, ◌∙◌, arith, inl, inr, eq-eqb, Option, None, Some, subst}
 use Rattle.std.specs.Prelude.{nat_lt, ◌==◌, ◌||◌, not, is_none, is_some}
 use Rattle.std.proofs.lemmas.Bool.{cases_lt, lt-ltb, le-ltb, eqb-true}
 use Rattle.std.proofs.lemmas.List.{length-take}
@@ -11,7 +11,7 @@ use Rattle.mc_image.specs.Walking.{Walks, Follows}
 use Rattle.mc_image.specs.declared.gather.Gather.{Gather}
 use Rattle.mc_image.specs.declared.areas.Walk.{Walk}
 use Rattle.mc_image.specs.declared.areas.ProtectedArea.{ProtectedArea}
-use Rattle.mc_image.proofs.Pieces.{take_split, drop_split}
+use Rattle.mc_image.proofs.Pieces.{drop_split}
 use Rattle.mc_image.proofs.HeaderLaws.{u16_at-take}
 use Rattle.mc_image.proofs.WalkSteps.{take_again}
 
@@ -20,13 +20,12 @@ module _ (a : ProtectedArea) (head : Gather 4) (walk : Walk) (piece entries : Li
     (is_entries : entries ≡ drop (4 - length (held a.head)) piece) where
   pub follows_more : ((bytes : List ℕ) → Walks a.walk bytes → Walks walk (bytes ++ entries)) → (bytes : List ℕ) → Follows a bytes → Follows (record { head = head; walk = walk }) (bytes ++ piece)
   follows_more goes bytes f =
-      let l = ap length f.head ∙ length-take 4 bytes in
       let same : drop 4 bytes ++ entries ≡ drop 4 (bytes ++ piece) =
       ap (λ (x : List ℕ). drop 4 bytes ++ x) is_entries ∙ ap (λ (k : ℕ). drop 4 bytes ++ drop k piece)
-      (let q : 4 - length (held a.head) ≡ 4 - length bytes = omega (arith, l) in q) ∙ sym (drop_split 4 bytes piece) in
+      (let q : 4 - length (held a.head) ≡ 4 - length bytes = omega (arith, ap length f.head ∙ length-take 4 bytes) in q) ∙ sym (drop_split 4 bytes piece) in
       record {
         head = is_head ∙ ap (λ (x : List ℕ). take 4 (x ++ piece)) f.head ∙ take_again 4 bytes piece;
-        walk = let P : List ℕ → Type 0 = λ x. Walks walk x in subst P same (goes (drop 4 bytes) f.walk);
+        walk = subst (λ (x : List ℕ). Walks walk x) same (goes (drop 4 bytes) f.walk);
       }
 
 none_some : {A : Type 0} (o : Option A) → not (is_some o) ≡ is_none o
@@ -48,10 +47,8 @@ module _ (a : ProtectedArea) (total : ℕ) (bytes : List ℕ) (f : Follows a byt
   whole : (m n : Bool) → (not (u16_at 0 (held a.head) == 0x6908)) ≡ m → (not (u16_at 2 (held a.head) == total)) ≡ n → is_bad_area 0x6908 bytes ≡ (m || (n || is_none (entries_of (drop 4 bytes))))
   unfolding is_bad_area
   whole m n e g =
-      let l = length-take 4 bytes in
-      let k = ap length f.head in
       let four : length (held a.head) ≡ 4 = eqb-true _ _ full in
-      let le : 4 ≤ length bytes = omega (arith, l, k, four) in
+      let le : 4 ≤ length bytes = omega (arith, length-take 4 bytes, ap length f.head, four) in
       let t : nat_lt (length bytes) 4 ≡ false = le-ltb _ _ le in
       let e0 : u16_at 0 bytes ≡ u16_at 0 (held a.head) = sym (ap (u16_at 0) f.head ∙ u16_at-take bytes 0 4 (omega arith)) in
       let e2 : u16_at 2 bytes ≡ u16_at 2 (held a.head) = sym (ap (u16_at 2) f.head ∙ u16_at-take bytes 2 4 (omega arith)) in

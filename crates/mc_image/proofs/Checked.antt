@@ -1,10 +1,9 @@
 -- What reading and the check of the digest say of the tests of a valid image.
-use Rattle.std.proofs.Common.{◌≡◌, ℕ, Bool, true, false, cond, List, Option, None, Some, refl, sym, ap, ◌∙◌}
-use Rattle.std.specs.Prelude.{not, is_none, ◌&&◌}
-use Rattle.std.proofs.lemmas.Slice.Eq.{bytes_eq-Decides}
+use Rattle.std.proofs.Common.{◌≡◌, ℕ, Bool, true, false, List, None, Some, refl, sym, ap, ◌∙◌}
+use Rattle.std.specs.Prelude.{not}
 use Rattle.mc_image.specs.Image.{Image, IsGood, image_in}
 use Rattle.mc_image.specs.Faults.{fault_if, first_fault}
-use Rattle.mc_image.specs.Valid.{Identity, identity, is_good, is_valid, id_of, image_fault}
+use Rattle.mc_image.specs.Valid.{identity, is_good, is_valid, id_of, image_fault}
 use Rattle.mc_image.specs.declared.error.ImageError.{ImageError}
 use Rattle.mc_image.specs.declared.error.ImageError.TheVariants.{WrongDigest}
 use Rattle.mc_image.specs.facts.Valid.{good_false, good_true}
@@ -22,8 +21,7 @@ fault_none b v none is good = from_parts b true none (ap is_good (sym is) ∙ go
 
 -- with the error of the check
 pub fault_checked : (b : List ℕ) (v : Image) (e : ImageError) → first_fault b ≡ None → v ≡ image_in b → e ≡ WrongDigest → (IsGood v → ⊥) → image_fault b ≡ Some e
-fault_checked b v e none is at wrong =
-    from_parts b false none (ap is_good (sym is) ∙ good_false v wrong) ∙ ap (λ (x : ImageError). Some x) (sym at)
+fault_checked b v e none is at wrong = from_parts b false none (ap is_good (sym is) ∙ good_false v wrong) ∙ ap (λ (x : ImageError). Some x) (sym at)
 
 pub id_checked : (b : List ℕ) (v : Image) → first_fault b ≡ None → v ≡ image_in b → IsGood v → id_of b ≡ Some (identity v)
 unfolding id_of is_valid

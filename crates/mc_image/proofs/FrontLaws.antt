@@ -1,24 +1,21 @@
 -- What the first bytes of an image say stays said, whatever follows.
-use Rattle.std.proofs.Common.{◌≡◌, ◌≢◌, ℕ, ◌+◌, ◌-◌, ◌<◌, ◌≤◌, Bool, true, false, List, [], ◌∷◌, ◌++◌, length, get_or, take, drop, Option, None, Some, Err, refl, sym, ap, subst, ◌∙◌, arith}
+use Rattle.std.proofs.Common.{◌≡◌, ◌≢◌, ℕ, ◌+◌, ◌<◌, ◌≤◌, Bool, true, false, List, ◌++◌, length, take, drop, None, Some, Err, refl, sym, ap, subst, ◌∙◌, arith}
 use Rattle.std.proofs.Common.{append_assoc, length-append}
-use Rattle.std.specs.Prelude.{nat_lt, ◌==◌, ◌||◌, ◌&&◌, not, Result}
-use Rattle.std.proofs.lemmas.Bool.{lt-ltb, le-ltb, ltb-false, ne_eqb}
-use Rattle.std.proofs.lemmas.List.{take_at, drop_at, drop-append-le, take-append-le, length-drop, length-take, get_or_append_left, append-nil, take_all}
-use Rattle.mc_image.specs.Bytes.{u16_at, u32_at, IsBytes}
+use Rattle.std.specs.Prelude.{nat_lt, ◌==◌, ◌&&◌, not}
+use Rattle.std.proofs.lemmas.Bool.{lt-ltb, le-ltb, ne_eqb}
+use Rattle.std.proofs.lemmas.List.{take_at, drop_at, drop-append-le, take-append-le, length-drop, get_or_append_left}
+use Rattle.mc_image.specs.Bytes.{u16_at}
 use Rattle.mc_image.specs.Entries.{entries_in, digests}
-use Rattle.mc_image.specs.Headers.{IsHeader, head_fault, entries_fault}
+use Rattle.mc_image.specs.Headers.{IsHeader}
 use Rattle.mc_image.specs.Image.{header_end, payload_end, protected_end, protected_in, after_body, area_in, version_in}
 use Rattle.mc_image.specs.Faults.{fault_if, ◌<+>◌, header_fault, body_fault, protected_fault, plain_fault, digest_fault, first_fault, is_bad_area}
-use Rattle.mc_image.specs.Valid.{image_fault}
 use Rattle.mc_image.specs.Judging.{verdict, judged_or_fault, HasHeader, IsSealed}
 use Rattle.mc_image.specs.declared.error.ImageError.{ImageError}
-use Rattle.mc_image.specs.declared.error.ImageError.TheVariants.{Truncated, BadMagic, BadHeaderSize, UnsupportedFlags, TruncatedBody, BadProtected, BadTlvMagic, BadTlvLength}
+use Rattle.mc_image.specs.declared.error.ImageError.TheVariants.{Truncated, TruncatedBody, BadProtected}
 use Rattle.mc_image.specs.declared.header.Header.{Header}
-use Rattle.mc_image.specs.declared.judge.Judged.{Judged}
 use Rattle.mc_image.specs.declared.judge.Sealed.{Sealed}
-use Rattle.mc_image.specs.declared.version.Version.{Version}
 use Rattle.mc_image.proofs.WalkLaws.{u16_more, u32_more}
-use Rattle.mc_image.proofs.PlainLaws.{late_fault, head_first, behind_error}
+use Rattle.mc_image.proofs.PlainLaws.{late_fault, behind_error}
 use Rattle.mc_image.proofs.Checked.{fault_read}
 
 -- a fault is the answer
@@ -35,8 +32,7 @@ module _ (b c : List ℕ) (long : 32 ≤ length b) where
   pub header_fault_more : header_fault (b ++ c) ≡ header_fault b
   unfolding header_fault
   header_fault_more =
-      let l = longer in
-      let p : nat_lt (length (b ++ c)) 32 ≡ false = le-ltb _ _ l in
+      let p : nat_lt (length (b ++ c)) 32 ≡ false = le-ltb _ _ longer in
       let q : nat_lt (length b) 32 ≡ false = le-ltb _ _ long in
       let m = u32_more 0 b c (omega (arith, long)) in
       let s = u16_more 8 b c (omega (arith, long)) in
@@ -45,17 +41,11 @@ module _ (b c : List ℕ) (long : 32 ≤ length b) where
 
   pub payload_end_more : payload_end (b ++ c) ≡ payload_end b
   unfolding payload_end header_end
-  payload_end_more =
-      let s = u16_more 8 b c (omega (arith, long)) in
-      let n = u32_more 12 b c (omega (arith, long)) in
-      omega (arith, s, n)
+  payload_end_more = omega (arith, u16_more 8 b c (omega (arith, long)), u32_more 12 b c (omega (arith, long)))
 
   pub protected_end_more : protected_end (b ++ c) ≡ protected_end b
   unfolding protected_end
-  protected_end_more =
-      let p = payload_end_more in
-      let q = u16_more 10 b c (omega (arith, long)) in
-      omega (arith, p, q)
+  protected_end_more = omega (arith, payload_end_more, u16_more 10 b c (omega (arith, long)))
 
   pub version_more : version_in (b ++ c) ≡ version_in b
   unfolding version_in
@@ -69,26 +59,21 @@ module _ (b c : List ℕ) (long : 32 ≤ length b) where
 pub has_header_more : (h : Header) (b c : List ℕ) → HasHeader h b → HasHeader h (b ++ c)
 has_header_more h b c has =
     let long = has.long in
-    let f = has.fields in
     record {
       none = header_fault_more b c long ∙ has.none;
       long = omega (arith, length-append b c, long);
       size = has.size;
       fields = record {
-        size = f.size ∙ sym (u16_more 8 b c (omega (arith, long)));
-        protected = f.protected ∙ sym (u16_more 10 b c (omega (arith, long)));
-        payload = f.payload ∙ sym (u32_more 12 b c (omega (arith, long)));
-        version = f.version ∙ sym (version_more b c long);
+        size = has.fields.size ∙ sym (u16_more 8 b c (omega (arith, long)));
+        protected = has.fields.protected ∙ sym (u16_more 10 b c (omega (arith, long)));
+        payload = has.fields.payload ∙ sym (u32_more 12 b c (omega (arith, long)));
+        version = has.fields.version ∙ sym (version_more b c long);
       };
     }
 
 pub header_ends : (h : Header) (b : List ℕ) → IsHeader h b → (payload_end b ≡ h.size + h.payload) × (protected_end b ≡ h.size + h.payload + h.protected)
 unfolding payload_end header_end protected_end
-header_ends h b f =
-    let s = f.size in
-    let p = f.payload in
-    let q = f.protected in
-    (omega (arith, s, p), omega (arith, s, p, q))
+header_ends h b f = (omega (arith, f.size, f.payload), omega (arith, f.size, f.payload, f.protected))
 
 fault_header : (b : List ℕ) (e : ImageError) → header_fault b ≡ Some e → first_fault b ≡ Some e
 unfolding first_fault
@@ -97,23 +82,17 @@ fault_header b e h = behind_error (header_fault b) _ e h
 pub header_error : (b c : List ℕ) (e : ImageError) → 32 ≤ length b → header_fault b ≡ Some e → verdict (b ++ c) ≡ Err e
 header_error b c e long h = fault_verdict (b ++ c) e (fault_header (b ++ c) e (header_fault_more b c long ∙ h))
 
-truncated : (b : List ℕ) → length b < 32 → header_fault b ≡ Some Truncated
-unfolding header_fault
-truncated b lt = let t : nat_lt (length b) 32 ≡ true = lt-ltb _ _ lt in rw t refl
-
 pub fields_short : (b : List ℕ) → length b < 32 → verdict b ≡ Err Truncated
-fields_short b lt = fault_verdict b Truncated (fault_header b Truncated (truncated b lt))
+unfolding header_fault
+fields_short b lt = let t : nat_lt (length b) 32 ≡ true = lt-ltb _ _ lt in fault_verdict b Truncated (fault_header b Truncated (rw t refl))
 
 second_fault : (b : List ℕ) (e : ImageError) → header_fault b ≡ None → body_fault b ≡ Some e → first_fault b ≡ Some e
 unfolding first_fault
 second_fault b e h1 h2 = rw (h1, h2) refl
 
-cut_body : (b : List ℕ) → length b < protected_end b → body_fault b ≡ Some TruncatedBody
-unfolding body_fault
-cut_body b lt = let t : nat_lt (length b) (protected_end b) ≡ true = lt-ltb _ _ lt in rw t refl
-
 pub body_short : (b : List ℕ) → header_fault b ≡ None → length b < protected_end b → verdict b ≡ Err TruncatedBody
-body_short b none lt = fault_verdict b TruncatedBody (second_fault b TruncatedBody none (cut_body b lt))
+unfolding body_fault
+body_short b none lt = let t : nat_lt (length b) (protected_end b) ≡ true = lt-ltb _ _ lt in fault_verdict b TruncatedBody (second_fault b TruncatedBody none (rw t refl))
 
 pub body_whole : (b : List ℕ) → protected_end b ≤ length b → body_fault b ≡ None
 unfolding body_fault
@@ -156,23 +135,16 @@ module _ (h : Header) (front rest : List ℕ) (has : HasHeader h front) (len : l
 
   pub body_ends : length (front ++ rest) ≡ protected_end (front ++ rest)
   body_ends =
-      let long = has.long in
       let e = (header_ends h front has.fields) in
-      let e0 = e.0 in
-      let e1 = e.1 in
-      let p = protected_end_more front rest long in
-      omega (arith, length-append front rest, len, size, e0, e1, p)
+      omega (arith, length-append front rest, len, size, e.0, e.1, protected_end_more front rest has.long)
 
   pub protected_bad : (more : List ℕ) → true ≡ is_bad_area 0x6908 rest → verdict ((front ++ rest) ++ more) ≡ Err BadProtected
   protected_bad more is =
-      let long = has.long in
       let b : List ℕ = front ++ (rest ++ more) in
-      let e = body_ends in
-      let l = length-append (front ++ rest) more in
-      let p = protected_end_more (front ++ rest) more (omega (arith, length-append front rest, long)) in
+      let p = protected_end_more (front ++ rest) more (omega (arith, length-append front rest, has.long)) in
       let same = append_assoc front rest more in
-      let whole : protected_end b ≤ length b = let P : List ℕ → Type 0 = λ x. protected_end x ≤ length x in subst P same (omega (arith, e, l, p)) in
-      ap verdict same ∙ fault_verdict b BadProtected (third_fault b BadProtected (header_fault_more front (rest ++ more) long ∙ has.none) (body_whole b whole) (protected_tested more true is))
+      let whole : protected_end b ≤ length b = subst (λ (x : List ℕ). protected_end x ≤ length x) same (omega (arith, body_ends, length-append (front ++ rest) more, p)) in
+      ap verdict same ∙ fault_verdict b BadProtected (third_fault b BadProtected (header_fault_more front (rest ++ more) has.long ∙ has.none) (body_whole b whole) (protected_tested more true is))
 
 -- ---- behind header, payload and protected area
 module _ (s : Sealed) (body : List ℕ) (is : IsSealed s body) (rest : List ℕ) where
@@ -189,28 +161,24 @@ module _ (s : Sealed) (body : List ℕ) (is : IsSealed s body) (rest : List ℕ)
   same_protected : protected_in (body ++ rest) ≡ protected_in body
   unfolding protected_in protected_end
   same_protected =
-      let l = long in
-      let w = is.whole in
-      let p = payload_end_more body rest l in
-      let q = u16_more 10 body rest (omega (arith, l)) in
+      let p = payload_end_more body rest long in
+      let q = u16_more 10 body rest (omega (arith, long)) in
       ap (λ (n : ℕ). take n (drop (payload_end (body ++ rest)) (body ++ rest))) q
       ∙ ap (λ (n : ℕ). take (u16_at 10 body) (drop n (body ++ rest))) p
-      ∙ ap (take (u16_at 10 body)) (drop-append-le (payload_end body) body rest (omega (arith, w)))
-      ∙ take-append-le (u16_at 10 body) (drop (payload_end body) body) rest (omega (arith, w, length-drop (payload_end body) body))
+      ∙ ap (take (u16_at 10 body)) (drop-append-le (payload_end body) body rest (omega (arith, is.whole)))
+      ∙ take-append-le (u16_at 10 body) (drop (payload_end body) body) rest (omega (arith, is.whole, length-drop (payload_end body) body))
 
   same_fault : protected_fault (body ++ rest) ≡ protected_fault body
   unfolding protected_fault
   same_fault =
-      let l = long in
-      let q = u16_more 10 body rest (omega (arith, l)) in
+      let q = u16_more 10 body rest (omega (arith, long)) in
       ap (λ (n : ℕ). fault_if (not (n == 0) && is_bad_area 0x6908 (protected_in (body ++ rest))) BadProtected) q
       ∙ ap (λ (x : List ℕ). fault_if (not (u16_at 10 body == 0) && is_bad_area 0x6908 x) BadProtected) same_protected
 
   -- the first fault is that of what follows
   pub fault_behind : first_fault (body ++ rest) ≡ (plain_fault rest <+> digest_fault (digests (entries_in (drop 4 (area_in rest)))))
   fault_behind =
-      let e = ends in
-      late_fault (body ++ rest) (header_fault_more body rest long ∙ is.header.none) (body_whole (body ++ rest) (omega (arith, e, length-append body rest))) (same_fault ∙ is.protected)
+      late_fault (body ++ rest) (header_fault_more body rest long ∙ is.header.none) (body_whole (body ++ rest) (omega (arith, ends, length-append body rest))) (same_fault ∙ is.protected)
       ∙ ap (λ (x : List ℕ). plain_fault x <+> digest_fault (digests (entries_in (drop 4 (area_in x))))) after_is
 
   pub plain_error : (e : ImageError) → plain_fault rest ≡ Some e → verdict (body ++ rest) ≡ Err e

@@ -1,8 +1,8 @@
 -- The faults of a plain area by its head, and by the entries behind it.
-use Rattle.std.proofs.Common.{◌≡◌, ℕ, ◌+◌, ◌<◌, ◌≤◌, Bool, true, false, cond, List, [], ◌∷◌, ◌++◌, length, take, drop, Option, None, Some, refl, sym, ap, subst, ◌∙◌, arith, is_some, eq-eqb}
+use Rattle.std.proofs.Common.{◌≡◌, ℕ, ◌+◌, ◌<◌, ◌≤◌, Bool, true, false, List, [], ◌∷◌, ◌++◌, length, take, drop, Option, None, Some, refl, sym, ap, ◌∙◌, arith, is_some, eq-eqb}
 use Rattle.std.specs.Prelude.{nat_lt, ◌==◌, ◌||◌, not, is_none}
-use Rattle.std.proofs.lemmas.Bool.{lt-ltb, le-ltb, ltb-false}
-use Rattle.std.proofs.lemmas.List.{take_all, drop-drop, drop_at, length-take, length-append, take_at}
+use Rattle.std.proofs.lemmas.Bool.{lt-ltb, le-ltb}
+use Rattle.std.proofs.lemmas.List.{take_all, drop_at, length-take, length-append, take_at}
 use Rattle.mc_image.specs.Bytes.{u16_at}
 use Rattle.mc_image.specs.Entries.{entries_of, entries_in, digests}
 use Rattle.mc_image.specs.Gathered.{held}
@@ -23,8 +23,7 @@ earlier false false c e h = absurd (cc)
 -- what is wrong by the head is wrong
 pub head_first : (x : List ℕ) (e : ImageError) → head_fault x ≡ Some e → plain_fault x ≡ Some e
 unfolding head_fault plain_fault
-head_first x e h =
-    earlier (nat_lt (length x) 4 || not (u16_at 0 x == 0x6907)) (nat_lt (u16_at 2 x) 4) (nat_lt (length x) (u16_at 2 x) || is_none (entries_of (drop 4 (area_in x)))) e h
+head_first x e h = earlier (nat_lt (length x) 4 || not (u16_at 0 x == 0x6907)) (nat_lt (u16_at 2 x) 4) (nat_lt (length x) (u16_at 2 x) || is_none (entries_of (drop 4 (area_in x)))) e h
 
 later : (a b c : Bool) → (fault_if a BadTlvMagic <+> fault_if b BadTlvLength) ≡ None → (fault_if a BadTlvMagic <+> fault_if (b || c) BadTlvLength) ≡ fault_if c BadTlvLength
 later true b c h = absurd (cc)
@@ -33,8 +32,7 @@ later false false c h = refl
 
 behind_head : (x : List ℕ) → head_fault x ≡ None → plain_fault x ≡ fault_if (nat_lt (length x) (u16_at 2 x) || is_none (entries_of (drop 4 (area_in x)))) BadTlvLength
 unfolding head_fault plain_fault
-behind_head x h =
-    later (nat_lt (length x) 4 || not (u16_at 0 x == 0x6907)) (nat_lt (u16_at 2 x) 4) (nat_lt (length x) (u16_at 2 x) || is_none (entries_of (drop 4 (area_in x)))) h
+behind_head x h = later (nat_lt (length x) 4 || not (u16_at 0 x == 0x6907)) (nat_lt (u16_at 2 x) 4) (nat_lt (length x) (u16_at 2 x) || is_none (entries_of (drop 4 (area_in x)))) h
 
 pub plain_short : (x : List ℕ) → head_fault x ≡ None → length x < u16_at 2 x → plain_fault x ≡ Some BadTlvLength
 plain_short x h lt =
@@ -62,16 +60,13 @@ plain_none x y h le is filled =
 pub digest_stands : (v : DigestValue) (y : List ℕ) → IsOne v y → length (held v.bytes) ≡ 32 → (take 32 (drop v.start y) ≡ held v.bytes)
     × (digests (entries_in y) ≡ held v.bytes ∷ []) × (v.start + 32 ≤ length y)
 digest_stands v y one len =
-    let l = ap length one.bytes ∙ length-take 33 one.value in
-    let size : length one.value ≡ 32 = omega (arith, l, len) in
+    let size : length one.value ≡ 32 = omega (arith, ap length one.bytes ∙ length-take 33 one.value, len) in
     let value : held v.bytes ≡ one.value = one.bytes ∙ take_all 33 one.value (omega (arith, size)) in
     let at : drop v.start y ≡ one.value ++ one.back = ap (drop v.start) one.stands ∙ drop_at one.front (one.value ++ one.back) v.start (sym one.start) in
-    let s = one.start in
-    let m = ap length one.stands ∙ length-append one.front (one.value ++ one.back) in
     let n = length-append one.value one.back in (
       ap (take 32) at ∙ take_at one.value one.back 32 size ∙ sym value,
       one.one ∙ ap (λ (d : List ℕ). d ∷ []) (sym value),
-      omega (arith, s, m, n, size),
+      omega (arith, one.start, ap length one.stands ∙ length-append one.front (one.value ++ one.back), n, size),
     )
 
 pub digest_good : (ds : List (List ℕ)) (d : List ℕ) → ds ≡ d ∷ [] → length d ≡ 32 → digest_fault ds ≡ None

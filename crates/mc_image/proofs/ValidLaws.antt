@@ -1,16 +1,14 @@
 -- The tests of a valid image decide, and images go along with the front of the bytes.
 use Rattle.std.proofs.Common.{◌≡◌, ℕ, Bool, true, false, cond, List, ◌++◌, length, take, drop, Option, Some, None, refl, sym, ap, subst, ◌∙◌}
-use Rattle.std.specs.Prelude.{◌&&◌, not, is_none}
+use Rattle.std.specs.Prelude.{not, is_none}
+use Rattle.std.specs.Cmp.Derive.{both_true}
 use Rattle.std.proofs.lemmas.Bool.{and_parts}
 use Rattle.std.proofs.lemmas.List.{take-append-drop, take_at}
-use Rattle.std.proofs.lemmas.Slice.Eq.{bytes_eq-Decides}
 use Rattle.std.proofs.lemmas.Option.{cond_some}
-use Rattle.sha2.specs.Sha256.{sha256}
 use Rattle.mc_image.specs.Bytes.{IsBytes}
-use Rattle.mc_image.specs.Image.{Image, Begins, IsGood, image_in, image_text, covered_text, digest_of}
-use Rattle.mc_image.specs.Faults.{fault_if, ◌<+>◌, first_fault}
+use Rattle.mc_image.specs.Image.{Image, Begins, image_in, image_text}
+use Rattle.mc_image.specs.Faults.{fault_if, first_fault}
 use Rattle.mc_image.specs.Valid.{IsValid, Identity, identity, is_good, is_valid, id_of, image_fault}
-use Rattle.mc_image.specs.declared.error.ImageError.{ImageError}
 use Rattle.mc_image.specs.declared.error.ImageError.TheVariants.{WrongDigest}
 use Rattle.mc_image.specs.facts.Valid.{test_good, good_true}
 use Rattle.mc_image.proofs.Sound.{none_both, both_none}
@@ -19,13 +17,6 @@ use Rattle.mc_image.proofs.ImageLaws.{begins_is, begins_none, begins_one}
 none_true : {A : Type 0} (o : Option A) → is_none o ≡ true → o ≡ None
 none_true None e = refl
 none_true (Some x) e = absurd cc
-
-true_none : {A : Type 0} (o : Option A) → o ≡ None → is_none o ≡ true
-true_none o e = ap (λ x. is_none x) e
-
-pub both_true : (a b : Bool) → a ≡ true → b ≡ true → (a && b) ≡ true
-both_true true b e f = f
-both_true false b e f = absurd cc
 
 pub valid_true : (b : List ℕ) → IsBytes b → is_valid b ≡ true → IsValid b
 unfolding is_valid
@@ -42,7 +33,7 @@ good_in b h = ap is_good (image_is b h) ∙ good_true h.image h.good
 
 pub true_valid : (b : List ℕ) → IsValid b → is_valid b ≡ true
 unfolding is_valid
-true_valid b h = both_true (is_none (first_fault b)) (is_good (image_in b)) (true_none _ (begins_none b h.image h.begins)) (good_in b h)
+true_valid b h = both_true (ap (λ x. is_none x) (begins_none b h.image h.begins)) (good_in b h)
 
 pub id_valid : (b : List ℕ) (h : IsValid b) → id_of b ≡ Some (identity h.image)
 unfolding id_of
@@ -89,7 +80,6 @@ pub id_same : (b c : List ℕ) (i : Identity) → IsBytes b → id_of b ≡ Some
 id_same b c i bytes e same =
     let h = valid_true b bytes (valid_some b i e) in
     let is : identity h.image ≡ i = some_id _ _ (sym (id_valid b h) ∙ e) in
-    let P : Identity → Type 0 = λ x. take x.size c ≡ take x.size b in
-    let at : take (length (image_text h.image)) c ≡ take (length (image_text h.image)) b = subst P (sym is) same in
+    let at : take (length (image_text h.image)) c ≡ take (length (image_text h.image)) b = subst (λ (x : Identity). take x.size c ≡ take x.size b) (sym is) same in
     let k : IsValid c = record { image = h.image; begins = begins_same b c h.image h.begins at; good = h.good } in
     id_valid c k ∙ ap (λ (x : Identity). Some x) is

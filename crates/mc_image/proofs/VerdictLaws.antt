@@ -1,28 +1,26 @@
 -- The answer for a plain area that is whole.
-use Rattle.std.proofs.Common.{◌≡◌, ℕ, ◌+◌, ◌<◌, ◌≤◌, Bool, true, false, List, [], ◌∷◌, ◌++◌, length, get_or, take, drop, Option, None, Some, Ok, Err, refl, sym, ap, subst, ◌∙◌, arith, append_assoc}
+use Rattle.std.proofs.Common.{◌≡◌, ℕ, ◌+◌, ◌<◌, ◌≤◌, true, false, List, [], ◌∷◌, ◌++◌, length, get_or, drop, None, Some, Ok, Err, refl, sym, ap, ◌∙◌, arith, append_assoc}
 use Rattle.std.proofs.Common.{length-append, is_some}
-use Rattle.std.specs.Prelude.{nat_lt, ◌==◌, ◌||◌, not, is_none, Result}
+use Rattle.std.specs.Prelude.{nat_lt, is_none}
 use Rattle.std.proofs.lemmas.Bool.{le-ltb, lt-ltb}
 use Rattle.std.proofs.lemmas.List.{take_at, append_cancel_right}
 use Rattle.sha2.specs.Sha256.{sha256}
 use Rattle.mc_image.specs.Bytes.{u16_at, IsBytes}
-use Rattle.mc_image.specs.Entries.{Entry, entries_of, entries_in, digests}
+use Rattle.mc_image.specs.Entries.{entries_of, entries_in, digests}
 use Rattle.mc_image.specs.Headers.{head_fault, entries_fault}
-use Rattle.mc_image.specs.Image.{Image, IsGood, image_in, image_text, header_text, protected_text, plain_text, covered_text, digest_of, header_in, payload_in, protected_in, protected_end, after_body}
-use Rattle.mc_image.specs.Image.{area_in, version_in}
-use Rattle.mc_image.specs.Faults.{fault_if, ◌<+>◌, plain_fault, digest_fault, first_fault}
-use Rattle.mc_image.specs.Valid.{is_good, image_fault}
-use Rattle.mc_image.specs.Judging.{verdict, judged_of, judged_or_fault, IsSealed, IsPlain}
+use Rattle.mc_image.specs.Image.{Image, IsGood, image_in, image_text, header_text, protected_text, covered_text, digest_of, header_in, payload_in, protected_in, protected_end, after_body}
+use Rattle.mc_image.specs.Image.{area_in}
+use Rattle.mc_image.specs.Faults.{plain_fault, first_fault}
+use Rattle.mc_image.specs.Judging.{verdict, judged_or_fault, IsSealed, IsPlain}
 use Rattle.mc_image.specs.declared.areas.Walk.{Walk}
 use Rattle.mc_image.specs.declared.error.ImageError.{ImageError}
 use Rattle.mc_image.specs.declared.error.ImageError.TheVariants.{WrongDigest, BadTlvMagic, BadTlvLength}
-use Rattle.mc_image.specs.declared.judge.Judged.{Judged}
 use Rattle.mc_image.specs.declared.judge.Sealed.{Sealed}
-use Rattle.mc_image.specs.declared.version.Version.{Version}
 use Rattle.mc_image.proofs.Checked.{from_parts}
-use Rattle.mc_image.proofs.FrontLaws.{fault_verdict, fault_behind, after_is, body_whole, version_more, header_ends, protected_end_more}
+use Rattle.mc_image.proofs.FrontLaws.{fault_verdict, fault_behind, after_is, version_more, header_ends, protected_end_more}
 use Rattle.mc_image.proofs.ImageLaws.{cut_is, reading, size_is}
 use Rattle.mc_image.proofs.PlainLaws.{plain_entries, plain_short, digest_good}
+use Rattle.mc_image.proofs.Sound.{not_some}
 use Rattle.mc_image.specs.facts.Valid.{good_false, good_true}
 use Rattle.mc_image.proofs.WalkLaws.{u16_more}
 
@@ -30,38 +28,15 @@ use Rattle.mc_image.proofs.WalkLaws.{u16_more}
 pub head_fault_more : (a more : List ℕ) → 4 ≤ length a → head_fault (a ++ more) ≡ head_fault a
 unfolding head_fault
 head_fault_more a more four =
-    let l = length-append a more in
-    let p : nat_lt (length (a ++ more)) 4 ≡ false = le-ltb _ _ (omega (arith, l, four)) in
+    let p : nat_lt (length (a ++ more)) 4 ≡ false = le-ltb _ _ (omega (arith, length-append a more, four)) in
     let q : nat_lt (length a) 4 ≡ false = le-ltb _ _ four in
     let m = u16_more 0 a more (omega (arith, four)) in
     let n = u16_more 2 a more (omega (arith, four)) in
     rw (p, q, m, n) refl
 
-abbrev judged : Version → ℕ → List ℕ → Result Judged ImageError
-judged v n d = Ok (record { version = v; size = n; digest = d })
-
-same_judged : {v w : Version} {n m : ℕ} {d e : List ℕ} → v ≡ w → n ≡ m → d ≡ e → judged v n d ≡ judged w m e
-same_judged p q r = cc
-
-fault_where : (o : Option (List Entry)) (f : Option ImageError) → is_some o ≡ true → f ≡ None → (fault_if (is_none o) BadTlvLength <+> f) ≡ None
-fault_where None f e h = absurd (cc)
-fault_where (Some es) f e h = h
-
-no_entries_fault : (y d : List ℕ) → is_some (entries_of y) ≡ true → digests (entries_in y) ≡ d ∷ [] → length d ≡ 32 → entries_fault y ≡ None
-unfolding entries_fault
-no_entries_fault y d filled one len = fault_where (entries_of y) (digest_fault (digests (entries_in y))) filled (digest_good (digests (entries_in y)) d one len)
-
 module _ (s : Sealed) (body : List ℕ) (is : IsSealed s body) (t : ℕ) (walk : Walk) (area : List ℕ) (plain : IsPlain t 0 walk area) (more : List ℕ) where
-  bytes : List ℕ
-  bytes = body ++ (area ++ more)
-
   total : u16_at 2 (area ++ more) ≡ length area
-  total =
-      let h = plain.head in
-      let a = plain.total in
-      let b = plain.left in
-      let m = u16_more 2 area more (omega (arith, h)) in
-      omega (arith, a, b, m)
+  total = omega (arith, plain.total, plain.left, u16_more 2 area more (omega (arith, plain.head)))
 
   area_is : area_in (area ++ more) ≡ area
   unfolding area_in
@@ -69,16 +44,16 @@ module _ (s : Sealed) (body : List ℕ) (is : IsSealed s body) (t : ℕ) (walk :
 
   first_is : first_fault (body ++ (area ++ more)) ≡ entries_fault (drop 4 area)
   first_is =
-      let e = total in
       fault_behind s body is (area ++ more)
-      ∙ plain_entries (area ++ more) (drop 4 area) (head_fault_more area more plain.head ∙ plain.none) (omega (arith, e, length-append area more)) (ap (drop 4) (sym area_is))
+      ∙ plain_entries (area ++ more) (drop 4 area) (head_fault_more area more plain.head ∙ plain.none) (omega (arith, total, length-append area more)) (ap (drop 4) (sym area_is))
 
   -- a fault of the entries
   pub entries_error : (e : ImageError) → entries_fault (drop 4 area) ≡ Some e → verdict (body ++ (area ++ more)) ≡ Err e
   entries_error e h = fault_verdict (body ++ (area ++ more)) e (first_is ∙ h)
 
   none_is : (d : List ℕ) → is_some (entries_of (drop 4 area)) ≡ true → digests (entries_in (drop 4 area)) ≡ d ∷ [] → length d ≡ 32 → first_fault (body ++ (area ++ more)) ≡ None
-  none_is d filled one len = first_is ∙ no_entries_fault (drop 4 area) d filled one len
+  unfolding entries_fault
+  none_is d filled one len = first_is ∙ (let t : is_none (entries_of (drop 4 area)) ≡ false = not_some _ filled in rw t (digest_good (digests (entries_in (drop 4 area))) d one len))
 
   after : after_body (body ++ (area ++ more)) ≡ area ++ more
   after = after_is s body is (area ++ more)
@@ -96,10 +71,7 @@ module _ (s : Sealed) (body : List ℕ) (is : IsSealed s body) (t : ℕ) (walk :
 
   module _ (h : IsBytes (body ++ (area ++ more))) (d : List ℕ) (filled : is_some (entries_of (drop 4 area)) ≡ true) (one : digests (entries_in (drop 4 area)) ≡ d ∷ []) (len : length d ≡ 32) where
     whole : protected_end (body ++ (area ++ more)) ≤ length (body ++ (area ++ more))
-    whole =
-        let w = is.whole in
-        let p = protected_end_more body (area ++ more) is.header.long in
-        omega (arith, w, p, length-append body (area ++ more))
+    whole = omega (arith, is.whole, protected_end_more body (area ++ more) is.header.long, length-append body (area ++ more))
 
     covered : covered_text (image_in (body ++ (area ++ more))) ≡ body
     unfolding covered_text
@@ -121,12 +93,8 @@ module _ (s : Sealed) (body : List ℕ) (is : IsSealed s body) (t : ℕ) (walk :
     size =
         let v : Image = image_in (body ++ (area ++ more)) in
         let r = reading (body ++ (area ++ more)) h (none_is d filled one len) in
-        let a = size_is v in
-        let b = ap length covered in
-        let c = length-append (header_text v) (v.payload ++ protected_text v) in
-        let e = length-append v.payload (protected_text v) in
         let p = ap length (r.plain ∙ ap area_in after ∙ area_is) in
-        omega (arith, a, b, c, e, p)
+        omega (arith, size_is v, ap length covered, length-append (header_text v) (v.payload ++ protected_text v), length-append v.payload (protected_text v), p)
 
     -- another digest
     pub digest_wrong : (s.digest ≡ d → ⊥) → verdict (body ++ (area ++ more)) ≡ Err WrongDigest
@@ -142,7 +110,7 @@ module _ (s : Sealed) (body : List ℕ) (is : IsSealed s body) (t : ℕ) (walk :
         let b : List ℕ = body ++ (area ++ more) in
         let good : IsGood (image_in b) = digest_is d one ∙ sym same ∙ is.digest ∙ sym (ap sha256 covered) in
         ap (judged_or_fault (image_in b)) (from_parts b true (none_is d filled one len) (good_true (image_in b) good))
-        ∙ same_judged version_is (size ∙ sym is_size) (digest_is d one)
+        ∙ (λ i. Ok (record { version = version_is i; size = (size ∙ sym is_size) i; digest = digest_is d one i }))
 
 -- the length of a body
 pub sealed_len : (s : Sealed) (body : List ℕ) → IsSealed s body → length body ≡ s.header.size + s.header.payload + s.header.protected

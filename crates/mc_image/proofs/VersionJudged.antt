@@ -14,7 +14,7 @@ use Rattle.mc_image.specs.declared.version.Version.{Version}
 use Rattle.mc_image.specs.declared.error.VersionError.{VersionError}
 use Rattle.mc_image.specs.declared.error.VersionError.TheVariants.{Range}
 use Rattle.mc_image.proofs.VersionLaws.{capped_number, all_padded, form_takes, form_again}
-use Rattle.mc_image.proofs.ValidLaws.{both_true}
+use Rattle.std.specs.Cmp.Derive.{both_true}
 
 -- four numbers, each at most 2 ^ 32
 abbrev pub four : List ℕ → List ℕ
@@ -32,17 +32,11 @@ abbrev all_fit : List ℕ → Bool
 all_fit ns = nat_lt (capped_number (get_or ns 0 0)) (2 ^ 8) && (nat_lt (capped_number (get_or ns 1 0)) (2 ^ 8) &&
     (nat_lt (capped_number (get_or ns 2 0)) (2 ^ 16) && nat_lt (capped_number (get_or ns 3 0)) (2 ^ 32)))
 
-below_cap : (n k : ℕ) → n < k → capped_number n < k
-below_cap n k lt = omega arith
+fits_one : (n k : ℕ) → n < k → nat_lt (capped_number n) k ≡ true
+fits_one n k lt = lt-ltb _ _ (omega arith)
 
 fits_all : (ns : List ℕ) → AreInRange ns → all_fit ns ≡ true
-fits_all ns h =
-    both_true (nat_lt (capped_number (get_or ns 0 0)) (2 ^ 8)) _ (lt-ltb _ _ (below_cap (get_or ns 0 0) (2 ^ 8) h.major))
-    (both_true (nat_lt (capped_number (get_or ns 1 0)) (2 ^ 8)) _ (lt-ltb _ _ (below_cap (get_or ns 1 0) (2 ^ 8) h.minor))
-    (both_true (nat_lt (capped_number (get_or ns 2 0)) (2 ^ 16)) _ (lt-ltb _ _ (below_cap (get_or ns 2 0) (2 ^ 16) h.revision)) (lt-ltb _ _ (below_cap (get_or ns 3 0) (2 ^ 32) h.build))))
-
-under : (n k : ℕ) → k ≤ 2 ^ 32 → capped_number n < k → n < k
-under n k le lt = omega arith
+fits_all ns h = both_true (fits_one _ _ h.major) (both_true (fits_one _ _ h.minor) (both_true (fits_one _ _ h.revision) (fits_one _ _ h.build)))
 
 all_fits : (ns : List ℕ) → all_fit ns ≡ true → AreInRange ns
 all_fits ns e =
@@ -50,26 +44,23 @@ all_fits ns e =
     let b = and_parts (nat_lt (capped_number (get_or ns 1 0)) (2 ^ 8)) _ a.1 in
     let c = and_parts (nat_lt (capped_number (get_or ns 2 0)) (2 ^ 16)) _ b.1 in
     record {
-      major = under (get_or ns 0 0) (2 ^ 8) (omega arith) (ltb-true _ _ a.0);
-      minor = under (get_or ns 1 0) (2 ^ 8) (omega arith) (ltb-true _ _ b.0);
-      revision = under (get_or ns 2 0) (2 ^ 16) (omega arith) (ltb-true _ _ c.0);
-      build = under (get_or ns 3 0) (2 ^ 32) (omega arith) (ltb-true _ _ c.1);
+      major = omega (arith, ltb-true _ _ a.0);
+      minor = omega (arith, ltb-true _ _ b.0);
+      revision = omega (arith, ltb-true _ _ c.0);
+      build = omega (arith, ltb-true _ _ c.1);
     }
 
 -- the version of four numbers
 abbrev pub version_from : ℕ → ℕ → ℕ → ℕ → Version
 version_from a b c d = record { major = a; minor = b; revision = c; build = d }
 
-same_version : {a b c d a' b' c' d' : ℕ} → a ≡ a' → b ≡ b' → c ≡ c' → d ≡ d' → version_from a b c d ≡ version_from a' b' c' d'
-same_version e1 e2 e3 e4 = cc
-
 below_is : (n k : ℕ) → k ≤ 2 ^ 32 → n < k → capped_number n ≡ n
 below_is n k le lt = omega arith
 
 capped_version : (ns : List ℕ) → AreInRange ns → version_from (capped_number (get_or ns 0 0)) (capped_number (get_or ns 1 0)) (capped_number (get_or ns 2 0))
     (capped_number (get_or ns 3 0)) ≡ version_of ns
-capped_version ns h = same_version (below_is _ (2 ^ 8) (omega arith) h.major) (below_is _ (2 ^ 8) (omega arith) h.minor) (below_is _ (2 ^ 16) (omega arith) h.revision)
-    (below_is _ (2 ^ 32) (omega arith) h.build)
+capped_version ns h = λ i. version_from (below_is _ (2 ^ 8) (omega arith) h.major i) (below_is _ (2 ^ 8) (omega arith) h.minor i) (below_is _ (2 ^ 16) (omega arith) h.revision i)
+    (below_is _ (2 ^ 32) (omega arith) h.build i)
 
 pub fitted_in : (ns : List ℕ) → AreInRange ns → fitted (four ns) ≡ Ok (version_of ns)
 unfolding fitted
@@ -167,4 +158,4 @@ names_printed v h = record {
 }
 
 pub read_printed : (t : List ℕ) (v : Version) → IsVersion v → t ≡ version_line v → version_read t ≡ Ok v
-read_printed t v h e = let P : List ℕ → Type 0 = λ x. version_read x ≡ Ok v in subst P (sym e) (read_only (version_line v) v (names_printed v h))
+read_printed t v h e = subst (λ (x : List ℕ). version_read x ≡ Ok v) (sym e) (read_only (version_line v) v (names_printed v h))

@@ -10,9 +10,7 @@ use Rattle.std.proofs.lemmas.List.{nil_from_length}
 use Rattle.std.proofs.lemmas.Option.{cond_some}
 use Rattle.mc_image.specs.VersionText.{value_after, IsNumeral, Follows, IsForm}
 use Rattle.mc_image.specs.VersionReading.{number_from, numeral_at, part_at, parts_after, numbers_in}
-
-abbrev one : ℕ × List ℕ → Option (ℕ × List ℕ)
-one x = Some x
+use Rattle.mc_image.proofs.EntryLemmas.{map_some}
 
 -- no digit comes next
 abbrev pub Stops : List ℕ → Type 0
@@ -29,8 +27,7 @@ number_again [] m [] all stops = refl
 number_again [] m (c ∷ rest) all stops = rw stops refl
 number_again (c ∷ ds) m rest all stops =
     let parts = and_parts (is_ascii_digit c) (list_all is_ascii_digit ds) all in
-    let first = parts.0 in
-    rw first (ap (λ (n : ℕ). number_from n (ds ++ rest)) (capped m (c - 48)) ∙ number_again ds (10 * m + (c - 48)) rest parts.1 stops)
+    rw parts.0 (ap (λ (n : ℕ). number_from n (ds ++ rest)) (capped m (c - 48)) ∙ number_again ds (10 * m + (c - 48)) rest parts.1 stops)
 
 -- what is read is digits, and none follows
 pub record ReadsDigits (m : ℕ) (t : List ℕ) (x : ℕ × List ℕ) : Type 0 where
@@ -47,8 +44,8 @@ number_takes (c ∷ t) m =
     elim (is_ascii_digit c) as (λ b. is_ascii_digit c ≡ b → ReadsDigits m (c ∷ t) (cond b (number_from (min (10 * min m (2 ^ 32) + (c - 48)) (2 ^ 32)) t) (min m (2 ^ 32), c ∷ t))) [
       | true ↦ λ e.
           let r = number_takes t (10 * m + (c - 48)) in
-          let P : ℕ → Type 0 = λ n. ReadsDigits m (c ∷ t) (number_from n t) in
-          subst P (sym (capped m (c - 48))) (record { ds = c ∷ r.ds; digits = rw e r.digits; split = ap (λ (x : List ℕ). c ∷ x) r.split; stops = r.stops; value = r.value })
+          subst (λ (n : ℕ). ReadsDigits m (c ∷ t) (number_from n t)) (sym (capped m (c - 48)))
+          (record { ds = c ∷ r.ds; digits = rw e r.digits; split = ap (λ (x : List ℕ). c ∷ x) r.split; stops = r.stops; value = r.value })
       | false ↦ λ e. record { ds = []; digits = refl; split = refl; stops = e; value = refl }
     ] refl
 
@@ -77,10 +74,9 @@ numeral_again (c ∷ cs) n rest is stops =
           ap (λ (x : List ℕ). Some (0, x ++ rest)) z.0 ∙ ap (λ (x : ℕ). Some (x, rest)) (sym none)
       | false ↦ λ e.
           let parts = and_parts (is_ascii_digit c) (list_all is_ascii_digit cs) is.digits in
-          let first = parts.0 in
           let start : 10 * 0 + (c - 48) ≡ c - 48 = omega arith in
           let v : n ≡ value_after (c - 48) cs = is.value ∙ ap (λ (x : ℕ). value_after x cs) start in
-          rw first (ap (λ (x : ℕ). Some (number_from x (cs ++ rest))) (small c first) ∙ ap (λ (x : ℕ × List ℕ). Some x) (number_again cs (c - 48) rest parts.1 stops) ∙ ap
+          rw parts.0 (ap (λ (x : ℕ). Some (number_from x (cs ++ rest))) (small c parts.0) ∙ ap (λ (x : ℕ × List ℕ). Some x) (number_again cs (c - 48) rest parts.1 stops) ∙ ap
           (λ (x : ℕ). Some (capped_number x, rest)) (sym v))
     ] refl
 
@@ -91,9 +87,6 @@ pub record ReadsNumeral (t : List ℕ) (x : ℕ × List ℕ) : Type 0 where
   pub numeral : IsNumeral ds number
   pub value : x.0 ≡ capped_number number
   pub split : t ≡ ds ++ x.1
-
-same_some : (x y : ℕ × List ℕ) → one x ≡ one y → x ≡ y
-same_some x y e = cc
 
 zero_numeral : (c : ℕ) → c ≡ 48 → IsNumeral (c ∷ []) 0
 zero_numeral c is = record { digits = rw is refl; some = omega arith; plain = λ h. refl; value = omega (arith, is) }
@@ -109,15 +102,15 @@ numeral_takes [] x e = absurd cc
 numeral_takes (c ∷ cs) x e =
     elim (c == 48) as (λ b. (c == 48) ≡ b → cond b (Some (0, cs)) (cond (is_ascii_digit c) (Some (number_from (c - 48) cs)) None) ≡ Some x → ReadsNumeral (c ∷ cs) x) [
       | true ↦ λ t f.
-          let P : ℕ × List ℕ → Type 0 = λ y. ReadsNumeral (c ∷ cs) y in
-          subst P (same_some (0, cs) x f) (record { ds = c ∷ []; number = 0; numeral = zero_numeral c (eqb-true _ _ t); value = refl; split = refl })
+          let at : (0, cs) ≡ x = cc in
+          subst (λ (y : ℕ × List ℕ). ReadsNumeral (c ∷ cs) y) at (record { ds = c ∷ []; number = 0; numeral = zero_numeral c (eqb-true _ _ t); value = refl; split = refl })
       | false ↦ λ t f.
           elim (is_ascii_digit c) as (λ b. is_ascii_digit c ≡ b → cond b (Some (number_from (c - 48) cs)) None ≡ Some x → ReadsNumeral (c ∷ cs) x) [
             | true ↦ λ d g.
                 let r = number_takes cs (c - 48) in
-                let at : number_from (min (c - 48) (2 ^ 32)) cs ≡ x = ap (λ (n : ℕ). number_from n cs) (sym (small c d)) ∙ same_some _ x g in
-                let P : ℕ × List ℕ → Type 0 = λ y. ReadsNumeral (c ∷ cs) y in
-                subst P at (record { ds = c ∷ r.ds; number = value_after (c - 48) r.ds; numeral = more_numeral c r.ds t d r.digits; value = r.value; split = ap (λ (y : List ℕ). c ∷ y) r.split })
+                let at : number_from (min (c - 48) (2 ^ 32)) cs ≡ x = ap (λ (n : ℕ). number_from n cs) (sym (small c d)) ∙ (let q : number_from (c - 48) cs ≡ x = cc in q) in
+                subst (λ (y : ℕ × List ℕ). ReadsNumeral (c ∷ cs) y) at
+                (record { ds = c ∷ r.ds; number = value_after (c - 48) r.ds; numeral = more_numeral c r.ds t d r.digits; value = r.value; split = ap (λ (y : List ℕ). c ∷ y) r.split })
             | false ↦ λ d g. absurd cc
           ] refl f
     ] refl e
@@ -137,19 +130,15 @@ padded (s ∷ ss) (n ∷ ns) = capped_number n ∷ padded ss ns
 
 -- no digit follows a number
 follows_stops : (ss rest ns : List ℕ) → AreSeparators ss → Follows ss rest ns → Stops rest
-follows_stops ss rest [] sep f = let P : List ℕ → Type 0 = λ x. Stops x in subst P (sym f) tt
+follows_stops ss rest [] sep f = subst (λ (x : List ℕ). Stops x) (sym f) tt
 follows_stops [] rest (n ∷ ns) sep f = absurd f
-follows_stops (s ∷ ss) rest (n ∷ ns) sep f = let P : List ℕ → Type 0 = λ x. Stops x in subst P (sym f.2) sep.0
+follows_stops (s ∷ ss) rest (n ∷ ns) sep f = subst (λ (x : List ℕ). Stops x) (sym f.2) sep.0
 
 -- at the end of a text no number follows
 nothing_follows : (ss ns : List ℕ) → Follows ss [] ns → ns ≡ []
 nothing_follows ss [] f = refl
 nothing_follows [] (n ∷ ns) f = absurd f
 nothing_follows (s ∷ ss) (n ∷ ns) f = let e = f.2 in absurd cc
-
-map_some : {A B : Type 0} (f : A → B) (o : Option A) (y : B) → option_map f o ≡ Some y → (x : A) × (o ≡ Some x) × (f x ≡ y)
-map_some f None y e = absurd cc
-map_some f (Some x) y e = (x, refl, cc)
 
 then_some : {A B : Type 0} (f : A → Option B) (o : Option A) (y : B) → option_and_then f o ≡ Some y → (x : A) × (o ≡ Some x) × (f x ≡ Some y)
 then_some f None y e = absurd cc
@@ -169,22 +158,8 @@ pub record Takes (ss rest xs : List ℕ) : Type 0 where
   pub follows : Follows ss rest numbers
   pub same : xs ≡ padded ss numbers
 
-no_part : (s : ℕ) (x : ℕ × List ℕ) → part_at s [] ≡ Some x → x ≡ (0, [])
-unfolding part_at
-no_part s x e = cc
-
-one_part : (s c : ℕ) (cs : List ℕ) (x : ℕ × List ℕ) → part_at s (c ∷ cs) ≡ Some x → (c ≡ s) × (numeral_at cs ≡ Some x)
-unfolding part_at
-one_part s c cs x e = in_front c s (numeral_at cs) x e
-
-again_part : (s : ℕ) (cs : List ℕ) → part_at s (s ∷ cs) ≡ numeral_at cs
-unfolding part_at
-again_part s cs = let e : (s == s) ≡ true = eq-eqb s s refl in rw e refl
-
 takes_end : (ss xs zs : List ℕ) → Takes ss [] zs → 0 ∷ zs ≡ xs → (s : ℕ) → Takes (s ∷ ss) [] xs
-takes_end ss xs zs t e s =
-    let none = nothing_follows ss t.numbers t.follows in
-    record { numbers = []; follows = refl; same = sym e ∙ ap (λ (l : List ℕ). 0 ∷ l) t.same ∙ ap (λ (l : List ℕ). 0 ∷ padded ss l) none }
+takes_end ss xs zs t e s = record { numbers = []; follows = refl; same = sym e ∙ ap (λ (l : List ℕ). 0 ∷ l) (t.same ∙ ap (padded ss) (nothing_follows ss t.numbers t.follows)) }
 
 takes_more : (ss xs zs cs : List ℕ) (x : ℕ × List ℕ) (s c : ℕ) → c ≡ s → ReadsNumeral cs x → Takes ss x.1 zs → x.0 ∷ zs ≡ xs → Takes (s ∷ ss) (c ∷ cs) xs
 takes_more ss xs zs cs x s c at r t e = record {
@@ -193,23 +168,20 @@ takes_more ss xs zs cs x s c at r t e = record {
   same = sym e ∙ ap (λ (l : List ℕ). x.0 ∷ l) t.same ∙ ap (λ (n : ℕ). n ∷ padded ss t.numbers) r.value;
 }
 
-end_of : (text xs : List ℕ) → cond (length text == 0) (Some []) None ≡ Some xs → (text ≡ []) × ([] ≡ xs)
-end_of text xs e = let p = cond_some (length text == 0) [] xs e in (nil_from_length text (eqb-true _ _ p.0), p.1)
-
 -- what is read behind a number follows it in the form
 pub parts_take : (ss rest xs : List ℕ) → parts_after ss rest ≡ Some xs → Takes ss rest xs
-unfolding parts_after
-parts_take [] rest xs e = let p = end_of rest xs e in record { numbers = []; follows = p.0; same = sym p.1 }
+unfolding parts_after part_at
+parts_take [] rest xs e = let p = cond_some (length rest == 0) [] xs e in record { numbers = []; follows = nil_from_length rest (eqb-true _ _ p.0); same = sym p.1 }
 parts_take (s ∷ ss) [] xs e =
     let x = then_some (λ x. option_map (λ ns. x.0 ∷ ns) (parts_after ss x.1)) (part_at s []) xs e in
     let zs = map_some (λ ns. x.0.0 ∷ ns) (parts_after ss x.0.1) xs x.2 in
-    let at = no_part s x.0 x.1 in
-    let here : parts_after ss [] ≡ Some zs.0 = ap (λ (y : ℕ × List ℕ). parts_after ss y.1) (sym at) ∙ zs.1 in
-    takes_end ss xs zs.0 (parts_take ss [] zs.0 here) (ap (λ (y : ℕ × List ℕ). y.0 ∷ zs.0) (sym at) ∙ zs.2) s
+    let at : (0, []) ≡ x.0 = cc (x.1) in
+    let here : parts_after ss [] ≡ Some zs.0 = ap (λ (y : ℕ × List ℕ). parts_after ss y.1) at ∙ zs.1 in
+    takes_end ss xs zs.0 (parts_take ss [] zs.0 here) (ap (λ (y : ℕ × List ℕ). y.0 ∷ zs.0) at ∙ zs.2) s
 parts_take (s ∷ ss) (c ∷ cs) xs e =
     let x = then_some (λ x. option_map (λ ns. x.0 ∷ ns) (parts_after ss x.1)) (part_at s (c ∷ cs)) xs e in
     let zs = map_some (λ ns. x.0.0 ∷ ns) (parts_after ss x.0.1) xs x.2 in
-    let at = one_part s c cs x.0 x.1 in
+    let at = in_front c s (numeral_at cs) x.0 x.1 in
     takes_more ss xs zs.0 cs x.0 s c at.0 (numeral_takes cs x.0 at.1) (parts_take ss x.0.1 zs.0 zs.1) zs.2
 
 -- what follows a number in the form is read
@@ -218,12 +190,11 @@ unfolding parts_after part_at
 parts_again [] rest [] sep f = ap (parts_after []) f
 parts_again [] rest (n ∷ ns) sep f = absurd f
 parts_again (s ∷ ss) rest [] sep f =
-    let P : List ℕ → Type 0 = λ x. parts_after (s ∷ ss) x ≡ Some (padded (s ∷ ss) []) in
-    subst P (sym f) (ap (λ o. option_map (λ ns. 0 ∷ ns) o) (parts_again ss [] [] sep.1 refl))
+    subst (λ (x : List ℕ). parts_after (s ∷ ss) x ≡ Some (padded (s ∷ ss) [])) (sym f) (ap (λ o. option_map (λ ns. 0 ∷ ns) o) (parts_again ss [] [] sep.1 refl))
 parts_again (s ∷ ss) rest (n ∷ ns) sep f =
-    let P : List ℕ → Type 0 = λ x. parts_after (s ∷ ss) x ≡ Some (padded (s ∷ ss) (n ∷ ns)) in
-    let read : part_at s (s ∷ (f.0 ++ f.1)) ≡ Some (capped_number n, f.1) = again_part s (f.0 ++ f.1) ∙ numeral_again f.0 n f.1 f.3 (follows_stops ss f.1 ns sep.1 f.4) in
-    subst P (sym f.2) (ap (λ o. option_and_then (λ x. option_map (λ ns. x.0 ∷ ns) (parts_after ss x.1)) o) read
+    let read : part_at s (s ∷ (f.0 ++ f.1)) ≡ Some (capped_number n, f.1) =
+    let same : (s == s) ≡ true = eq-eqb s s refl in rw same (numeral_again f.0 n f.1 f.3 (follows_stops ss f.1 ns sep.1 f.4)) in
+    subst (λ (x : List ℕ). parts_after (s ∷ ss) x ≡ Some (padded (s ∷ ss) (n ∷ ns))) (sym f.2) (ap (λ o. option_and_then (λ x. option_map (λ ns. x.0 ∷ ns) (parts_after ss x.1)) o) read
     ∙ ap (λ o. option_map (λ ns. capped_number n ∷ ns) o) (parts_again ss f.1 ns sep.1 f.4))
 
 -- ---- the whole text

@@ -1,37 +1,28 @@
 -- Whole entries and the one that is begun behind them: what a piece more makes of them, and what is found in them.
-use Rattle.std.proofs.Common.{◌≡◌, ◌≢◌, ℕ, zero, suc, ◌+◌, ◌-◌, ◌<◌, ◌≤◌, Bool, true, false, cond, List, [], ◌∷◌, ◌++◌, length, get_or, take, drop, min, Option, Some, None, refl, sym, ap, subst, ◌∙◌}
-use Rattle.std.proofs.Common.{arith, is_some, append_assoc, length-append, eq-eqb}
+use Rattle.std.proofs.Common.{◌≡◌, ◌≢◌, ℕ, zero, suc, ◌+◌, ◌<◌, ◌≤◌, Bool, true, false, cond, List, [], ◌∷◌, ◌++◌, length, take, drop, Option, Some, None, refl, sym, ap, subst, ◌∙◌}
+use Rattle.std.proofs.Common.{arith, is_some, length-append, eq-eqb}
 use Rattle.std.specs.Prelude.{nat_lt, ◌==◌, unwrap_or}
 use Rattle.std.specs.Option.{option_map}
 use Rattle.std.proofs.lemmas.Bool.{ltb-false, le-ltb, lt-ltb, ne_eqb}
-use Rattle.std.proofs.lemmas.List.{append-nil, take_all, drop_all, take-append-le, drop-append-le, take_at, length-take, length-drop, take-append-drop, get_or_append_left, get_or-drop}
+use Rattle.std.proofs.lemmas.List.{append-nil, take_all, drop_all, take-append-le, drop-append-le, length-drop}
+use Rattle.byteorder.specs.Endian.{little_number}
+use Rattle.byteorder.specs.Numbers.{little_from-append}
 use Rattle.mc_image.specs.Bytes.{u16_at, u32_at}
 use Rattle.mc_image.specs.Entries.{Entry, first_entry, entries_of, entries_in, digests}
 use Rattle.mc_image.specs.Faults.{digest_fault}
-use Rattle.mc_image.specs.declared.error.ImageError.TheVariants.{NoDigest, ManyDigests, DigestLength}
-use Rattle.mc_image.proofs.EntryLemmas.{chosen_some, first-shorter, entries-first, entries-nil, entries-stuck, is_some-map, filled-nil}
+use Rattle.mc_image.specs.declared.error.ImageError.TheVariants.{ManyDigests}
+use Rattle.mc_image.proofs.EntryLemmas.{chosen_some, map_some, first-shorter, entries-first, entries-nil, entries-stuck, is_some-map}
 use Rattle.mc_image.proofs.ImageLaws.{in_is}
 
 -- ---- a number that stands in some bytes stands there whatever follows
 
-get_more : (i j : ℕ) (b c : List ℕ) → i + j < length b → get_or (drop i (b ++ c)) j 0 ≡ get_or (drop i b) j 0
-get_more i j b c lt = get_or-drop i (b ++ c) j 0 ∙ get_or_append_left b c 0 (i + j) lt ∙ sym (get_or-drop i b j 0)
-
 pub u16_more : (i : ℕ) (b c : List ℕ) → i + 2 ≤ length b → u16_at i (b ++ c) ≡ u16_at i b
 unfolding u16_at
-u16_more i b c le =
-    let e0 = get_more i 0 b c (omega arith) in
-    let e1 = get_more i 1 b c (omega arith) in
-    omega (arith, e0, e1)
+u16_more i b c le = ap (little_number 2) (drop-append-le i b c (omega arith)) ∙ little_from-append 2 (drop i b) c (omega (arith, length-drop i b))
 
 pub u32_more : (i : ℕ) (b c : List ℕ) → i + 4 ≤ length b → u32_at i (b ++ c) ≡ u32_at i b
 unfolding u32_at
-u32_more i b c le =
-    let e0 = get_more i 0 b c (omega arith) in
-    let e1 = get_more i 1 b c (omega arith) in
-    let e2 = get_more i 2 b c (omega arith) in
-    let e3 = get_more i 3 b c (omega arith) in
-    omega (arith, e0, e1, e2, e3)
+u32_more i b c le = ap (little_number 4) (drop-append-le i b c (omega arith)) ∙ little_from-append 4 (drop i b) c (omega (arith, length-drop i b))
 
 -- ---- entries
 
@@ -55,10 +46,6 @@ first_more a b x e =
     let is : made ≡ x = cc in
     rw (p, n, q, k, v, r) (ap (λ (y : Entry × List ℕ). Some (y.0, y.1 ++ b)) is)
 
-map_some : (x : Entry) (o : Option (List Entry)) (es : List Entry) → option_map (λ ys. x ∷ ys) o ≡ Some es → (ys : List Entry) × (o ≡ Some ys) × (x ∷ ys ≡ es)
-map_some x None es e = absurd cc
-map_some x (Some ys) es e = (ys, refl, cc)
-
 map_nil : (o : Option (List Entry)) → o ≡ option_map (λ fs. [] ++ fs) o
 map_nil None = refl
 map_nil (Some fs) = refl
@@ -78,7 +65,7 @@ joined_within (suc n) (c ∷ cs) b es le e =
       | None ↦ λ f. let s = entries-stuck (c ∷ cs) (omega arith) f in absurd cc
       | Some x ↦ λ f.
           let s = first-shorter (c ∷ cs) x f in
-          let m = map_some x.0 (entries_of x.1) es (sym (entries-first (c ∷ cs) x f) ∙ e) in
+          let m = map_some (λ ys. x.0 ∷ ys) (entries_of x.1) es (sym (entries-first (c ∷ cs) x f) ∙ e) in
           let r = joined_within n x.1 b m.0 (omega arith) m.1 in
           let P : List Entry → Type 0 = λ ys. entries_of ((c ∷ cs) ++ b) ≡ option_map (λ fs. ys ++ fs) (entries_of b) in
           subst P m.2 (entries-first ((c ∷ cs) ++ b) (x.0, x.1 ++ b) (first_more (c ∷ cs) b x f) ∙ ap (λ o. option_map (λ ys. x.0 ∷ ys) o) r ∙ map_cons x.0 m.0 (entries_of b))

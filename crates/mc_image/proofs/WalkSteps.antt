@@ -1,11 +1,11 @@
 -- The steps of a walk along entries.
-use Rattle.std.proofs.Common.{◌≡◌, ◌≢◌, ℕ, zero, suc, ◌+◌, ◌-◌, ◌<◌, ◌≤◌, Bool, true, false, cond, List, [], ◌∷◌, ◌++◌, length, take, drop, min, Option, Some, None, refl, sym, ap, subst, ◌∙◌, arith}
-use Rattle.std.proofs.Common.{is_some, append_assoc, length-append, eq-eqb}
-use Rattle.std.specs.Prelude.{◌==◌, not}
+use Rattle.std.proofs.Common.{◌≡◌, ◌≢◌, ℕ, zero, suc, ◌+◌, ◌-◌, ◌<◌, ◌≤◌, true, false, List, [], ◌∷◌, ◌++◌, length, take, drop, min, Some, refl, sym, ap, subst, ◌∙◌, arith}
+use Rattle.std.proofs.Common.{is_some, append_assoc, length-append}
+use Rattle.std.specs.Prelude.{◌==◌}
 use Rattle.std.proofs.lemmas.Bool.{ne_eqb}
-use Rattle.std.proofs.lemmas.List.{append-nil, take_all, drop-append-le, length-take, length-drop, take-append-drop, take-take, take_rest}
+use Rattle.std.proofs.lemmas.List.{append-nil, nil_from_length, take_all, drop-append-le, length-take, length-drop, take-append-drop, take-take, take_rest}
 use Rattle.mc_image.specs.Bytes.{u16_at}
-use Rattle.mc_image.specs.Entries.{first_entry, entries_within, entries_of, entries_in, digests}
+use Rattle.mc_image.specs.Entries.{entries_within, entries_of, entries_in, digests}
 use Rattle.mc_image.specs.Faults.{digest_fault}
 use Rattle.mc_image.specs.Gathered.{held}
 use Rattle.mc_image.specs.Walking.{IsInValue, IsKept, IsAt, IsEntered, IsOpen, IsOne, Finds, Reaches, Walks, Goes}
@@ -17,30 +17,36 @@ use Rattle.mc_image.specs.declared.areas.Place.{Place}
 use Rattle.mc_image.specs.declared.areas.Place.TheVariants as places
 use Rattle.mc_image.specs.declared.areas.Walk.{Walk}
 use Rattle.mc_image.specs.declared.error.ImageError.TheVariants.{NoDigest, ManyDigests, DigestLength}
+use Rattle.mc_image.proofs.Appended.{appended}
 use Rattle.mc_image.proofs.Pieces.{take_split}
-use Rattle.mc_image.proofs.WalkLaws.{u16_more, first_whole, stuck_short, stuck_value, not_filled, passed_filled, passed_other, passed_digest, many_fault}
-
--- a piece more of the entry that is begun
-reached : (w : Walk) (place : Place) (walked : ℕ) (bytes taken : List ℕ) (r : Reaches w bytes) → walked ≡ w.walked + length taken → IsAt place (length r.whole) (r.begun ++ taken)
-    → Reaches (record { walked = walked; place = place; found = w.found }) (bytes ++ taken)
-reached w place walked bytes taken r is at =
-    let l = length-append bytes taken in
-    let k = r.walked in
-    record {
-      whole = r.whole;
-      begun = r.begun ++ taken;
-      split = ap (λ (x : List ℕ). x ++ taken) r.split ∙ append_assoc r.whole r.begun taken;
-      filled = r.filled;
-      walked = omega (arith, l, k, is);
-      at = at;
-      found = r.found;
-    }
+use Rattle.mc_image.proofs.WalkLaws.{u16_more, stuck_short, stuck_value, not_filled, passed_filled, passed_other, passed_digest, many_fault}
 
 at_place : {w : Walk} {bytes : List ℕ} (p : Place) (r : Reaches w bytes) → w.place ≡ p → IsAt p (length r.whole) r.begun
-at_place p r e = let P : Place → Type 0 = λ x. IsAt x (length r.whole) r.begun in subst P e r.at
+at_place p r e = subst (λ (x : Place). IsAt x (length r.whole) r.begun) e r.at
 
 open_place : {w : Walk} {bytes : List ℕ} (p : Place) (h : Walks w bytes) → w.place ≡ p → IsOpen p
-open_place p h e = let P : Place → Type 0 = λ x. IsOpen x in subst P e h.more
+open_place p h e = subst (λ (x : Place). IsOpen x) e h.more
+
+-- bytes of the entry that is begun
+goes_on : (w : Walk) (old new : Place) (walked : ℕ) (piece taken rest : List ℕ) → w.place ≡ old → piece ≡ taken ++ rest → 0 < length taken → walked ≡ w.walked + length taken
+    → ((before : ℕ) (begun : List ℕ) → w.walked ≡ before + length begun → IsAt old before begun → IsAt new before (begun ++ taken))
+    → Goes (Walks w) (Reaches (record { walked = walked; place = new; found = w.found })) piece rest
+goes_on w old new walked piece taken rest e split some is step = record {
+  taken = taken;
+  split = split;
+  some = some;
+  holds = λ bytes h.
+      let r = h.reaches in
+      record {
+        whole = r.whole;
+        begun = r.begun ++ taken;
+        split = appended r.whole bytes _ r.begun taken r.split refl;
+        filled = r.filled;
+        walked = omega (arith, length-append bytes taken, r.walked, is);
+        at = step (length r.whole) r.begun (r.walked ∙ ap length r.split ∙ length-append r.whole r.begun) (at_place old r e);
+        found = r.found;
+      };
+}
 
 -- in a head
 pub head_goes : (w : Walk) (head more : Gather 4) (place : Place) (walked : ℕ) (piece rest some : List ℕ) → w.place ≡ places.Head head → 0 < length piece → Walks w some
@@ -51,63 +57,39 @@ head_goes w head more place walked piece rest some e lt known is_more is_rest is
     let n : ℕ = 4 - length (held head) in
     let taken : List ℕ = take n piece in
     let now = at_place (places.Head head) known.reaches e in
-    let short : length (held head) < 4 = let a = now.0 in let b = ap length now.1 in omega (arith, a, b) in
+    let short : length (held head) < 4 = omega (arith, now.0, ap length now.1) in
     let l : length taken ≡ min n (length piece) = length-take n piece in
     let m : length rest ≡ length piece - n = ap length is_rest ∙ length-drop n piece in
-    record {
-      taken = taken;
-      split = sym (take-append-drop n piece) ∙ ap (λ (x : List ℕ). taken ++ x) (sym is_rest);
-      some = omega (arith, l, short, lt);
-      holds = λ bytes h.
-          let r = h.reaches in
-          let at = at_place (places.Head head) r e in
-          let k = r.walked in
-          let s = ap length r.split ∙ length-append r.whole r.begun in
-          let b = ap length at.1 in
-          let t = length-append r.begun taken in
-          let is : held more ≡ r.begun ++ taken =
-          is_more ∙ take_split 4 (held head) piece ∙ ap (λ (x : List ℕ). x ++ taken) (take_all 4 (held head) (omega (arith, short)) ∙ at.1) in
-          reached w place walked bytes taken r (omega (arith, is_walked, l, m, k))
-          (after (length r.whole) (r.begun ++ taken) (omega (arith, t, l, b, short)) is (omega (arith, is_walked, l, m, k, s, t)));
-    }
+    goes_on w (places.Head head) place walked piece taken rest e (cc (take-append-drop n piece)) (omega (arith, l, short, lt)) (omega (arith, is_walked, l, m)) (λ before begun k at.
+    let b = ap length at.1 in
+    let t = length-append begun taken in
+    let is : held more ≡ begun ++ taken = is_more ∙ take_split 4 (held head) piece ∙ ap (λ (x : List ℕ). x ++ taken) (take_all 4 (held head) (omega (arith, short)) ∙ at.1) in
+    after before (begun ++ taken) (omega (arith, t, l, b, short)) is (omega (arith, is_walked, l, m, k, t)))
 
 -- in a value
-in_value_more : (begun taken : List ℕ) (left : ℕ) → IsInValue begun left → length taken ≤ left → IsInValue (begun ++ taken) (left - length taken)
-in_value_more begun taken left at le =
+in_value_more : (begun taken : List ℕ) (left t : ℕ) → IsInValue begun left → length taken ≡ t → t ≤ left → IsInValue (begun ++ taken) (left - t)
+in_value_more begun taken left t at len le =
     let l = length-append begun taken in
-    let h = at.head in
-    let r = at.rest in
-    let e = u16_more 2 begun taken (omega (arith, h)) in
-    record { head = omega (arith, l, h); rest = omega (arith, l, r, e, le) }
+    record { head = omega (arith, l, at.head); rest = omega (arith, l, len, at.rest, u16_more 2 begun taken (omega (arith, at.head)), le) }
 
 kind_more : (begun taken : List ℕ) (left : ℕ) → IsInValue begun left → u16_at 0 (begun ++ taken) ≡ u16_at 0 begun
-kind_more begun taken left at = let h = at.head in u16_more 0 begun taken (omega (arith, h))
+kind_more begun taken left at = u16_more 0 begun taken (omega (arith, at.head))
 
 rest_of : (t : ℕ) (piece : List ℕ) → piece ≡ take t piece ++ take (length piece - t) (drop t piece)
-rest_of t piece = sym (take-append-drop t piece) ∙ ap (λ (x : List ℕ). take t piece ++ x) (sym (take_rest piece t))
+rest_of t piece = cc (take-append-drop t piece, take_rest piece t)
 
 pub value_goes : (w : Walk) (left t : ℕ) (piece some : List ℕ) → w.place ≡ places.Value left → 0 < length piece → Walks w some → t ≡ min left (length piece)
     → Goes (Walks w) (Reaches (record { walked = w.walked + t; place = places.Value (left - t); found = w.found })) piece (take (length piece - t) (drop t piece))
 value_goes w left t piece some e lt known is =
     let open_now : 0 < left = open_place (places.Value left) known e in
     let l : length (take t piece) ≡ t = omega (arith, length-take t piece, is) in
-    record {
-      taken = take t piece;
-      split = rest_of t piece;
-      some = omega (arith, l, is, open_now, lt);
-      holds = λ bytes h.
-          let r = h.reaches in
-          let at = at_place (places.Value left) r e in
-          let more : IsInValue (r.begun ++ take t piece) (left - t) = let P : ℕ
-          → Type 0 = λ n. IsInValue (r.begun ++ take t piece) (left - n) in subst P l (in_value_more r.begun (take t piece) left at.0 (omega (arith, l, is))) in
-          reached w (places.Value (left - t)) (w.walked + t) bytes (take t piece) r (omega (arith, l)) (more, λ k. at.1 (sym (kind_more r.begun (take t piece) left at.0) ∙ k));
-    }
+    goes_on w (places.Value left) _ (w.walked + t) piece (take t piece) _ e (rest_of t piece) (omega (arith, l, is, open_now, lt)) (omega (arith, l))
+    (λ before begun _ at. (in_value_more begun (take t piece) left t at.0 l (omega (arith, is)), λ k. at.1 (sym (kind_more begun (take t piece) left at.0) ∙ k)))
 
 pub take_again : (n : ℕ) (xs ys : List ℕ) → take n (take n xs ++ ys) ≡ take n (xs ++ ys)
 take_again n xs ys =
-    let l = length-take n xs in
     take_split n (take n xs) ys ∙ ap (λ (x : List ℕ). x ++ take (n - length (take n xs)) ys) (take-take n n xs (omega arith))
-    ∙ ap (λ (k : ℕ). take n xs ++ take k ys) (let q : n - length (take n xs) ≡ n - length xs = omega (arith, l) in q) ∙ sym (take_split n xs ys)
+    ∙ ap (λ (k : ℕ). take n xs ++ take k ys) (let q : n - length (take n xs) ≡ n - length xs = omega (arith, length-take n xs) in q) ∙ sym (take_split n xs ys)
 
 kept_more : (v : DigestValue) (bytes : Gather 33) (before : ℕ) (begun taken : List ℕ) → IsKept v before begun → 4 ≤ length begun → held bytes ≡ take 33 (held v.bytes ++ taken)
     → IsKept (record { start = v.start; bytes = bytes }) before (begun ++ taken)
@@ -124,18 +106,8 @@ pub digest_goes : (w : Walk) (left t : ℕ) (v : DigestValue) (bytes : Gather 33
 digest_goes w left t v bytes piece some e lt known is is_bytes =
     let open_now : 0 < left = open_place (places.Digest left v) known e in
     let l : length (take t piece) ≡ t = omega (arith, length-take t piece, is) in
-    record {
-      taken = take t piece;
-      split = rest_of t piece;
-      some = omega (arith, l, is, open_now, lt);
-      holds = λ seen h.
-          let r = h.reaches in
-          let at = at_place (places.Digest left v) r e in
-          let more : IsInValue (r.begun ++ take t piece) (left - t) = let P : ℕ
-          → Type 0 = λ n. IsInValue (r.begun ++ take t piece) (left - n) in subst P l (in_value_more r.begun (take t piece) left at.0 (omega (arith, l, is))) in
-          reached w (places.Digest (left - t) (record { start = v.start; bytes = bytes })) (w.walked + t) seen (take t piece) r (omega (arith, l))
-          (more, kind_more r.begun (take t piece) left at.0 ∙ at.1, kept_more v bytes (length r.whole) r.begun (take t piece) at.2 at.0.head is_bytes);
-    }
+    goes_on w (places.Digest left v) _ (w.walked + t) piece (take t piece) _ e (rest_of t piece) (omega (arith, l, is, open_now, lt)) (omega (arith, l)) (λ before begun _ at.
+    (in_value_more begun (take t piece) left t at.0 l (omega (arith, is)), kind_more begun (take t piece) left at.0 ∙ at.1, kept_more v bytes before begun (take t piece) at.2 at.0.head is_bytes))
 
 -- ---- an entry is complete
 
@@ -162,11 +134,10 @@ finds_more found.Many whole begun h same = let l = ap length same in omega (arit
 -- the first digest
 pub found_first : (v : DigestValue) (whole begun : List ℕ) → digests (entries_in whole) ≡ [] → is_some (entries_of whole) ≡ true → IsEntered v (length whole) begun → IsOne v (whole ++ begun)
 found_first v whole begun none filled is =
-    let head = is.value.head in
-    let l : length (take 4 begun) ≡ 4 = omega (arith, length-take 4 begun, head) in
+    let l : length (take 4 begun) ≡ 4 = omega (arith, length-take 4 begun, is.value.head) in
     record {
       value = drop 4 begun;
-      one = passed_digest whole begun filled head (complete begun is.value) is.kind ∙ ap (λ (ds : List (List ℕ)). ds ++ (drop 4 begun ∷ [])) none;
+      one = passed_digest whole begun filled is.value.head (complete begun is.value) is.kind ∙ ap (λ (ds : List (List ℕ)). ds ++ (drop 4 begun ∷ [])) none;
       bytes = is.kept.bytes;
       front = whole ++ take 4 begun;
       back = [];
@@ -179,22 +150,20 @@ found_first v whole begun none filled is =
 pub found_further : (v : DigestValue) (whole begun : List ℕ) → 0 < length (digests (entries_in whole)) → is_some (entries_of whole)
     ≡ true → IsEntered v (length whole) begun → 2 ≤ length (digests (entries_in (whole ++ begun)))
 found_further v whole begun lt filled is =
-    let e = ap length (passed_digest whole begun filled is.value.head (complete begun is.value) is.kind) ∙ length-append (digests (entries_in whole)) (drop 4 begun ∷ []) in
-    omega (arith, e, lt)
+    omega (arith, ap length (passed_digest whole begun filled is.value.head (complete begun is.value) is.kind) ∙ length-append (digests (entries_in whole)) (drop 4 begun ∷ []), lt)
 
 filled_is : (bytes whole begun : List ℕ) → bytes ≡ whole ++ begun → is_some (entries_of whole) ≡ true → IsInValue begun 0 → is_some (entries_of bytes) ≡ true
 filled_is bytes whole begun split filled at = ap (λ (x : List ℕ). is_some (entries_of x)) split ∙ passed_filled whole begun filled at.head (complete begun at)
 
 zero_left : (left : ℕ) (begun : List ℕ) → left ≤ 0 → IsInValue begun left → IsInValue begun 0
-zero_left left begun le at = let e : left ≡ 0 = omega (arith, le) in let P : ℕ → Type 0 = λ n. IsInValue begun n in subst P e at
+zero_left left begun le at = let e : left ≡ 0 = omega (arith, le) in subst (λ (n : ℕ). IsInValue begun n) e at
 
 pub settled_value : (w : Walk) (left : ℕ) (bytes : List ℕ) → w.place ≡ places.Value left → left ≤ 0 → Reaches w bytes → (is_some (entries_of bytes) ≡ true) × Finds w.found bytes
 settled_value w left bytes e le r =
     let at = at_place (places.Value left) r e in
     let done = zero_left left r.begun le at.0 in
     let same = passed_other r.whole r.begun r.filled done.head (complete r.begun done) at.1 in
-    let P : List ℕ → Type 0 = λ x. Finds w.found x in
-    (filled_is bytes r.whole r.begun r.split r.filled done, subst P (sym r.split) (finds_more w.found r.whole r.begun r.found same))
+    (filled_is bytes r.whole r.begun r.split r.filled done, subst (λ (x : List ℕ). Finds w.found x) (sym r.split) (finds_more w.found r.whole r.begun r.found same))
 
 pub settled_digest : (w : Walk) (left : ℕ) (v : DigestValue) (f : Found) (bytes : List ℕ) → w.place ≡ places.Digest left v → left ≤ 0 → Reaches w bytes
     → ((whole begun : List ℕ) → Finds w.found whole → is_some (entries_of whole) ≡ true → IsEntered v (length whole) begun → Finds f (whole ++ begun))
@@ -207,12 +176,8 @@ settled_digest w left v f bytes e le r with_it =
 
 -- ---- at the end
 
-nothing_is : (b : List ℕ) → length b ≡ 0 → b ≡ []
-nothing_is [] e = refl
-nothing_is (x ∷ b) e = absurd (omega (arith, e))
-
 between_cases : (n : ℕ) (whole begun : List ℕ) → length begun ≡ n → n < 4 → is_some (entries_of whole) ≡ true → (n == 0) ≡ is_some (entries_of (whole ++ begun))
-between_cases zero whole begun e lt filled = sym (ap (λ (x : List ℕ). is_some (entries_of (whole ++ x))) (nothing_is begun e) ∙ ap (λ (x : List ℕ). is_some (entries_of x)) (append-nil whole) ∙ filled)
+between_cases zero whole begun e lt filled = sym (ap (λ (x : List ℕ). is_some (entries_of x)) (ap (λ (x : List ℕ). whole ++ x) (nil_from_length begun e) ∙ append-nil whole) ∙ filled)
 between_cases (suc n) whole begun e lt filled =
     let f : (suc n == 0) ≡ false = ne_eqb _ _ (omega arith) in
     f ∙ sym (not_filled whole begun filled (omega (arith, e)) (stuck_short begun (omega (arith, e, lt))))
@@ -226,9 +191,7 @@ between_head w head bytes e h =
 
 not_between : (w : Walk) (left : ℕ) (bytes : List ℕ) (r : Reaches w bytes) → IsInValue r.begun left → 0 < left → false ≡ is_some (entries_of bytes)
 not_between w left bytes r at lt =
-    let h = at.head in
-    let s = at.rest in
-    sym (ap (λ (x : List ℕ). is_some (entries_of x)) r.split ∙ not_filled r.whole r.begun r.filled (omega (arith, h)) (stuck_value r.begun h (omega (arith, s, lt))))
+    sym (ap (λ (x : List ℕ). is_some (entries_of x)) r.split ∙ not_filled r.whole r.begun r.filled (omega (arith, at.head)) (stuck_value r.begun at.head (omega (arith, at.rest, lt))))
 
 pub between_value : (w : Walk) (left : ℕ) (bytes : List ℕ) → w.place ≡ places.Value left → Walks w bytes → false ≡ is_some (entries_of bytes)
 between_value w left bytes e h = not_between w left bytes h.reaches (at_place (places.Value left) h.reaches e).0 (open_place (places.Value left) h e)
@@ -246,8 +209,7 @@ found_at w bytes h filled = at_cases w.place refl
     in_head : (n : ℕ) → length h.reaches.begun ≡ n → n < 4 → Finds w.found bytes
     in_head zero e lt =
         let r = h.reaches in
-        let P : List ℕ → Type 0 = λ x. Finds w.found x in
-        subst P (sym (r.split ∙ ap (λ (x : List ℕ). r.whole ++ x) (nothing_is r.begun e) ∙ append-nil r.whole)) r.found
+        subst (λ (x : List ℕ). Finds w.found x) (sym (r.split ∙ ap (λ (x : List ℕ). r.whole ++ x) (nil_from_length r.begun e) ∙ append-nil r.whole)) r.found
     in_head (suc n) e lt =
         let r = h.reaches in
         no (sym (ap (λ (x : List ℕ). is_some (entries_of x)) r.split ∙ not_filled r.whole r.begun r.filled (omega (arith, e)) (stuck_short r.begun (omega (arith, e, lt)))))
@@ -259,7 +221,7 @@ found_at w bytes h filled = at_cases w.place refl
 
 module _ (w : Walk) (bytes : List ℕ) (h : Walks w bytes) (filled : is_some (entries_of bytes) ≡ true) where
   at_found : (f : Found) → w.found ≡ f → Finds f bytes
-  at_found f e = let P : Found → Type 0 = λ x. Finds x bytes in subst P e (found_at w bytes h filled)
+  at_found f e = subst (λ (x : Found). Finds x bytes) e (found_at w bytes h filled)
 
   pub digest_none : w.found ≡ found.Nothing → digest_fault (digests (entries_in bytes)) ≡ Some NoDigest
   digest_none e = ap digest_fault (at_found found.Nothing e)
@@ -294,18 +256,15 @@ pub gone_on : {old new : List ℕ → Type 0} (piece rest : List ℕ) → Goes o
 gone_on piece rest g all seen e h = (seen ++ g.taken, append_assoc seen g.taken rest ∙ ap (λ (x : List ℕ). seen ++ x) (sym g.split) ∙ e, g.holds seen h)
 
 pub gone_all : (p : List ℕ → Type 0) (all rest seen : List ℕ) → length rest ≡ 0 → seen ++ rest ≡ all → p seen → p all
-gone_all p all rest seen none e h = subst p (sym (append-nil seen) ∙ ap (λ (x : List ℕ). seen ++ x) (sym (nothing_is rest none)) ∙ e) h
+gone_all p all rest seen none e h = subst p (sym (append-nil seen) ∙ ap (λ (x : List ℕ). seen ++ x) (sym (nil_from_length rest none)) ∙ e) h
 
 -- something was found before
 pub some_one : (f : Found) (v : DigestValue) (whole : List ℕ) → f ≡ found.One v → Finds f whole → 0 < length (digests (entries_in whole))
 some_one f v whole e h =
-    let P : Found → Type 0 = λ x. Finds x whole in
-    let one : IsOne v whole = subst P e h in
-    let l = ap length one.one in
-    omega (arith, l)
+    let one : IsOne v whole = subst (λ (x : Found). Finds x whole) e h in
+    omega (arith, ap length one.one)
 
 pub some_many : (f : Found) (whole : List ℕ) → f ≡ found.Many → Finds f whole → 0 < length (digests (entries_in whole))
 some_many f whole e h =
-    let P : Found → Type 0 = λ x. Finds x whole in
-    let two : 2 ≤ length (digests (entries_in whole)) = subst P e h in
+    let two : 2 ≤ length (digests (entries_in whole)) = subst (λ (x : Found). Finds x whole) e h in
     omega (arith, two)

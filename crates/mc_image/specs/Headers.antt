@@ -1,5 +1,5 @@
 -- What the heads of an image and of its plain area say by themselves.
-use Rattle.std.specs.Prelude.{◌≡◌, ℕ, List, length, drop, Option, nat_lt, ◌==◌, ◌||◌, not, is_none}
+use Rattle.std.specs.Prelude.{◌≡◌, ℕ, List, length, Option, nat_lt, ◌==◌, ◌||◌, not, is_none}
 use Rattle.mc_image.specs.Bytes.{u16_at, u32_at}
 use Rattle.mc_image.specs.Entries.{entries_of, entries_in, digests}
 use Rattle.mc_image.specs.Image.{version_in}

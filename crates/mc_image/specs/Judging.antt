@@ -1,13 +1,13 @@
 -- What a judge says of the bytes that it was fed, and where it stands in them.
-use Rattle.std.specs.Prelude.{◌≡◌, ℕ, ◌+◌, ◌<◌, ◌≤◌, List, ◌++◌, length, take, drop, Option, Some, None, Result, Ok, Err}
+use Rattle.std.specs.Prelude.{◌≡◌, ℕ, ◌+◌, ◌<◌, ◌≤◌, List, ◌++◌, length, drop, Option, Some, None, Result, Ok, Err}
 use Rattle.sha2.specs.Hashers.{Holds256}
 use Rattle.sha2.specs.Sha256.{sha256}
 use Rattle.sha2.specs.declared.Sha256.{Sha256}
 use Rattle.mc_image.specs.Bytes.{u16_at, IsBytes}
-use Rattle.mc_image.specs.Faults.{header_fault, body_fault, protected_fault}
+use Rattle.mc_image.specs.Faults.{header_fault, protected_fault}
 use Rattle.mc_image.specs.Gathered.{held}
 use Rattle.mc_image.specs.Headers.{IsHeader, head_fault}
-use Rattle.mc_image.specs.Image.{Image, image_in, image_text, digest_of, version_in, payload_end, protected_end, after_body}
+use Rattle.mc_image.specs.Image.{Image, image_in, image_text, digest_of, payload_end, protected_end}
 use Rattle.mc_image.specs.Valid.{image_fault}
 use Rattle.mc_image.specs.Walking.{Walks, Follows}
 use Rattle.mc_image.specs.declared.areas.ProtectedArea.{ProtectedArea}

@@ -14,11 +14,9 @@ returns-then-are_same c = λ body area is plain more h.
     let d = c.in_ok-digest.ensures.exact _ plain.walk in
     let v = digest_stands _ _ d.1 c.in_ok-digest.ensures.len in
     let same = sym c.as_slice.ensures ∙ c.are_same.ensures.0 c.if-are_same.true ∙ c.as_slice-2.ensures in
-    let n = c.body_len.ensures.sum in
     let l = sealed_len c.args.sealed.now body is in
-    let t = plain.left in
     rw c.to_array-digest.ensures (digest_right c.args.sealed.now body is c.args.total c.args.walk.now area plain more h
-    _ d.0 v.1 c.in_ok-digest.ensures.len (c.body_len.result + c.args.total) (sym same ∙ c.to_array-digest.ensures) (omega (arith, n, l, t)))
+    _ d.0 v.1 c.in_ok-digest.ensures.len (c.body_len.result + c.args.total) (sym same ∙ c.to_array-digest.ensures) (omega (arith, c.body_len.ensures.sum, l, plain.left)))
 
 pub returns-else-are_same : goal.returns-else-are_same
 returns-else-are_same c = λ body area is plain more h.

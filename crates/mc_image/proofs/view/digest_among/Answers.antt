@@ -9,16 +9,10 @@ returns-in_err-value c =
     rw (p.1, p.2) (c.in_err-value.ensures.exact c.args.entries.now (c.along.ensures [] c.new.ensures))
 
 pub overflow_add-result : goal.overflow_add-result
-overflow_add-result c =
-    let d = c.in_ok-value.ensures.exact c.args.entries.now (c.along.ensures [] c.new.ensures) in
-    let fits = (digest_stands c.in_ok-value.value c.args.entries.now d.1 c.in_ok-value.ensures.len).2 in
-    omega (arith, fits)
+overflow_add-result c = omega (arith, (digest_stands _ _ (c.in_ok-value.ensures.exact c.args.entries.now (c.along.ensures [] c.new.ensures)).1 c.in_ok-value.ensures.len).2)
 
 pub slice_bounds-result-end : goal.slice_bounds-result-end
-slice_bounds-result-end c =
-    let d = c.in_ok-value.ensures.exact c.args.entries.now (c.along.ensures [] c.new.ensures) in
-    let fits = (digest_stands c.in_ok-value.value c.args.entries.now d.1 c.in_ok-value.ensures.len).2 in
-    omega (arith, fits)
+slice_bounds-result-end c = omega (arith, (digest_stands _ _ (c.in_ok-value.ensures.exact c.args.entries.now (c.along.ensures [] c.new.ensures)).1 c.in_ok-value.ensures.len).2)
 
 pub returns : goal.returns
 returns c =

@@ -19,16 +19,14 @@ pub returns-in_err-digest : goal.returns-in_err-digest
 unfolding area_in
 returns-in_err-digest c =
     let p = err_from_is_err_and c.from_residual-in_err-digest.result c.from_residual-in_err-digest.ensures.1 in
-    let t = c.in_ok-total.ensures.3 in
-    let le : u16_at 2 c.args.bytes.now ≤ length c.args.bytes.now = omega (arith, t) in
+    let le : u16_at 2 c.args.bytes.now ≤ length c.args.bytes.now = omega (arith, c.in_ok-total.ensures.3) in
     rw (p.1, p.2) (plain_entries c.args.bytes.now _ c.in_ok-total.ensures.0 le
-    (take_rest (take c.in_ok-total.field-0 c.args.bytes.now) 4 ∙ ap (λ n. drop 4 (take n c.args.bytes.now)) t) ∙ c.in_err-digest.ensures)
+    (take_rest (take c.in_ok-total.field-0 c.args.bytes.now) 4 ∙ ap (λ n. drop 4 (take n c.args.bytes.now)) c.in_ok-total.ensures.3) ∙ c.in_err-digest.ensures)
 
 pub returns : goal.returns
 unfolding area_in
 returns c =
-    let t = c.in_ok-total.ensures.3 in
-    let le : u16_at 2 c.args.bytes.now ≤ length c.args.bytes.now = omega (arith, t) in
+    let le : u16_at 2 c.args.bytes.now ≤ length c.args.bytes.now = omega (arith, c.in_ok-total.ensures.3) in
     let d = c.in_ok-digest.ensures in
-    let is = take_rest (take c.in_ok-total.field-0 c.args.bytes.now) 4 ∙ ap (λ n. drop 4 (take n c.args.bytes.now)) t in
-    (plain_none c.args.bytes.now _ c.in_ok-total.ensures.0 le is d.0, ap (λ n. take n c.args.bytes.now) t, ap (λ x. digests (entries_in x)) (sym is) ∙ d.1, d.2)
+    let is = take_rest (take c.in_ok-total.field-0 c.args.bytes.now) 4 ∙ ap (λ n. drop 4 (take n c.args.bytes.now)) c.in_ok-total.ensures.3 in
+    (plain_none c.args.bytes.now _ c.in_ok-total.ensures.0 le is d.0, ap (λ n. take n c.args.bytes.now) c.in_ok-total.ensures.3, ap (λ x. digests (entries_in x)) (sym is) ∙ d.1, d.2)

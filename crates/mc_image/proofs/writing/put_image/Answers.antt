@@ -11,9 +11,8 @@ put_plain-requires c = c.requires.plain ∙ plain_size c.args.parts.now
 
 pub returns-clause-written : goal.returns-clause-written
 returns-clause-written c =
-    let same = c.in_ok-reserve.ensures.items in
     let start : c.len-start.result ≡ length c.args.out.now.items = search rules in
     on_ok c.put_plain.result c.put_plain.ensures.written
     (λ last. image-written c.args.parts.now c.args.out.now.items c.put_covered.new.out.items _ c.digest_from-digest.result c.len-start.result start
-    (c.in_ok-put_covered.ensures.written ∙ ap (λ x. x ++ covered_text (image_of c.args.parts.now)) same)
+    (c.in_ok-put_covered.ensures.written ∙ ap (λ x. x ++ covered_text (image_of c.args.parts.now)) c.in_ok-reserve.ensures.items)
     (c.digest_from-digest.ensures ∙ ap (λ x. sha256 (drop c.len-start.result x)) c.deref.ensures.value) last)

@@ -5,11 +5,8 @@ use Rattle.mc_image.proofs.areas.Walk.along.Goals as goal
 
 pub step-requires-clause-fits : goal.step-requires-clause-fits
 step-requires-clause-fits c =
-    let r = c.requires in
-    let s = c.loop-rest.invariant r.0 r.1 in
-    let e = sym (length-append s.0 c.loop-rest.rest.now) ∙ ap length s.1 ∙ length-append r.0 c.args.piece.now in
-    let fits = r.2 in
-    (s.0, s.2, omega (arith, e, fits))
+    let s = c.loop-rest.invariant c.requires.0 c.requires.1 in
+    (s.0, s.2, omega (arith, sym (length-append s.0 c.loop-rest.rest.now) ∙ ap length s.1 ∙ length-append c.requires.0 c.args.piece.now, c.requires.2))
 
 pub loop-rest-preserved : goal.loop-rest-preserved
 loop-rest-preserved c = λ bytes h.

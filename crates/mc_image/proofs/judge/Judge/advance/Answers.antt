@@ -8,6 +8,5 @@ use Rattle.mc_image.proofs.judge.Judge.advance.Goals as goal
 pub returns-in-Over : goal.returns-in-Over
 returns-in-Over c =
     let piece = c.args.piece.now in
-    let P : List ℕ → Type 0 = λ x. Goes (Judges c.args.self.now) (Judges c.args.self.now) c.args.piece.now x in
-    subst P (sym (take_rest piece (length piece) ∙ drop_all (length piece) piece (omega arith)))
+    subst (λ (x : List ℕ). Goes (Judges c.args.self.now) (Judges c.args.self.now) c.args.piece.now x) (sym (take_rest piece (length piece) ∙ drop_all (length piece) piece (omega arith)))
     (over_goes c.args.self.now piece c.in-Over.field-0 c.in-Over.is c.requires.some (λ i. omega (arith, c.type_inv.piece i)))

@@ -13,17 +13,11 @@ returns-in-Err c = λ bytes are holds is len. record {
 pub returns-then-left-gt0 : goal.returns-then-left-gt0
 returns-then-left-gt0 c = λ bytes are holds is len.
     let r = c.in-Ok.ensures in
-    let P : List ℕ → Type 0 = λ x. HasHeader c.in-Ok.header x in
-    let has : HasHeader c.in-Ok.header bytes = subst P (c.as_slice.ensures.bytes ∙ is) (record { none = r.0; long = r.1; size = r.2; fields = r.3 }) in
-    let e = (header_ends c.in-Ok.header bytes has.fields).0 in
-    let s = r.2 in
-    record { bytes = are; stage = (holds, has, omega (arith, e, s, len), omega arith) }
+    let has : HasHeader c.in-Ok.header bytes = subst (λ (x : List ℕ). HasHeader c.in-Ok.header x) (c.as_slice.ensures.bytes ∙ is) (record { none = r.0; long = r.1; size = r.2; fields = r.3 }) in
+    record { bytes = are; stage = (holds, has, omega (arith, (header_ends c.in-Ok.header bytes has.fields).0, r.2, len), omega arith) }
 
 pub returns-else-left-gt0 : goal.returns-else-left-gt0
 returns-else-left-gt0 c = λ bytes are holds is len.
     let r = c.in-Ok.ensures in
-    let P : List ℕ → Type 0 = λ x. HasHeader c.in-Ok.header x in
-    let has : HasHeader c.in-Ok.header bytes = subst P (c.as_slice.ensures.bytes ∙ is) (record { none = r.0; long = r.1; size = r.2; fields = r.3 }) in
-    let e = (header_ends c.in-Ok.header bytes has.fields).0 in
-    let s = r.2 in
-    c.after_payload.ensures bytes are holds has (omega (arith, e, s, len))
+    let has : HasHeader c.in-Ok.header bytes = subst (λ (x : List ℕ). HasHeader c.in-Ok.header x) (c.as_slice.ensures.bytes ∙ is) (record { none = r.0; long = r.1; size = r.2; fields = r.3 }) in
+    c.after_payload.ensures bytes are holds has (omega (arith, (header_ends c.in-Ok.header bytes has.fields).0, r.2, len))

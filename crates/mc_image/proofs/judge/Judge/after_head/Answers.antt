@@ -19,14 +19,11 @@ returns-in-Err c = λ body rest are is held len. record {
 
 pub returns-in-Ok : goal.returns-in-Ok
 returns-in-Ok c = λ body rest are is held len.
-    let r = c.in-Ok.ensures in
     let same = c.as_slice.ensures.bytes ∙ held in
-    let four = r.2 in
-    let P : List ℕ → Type 0 = λ x. Walks c.new.result x in
     c.go_on.ensures body rest are is (record {
-      none = ap head_fault (sym same) ∙ r.0;
+      none = ap head_fault (sym same) ∙ c.in-Ok.ensures.0;
       head = omega (arith, len);
-      total = r.3 ∙ ap (u16_at 2) same;
-      left = omega (arith, len, four);
-      walk = subst P (sym (drop_all 4 rest (omega (arith, len)))) c.new.ensures;
+      total = c.in-Ok.ensures.3 ∙ ap (u16_at 2) same;
+      left = omega (arith, len, c.in-Ok.ensures.2);
+      walk = subst (λ (x : List ℕ). Walks c.new.result x) (sym (drop_all 4 rest (omega (arith, len)))) c.new.ensures;
     })

@@ -14,11 +14,7 @@ pub returns-in-Payload : goal.returns-in-Payload
 returns-in-Payload c = λ bytes h.
     let s = at_stage _ c.in-Payload.is h in
     let e = header_ends _ bytes s.1.fields in
-    let e0 = e.0 in
-    let e1 = e.1 in
-    let left = s.2 in
-    let more = s.3 in
-    sym (body_short bytes s.1.none (omega (arith, e0, e1, left, more)))
+    sym (body_short bytes s.1.none (omega (arith, e.0, e.1, s.2, s.3)))
 
 pub returns-in-Protected : goal.returns-in-Protected
 returns-in-Protected c = λ bytes h.
@@ -27,12 +23,7 @@ returns-in-Protected c = λ bytes h.
     let has = has_header_more _ p.front p.rest p.header in
     let e = header_ends _ (p.front ++ p.rest) has.fields in
     let f = header_ends _ p.front p.header.fields in
-    let e1 = e.1 in
-    let f0 = f.0 in
-    let len = p.len in
-    let left = p.left in
-    let more = s.1 in
-    sym (ap verdict p.split ∙ body_short (p.front ++ p.rest) has.none (omega (arith, e1, f0, len, left, more, length-append p.front p.rest)))
+    sym (ap verdict p.split ∙ body_short (p.front ++ p.rest) has.none (omega (arith, e.1, f.0, p.len, p.left, s.1, length-append p.front p.rest)))
 
 pub returns-in-PlainHead : goal.returns-in-PlainHead
 returns-in-PlainHead c = λ bytes h.
@@ -48,5 +39,4 @@ returns-in-Plain c = λ bytes h.
 pub returns-in-Over : goal.returns-in-Over
 returns-in-Over c = λ bytes h.
     let same = append-nil bytes in
-    let P : List ℕ → Type 0 = λ x. IsBytes x in
-    sym (ap verdict (sym same) ∙ at_stage _ c.in-Over.is h [] (subst P (sym same) h.bytes))
+    sym (ap verdict (sym same) ∙ at_stage _ c.in-Over.is h [] (subst (λ (x : List ℕ). IsBytes x) (sym same) h.bytes))

@@ -12,11 +12,9 @@ returns-then-left-gt0 c = λ body area are is plain. record {
 pub returns-else-left-gt0 : goal.returns-else-left-gt0
 returns-else-left-gt0 c = λ body area are is plain.
     let z : c.args.left ≡ 0 = omega arith in
-    let P : ℕ → Type 0 = λ n. IsPlain c.args.total n c.args.walk area in
-    let Q : List ℕ → Type 0 = λ x. IsBytes x in
     record {
       bytes = are;
       stage = λ more both.
           let same = append_assoc body area more in
-          ap verdict same ∙ c.answer_of.ensures body area is (subst P z plain) more (subst Q same both);
+          ap verdict same ∙ c.answer_of.ensures body area is (subst (λ (n : ℕ). IsPlain c.args.total n c.args.walk area) z plain) more (subst (λ (x : List ℕ). IsBytes x) same both);
     }
