@@ -66,8 +66,8 @@ module _ (g : Geometry) (start : Content) (size n : ℕ) (w : Swap g start size 
 
   data_after : (f : Field) (new : List ℕ) (s t : Content) → Data g n start 0 s → Changed s t Secondary (place g Secondary f) new → Data g n start 0 t
   data_after f new s t data_ ch =
-      data_same g n start 0 s t (changed_sized g s t Secondary (place g Secondary f) new ch data_.sized) (kept_below g s t Secondary (place g Secondary f) new ch (place_behind_data g Secondary f w.ok))
-      data_
+      data_same g n start 0 s t (changed_sized g s t Secondary (place g Secondary f) new ch data_.sized) (kept_below g s t Secondary (place g Secondary f) new ch
+      (place_behind_data g Secondary f w.ok)) data_
 
   preparing_after : (v : Field → List ℕ) (f : Field) (new : List ℕ) (s t : Content) → Preparing g start n v s → length new ≤ room f
       → Changed s t Secondary (place g Secondary f) new → Preparing g start n (set_field v f new) t
@@ -132,7 +132,8 @@ module _ (g : Geometry) (start : Content) (size n : ℕ) (w : Swap g start size 
     preparation_keeps s is =
         keeps_append g Bears (Preparing g start n (confirmed g)) (Asked g start n false) (image_ok_write g Secondary ∷ []) (marking c g Secondary size) s
         (preparing_field_keeps grains.Call blank_fields field.ImageOk (one_unit g 1) s is refl (λ e. cc) refl (one_unit_fits g 1 field.ImageOk w.ok) (one_unit_whole g 1 w.ok))
-        (λ t one. keeps_append g Bears (Preparing g start n (sized g size)) (Asked g start n false) (write c g Secondary field.SwapSize (size_bytes g size)) (write c g Secondary field.Magic magic_bytes) t
+        (λ t one. keeps_append g Bears (Preparing g start n (sized g size)) (Asked g start n false) (write c g Secondary field.SwapSize (size_bytes g size))
+        (write c g Secondary field.Magic magic_bytes) t
         (preparing_field_keeps c (confirmed g) field.SwapSize (size_bytes g size) t one refl (λ e. cc) refl (size_bytes_fit g size w.ok) (size_bytes_whole g size w.ok))
         (λ u two. keeps_then g Bears (Preparing g start n (set_field (sized g size) field.Magic magic_bytes)) (Asked g start n false) (write c g Secondary field.Magic magic_bytes) u
         (λ x three. record { secondary = fields_front g x Secondary (set_field (sized g size) field.Magic magic_bytes) (asked false) less three.secondary; data_ = three.data_ })

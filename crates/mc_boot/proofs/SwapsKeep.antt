@@ -83,7 +83,8 @@ module _ (g : Geometry) (start : Content) (size n : ℕ) (w : Swap g start size 
           × ((p : ℕ) → p < 16 → place g Secondary field.Magic + p < (sectors_of g Secondary - 1 - i) * g.sector + g.sector)
       last = at (sectors_of g Secondary - 1 - i) (let leaves = trailer_leaves_one g Secondary w.ok in let zero_ = first.0 in omega arith)
         where
-          at : (k : ℕ) → sectors_of g Secondary ≡ k + 1 → ((p : ℕ) → k * g.sector ≤ place g Secondary field.Magic + p) × ((p : ℕ) → p < 16 → place g Secondary field.Magic + p < k * g.sector + g.sector)
+          at : (k : ℕ) → sectors_of g Secondary ≡ k + 1
+              → ((p : ℕ) → k * g.sector ≤ place g Secondary field.Magic + p) × ((p : ℕ) → p < 16 → place g Secondary field.Magic + p < k * g.sector + g.sector)
           at k e =
               let rows : sectors_of g Secondary * g.sector ≡ (k + 1) * g.sector = ap (λ n. n * g.sector) e in
               let inside = place_inside g Secondary field.Magic w.ok in

@@ -158,8 +158,8 @@ module _ (g : Geometry) (s : Content) (r : Reserve) (j : Journal) (checkpoints :
         sym (same_checkpoints (checkpoint_after j' t) (checkpoint_after j s) 0 checkpoints (length j.entries) order (λ n early. same_earlier j j' e c grown s t n back early)) in
         let usage = usage_is (limits_of r) (length j.entries + 1) (length j'.entries) (length j.saved + saves g op) (length j'.saved) (min (applied + 1) (2 ^ 64 - 1)) applied'
         (sym (one_more j j' e c grown)) (omega (arith, grown.saved, entry)) (sym on) in
-        subst (λ (f : Seen). Does op f (Ok tt) (seen_of g' t (limits_of r) j' checkpoints applied')) seen (subst (λ (x : Geometry). Does op before (Ok tt) (seen_of x t (limits_of r) j' checkpoints applied'))
-        (sym same) (
+        subst (λ (f : Seen). Does op f (Ok tt) (seen_of g' t (limits_of r) j' checkpoints applied')) seen
+        (subst (λ (x : Geometry). Does op before (Ok tt) (seen_of x t (limits_of r) j' checkpoints applied')) (sym same) (
           done_as before op t is ∙ ap (λ (z : Seen). Some z) (seen_is g t t _ _ _ _ refl kept usage),
           λ _ full. elim full [ inl x ↦ omega (arith, x, few) | inr x ↦ omega (arith, x, little) ],
         ))

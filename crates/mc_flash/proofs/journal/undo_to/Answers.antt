@@ -33,7 +33,8 @@ undo-preserved-in-Written c =
 pub overflow_sub-from : goal.overflow_sub-from
 overflow_sub-from c =
     let e = c.in-Erased in
-    let top = newest c.undo.slots.layout (journal_with c.undo.entries.items c.undo.saved.items) c.pop.new.self.items _ (Erased e.slot e.at e.len) c.undo.invariant.journal c.in-Some.ensures.items e.is in
+    let j : Journal = journal_with c.undo.entries.items c.undo.saved.items in
+    let top = newest c.undo.slots.layout j c.pop.new.self.items _ (Erased e.slot e.at e.len) c.undo.invariant.journal c.in-Some.ensures.items e.is in
     omega (arith, top.saves, c.undo.saved.ok.0)
 
 pub put-requires : goal.put-requires
