@@ -2,7 +2,7 @@
 use Rattle.std.proofs.Common.{◌≡◌, ℕ, pos, negsuc, true, false, [], ◌∷◌, refl}
 use Rattle.std.specs.Prelude.{Some, None}
 use lib.Count.{ones}
-use Rattle.mc_flash.specs.Geometry.{Geometry, trailer_bytes, trailer_sectors, greatest_count, greatest_sectors, fits, refusal_of}
+use Rattle.mc_flash.specs.Geometry.{Geometry, trailer_bytes, trailer_sectors, greatest_count, greatest_sectors, fits, refusal_of, of_numbers}
 use Rattle.mc_flash.specs.Content.{Content}
 use Rattle.mc_flash.specs.Apply.{apply}
 use Rattle.mc_flash.specs.Usage.{most_operations, most_saved}
@@ -44,40 +44,36 @@ unit_operations = refl
 saved : most_saved worked ≡ 2304
 saved = refl
 
-abbrev numbers : ℕ → ℕ → ℕ → ℕ → ℕ → ℕ → Geometry
-numbers sector unit max_sectors chunk primary secondary =
-    record { sector = sector; unit = unit; max_sectors = max_sectors; chunk = chunk; primary = primary; secondary = secondary }
-
 -- and of a boot at a layout of units of one byte
-small_operations : most_operations grains.Unit (numbers 64 1 4 32 4 3) ≡ 444
+small_operations : most_operations grains.Unit (of_numbers 64 1 4 32 4 3) ≡ 444
 small_operations = refl
 
-no_unit : refusal_of (numbers 256 3 4 128 4 3) ≡ Some refusals.Unit
+no_unit : refusal_of (of_numbers 256 3 4 128 4 3) ≡ Some refusals.Unit
 no_unit = refl
 
-no_sector : refusal_of (numbers 100 8 4 128 4 3) ≡ Some refusals.Sector
+no_sector : refusal_of (of_numbers 100 8 4 128 4 3) ≡ Some refusals.Sector
 unfolding ones
 no_sector = refl
 
-no_chunk : refusal_of (numbers 256 8 4 96 4 3) ≡ Some refusals.Chunk
+no_chunk : refusal_of (of_numbers 256 8 4 96 4 3) ≡ Some refusals.Chunk
 unfolding ones
 no_chunk = refl
 
-no_counts : refusal_of (numbers 256 8 4 128 5 3) ≡ Some refusals.Counts
+no_counts : refusal_of (of_numbers 256 8 4 128 5 3) ≡ Some refusals.Counts
 unfolding ones
 no_counts = refl
 
-no_room : refusal_of (numbers 256 8 4 128 2 2) ≡ Some refusals.NoRoom
+no_room : refusal_of (of_numbers 256 8 4 128 2 2) ≡ Some refusals.NoRoom
 unfolding ones
 no_room = refl
 
 -- a trailer of 385 sectors in slots of one
-far_below : greatest_count (numbers 64 8 1024 64 1 1) ≡ negsuc 384
+far_below : greatest_count (of_numbers 64 8 1024 64 1 1) ≡ negsuc 384
 far_below = refl
 
 -- four bytes of a slot each: a sector of two is erased, and bytes are put where there are 0xff alone
 abbrev four : Geometry
-four = numbers 2 1 1 1 2 2
+four = of_numbers 2 1 1 1 2 2
 
 abbrev held : Content
 held = record { primary = 1 ∷ 2 ∷ 255 ∷ 255 ∷ []; secondary = 5 ∷ 6 ∷ 7 ∷ 8 ∷ [] }

@@ -16,6 +16,17 @@ pub record Geometry : Type 0 where
   pub primary : ℕ
   pub secondary : ℕ
 
+-- The geometry of six numbers, in the order of its fields.
+abbrev pub of_numbers : ℕ → ℕ → ℕ → ℕ → ℕ → ℕ → Geometry
+of_numbers sector unit max_sectors chunk primary secondary = record {
+  sector = sector;
+  unit = unit;
+  max_sectors = max_sectors;
+  chunk = chunk;
+  primary = primary;
+  secondary = secondary;
+}
+
 -- The trailer at the end of a slot: three status entries of one unit for each sector of an image, and 48 bytes of fields.
 abbrev pub trailer_bytes : Geometry → ℕ
 trailer_bytes g = 3 * g.max_sectors * g.unit + 48

@@ -1,6 +1,7 @@
 //! The layout of two slots: six numbers that go together.
 ghost use Rattle.std.specs.Prelude.{◌≡◌, ℕ, ◌≤◌, ◌<◌, ◌+◌, ◌*◌, ◌^◌, ◌-◌, ◌==◌, min, pos, int_lt, true, ◌↔◌, Some, None, MatchResult};
-ghost use Rattle.mc_flash.specs.Geometry.{Geometry, IsLayout, trailer_bytes, trailer_sectors, count_beside, greatest_count, greatest_sectors, fits, refusal_of};
+ghost use Rattle.mc_flash.specs.Geometry.{Geometry, IsLayout, trailer_bytes, trailer_sectors, count_beside, greatest_count, greatest_sectors, fits, refusal_of, of_numbers};
+ghost use Rattle.mc_flash.specs.Geometry.{is_unit, is_sector, is_chunk, are_counts};
 ghost use Rattle.mc_flash.specs.Content.{sectors_of, size_of};
 ghost use Rattle.mc_flash.specs.Largest.{largest_image};
 ghost use Rattle.mc_flash.specs.Pieces.{in_pieces};
@@ -83,15 +84,7 @@ fn trailer_count(sector: u32, unit: u32, max_sectors: u32) -> u32
     requires sector { (64 ≤ sector) × (sector ≤ 65536) }
     requires unit { unit ≤ 8 }
     requires max_sectors { max_sectors ≤ 1024 }
-    ensures { let g : Geometry = record {
-      sector = sector;
-      unit = unit;
-      max_sectors = max_sectors;
-      chunk = 0;
-      primary = 0;
-      secondary
-          = 0;
-    } in result ≡ trailer_sectors g }
+    ensures { result ≡ trailer_sectors (of_numbers sector unit max_sectors 0 0 0) }
 {
     trailer_len(unit, max_sectors).div_ceil(sector)
 }
@@ -109,6 +102,39 @@ fn sectors_beside(trailer: u32, max_sectors: u32, primary: u32, secondary: u32) 
         .min(secondary.saturating_sub(trailer).min(max_sectors))
 }
 
+// Whether a write unit is one of those that flashes have.
+fn is_unit(unit: u32) -> bool
+    ensures { result ≡ is_unit unit }
+{
+    matches!(unit, 1 | 2 | 4 | 8)
+}
+
+// Whether a sector is a power of two from 64 to 65,536 bytes.
+fn is_sector(sector: u32) -> bool
+    ensures { result ≡ is_sector sector }
+{
+    64 <= sector && sector <= 65536 && sector.is_power_of_two()
+}
+
+// Whether a chunk has whole units, and a sector whole chunks.
+fn is_chunk(sector: u32, unit: u32, chunk: u32) -> bool
+    requires { 0 < unit }
+    ensures { result ≡ is_chunk (of_numbers sector unit 0 chunk 0 0) }
+{
+    chunk != 0 && chunk % unit == 0 && sector % chunk == 0
+}
+
+// Whether the counts of sectors go together, and slots have at most 2^24 bytes.
+fn are_counts(sector: u32, max_sectors: u32, primary: u32, secondary: u32) -> bool
+    ensures { result ≡ are_counts (of_numbers sector 0 max_sectors 0 primary secondary) }
+{
+    max_sectors != 0
+        && max_sectors <= 1024
+        && secondary != 0
+        && (primary == secondary || primary as u64 == secondary as u64 + 1)
+        && primary as u64 * sector as u64 <= 1 << 24
+}
+
 impl Layout {
     /// A layout of these numbers, or the first reason why they are none.
     pub fn new(
@@ -119,33 +145,19 @@ impl Layout {
         primary: u32,
         secondary: u32,
     ) -> Result<Layout, LayoutError>
-        ensures { let g : Geometry = record {
-          sector = sector;
-          unit = unit;
-          max_sectors = max_sectors;
-          chunk = chunk;
-          primary =
-              primary;
-          secondary = secondary;
-        } in MatchResult result
-            (λ l. (l ≡ g) × (refusal_of g ≡ None)) (λ e. refusal_of g ≡ Some e) }
+        ensures { let g : Geometry = of_numbers sector unit max_sectors chunk primary secondary in
+            MatchResult result (λ l. (l ≡ g) × (refusal_of g ≡ None)) (λ e. refusal_of g ≡ Some e) }
     {
-        if !matches!(unit, 1 | 2 | 4 | 8) {
+        if !is_unit(unit) {
             return Err(LayoutError::Unit);
         }
-        if sector < 64 || sector > 65536 || !sector.is_power_of_two() {
+        if !is_sector(sector) {
             return Err(LayoutError::Sector);
         }
-        if chunk == 0 || chunk % unit != 0 || sector % chunk != 0 {
+        if !is_chunk(sector, unit, chunk) {
             return Err(LayoutError::Chunk);
         }
-        if max_sectors == 0 || max_sectors > 1024 || secondary == 0 {
-            return Err(LayoutError::Counts);
-        }
-        if primary != secondary && primary as u64 != secondary as u64 + 1 {
-            return Err(LayoutError::Counts);
-        }
-        if primary as u64 * sector as u64 > 1 << 24 {
+        if !are_counts(sector, max_sectors, primary, secondary) {
             return Err(LayoutError::Counts);
         }
         let trailer = trailer_count(sector, unit, max_sectors);
