@@ -2,7 +2,6 @@
 use Rattle.std.specs.Prelude.{◌≡◌, ℕ, List, true, false, Option, Some, None, Result, Ok, Err, codes}
 use Rattle.std.proofs.Common.{sym, ap, ◌∙◌, refl}
 use Rattle.clap.specs.declared.parser.matches.Found.{Found}
-use Rattle.mc_flash.specs.Geometry.{Geometry}
 use Rattle.mc_flash.specs.declared.layout.LayoutError.{LayoutError}
 use Rattle.clap.specs.Words.{first_value}
 use Rattle.mc_image.specs.declared.error.VersionError.{VersionError}
@@ -19,14 +18,6 @@ use Rattle.mc_command.specs.declared.refusal.Refusal.TheVariants as refusals
 
 pub not_ok : false ≡ true → ⊥
 not_ok e = cc
-
--- And six options one layout.
-abbrev numbers : ℕ → ℕ → ℕ → ℕ → ℕ → ℕ → Geometry
-numbers sector unit max_sectors chunk primary secondary =
-    record { sector = sector; unit = unit; max_sectors = max_sectors; chunk = chunk; primary = primary; secondary = secondary }
-
-layout_is : (a b c d e f a' b' c' d' e' f' : ℕ) → a ≡ a' → b ≡ b' → c ≡ c' → d ≡ d' → e ≡ e' → f ≡ f' → numbers a b c d e f ≡ numbers a' b' c' d' e' f'
-layout_is a b c d e f a' b' c' d' e' f' p q r s t u = cc
 
 -- A text that says no number which the option takes tells none, and the option is not left out.
 pub none_told : (found : Found) (option : NumberOption) (text : List ℕ) → first_value found (option_name option) ≡ Some text

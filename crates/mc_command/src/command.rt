@@ -24,17 +24,22 @@ Signatures, encryption and hashes other than SHA-256 are not looked at.";
 ///
 /// clap's refusal of the words, the help or the version that they ask for, or that an allocation failed.
 pub fn parse<'a>(alloc: Global, words: &'a [String]) -> Result<ArgMatches<'a>, Error> {
-    let mut program = Command::new(alloc, "mcsim")
+    let mut program = bare_program(alloc);
+    for subcommand in table::commands() {
+        program = program.subcommand(command(alloc, subcommand)?)?;
+    }
+    program.try_get_matches_from(words)
+}
+
+/// The program without its commands.
+fn bare_program<'a>(alloc: Global) -> Command<'a> {
+    Command::new(alloc, "mcsim")
         .about(ABOUT)
         .version(VERSION)
         .after_help(AFTER_HELP)
         .subcommand_required(true)
         .arg_required_else_help(true)
-        .disable_help_subcommand(true);
-    for subcommand in table::commands() {
-        program = program.subcommand(command(alloc, subcommand)?)?;
-    }
-    program.try_get_matches_from(words)
+        .disable_help_subcommand(true)
 }
 
 /// A command of the table.

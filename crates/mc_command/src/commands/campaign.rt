@@ -63,6 +63,20 @@ impl Exploration {
             None => Ok(CampaignExplorer::start(alloc, start, cuts, confirms)?),
         }
     }
+
+    /// Prints the page.
+    ///
+    /// # Errors
+    ///
+    /// Those of `explorer`, and `Explore` where memory failed, or the output cannot be written.
+    fn print<O: Write>(&self, alloc: Global, out: &mut O) -> Result<(), Refusal>
+        requires cuts { self.now.extent.cuts ≤ 16 }
+        requires limit { 1 ≤ self.now.extent.limit }
+    {
+        let mut explorer = self.explorer(alloc)?;
+        print_page(alloc, &mut explorer, self.extent.limit, out)?;
+        Ok(())
+    }
 }
 
 /// Prints a page of rows: one for each campaign of at most so many cuts that can occur, in their order, from the first or after
@@ -77,10 +91,7 @@ pub fn run<F: Files, O: Write>(
     arguments: &ArgMatches<'_>,
     out: &mut O,
 ) -> Result<(), Refusal> {
-    let exploration = read(files, alloc, arguments)?;
-    let mut explorer = exploration.explorer(alloc)?;
-    print_page(alloc, &mut explorer, exploration.extent.limit, out)?;
-    Ok(())
+    read(files, alloc, arguments)?.print(alloc, out)
 }
 
 /// Prints a page, which goes out in blocks.

@@ -3,7 +3,7 @@ use crate::options::{census_options, flash_options};
 use crate::refusal::Refusal;
 use crate::source::read_start;
 use clap::ArgMatches;
-use mc_explore::take_census;
+use mc_explore::{Census, take_census};
 use mc_flash::JournalFlash;
 use std::alloc::Global;
 use std::io::Write;
@@ -30,8 +30,17 @@ pub fn run<F: Files, O: Write>(
     let cuts = census_options(arguments)?;
     let start = read_start(files, alloc, &options)?;
     let census = take_census::<JournalFlash>(alloc, &start, u32::from(cuts))?;
+    print_census(&census, arguments.get_flag("all-boot"), out)
+}
+
+/// Prints a census. With `all_boot` it is refused, once it is printed, where a schedule does not end in a boot.
+///
+/// # Errors
+///
+/// `Write` where the output cannot be written; `NotAllBoot`.
+fn print_census<O: Write>(census: &Census, all_boot: bool, out: &mut O) -> Result<(), Refusal> {
     write!(out, "{census}").map_err(|_| Refusal::Write)?;
-    if arguments.get_flag("all-boot") && census.first_not_boot.is_some() {
+    if all_boot && census.first_not_boot.is_some() {
         return Err(Refusal::NotAllBoot);
     }
     Ok(())

@@ -62,6 +62,26 @@ impl Exploration {
         }
     }
 
+    /// Prints the page.
+    ///
+    /// # Errors
+    ///
+    /// Those of `explorer`, and `Explore` where memory failed, or the output cannot be written.
+    fn print<O: Write>(&self, alloc: Global, out: &mut O) -> Result<(), Refusal>
+        requires cuts { self.now.extent.cuts ≤ 16 }
+        requires limit { 1 ≤ self.now.extent.limit }
+    {
+        let mut explorer = self.explorer(alloc)?;
+        print_page(
+            alloc,
+            &mut explorer,
+            self.range.until,
+            self.extent.limit,
+            out,
+        )?;
+        Ok(())
+    }
+
     /// Counts the rows of the page.
     ///
     /// # Errors
@@ -89,11 +109,7 @@ pub fn run<F: Files, O: Write>(
     arguments: &ArgMatches<'_>,
     out: &mut O,
 ) -> Result<(), Refusal> {
-    let exploration = read(files, alloc, arguments)?;
-    let mut explorer = exploration.explorer(alloc)?;
-    let (until, limit) = (exploration.range.until, exploration.extent.limit);
-    print_page(alloc, &mut explorer, until, limit, out)?;
-    Ok(())
+    read(files, alloc, arguments)?.print(alloc, out)
 }
 
 /// Prints a page, which goes out in blocks.
@@ -132,8 +148,17 @@ pub fn survey<F: Files, O: Write>(
 ) -> Result<(), Refusal> {
     let exploration = read(files, alloc, arguments)?;
     let tally = exploration.tally(alloc)?;
+    print_tally(&tally, arguments.get_flag("all-boot"), out)
+}
+
+/// Prints a tally. With `all_boot` it is refused, once it is printed, where a row does not end in a boot.
+///
+/// # Errors
+///
+/// `Write` where the output cannot be written; `NotAllBoot`.
+fn print_tally<O: Write>(tally: &Tally, all_boot: bool, out: &mut O) -> Result<(), Refusal> {
     write!(out, "{tally}").map_err(|_| Refusal::Write)?;
-    if arguments.get_flag("all-boot") && tally.boot != tally.rows {
+    if all_boot && tally.boot != tally.rows {
         return Err(Refusal::NotAllBoot);
     }
     Ok(())

@@ -3,8 +3,9 @@ use crate::options::flash_options;
 use crate::refusal::Refusal;
 use crate::source::read_start;
 use clap::ArgMatches;
+use mc_explore::Start;
 use mc_flash::{Flash, JournalFlash, Slot};
-use mc_trailer::{Trailer, resumes, swap_type};
+use mc_trailer::{Profile, Trailer, resumes, swap_type};
 use std::alloc::Global;
 use std::io::Write;
 use std::rt::Files;
@@ -27,6 +28,15 @@ pub fn run<F: Files, O: Write>(
         Err(refusal) => return Err(refusal),
     };
     let start = read_start(files, alloc, &options)?;
+    print_trailers(alloc, &start, out)
+}
+
+/// Prints the trailers of a start, and what they ask for.
+///
+/// # Errors
+///
+/// `Flash` where an allocation failed; `Write` where the output cannot be written.
+fn print_trailers<O: Write>(alloc: Global, start: &Start, out: &mut O) -> Result<(), Refusal> {
     let flash = JournalFlash::load(
         alloc,
         start.layout(),
@@ -37,12 +47,26 @@ pub fn run<F: Files, O: Write>(
     )?;
     let primary = Trailer::read(&flash, Slot::Primary);
     let secondary = Trailer::read(&flash, Slot::Secondary);
-    let resume = if resumes(&primary, &secondary) {
+    print_asked(start.rules().profile, &primary, &secondary, out)
+}
+
+/// Prints both trailers, whether a boot would go on with a swap, and the type of the swap tables.
+///
+/// # Errors
+///
+/// `Write` where the output cannot be written.
+fn print_asked<O: Write>(
+    profile: Profile,
+    primary: &Trailer,
+    secondary: &Trailer,
+    out: &mut O,
+) -> Result<(), Refusal> {
+    let resume = if resumes(primary, secondary) {
         "yes"
     } else {
         "no"
     };
-    let table = swap_type(start.rules().profile, &primary, &secondary);
+    let table = swap_type(profile, primary, secondary);
     write!(
         out,
         "primary {primary}\nsecondary {secondary}\nresume {resume}\ntable {table}\n"
