@@ -1,8 +1,8 @@
 -- Operations as they are told: this project's own texts.
-use Rattle.std.specs.Prelude.{ℕ, ◌+◌, ◌-◌, ◌*◌, ◌/◌, nat_le, if◌then◌else◌, List, ◌++◌, codes, decimal}
+use Rattle.std.specs.Prelude.{ℕ, ◌-◌, ◌/◌, nat_le, if◌then◌else◌, List, ◌++◌, codes, decimal}
 use Rattle.hex.specs.Hex.{encode_lower}
 use Rattle.mc_flash.specs.Content.{size_of}
-use Rattle.mc_flash.specs.Geometry.{Geometry}
+use Rattle.mc_flash.specs.Geometry.{Geometry, trailer_bytes}
 use Rattle.mc_flash.specs.Texts.{slot_text}
 use Rattle.mc_flash.specs.declared.op.Op.{Op}
 use Rattle.mc_flash.specs.declared.op.Op.TheVariants as ops
@@ -15,8 +15,7 @@ use Rattle.mc_trace.specs.declared.operation.Part.TheVariants as parts
 -- So many bytes before the end of the primary stands a status entry, or data before the first of them; a secondary has no entries.
 abbrev before_fields : Geometry → Slot → ℕ → Part
 before_fields g Primary left =
-    let entries = 3 * g.max_sectors * g.unit in
-    if nat_le left (48 + entries) then parts.Entry ((48 + entries - left) / g.unit) else parts.Data
+    if nat_le left (trailer_bytes g) then parts.Entry ((trailer_bytes g - left) / g.unit) else parts.Data
 before_fields g Secondary left = parts.Data
 
 -- What stands so many bytes before the end of a slot.

@@ -1,5 +1,5 @@
 //! Operations as text.
-ghost use Rattle.std.specs.Prelude.{◌≡◌, ◌*◌, ◌≤◌, Some};
+ghost use Rattle.std.specs.Prelude.{◌≡◌, Some};
 ghost use Rattle.mc_flash.specs.Geometry.{Geometry};
 ghost use Rattle.mc_trace.specs.Operations.{part_at, part_text, operation_text, numbered_text};
 
@@ -17,28 +17,20 @@ pub enum Part {
     Data,
 }
 
-// The bytes of a trailer's status entries.
-fn entries_len(layout: &Layout) -> u32
-    ensures len { result ≡ 3 * layout.now.max_sectors * layout.now.unit }
-    ensures few { result ≤ 24576 }
-{
-    3 * layout.max_sectors() * layout.unit()
-}
-
 /// What stands at a place of a slot.
 pub fn part_at(layout: &Layout, slot: Slot, place: u32) -> Part
     ensures { result ≡ part_at layout.now slot place }
 {
     let left = layout.size(slot).saturating_sub(place);
-    let entries = entries_len(layout);
+    let trailer = layout.trailer_bytes();
     match left {
         0..=16 => Part::Field(Field::Magic),
         17..=24 => Part::Field(Field::ImageOk),
         25..=32 => Part::Field(Field::CopyDone),
         33..=40 => Part::Field(Field::SwapInfo),
         41..=48 => Part::Field(Field::SwapSize),
-        _ if slot == Slot::Primary && left <= 48 + entries => {
-            Part::Entry((48 + entries - left) / layout.unit())
+        _ if slot == Slot::Primary && left <= trailer => {
+            Part::Entry((trailer - left) / layout.unit())
         }
         _ => Part::Data,
     }

@@ -419,12 +419,6 @@ pub ops_few : (x : PowerOn) (k : ℕ) → IsLayout x.geometry → length (take k
 ops_few x k ok = (ops_bounded x k ok).few
 
 -- And so does a boot on its way, with what it has done.
-take_and_drop : (g : Geometry) (k : ℕ) (ops : List Op) → all_saves g (take k ops) + all_saves g (drop k ops) ≡ all_saves g ops
-take_and_drop g zero [] = refl
-take_and_drop g (suc k) [] = refl
-take_and_drop g zero (op ∷ ops) = omega arith
-take_and_drop g (suc k) (op ∷ ops) = omega (arith, take_and_drop g k ops)
-
 left_over : (b : Bool) (rest : List Op) (P : List Op → Type 0) → P [] → P rest → P (if b then [] else rest)
 left_over true rest P at_end on_way = at_end
 left_over false rest P at_end on_way = on_way

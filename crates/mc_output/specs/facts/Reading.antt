@@ -40,10 +40,6 @@ module _ {A : Type 0} (separator : ℕ) (spell : A → List ℕ) where
     pub split : m ≡ l ++ others
     pub text : rest ≡ text_of others
 
-  pub none_read : (m : List A) (text : List ℕ) → text ≡ text_of m → (text ≡ codes "-" → ⊥) → IsLeft [] m text
-  none_read [] text is other = absurd (other is)
-  none_read (x ∷ xs) text is other = record { others = x ∷ xs; some = omega arith; split = refl; text = is }
-
   pub text_next : {Fits : List A → A → Type 0} (l new : List A) (text rest first after : List ℕ) → text ≡ behind l ++ rest → rest ≡ first ++ (separator ∷ after)
       → IsAdded spell Fits l first new → text ≡ behind new ++ after
   text_next {Fits} l new text rest first after is parts added =

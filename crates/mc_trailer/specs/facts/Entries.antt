@@ -63,11 +63,6 @@ pub none_passes : (p : ℕ → Bool) (n : ℕ) → ((d : ℕ) → d < n → p d 
 none_passes p zero fails = refl
 none_passes p (suc n) fails = rw (fails n (omega arith)) (none_passes p n (λ d under. fails d (omega (arith, under))))
 
--- Tests that agree below a limit have one greatest number that passes.
-greatest_same : (p q : ℕ → Bool) (n : ℕ) → ((d : ℕ) → d < n → p d ≡ q d) → greatest p n ≡ greatest q n
-greatest_same p q zero agree = refl
-greatest_same p q (suc n) agree = rw (agree n (omega arith)) (ap (λ o. if q n then Some n else o) (greatest_same p q n (λ d under. agree d (omega (arith, under)))))
-
 not_written : (g : Geometry) (s : Content) (e : ℕ) → (is_written g s e ≡ true → ⊥) → is_written g s e ≡ false
 not_written g s e fails = elim (cases_Bool (is_written g s e)) [ inl is ↦ absurd (fails is) | inr is ↦ is ]
 
