@@ -6,7 +6,7 @@ use std::alloc::{AllocError, Global};
 use table::{Group, Subcommand, Takes, Word};
 
 /// The program's version, and the kit whose logic proved it (`rt version`).
-static VERSION: &str = "0.1.0 (proved by rattle-kit-13b logic dac8208d650f15bf)";
+static VERSION: &str = "0.1.0 (proved by rattle-kit-13f logic dac8208d650f15bf)";
 
 static ABOUT: &str =
     "Checks MCUboot upgrades against power loss, and makes and inspects hash-only MCUboot images";

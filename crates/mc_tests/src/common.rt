@@ -1,5 +1,5 @@
 //! What the tests share.
-use mc_fixtures::{GOOD_LINE, REPORT, named, worked};
+use mc_fixtures::{named, worked};
 use mc_flash::{Flash, Grain, SnapFlash};
 use std::alloc::{AllocError, Global};
 use std::fmt::{Debug, Display};
@@ -17,28 +17,18 @@ pub fn same_at<T: PartialEq + Debug, A: Debug>(rt: &impl Abort, at: &A, found: &
 }
 
 /// What stands for what in the tests' texts: the two images with the swap for a test asked for; the primary's trailer of a swap
-/// of 80 bytes that was begun; the magic of a trailer; the line for the plain image; and the report of the
-/// counted one, up to what comes behind it.
-fn words() -> [(&'static str, &'static str); 5] {
-    [
-        ("IMAGES", "0=first,1024=second,1776=MAGIC"),
-        ("BEGUN", "976=50000000,1008=MAGIC"),
-        ("MAGIC", "77c295f360d2ef7f3552500f2cb67980"),
-        ("LINE", GOOD_LINE),
-        (
-            "FIELDS",
-            REPORT
-                .strip_suffix("rest 0\ndigest good\n")
-                .unwrap_or(REPORT),
-        ),
-    ]
-}
+/// of 80 bytes that was begun; and the magic of a trailer.
+static WORDS: [(&str, &str); 3] = [
+    ("IMAGES", "0=first,1024=second,1776=MAGIC"),
+    ("BEGUN", "976=50000000,1008=MAGIC"),
+    ("MAGIC", "77c295f360d2ef7f3552500f2cb67980"),
+];
 
 /// A text with its words in full.
-pub fn in_full(alloc: Global, text: &str) -> Result<String, AllocError> {
+fn in_full(alloc: Global, text: &str) -> Result<String, AllocError> {
     let mut whole = String::from_str(alloc, text)?;
-    for (word, full) in words() {
-        whole = whole.as_str().replace(alloc, word, full)?;
+    for (word, full) in &WORDS {
+        whole = whole.as_str().replace(alloc, *word, *full)?;
     }
     Ok(whole)
 }

@@ -1,11 +1,12 @@
-//! Tests of the image tool, the flashes, the trailers and the boots, through what their crates offer to all. They stand by
-//! themselves, so that no crate is proved again for its tests.
+//! Tests of the libraries, through what they offer to all. They stand by themselves, so that no crate is proved again for its tests.
 #![tactic(auto)]
 
 #[cfg(test)]
 mod boot;
 #[cfg(test)]
 mod common;
+#[cfg(test)]
+mod explore;
 #[cfg(test)]
 mod flash;
 #[cfg(test)]

@@ -1,13 +1,10 @@
 //! The worked layout's places, and what is read of the flashes of worked examples.
 ghost use Rattle.std.specs.Prelude.{◌<◌};
 
-use crate::common::{flash_of, same, same_at};
+use crate::common::{same, same_at};
 use mc_fixtures::worked;
 use mc_flash::{Flash, Grain, Layout, Slot, SnapFlash};
-use mc_trailer::{
-    Field, Flag, MAGIC, Magic, Profile, SwapType, Trailer, entry_place, highest_entry, place,
-    resumes, swap_type,
-};
+use mc_trailer::{Field, Flag, MAGIC, Magic, Trailer, entry_place, highest_entry, place};
 use std::alloc::Global;
 use std::process::Abort;
 use std::test::Fail;
@@ -139,117 +136,6 @@ fn the_highest_written_entry_is_found(rt: HostRuntime) -> Result<(), Fail> {
             *place = *byte;
         }
         same_at(&rt, at, &highest_of(rt.alloc(), &primary)?, entry);
-    }
-    Ok(())
-}
-
-/// The trailer of an erased slot.
-const ERASED: Trailer = Trailer {
-    magic: Magic::Unset,
-    image_ok: Flag::Unset,
-    copy_done: Flag::Unset,
-    swap_info: 0xff,
-    swap_size: 4_294_967_295,
-};
-
-/// The type of the tables in each profile.
-type Types = (SwapType, SwapType);
-
-const NONE: Types = (SwapType::None, SwapType::None);
-
-const TEST: Types = (SwapType::Test, SwapType::Test);
-
-const PERM: Types = (SwapType::Perm, SwapType::Perm);
-
-/// What is read of a flash: its trailers, the type of the tables in each profile, and whether a boot goes on.
-type Told = ((Trailer, Trailer), Types, bool);
-
-fn told_of(flash: &SnapFlash) -> Told {
-    let first = Trailer::read(flash, Slot::Primary);
-    let second = Trailer::read(flash, Slot::Secondary);
-    let one = swap_type(Profile::One, &first, &second);
-    let two = swap_type(Profile::Two, &first, &second);
-    ((first, second), (one, two), resumes(&first, &second))
-}
-
-/// This is read of flashes that differ so from a blank one.
-fn are_told(rt: &impl Abort, alloc: Global, table: &[(&str, Told)]) -> Result<(), Fail> {
-    for (changes, wanted) in table {
-        let flash = flash_of(alloc, *changes)?;
-        same_at(rt, changes, &told_of(&flash), wanted);
-    }
-    Ok(())
-}
-
-/// The trailer with its magic and no more.
-const MARKED: Trailer = Trailer {
-    magic: Magic::Good,
-    ..ERASED
-};
-
-/// The same with an image that is confirmed.
-const CONFIRMED: Trailer = Trailer {
-    image_ok: Flag::Set,
-    ..MARKED
-};
-
-/// No upgrade, a test, and a swap for good.
-static UPGRADES: [(&str, Told); 3] = [
-    ("0=ff", ((ERASED, ERASED), NONE, false)),
-    ("1776=MAGIC", ((ERASED, MARKED), TEST, false)),
-    ("1776=MAGIC,1768=01", ((ERASED, CONFIRMED), PERM, false)),
-];
-
-#[test]
-fn an_asked_upgrade_is_read(rt: HostRuntime) -> Result<(), Fail> {
-    are_told(&rt, rt.alloc(), &UPGRADES)
-}
-
-/// The trailer of a test that was begun.
-const BEGUN: Trailer = Trailer {
-    swap_info: 2,
-    ..MARKED
-};
-
-/// The same with its size.
-const SIZED: Trailer = Trailer {
-    swap_size: 80,
-    ..BEGUN
-};
-
-/// A test that was begun, without its size and with it.
-static CUT: [(&str, Told); 2] = [
-    ("1008=MAGIC,984=02", ((BEGUN, ERASED), NONE, true)),
-    (
-        "1008=MAGIC,984=02,976=50000000",
-        ((SIZED, ERASED), NONE, true),
-    ),
-];
-
-#[test]
-fn a_swap_that_was_cut_is_read(rt: HostRuntime) -> Result<(), Fail> {
-    are_told(&rt, rt.alloc(), &CUT)
-}
-
-/// A finished test; the same where the preparation of the secondary was cut inside the magic; and then with a flag that is
-/// neither. The type of the tables in each profile, and whether a boot goes on.
-static FINISHED: [(&str, (Types, bool)); 3] = [
-    (
-        "1008=MAGIC,992=01",
-        ((SwapType::Revert, SwapType::Revert), false),
-    ),
-    (
-        "1008=MAGIC,992=01,1776=77c295f360d2ef7f",
-        ((SwapType::None, SwapType::Revert), false),
-    ),
-    ("1008=MAGIC,992=00,1776=77c295f360d2ef7f", (NONE, false)),
-];
-
-#[test]
-fn a_finished_test_is_reverted(rt: HostRuntime) -> Result<(), Fail> {
-    for (changes, wanted) in &FINISHED {
-        let (_, kinds, goes_on) = told_of(&flash_of(rt.alloc(), *changes)?);
-        same_at(&rt, changes, &(kinds, goes_on), wanted);
     }
     Ok(())
 }

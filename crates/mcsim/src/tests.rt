@@ -1,12 +1,15 @@
 //! Whole command lines, through `run`.
 mod boots;
 mod campaigns;
+mod counts;
 mod creation;
 mod faults;
 mod faulty;
+mod hostile;
 mod layouts;
 mod pages;
 mod support;
+mod texts;
 mod tracing;
 mod trailers;
 mod verification;

@@ -9,27 +9,39 @@ use std::alloc::Global;
 use std::io::Write;
 use std::rt::Files;
 
-/// Prints how many schedules of at most so many cuts can occur, how many of them with each result, the largest number of operations
-/// of a last boot, and the first schedule that does not end in a boot. The words are checked before a file is touched.
+/// What the schedules that the words ask for come to. The words are checked before a file is touched.
 ///
 /// # Errors
 ///
-/// `Source`, `Layout` and the numbers of the words; what `read_start` refuses; `Explore` where memory failed; `Write` where the
-/// output cannot be written. With `--all-boot` also `NotAllBoot` where a schedule does not end in a boot; the output is written
-/// then.
-pub fn run<F: Files, O: Write>(
+/// `Source`, `Layout` and the numbers of the words; what `read_start` refuses; `Explore` where memory failed.
+fn census_of<F: Files>(
     files: &F,
     alloc: Global,
     arguments: &ArgMatches<'_>,
-    out: &mut O,
-) -> Result<(), Refusal> {
+) -> Result<Census, Refusal> {
     let options = match flash_options(arguments) {
         Ok(options) => options,
         Err(refusal) => return Err(refusal),
     };
     let cuts = census_options(arguments)?;
     let start = read_start(files, alloc, &options)?;
-    let census = take_census::<JournalFlash>(alloc, &start, u32::from(cuts))?;
+    Ok(take_census::<JournalFlash>(alloc, &start, u32::from(cuts))?)
+}
+
+/// Prints how many schedules of at most so many cuts can occur, how many of them with each result, the largest number of operations
+/// of a last boot, and the first schedule that does not end in a boot.
+///
+/// # Errors
+///
+/// Those of `census_of`; `Write` where the output cannot be written. With `--all-boot` also `NotAllBoot` where a schedule does not
+/// end in a boot; the output is written then.
+pub fn run<F: Files, O: Write>(
+    files: &F,
+    alloc: Global,
+    arguments: &ArgMatches<'_>,
+    out: &mut O,
+) -> Result<(), Refusal> {
+    let census = census_of(files, alloc, arguments)?;
     print_census(&census, arguments.get_flag("all-boot"), out)
 }
 

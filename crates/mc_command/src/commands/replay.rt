@@ -1,9 +1,8 @@
 //! `boot` and `replay`: what the boot after a schedule of power cuts does.
-use crate::commands::schedule::read_schedule;
-use crate::options::required;
+use crate::commands::schedule::{Scheduled, read_schedule, schedule_from};
 use crate::refusal::Refusal;
 use clap::ArgMatches;
-use mc_explore::{Schedule, Start, flash_at_cut, replay};
+use mc_explore::{flash_at_cut, replay};
 use mc_flash::{Flash, JournalFlash};
 use mc_trace::write_slots;
 use std::alloc::Global;
@@ -24,8 +23,8 @@ pub fn boot<F: Files, O: Write>(
     arguments: &ArgMatches<'_>,
     out: &mut O,
 ) -> Result<(), Refusal> {
-    let (start, schedule) = read_schedule(files, alloc, arguments, "-")?;
-    tell(files, alloc, arguments, &start, &schedule, out)
+    let told = schedule_from(files, alloc, arguments, "-")?;
+    tell(files, alloc, arguments, &told, out)
 }
 
 /// Replays a schedule from a source, and prints the outcome. Where `--at-cut` names a file, the flash as it was when the last cut
@@ -41,12 +40,11 @@ pub fn run<F: Files, O: Write>(
     arguments: &ArgMatches<'_>,
     out: &mut O,
 ) -> Result<(), Refusal> {
-    let schedule = required(arguments, "schedule")?;
-    let (start, schedule) = read_schedule(files, alloc, arguments, schedule)?;
+    let told = read_schedule(files, alloc, arguments)?;
     if let Some(path) = arguments.get_str("at-cut") {
-        write_cut(files, alloc, path, &start, &schedule)?;
+        write_cut(files, alloc, path, &told)?;
     }
-    tell(files, alloc, arguments, &start, &schedule, out)
+    tell(files, alloc, arguments, &told, out)
 }
 
 // Writes the flash as it was when the last cut of a schedule fell.
@@ -54,10 +52,9 @@ fn write_cut<F: Files>(
     files: &F,
     alloc: Global,
     path: &str,
-    start: &Start,
-    schedule: &Schedule,
+    told: &Scheduled,
 ) -> Result<(), Refusal> {
-    let flash: JournalFlash = flash_at_cut(alloc, start, schedule)?;
+    let flash: JournalFlash = flash_at_cut(alloc, &told.start, &told.schedule)?;
     write_file(files, path, &flash)
 }
 
@@ -66,11 +63,10 @@ fn tell<F: Files, O: Write>(
     files: &F,
     alloc: Global,
     arguments: &ArgMatches<'_>,
-    start: &Start,
-    schedule: &Schedule,
+    told: &Scheduled,
     out: &mut O,
 ) -> Result<(), Refusal> {
-    let (outcome, flash) = replay::<JournalFlash>(alloc, start, schedule)?;
+    let (outcome, flash) = replay::<JournalFlash>(alloc, &told.start, &told.schedule)?;
     if let Some(path) = arguments.get_str("out") {
         write_file(files, path, &flash)?;
     }

@@ -1,5 +1,5 @@
 //! A schedule of power cuts and the start that it begins at, as words tell them.
-use crate::options::flash_options;
+use crate::options::{flash_options, required};
 use crate::refusal::Refusal;
 use crate::source::read_start;
 use clap::ArgMatches;
@@ -7,22 +7,42 @@ use mc_explore::{Schedule, Start};
 use std::alloc::Global;
 use std::rt::Files;
 
+/// A start, and a schedule of power cuts from it.
+#[derive(Drop)]
+pub struct Scheduled {
+    pub start: Start,
+    pub schedule: Schedule,
+}
+
+/// The start of a source, and the schedule that the words tell. The words are checked before a file is touched.
+///
+/// # Errors
+///
+/// `Argument` where no schedule is told; what `schedule_from` refuses.
+pub fn read_schedule<F: Files>(
+    files: &F,
+    alloc: Global,
+    arguments: &ArgMatches<'_>,
+) -> Result<Scheduled, Refusal> {
+    schedule_from(files, alloc, arguments, required(arguments, "schedule")?)
+}
+
 /// The start of a source, and the schedule of a text. The words are checked before a file is touched.
 ///
 /// # Errors
 ///
 /// `Source`, `Layout` and `Schedule` of the words, in this order; what `read_start` refuses.
-pub fn read_schedule<F: Files>(
+pub fn schedule_from<F: Files>(
     files: &F,
     alloc: Global,
     arguments: &ArgMatches<'_>,
     schedule: &str,
-) -> Result<(Start, Schedule), Refusal> {
+) -> Result<Scheduled, Refusal> {
     let options = match flash_options(arguments) {
         Ok(options) => options,
         Err(refusal) => return Err(refusal),
     };
     let schedule = Schedule::read(schedule)?;
     let start = read_start(files, alloc, &options)?;
-    Ok((start, schedule))
+    Ok(Scheduled { start, schedule })
 }

@@ -1,6 +1,5 @@
 //! `trace` and `sectors`: what happens of a schedule of power cuts, and what lies where at its last cut.
 use crate::commands::schedule::read_schedule;
-use crate::options::required;
 use crate::refusal::Refusal;
 use clap::ArgMatches;
 use mc_flash::JournalFlash;
@@ -20,9 +19,8 @@ pub fn run<F: Files, O: Write>(
     arguments: &ArgMatches<'_>,
     out: &mut O,
 ) -> Result<(), Refusal> {
-    let schedule = required(arguments, "schedule")?;
-    let (start, schedule) = read_schedule(files, alloc, arguments, schedule)?;
-    write_trace::<JournalFlash, O>(alloc, &start, &schedule, out)?;
+    let told = read_schedule(files, alloc, arguments)?;
+    write_trace::<JournalFlash, O>(alloc, &told.start, &told.schedule, out)?;
     Ok(())
 }
 
@@ -37,8 +35,7 @@ pub fn sectors<F: Files, O: Write>(
     arguments: &ArgMatches<'_>,
     out: &mut O,
 ) -> Result<(), Refusal> {
-    let schedule = required(arguments, "schedule")?;
-    let (start, schedule) = read_schedule(files, alloc, arguments, schedule)?;
-    write_sectors::<JournalFlash, O>(alloc, &start, &schedule, out)?;
+    let told = read_schedule(files, alloc, arguments)?;
+    write_sectors::<JournalFlash, O>(alloc, &told.start, &told.schedule, out)?;
     Ok(())
 }

@@ -10,24 +10,35 @@ use std::alloc::Global;
 use std::io::Write;
 use std::rt::Files;
 
-/// Prints both trailers of a source's flash, whether a boot would go on with a swap, and the type that the swap tables
-/// give, also where a boot would go on. The words are checked before a file is touched.
+/// The start of the source that the words tell. The words are checked before a file is touched.
 ///
 /// # Errors
 ///
-/// `Source` and `Layout` of the options; what `read_start` refuses; `Flash` where an allocation failed; `Write` where the
-/// output cannot be written.
+/// `Source` and `Layout` of the options; what `read_start` refuses.
+fn start_of<F: Files>(
+    files: &F,
+    alloc: Global,
+    arguments: &ArgMatches<'_>,
+) -> Result<Start, Refusal> {
+    match flash_options(arguments) {
+        Ok(options) => read_start(files, alloc, &options),
+        Err(refusal) => Err(refusal),
+    }
+}
+
+/// Prints both trailers of a source's flash, whether a boot would go on with a swap, and the type that the swap tables
+/// give, also where a boot would go on.
+///
+/// # Errors
+///
+/// Those of `start_of`; `Flash` where an allocation failed; `Write` where the output cannot be written.
 pub fn run<F: Files, O: Write>(
     files: &F,
     alloc: Global,
     arguments: &ArgMatches<'_>,
     out: &mut O,
 ) -> Result<(), Refusal> {
-    let options = match flash_options(arguments) {
-        Ok(options) => options,
-        Err(refusal) => return Err(refusal),
-    };
-    let start = read_start(files, alloc, &options)?;
+    let start = start_of(files, alloc, arguments)?;
     print_trailers(alloc, &start, out)
 }
 

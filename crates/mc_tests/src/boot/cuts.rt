@@ -231,18 +231,6 @@ fn all_are_told(
     Ok(())
 }
 
-#[test]
-fn cuts_of_calls(rt: HostRuntime) -> Result<(), Fail> {
-    all_are_told(&rt, rt.alloc(), CALL_ONE, &CALLS)?;
-    all_are_told(&rt, rt.alloc(), CALL_TWO, &CALLS)
-}
-
-#[test]
-fn cuts_of_units(rt: HostRuntime) -> Result<(), Fail> {
-    all_are_told(&rt, rt.alloc(), UNIT_ONE, &UNITS)?;
-    all_are_told(&rt, rt.alloc(), UNIT_TWO, &UNITS)
-}
-
 /// A test by units, and its revert in either profile. After one half of the secondary's magic the first one swaps nothing.
 static REVERTS: [(Rules, &[Rows]); 2] = [
     (
@@ -294,8 +282,12 @@ static OPEN: [(&str, &[Rows]); 1] = [(
 )];
 
 #[test]
-fn cuts_where_the_size_ends_an_image(rt: HostRuntime) -> Result<(), Fail> {
-    all_are_told(&rt, rt.alloc(), CALL_ONE, &OPEN)
+fn cuts_of_boots(rt: HostRuntime) -> Result<(), Fail> {
+    all_are_told(&rt, rt.alloc(), CALL_ONE, &CALLS)?;
+    all_are_told(&rt, rt.alloc(), CALL_TWO, &CALLS)?;
+    all_are_told(&rt, rt.alloc(), CALL_ONE, &OPEN)?;
+    all_are_told(&rt, rt.alloc(), UNIT_ONE, &UNITS)?;
+    all_are_told(&rt, rt.alloc(), UNIT_TWO, &UNITS)
 }
 
 /// A test and a revert on trailers of two sectors: the first of their erases takes the magic away.

@@ -53,6 +53,10 @@ $ replay WORKED --kind revert IMAGES --grain unit --schedule 4 --profile 1
 result boot; type none; ops 0; KEPT; next none
 $ replay WORKED --kind revert IMAGES --grain unit --schedule 4 --profile 2
 result boot; type revert; ops 115; SWAPPED; next none
+$ replay WORKED --kind test IMAGES --schedule 4.4.4.4.4
+result boot; type test; ops 18; SWAPPED; next revert
+$ replay WORKED --kind test IMAGES --schedule 3.3.3.3.3.3.3.3.3.3.3.3.3.3.3.3
+result boot; type test; ops 18; SWAPPED; next revert
 ";
 
 /// Schedules that are refused. Each is checked before a file is opened, and after the source.
@@ -71,6 +75,8 @@ $ replay WORKED --kind test --schedule 01
 ! mcsim: E70 SourceOptions; exit 2
 $ replay WORKED --kind test IMAGES --schedule - --out missing
 ! mcsim: E71 Open; exit 3
+$ replay WORKED --kind test IMAGES --schedule 5.9.9.1
+! mcsim: E53 CannotOccur at 2; exit 1
 ";
 
 /// Flashes that no swap left: erased, only asked for a swap, begun with no size, with no type, with an entry of the last

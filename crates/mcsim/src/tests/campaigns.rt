@@ -132,6 +132,20 @@ $ campaign WORKED --kind perm IMAGES --cuts 1 --cursor mc3:call:1:leave:START:1:
 ! mcsim: E56 OtherStart; exit 1
 $ campaign WORKED --kind test IMAGES --cuts 1 --cursor mc1:START:1:17
 ! mcsim: E55 Syntax; exit 2
+$ campaign WORKED --kind test IMAGES --cuts 1 --limit 1 --cursor mc3:call:1:leave:START:1:-
+1.0 boot test 18 boot revert 23 1.0.0+0/80 2.0.0+0/80 none; next mc3:call:1:leave:START:1:1.0
+$ campaign WORKED --kind test IMAGES --cuts 1 --limit 1 --cursor mc3:call:1:leave:START:1:1.16
+1.17 boot test 1 boot revert 23 1.0.0+0/80 2.0.0+0/80 none; next mc3:call:1:leave:START:1:1.17
+$ campaign WORKED --kind test IMAGES --cuts 1 --limit 1 --cursor mc3:call:1:leave:START:1:2.21
+2.22 boot test 18 boot revert 1 1.0.0+0/80 2.0.0+0/80 none; next mc3:call:1:leave:START:1:2.22
+$ campaign WORKED --kind test IMAGES --cuts 1 --confirm --cursor mc3:call:1:leave:START:1:-
+! mcsim: E61 OtherRules; exit 1
+$ campaign WORKED --kind test IMAGES --cuts 2 --cursor mc3:call:1:leave:START:1:-
+! mcsim: E57 OtherBound; exit 1
+$ campaign WORKED --kind test IMAGES --cuts 1 --cursor mc3:call:1:leave:START:1:2.23
+! mcsim: E58 CannotOccur; exit 1
+$ campaign WORKED --kind test IMAGES --cuts 1 --cursor mc3:call:1:leave:START:1:1.0,2.0
+! mcsim: E58 CannotOccur; exit 1
 ";
 
 #[test]

@@ -48,31 +48,37 @@ fn left(rt: &HostRuntime, infile: &str, outfile: &str) -> Result<(String, Vec<u8
     Ok((text, fs::read(rt, infile)?))
 }
 
+/// Whether `create` refuses these files, which are one, and leaves the payload as it is.
+fn is_kept(rt: &HostRuntime, infile: &str, outfile: &str) -> Result<bool, Fail> {
+    let (text, bytes) = left(rt, infile, outfile)?;
+    let is_refused = text.as_str() == "! mcsim: E75 SameFile\nexit 2\n";
+    Ok(is_refused && bytes.as_slice() == PAYLOAD.as_slice())
+}
+
+/// Whether it does so by each of these paths to the payload.
+fn all_kept(rt: &HostRuntime, payload: &str, link: &str, other: &str) -> Result<bool, Fail> {
+    let forth = is_kept(rt, payload, link)? && is_kept(rt, payload, other)?;
+    let back = is_kept(rt, link, payload)? && is_kept(rt, other, payload)?;
+    Ok(forth && back && is_kept(rt, payload, payload)?)
+}
+
+/// The same of a payload that is made, with a link to it, and removed.
+fn made_and_kept(rt: &HostRuntime, payload: &str, link: &str, other: &str) -> Result<bool, Fail> {
+    fs::write(rt, payload, PAYLOAD.as_slice())?;
+    symlink(rt, payload, link)?;
+    let kept = all_kept(rt, payload, link, other)?;
+    fs::remove_file(rt, link)?;
+    fs::remove_file(rt, payload)?;
+    Ok(kept)
+}
+
 /// A file that is to be its own image stays as it is, by whatever path it is named.
 #[test]
 fn keeps_a_payload_that_is_the_output_too(rt: HostRuntime) -> Result<(), Fail> {
     let payload = scratch_path(&rt, "", "same")?;
     let link = scratch_path(&rt, "", "link")?;
     let other = scratch_path(&rt, "./", "same")?;
-    let payload = payload.as_str();
-    fs::write(&rt, payload, PAYLOAD.as_slice())?;
-    symlink(&rt, payload, link.as_str())?;
-    for (infile, outfile) in [
-        (payload, payload),
-        (payload, link.as_str()),
-        (link.as_str(), payload),
-        (payload, other.as_str()),
-        (other.as_str(), payload),
-    ] {
-        let (text, bytes) = left(&rt, infile, outfile)?;
-        assert_eq!(rt;
-            (text.as_str(), bytes.as_slice()),
-            ("! mcsim: E75 SameFile\nexit 2\n", PAYLOAD.as_slice()),
-            "{outfile}"
-        );
-    }
-    fs::remove_file(&rt, link.as_str())?;
-    fs::remove_file(&rt, payload)?;
+    assert!(rt; made_and_kept(&rt, payload.as_str(), link.as_str(), other.as_str())?);
     Ok(())
 }
 
@@ -156,6 +162,8 @@ $ create PADDING missing out
 $ create PADDING in missing
 ! mcsim: E71 Open; exit 3
 $ create --version 1 --header-size 32 in out < 39:0=zeros,31=0102030405060708
+! mcsim: E20 NotZeros; exit 1
+$ create --version 1 --header-size 32 in out < 31:0=padded
 ! mcsim: E20 NotZeros; exit 1
 ";
 

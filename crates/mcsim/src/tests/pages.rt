@@ -1,7 +1,7 @@
-//! `explore`, `survey` and `census`: whole pages, by their digests as a model that shares no code with this repository computed them.
+//! `explore`: whole pages, by their digests as a model that shares no code with this repository computed them.
 use super::support::{filled, in_full, plays, told};
 use sha2::{Digest, Sha256};
-use std::alloc::Global;
+use std::alloc::{AllocError, Global};
 use std::process::Abort;
 use std::test::Fail;
 
@@ -46,33 +46,33 @@ WORKED 2 100000 revert --grain unit --profile 2: 8535 45be426b5ff6d7ec8cc25b7029
 ";
 
 /// What a command prints of images with these options.
-fn prints(alloc: Global, command: &str, options: &str) -> Result<String, Fail> {
+pub fn prints(alloc: Global, command: &str, options: &str) -> Result<String, Fail> {
     let line = format!(in alloc; "{command} {options} IMAGES")?;
     let line = in_full(alloc, line.as_str())?;
     told(alloc, line.as_str())
 }
 
-/// How many lines the page of a command with these options has, and its SHA-256.
-fn page_of(alloc: Global, command: &str, options: &str) -> Result<String, Fail> {
-    let page = prints(alloc, command, options)?;
-    let page = page.as_str();
+/// How many lines a page has, and its SHA-256.
+pub fn sum_of(alloc: Global, page: &str) -> Result<String, Fail> {
     let count = page.lines().count();
     let sum = hex::encode(alloc, Sha256::digest(page.as_bytes()))?;
     Ok(format!(in alloc; "{count} {sum}")?)
 }
 
+/// The options of a line's page.
+fn options_of(alloc: Global, told: &str) -> Result<String, AllocError> {
+    let names = ["LAYOUT", "CUTS", "LIMIT", "KIND"];
+    let options = "LAYOUT --kind KIND --cuts CUTS --limit LIMIT";
+    filled(alloc, options, &names, told)
+}
+
 /// Looks at the page that a command prints for a line.
 pub fn page_is(rt: &impl Abort, alloc: Global, command: &str, row: &str) -> Result<(), Fail> {
-    let (options, want) = row.split_once(": ").ok_or("options and a page")?;
-    let names = ["LAYOUT", "CUTS", "LIMIT", "KIND"];
-    let options = filled(
-        alloc,
-        "LAYOUT --kind KIND --cuts CUTS --limit LIMIT",
-        &names,
-        options,
-    )?;
-    let page = page_of(alloc, command, options.as_str())?;
-    assert_eq!(rt; page.as_str(), want, "{row}");
+    let (told, want) = row.split_once(": ").ok_or("options and a page")?;
+    let options = options_of(alloc, told)?;
+    let page = prints(alloc, command, options.as_str())?;
+    let sum = sum_of(alloc, page.as_str())?;
+    assert_eq!(rt; sum.as_str(), want, "{row}");
     Ok(())
 }
 
@@ -147,6 +147,28 @@ $ explore WORKED --kind test IMAGES --cuts 1 --after 1 --until 2
 end
 $ explore WORKED --kind test IMAGES --cuts 1 --until -
 end
+$ explore WORKED --kind test IMAGES --cuts 1 --cursor mc1:START:1:17
+end
+$ explore WORKED --kind test IMAGES --cuts 1 --limit 1 --cursor mc1:START:1:-
+0 boot test 18 2.0.0+0/80 1.0.0+0/80 revert; next mc1:START:1:0
+$ explore WORKED --kind test IMAGES --cuts 2 --cursor mc1:START:2:17.0
+end
+$ explore WORKED --kind test IMAGES --cuts 16 --limit 1 --cursor mc1:START:16:0.0.0.0.0.0.0.0.0.0.0.0.0.0.0.0
+0.0.0.0.0.0.0.0.0.0.0.0.0.0.0.1 boot test 18 2.0.0+0/80 1.0.0+0/80 revert; next mc1:START:16:0.0.0.0.0.0.0.0.0.0.0.0.0.0.0.1
+$ explore WORKED --kind test IMAGES --cuts 1 --until 0
+- boot test 18 2.0.0+0/80 1.0.0+0/80 revert; end
+$ explore WORKED --kind test IMAGES --cuts 1 --until 0.5
+- boot test 18 2.0.0+0/80 1.0.0+0/80 revert; 0 boot test 18 2.0.0+0/80 1.0.0+0/80 revert; end
+$ explore WORKED --kind test IMAGES --cuts 1 --until 3
+- boot test 18 2.0.0+0/80 1.0.0+0/80 revert; 0 boot test 18 2.0.0+0/80 1.0.0+0/80 revert; 1 boot test 18 2.0.0+0/80 1.0.0+0/80 revert; 2 boot test 18 2.0.0+0/80 1.0.0+0/80 revert; end
+$ explore WORKED --kind test IMAGES --cuts 1 --until 3 --limit 5
+- boot test 18 2.0.0+0/80 1.0.0+0/80 revert; 0 boot test 18 2.0.0+0/80 1.0.0+0/80 revert; 1 boot test 18 2.0.0+0/80 1.0.0+0/80 revert; 2 boot test 18 2.0.0+0/80 1.0.0+0/80 revert; end
+$ explore WORKED --kind test IMAGES --cuts 1 --until 3 --limit 4
+- boot test 18 2.0.0+0/80 1.0.0+0/80 revert; 0 boot test 18 2.0.0+0/80 1.0.0+0/80 revert; 1 boot test 18 2.0.0+0/80 1.0.0+0/80 revert; 2 boot test 18 2.0.0+0/80 1.0.0+0/80 revert; next mc1:START:1:2
+$ explore WORKED --kind test IMAGES --cuts 1 --until 3 --limit 2
+- boot test 18 2.0.0+0/80 1.0.0+0/80 revert; 0 boot test 18 2.0.0+0/80 1.0.0+0/80 revert; next mc1:START:1:0
+$ explore WORKED --kind none IMAGES --cuts 0 --limit 1
+- boot none 0 1.0.0+0/80 2.0.0+0/80 none; next mc1:0cf2f5a1b9a451dc9bb060b1858a94da9927942d58635a051bee1bff2fd4356b:0:-
 ";
 
 #[test]
@@ -179,6 +201,26 @@ $ explore WORKED --flash missing --cuts 1 --cursor - --until 1.
 ! mcsim: E55 Syntax; exit 2
 $ explore WORKED --flash missing --cuts 1 --after 01 --cursor -
 ! mcsim: E73 CursorOptions; exit 2
+$ explore WORKED --kind test IMAGES --cuts 1 --cursor mc1:START:1:18
+! mcsim: E58 CannotOccur; exit 1
+$ explore WORKED --kind test IMAGES --cuts 1 --cursor mc1:START:1:0.0
+! mcsim: E58 CannotOccur; exit 1
+$ explore WORKED --kind test IMAGES --cuts 2 --cursor mc1:START:2:17.1
+! mcsim: E58 CannotOccur; exit 1
+$ explore WORKED --kind test IMAGES --cuts 2 --cursor mc1:START:2:9.9
+! mcsim: E58 CannotOccur; exit 1
+$ explore WORKED --kind test IMAGES --cuts 16 --cursor mc1:START:16:4294967295
+! mcsim: E58 CannotOccur; exit 1
+$ explore WORKED --kind test IMAGES --cuts 2 --cursor mc1:START:1:18
+! mcsim: E57 OtherBound; exit 1
+$ explore WORKED --kind test IMAGES --cuts 2 --cursor mc1:0cf2f5a1b9a451dc9bb060b1858a94da9927942d58635a051bee1bff2fd4356b:1:18
+! mcsim: E56 OtherStart; exit 1
+$ explore WORKED --kind test IMAGES --cuts 2 --cursor mc2:unit:1:0cf2f5a1b9a451dc9bb060b1858a94da9927942d58635a051bee1bff2fd4356b:1:18
+! mcsim: E56 OtherStart; exit 1
+$ explore WORKED --kind test IMAGES --cuts 2 --cursor mc2:unit:1:START:1:18
+! mcsim: E61 OtherRules; exit 1
+$ explore WORKED --kind test IMAGES --cuts 2 --cursor mc2:call:2:START:2:-
+! mcsim: E61 OtherRules; exit 1
 ";
 
 #[test]
@@ -201,17 +243,23 @@ fn rows_after_the_first_end_the_page(rt: HostRuntime) -> Result<(), Fail> {
     Ok(())
 }
 
+/// How many lines a page of so many rows has that goes on there, and where the next page goes on.
+fn page_from(alloc: Global, limit: u32, cursor: &str) -> Result<(usize, String), Fail> {
+    let options = format!(in alloc; "WORKED --kind test --cuts 3 --limit {limit}{cursor}")?;
+    let page = prints(alloc, "explore", options.as_str())?;
+    let last = page.as_str().lines().last().unwrap_or("");
+    let next = last.replace(alloc, "next ", " --cursor ")?;
+    Ok((page.as_str().lines().count(), next))
+}
+
 /// How many lines so many pages have, each of which goes on where the one before it ends, and the last line.
 fn joined(alloc: Global, limit: u32, pages: u32) -> Result<String, Fail> {
     let mut lengths = String::new(alloc);
     let mut cursor = String::new(alloc);
     for _ in 0..pages {
-        let options = format!(in alloc; "WORKED --kind test --cuts 3 --limit {limit}{cursor}")?;
-        let page = prints(alloc, "explore", options.as_str())?;
-        let length = format!(in alloc; "{} ", page.as_str().lines().count())?;
-        lengths.push_str(length.as_str())?;
-        let last = page.as_str().lines().last().unwrap_or("");
-        cursor = last.replace(alloc, "next ", " --cursor ")?;
+        let (length, next) = page_from(alloc, limit, cursor.as_str())?;
+        lengths.push_str(format!(in alloc; "{length} ")?.as_str())?;
+        cursor = next;
     }
     lengths.push_str(cursor.as_str())?;
     Ok(lengths)
@@ -224,46 +272,4 @@ fn pages_join_up(rt: HostRuntime) -> Result<(), Fail> {
         assert_eq!(rt; told.as_str(), want);
     }
     Ok(())
-}
-
-/// Tallies of images and of a flash whose copy-done cannot be written.
-static SURVEYS: &str = "\
-$ survey WORKED --kind test IMAGES --cuts 2
-rows 222; boot 222; none 0; panic 0; fault 0; most-ops 18; end
-$ survey WORKED --kind test IMAGES --cuts 1 --limit 19
-rows 19; boot 19; none 0; panic 0; fault 0; most-ops 18; next mc1:START:1:17
-$ survey WORKED --kind test IMAGES --cuts 1 --limit 20 --all-boot
-rows 19; boot 19; none 0; panic 0; fault 0; most-ops 18; end
-$ survey WORKED --kind test IMAGES --cuts 1 --after 16 --until 18
-rows 1; boot 1; none 0; panic 0; fault 0; most-ops 1; end
-$ survey WORKED --flash in --cuts 2 < BEGUN,976=50000000,984=02,993=00
-rows 127; boot 0; none 0; panic 0; fault 127; most-ops 13; end
-$ survey WORKED --flash in --cuts 2 --all-boot < BEGUN,976=50000000,984=02,993=00
-rows 127; boot 0; none 0; panic 0; fault 127; most-ops 13; end; ! mcsim: E74 NotAllBoot; exit 1
-";
-
-#[test]
-fn surveys_images_and_flashes(rt: HostRuntime) -> Result<(), Fail> {
-    plays(&rt, rt.alloc(), SURVEYS)
-}
-
-/// Censuses of images and of that flash.
-static CENSUSES: &str = "\
-$ census WORKED --kind test IMAGES --cuts 2 --all-boot
-schedules 222; boot 222; none 0; panic 0; fault 0; most-ops 18; first-not-boot none
-$ census WORKED --kind revert IMAGES --cuts 2
-schedules 343; boot 343; none 0; panic 0; fault 0; most-ops 23; first-not-boot none
-$ census WORKED --kind none IMAGES --cuts 16
-schedules 1; boot 1; none 0; panic 0; fault 0; most-ops 0; first-not-boot none
-$ census WORKED --kind test IMAGES --cuts 17
-! mcsim: --cuts takes a number from 0 to 16; exit 2
-$ census WORKED --flash in --cuts 2 < BEGUN,976=50000000,984=02,993=00
-schedules 127; boot 0; none 0; panic 0; fault 127; most-ops 13; first-not-boot -
-$ census WORKED --flash in --cuts 2 --all-boot < BEGUN,976=50000000,984=02,993=00
-schedules 127; boot 0; none 0; panic 0; fault 127; most-ops 13; first-not-boot -; ! mcsim: E74 NotAllBoot; exit 1
-";
-
-#[test]
-fn censuses_of_images_and_flashes(rt: HostRuntime) -> Result<(), Fail> {
-    plays(&rt, rt.alloc(), CENSUSES)
 }

@@ -197,17 +197,26 @@ pub fn filled(alloc: Global, text: &str, names: &[&str], line: &str) -> Result<S
     Ok(whole)
 }
 
+/// Named bytes, or those of some digits.
+fn bytes_of(alloc: Global, told: &str) -> Result<Vec<u8>, Fail> {
+    match named(told) {
+        Some(file) => Ok(file.to_vec(alloc)?),
+        None => Ok(hex::decode(alloc, told)?),
+    }
+}
+
+/// Puts bytes at a place.
+fn put(bytes: &mut [u8], place: usize, new: &[u8]) {
+    for (cell, byte) in bytes.iter_mut().skip(place).zip(new) {
+        *cell = *byte;
+    }
+}
+
 /// Puts bytes at a place, as told in `984=02` or `0=first`.
 fn change(alloc: Global, bytes: &mut [u8], told: &str) -> Result<(), Fail> {
     let (place, told) = told.split_once('=').ok_or("a place and bytes")?;
-    let change = match named(told) {
-        Some(file) => file.to_vec(alloc)?,
-        None => hex::decode(alloc, told)?,
-    };
-    let cells = bytes.iter_mut().skip(place.parse::<usize>()?);
-    for (cell, byte) in cells.zip(change.as_slice()) {
-        *cell = *byte;
-    }
+    let new = bytes_of(alloc, told)?;
+    put(bytes, place.parse::<usize>()?, new.as_slice());
     Ok(())
 }
 
@@ -234,25 +243,55 @@ pub fn plays(rt: &impl Abort, alloc: Global, session: &str) -> Result<(), Fail> 
     Ok(())
 }
 
-/// Plays a step of a session after one that wrote these bytes, and returns those that it wrote.
-fn ends(rt: &impl Abort, alloc: Global, step: &str, last: &[u8]) -> Result<Vec<u8>, Fail> {
-    let (line, want) = step.split_once('\n').ok_or("a command line")?;
+/// A step of a session: a command line, its input, what it tells and what it writes.
+#[derive(Clone, Copy)]
+struct Step<'a> {
+    line: &'a str,
+    input: &'a str,
+    want: &'a str,
+    file: &'a str,
+}
+
+/// The parts of a step.
+fn step_of(text: &str) -> Option<Step<'_>> {
+    let (line, want) = text.split_once('\n')?;
     let (line, input) = line.split_once(" < ").unwrap_or((line, ""));
     let (want, file) = want.split_once("=> ").unwrap_or((want, ""));
-    let input = match input {
-        "out" => last.to_vec(alloc)?,
-        told => contents(alloc, told)?,
-    };
-    let ended = tells(rt, alloc, line, input.as_slice(), want)?;
-    let written = ended.written.as_slice();
-    match file.trim_end().strip_suffix(" bytes") {
-        Some(length) => assert_eq!(rt; written.len(), length.parse::<usize>()?),
-        None => {
-            let file = contents(alloc, file.trim_end())?;
-            assert_eq!(rt; written, file.as_slice(), "{line}");
-        }
+    let file = file.trim_end();
+    Some(Step {
+        line,
+        input,
+        want,
+        file,
+    })
+}
+
+/// The input that is told, after a step that wrote these bytes.
+fn input_of(alloc: Global, told: &str, last: &[u8]) -> Result<Vec<u8>, Fail> {
+    match told {
+        "out" => Ok(last.to_vec(alloc)?),
+        _ => contents(alloc, told),
     }
-    Ok(written.to_vec(alloc)?)
+}
+
+/// Looks whether these bytes are those that are told, or so many.
+fn assert_written(rt: &impl Abort, alloc: Global, written: &[u8], told: &str) -> Result<(), Fail> {
+    let Some(length) = told.strip_suffix(" bytes") else {
+        let wanted = contents(alloc, told)?;
+        assert_eq!(rt; written, wanted.as_slice());
+        return Ok(());
+    };
+    assert_eq!(rt; written.len(), length.parse::<usize>()?);
+    Ok(())
+}
+
+/// Plays a step of a session after one that wrote these bytes, and returns those that it wrote.
+fn ends(rt: &impl Abort, alloc: Global, step: &str, last: &[u8]) -> Result<Vec<u8>, Fail> {
+    let step = step_of(step).ok_or("a command line")?;
+    let input = input_of(alloc, step.input, last)?;
+    let ended = tells(rt, alloc, step.line, input.as_slice(), step.want)?;
+    assert_written(rt, alloc, ended.written.as_slice(), step.file)?;
+    Ok(ended.written.as_slice().to_vec(alloc)?)
 }
 
 /// A path in the folder for temporary files, of this test alone, with these words before its last part.

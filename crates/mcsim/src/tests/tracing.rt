@@ -64,6 +64,22 @@ result boot; type test; ops 18; SWAPPED; next revert
 => 1792 bytes
 $ verify in < out
 good FIRST
+$ sectors WORKED --kind test IMAGES
+primary a0 - - -; secondary b0 - b2
+$ sectors WORKED --kind test IMAGES --schedule 9
+primary a0 a0 - *; secondary b0 - -
+$ sectors WORKED --kind test IMAGES --schedule 10
+primary - a0 - *; secondary b0 - -
+$ sectors WORKED --kind test IMAGES --schedule 18
+! mcsim: E53 CannotOccur at 0; exit 1
+$ replay WORKED --kind test IMAGES --schedule - --at-cut out
+result boot; type test; ops 18; SWAPPED; next revert
+=> 1792:0=first,1024=second,1776=MAGIC
+$ replay WORKED --kind test IMAGES --schedule 0.9 --at-cut out
+result boot; type test; ops 9; SWAPPED; next revert
+=> 1792:0=first,256=first,880=01,976=50000000,984=02,1008=MAGIC,1024=second
+$ replay WORKED --kind test IMAGES --schedule 0.18 --at-cut out
+! mcsim: E53 CannotOccur at 1; exit 1
 ";
 
 #[test]

@@ -41,6 +41,30 @@ $ type WORKED --flash in --profile 2 < BEGUN,992=01,1776=00
 primary magic=good image-ok=unset copy-done=set swap-info=0xff swap-size=4294967295
 secondary magic=bad image-ok=unset copy-done=unset swap-info=0xff swap-size=4294967295
 resume no; table revert
+$ create PADDING in out < 440:0=ff
+=> 512 bytes
+$ type WORKED --kind test --image-a in --image-b in < out
+primary UNSET
+secondary magic=good image-ok=unset copy-done=unset swap-info=0xff swap-size=4294967295
+resume no; table test
+$ type WORKED --flash in < BEGUN,984=02,976=50000000
+primary magic=good image-ok=unset copy-done=unset swap-info=0x02 swap-size=80
+secondary UNSET
+resume yes; table none
+$ type WORKED --flash in < BEGUN,992=01,1776=77c295f360d2ef7f
+primary magic=good image-ok=unset copy-done=set swap-info=0xff swap-size=4294967295
+secondary magic=bad image-ok=unset copy-done=unset swap-info=0xff swap-size=4294967295
+resume no; table none
+$ type WORKED --flash in --profile 2 < BEGUN,992=01,1776=77c295f360d2ef7f
+primary magic=good image-ok=unset copy-done=set swap-info=0xff swap-size=4294967295
+secondary magic=bad image-ok=unset copy-done=unset swap-info=0xff swap-size=4294967295
+resume no; table revert
+$ type WORKED --flash in --profile 2 < BEGUN,992=00,1776=77c295f360d2ef7f
+primary magic=good image-ok=unset copy-done=bad swap-info=0xff swap-size=4294967295
+secondary magic=bad image-ok=unset copy-done=unset swap-info=0xff swap-size=4294967295
+resume no; table none
+$ type WORKED --flash in < 1792:0=ff
+primary UNSET; secondary UNSET; resume no; table none
 ";
 
 #[test]
@@ -83,6 +107,18 @@ $ type WORKED --flash in < 1791:0=ff
 ! mcsim: E51 FlashSize; exit 1
 $ type WORKED --flash in < 1793:0=ff
 ! mcsim: E51 FlashSize; exit 1
+$ type WORKED --kind test --image-a first --image-b in < 80:0=second,32=09
+! mcsim: E12 WrongDigest in image B; exit 1
+$ type WORKED --flash in
+! mcsim: E51 FlashSize; exit 1
+$ create PADDING in out < 441:0=ff
+=> 513 bytes
+$ type WORKED --kind test --image-a first --image-b in < out
+! mcsim: E50 DoesNotFit; exit 1
+$ create PADDING in out < 441:0=ff
+=> 513 bytes
+$ type WORKED --kind test --image-a in --image-b first < out
+! mcsim: E50 DoesNotFit; exit 1
 ";
 
 #[test]

@@ -1,12 +1,6 @@
 //! `verify` and `dumpinfo`, of standard input and of files.
-ghost use Rattle.std.specs.Prelude.{◌<◌};
-
-use super::support::{outcome_over, plays, tells, told_of, words_of};
-use mc_fixtures::{COUNTED_IMAGE, PLAIN_IMAGE, REPORT};
-use std::alloc::Global;
-use std::io;
-use std::io::Read;
-use std::process::Abort;
+use super::support::{plays, told_of};
+use mc_fixtures::PLAIN_IMAGE;
 use std::test::Fail;
 
 /// Images alone, and with bytes behind them: one, and those of a slot.
@@ -27,6 +21,28 @@ $ dumpinfo in < counted
 REPORT; rest 0; digest good
 $ dumpinfo < 768:0=counted,744=01,752=MAGIC
 REPORT; rest 676; digest good
+$ dumpinfo < 100:0=3db8f3960100001023000d000800000000000000ff00ffffffffffff98badcfe010203010203040506070808690d0010000100ab6000000007692c0010002000a1da8669befc8753404598eca05afd9e0a90002bc832e895740a98a7d13f0def99000000
+magic 0x96f3b83d
+load 0x10000001
+header-size 35
+protected-size 13
+image-size 8
+flags 0x00000000
+version 255.0.65535+4294967295
+padding 0xfedcba98
+protected 0x0010 1 ab
+protected 0x0060 0
+plain 0x0010 32 a1da8669befc8753404598eca05afd9e0a90002bc832e895740a98a7d13f0def
+plain 0x0099 0
+total 100
+rest 0
+digest good
+$ dumpinfo < 92:0=counted
+REPORT; rest 0; digest good
+$ create --version 255.255.65535+4294967295 --pad-header --header-size 32 in out < payload
+=> 80 bytes
+$ verify < out
+good 255.255.65535+4294967295 80 0b1d620236aad84f5acae2b39ab52b3cfdea09c02f764f882a6a78eed18dd118
 ";
 
 #[test]
@@ -34,43 +50,85 @@ fn reads_images(rt: HostRuntime) -> Result<(), Fail> {
     plays(&rt, rt.alloc(), IMAGES)
 }
 
-#[test]
-fn refuses_each_front_of_an_image(rt: HostRuntime) -> Result<(), Fail> {
-    for length in 0..80 {
-        let want = match length {
-            0..=31 => "! mcsim: E1 Truncated\nexit 1\n",
-            32..=39 => "! mcsim: E5 TruncatedBody\nexit 1\n",
-            40..=43 => "! mcsim: E7 BadTlvMagic\nexit 1\n",
-            _ => "! mcsim: E8 BadTlvLength\nexit 1\n",
-        };
-        tells(&rt, rt.alloc(), "verify", &PLAIN_IMAGE[..length], want)?;
-    }
-    Ok(())
-}
+/// Each fault of an image, in both readers, only one of which wants the digest to be right; and images that are cut short.
+static FAULTS: &str = "\
+$ verify < 0:0=plain
+! mcsim: E1 Truncated; exit 1
+$ verify < 31:0=plain
+! mcsim: E1 Truncated; exit 1
+$ verify < 32:0=plain
+! mcsim: E5 TruncatedBody; exit 1
+$ verify < 39:0=plain
+! mcsim: E5 TruncatedBody; exit 1
+$ verify < 40:0=plain
+! mcsim: E7 BadTlvMagic; exit 1
+$ verify < 43:0=plain
+! mcsim: E7 BadTlvMagic; exit 1
+$ verify < 44:0=plain
+! mcsim: E8 BadTlvLength; exit 1
+$ verify < 79:0=plain
+! mcsim: E8 BadTlvLength; exit 1
+$ dumpinfo < 92:0=counted,33=00
+REPORT; rest 0; digest wrong
+$ verify < 80:0=plain,0=00
+! mcsim: E2 BadMagic; exit 1
+$ dumpinfo < 80:0=plain,0=00
+! mcsim: E2 BadMagic; exit 1
+$ verify < 80:0=plain,8=1f
+! mcsim: E3 BadHeaderSize; exit 1
+$ dumpinfo < 80:0=plain,8=1f
+! mcsim: E3 BadHeaderSize; exit 1
+$ verify < 80:0=plain,16=01
+! mcsim: E4 UnsupportedFlags; exit 1
+$ dumpinfo < 80:0=plain,16=01
+! mcsim: E4 UnsupportedFlags; exit 1
+$ verify < 80:0=plain,10=03
+! mcsim: E6 BadProtected; exit 1
+$ dumpinfo < 80:0=plain,10=03
+! mcsim: E6 BadProtected; exit 1
+$ verify < 80:0=plain,40=08
+! mcsim: E7 BadTlvMagic; exit 1
+$ dumpinfo < 80:0=plain,40=08
+! mcsim: E7 BadTlvMagic; exit 1
+$ verify < 80:0=plain,42=03
+! mcsim: E8 BadTlvLength; exit 1
+$ dumpinfo < 80:0=plain,42=03
+! mcsim: E8 BadTlvLength; exit 1
+$ verify < 80:0=plain,42=27
+! mcsim: E8 BadTlvLength; exit 1
+$ dumpinfo < 80:0=plain,42=27
+! mcsim: E8 BadTlvLength; exit 1
+$ verify < 80:0=plain,44=11
+! mcsim: E9 NoDigest; exit 1
+$ dumpinfo < 80:0=plain,44=11
+! mcsim: E9 NoDigest; exit 1
+$ verify < 116:0=plain,42=4c,80=10002000e075fa34895d34e01c03690deb09704ffa500ee946dcdb420ade67b58388aad4
+! mcsim: E10 ManyDigests; exit 1
+$ dumpinfo < 116:0=plain,42=4c,80=10002000e075fa34895d34e01c03690deb09704ffa500ee946dcdb420ade67b58388aad4
+! mcsim: E10 ManyDigests; exit 1
+$ verify < 80:0=plain,42=27,46=1f
+! mcsim: E11 DigestLength; exit 1
+$ dumpinfo < 80:0=plain,42=27,46=1f
+! mcsim: E11 DigestLength; exit 1
+$ verify < 80:0=plain,33=00
+! mcsim: E12 WrongDigest; exit 1
+$ verify < 92:0=counted,42=0d
+! mcsim: E6 BadProtected; exit 1
+$ dumpinfo < 92:0=counted,42=0d
+! mcsim: E6 BadProtected; exit 1
+$ verify < 51:0=counted,42=0d
+! mcsim: E5 TruncatedBody; exit 1
+$ dumpinfo < 51:0=counted,42=0d
+! mcsim: E5 TruncatedBody; exit 1
+$ verify < 768:0=counted,0=00
+! mcsim: E2 BadMagic; exit 1
+$ dumpinfo < 768:0=counted,0=00
+! mcsim: E2 BadMagic; exit 1
+";
 
-/// Looks at both images with a bit of a byte of their payload changed.
-fn bit_is_found(rt: &impl Abort, alloc: Global, place: usize, bit: u8) -> Result<(), Fail>
-    requires { place < 80 }
-{
-    let mut image = PLAIN_IMAGE;
-    image[place] ^= bit;
-    let wrong = "! mcsim: E12 WrongDigest\nexit 1\n";
-    tells(rt, alloc, "verify", &image, wrong)?;
-    let mut counted = COUNTED_IMAGE;
-    counted[place] ^= bit;
-    let report = REPORT.replace(alloc, "\ndigest good\n", "\ndigest wrong\n")?;
-    tells(rt, alloc, "dumpinfo", &counted, report.as_str())?;
-    Ok(())
-}
-
 #[test]
-fn finds_each_changed_bit_of_a_payload(rt: HostRuntime) -> Result<(), Fail> {
-    for place in 32..40 {
-        for bit in [1, 2, 4, 8, 16, 32, 64, 128] {
-            bit_is_found(&rt, rt.alloc(), place, bit)?;
-        }
-    }
-    Ok(())
+fn refuses_each_fault_of_an_image(rt: HostRuntime) -> Result<(), Fail> {
+    plays(&rt, rt.alloc(), FAULTS)
 }
 
 #[test]
@@ -81,39 +139,5 @@ fn refuses_files_that_cannot_be_read(rt: HostRuntime) -> Result<(), Fail> {
     let line = format!(in rt.alloc(); "verify {}", folder.as_str())?;
     let text = told_of(&rt, line.as_str(), &PLAIN_IMAGE)?;
     assert_eq!(rt; text.as_str(), "! mcsim: E24 Read\nexit 3\n");
-    Ok(())
-}
-
-/// A reader of so many bytes, which are what the buffers held before.
-#[derive(Drop)]
-struct Length {
-    left: usize,
-}
-
-impl Read for Length {
-    fn read(&mut self, buf: &mut [u8]) -> io::Result<usize> {
-        let count = self.left.min(buf.len());
-        self.left -= count;
-        Ok(count)
-    }
-}
-
-/// What `verify` tells of so many bytes, and how many it leaves.
-fn told_of_many(rt: &HostRuntime, left: usize) -> Result<(String, usize), Fail> {
-    let mut input = Length { left };
-    let words = words_of(rt.alloc(), "verify")?;
-    let ended = outcome_over(rt.alloc(), rt, words.as_slice(), &mut input)?;
-    Ok((ended.text(rt.alloc())?, input.left))
-}
-
-#[test]
-fn refuses_an_input_above_the_limit(rt: HostRuntime) -> Result<(), Fail> {
-    for (left, want) in [
-        (1 << 24, "! mcsim: E2 BadMagic\nexit 1\n"),
-        ((1 << 24) + 1, "! mcsim: E23 InputTooLong\nexit 1\n"),
-    ] {
-        let (text, rest) = told_of_many(&rt, left)?;
-        assert_eq!(rt; (text.as_str(), rest), (want, 0), "{left}");
-    }
     Ok(())
 }

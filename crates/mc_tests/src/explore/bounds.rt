@@ -1,5 +1,5 @@
 //! What explorations take of a flash with a journal.
-use crate::common::swap;
+use super::common::swap;
 use mc_campaign::CampaignExplorer;
 use mc_explore::{Cursor, Explorer, Kind, Schedule, Start};
 use mc_flash::JournalFlash;

@@ -1,8 +1,8 @@
 //! Pages over writers that take one byte a call, and fail at each call in turn.
 ghost use Rattle.std.specs.Prelude.{◌≤◌};
 
-use crate::common::swap;
-use crate::tearing::PAGE;
+use super::common::swap;
+use super::tearing::PAGE;
 use mc_campaign::{CampaignExplorer, write_campaign_page};
 use mc_explore::{ExploreError, Explorer, Kind, Start, write_page};
 use mc_fixtures::{FAULTS, FailingWriter, Failure, Fault};

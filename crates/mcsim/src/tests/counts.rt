@@ -1,0 +1,113 @@
+//! `survey` and `census`, of images and of a flash whose copy-done cannot be written. The numbers are those of a model that shares no
+//! code with this repository.
+use super::pages::prints;
+use super::support::plays;
+use std::alloc::Global;
+use std::process::Abort;
+use std::test::Fail;
+
+/// Tallies.
+static SURVEYS: &str = "\
+$ survey WORKED --kind test IMAGES --cuts 2
+rows 222; boot 222; none 0; panic 0; fault 0; most-ops 18; end
+$ survey WORKED --kind test IMAGES --cuts 1 --limit 19
+rows 19; boot 19; none 0; panic 0; fault 0; most-ops 18; next mc1:START:1:17
+$ survey WORKED --kind test IMAGES --cuts 1 --limit 20 --all-boot
+rows 19; boot 19; none 0; panic 0; fault 0; most-ops 18; end
+$ survey WORKED --kind test IMAGES --cuts 1 --after 16 --until 18
+rows 1; boot 1; none 0; panic 0; fault 0; most-ops 1; end
+$ survey WORKED --flash in --cuts 2 < BEGUN,976=50000000,984=02,993=00
+rows 127; boot 0; none 0; panic 0; fault 127; most-ops 13; end
+$ survey WORKED --flash in --cuts 2 --all-boot < BEGUN,976=50000000,984=02,993=00
+rows 127; boot 0; none 0; panic 0; fault 127; most-ops 13; end; ! mcsim: E74 NotAllBoot; exit 1
+$ survey WORKED --kind none IMAGES --cuts 2 --limit 1000
+rows 1; boot 1; none 0; panic 0; fault 0; most-ops 0; end
+$ survey WORKED --kind test IMAGES --cuts 2 --limit 100
+rows 100; boot 100; none 0; panic 0; fault 0; most-ops 18; next mc1:START:2:5.2
+$ survey WORKED --kind test IMAGES --grain unit --cuts 1 --limit 1000
+rows 110; boot 110; none 0; panic 0; fault 0; most-ops 109; end
+$ survey WORKED --kind test IMAGES --grain unit --profile 2 --cuts 1 --limit 19
+rows 19; boot 19; none 0; panic 0; fault 0; most-ops 109; next mc2:unit:2:START:1:17
+$ survey WORKED --kind perm IMAGES --cuts 1 --limit 1
+rows 1; boot 1; none 0; panic 0; fault 0; most-ops 19; next mc1:c1acc523518e005291cca9b26b70342829592a50f06a98e839aafbfe601fe472:1:-
+$ survey WORKED --kind perm IMAGES --cuts 2 --limit 1000
+rows 247; boot 247; none 0; panic 0; fault 0; most-ops 19; end
+$ survey WORKED --kind perm IMAGES --grain unit --cuts 1 --limit 1000
+rows 111; boot 111; none 0; panic 0; fault 0; most-ops 110; end
+$ survey WORKED --kind perm IMAGES --grain unit --profile 2 --cuts 1 --limit 1000
+rows 111; boot 111; none 0; panic 0; fault 0; most-ops 110; end
+$ survey WORKED --kind revert IMAGES --cuts 1 --limit 19
+rows 19; boot 19; none 0; panic 0; fault 0; most-ops 23; next mc1:5edff685018cbbd815451fafd7b656a67325e6d209b625e9ef416bcfb3c46295:1:17
+$ survey WORKED --kind revert IMAGES --cuts 2 --limit 1000
+rows 343; boot 343; none 0; panic 0; fault 0; most-ops 23; end
+$ survey WORKED --kind revert IMAGES --grain unit --cuts 1 --limit 1000
+rows 116; boot 116; none 0; panic 0; fault 0; most-ops 115; end
+$ survey WORKED --kind revert IMAGES --grain unit --profile 2 --cuts 1 --limit 1000
+rows 116; boot 116; none 0; panic 0; fault 0; most-ops 115; end
+$ survey WORKED --flash in --cuts 0 --limit 1000 < BEGUN,976=50000000,984=02,993=00
+rows 1; boot 0; none 0; panic 0; fault 1; most-ops 13; end
+$ survey WORKED --flash in --cuts 1 --limit 1000 < BEGUN,976=50000000,984=02,993=00
+rows 14; boot 0; none 0; panic 0; fault 14; most-ops 13; end
+";
+
+#[test]
+fn surveys_images_and_flashes(rt: HostRuntime) -> Result<(), Fail> {
+    plays(&rt, rt.alloc(), SURVEYS)
+}
+
+/// Censuses.
+static CENSUSES: &str = "\
+$ census WORKED --kind test IMAGES --cuts 2 --all-boot
+schedules 222; boot 222; none 0; panic 0; fault 0; most-ops 18; first-not-boot none
+$ census WORKED --kind revert IMAGES --cuts 2
+schedules 343; boot 343; none 0; panic 0; fault 0; most-ops 23; first-not-boot none
+$ census WORKED --kind none IMAGES --cuts 16
+schedules 1; boot 1; none 0; panic 0; fault 0; most-ops 0; first-not-boot none
+$ census WORKED --kind test IMAGES --cuts 17
+! mcsim: --cuts takes a number from 0 to 16; exit 2
+$ census WORKED --flash in --cuts 2 < BEGUN,976=50000000,984=02,993=00
+schedules 127; boot 0; none 0; panic 0; fault 127; most-ops 13; first-not-boot -
+$ census WORKED --flash in --cuts 2 --all-boot < BEGUN,976=50000000,984=02,993=00
+schedules 127; boot 0; none 0; panic 0; fault 127; most-ops 13; first-not-boot -; ! mcsim: E74 NotAllBoot; exit 1
+$ census WORKED --kind test IMAGES --cuts 0
+schedules 1; boot 1; none 0; panic 0; fault 0; most-ops 18; first-not-boot none
+$ census WORKED --kind test IMAGES --cuts 1
+schedules 19; boot 19; none 0; panic 0; fault 0; most-ops 18; first-not-boot none
+$ census WORKED --kind test IMAGES --cuts 3
+schedules 2058; boot 2058; none 0; panic 0; fault 0; most-ops 18; first-not-boot none
+$ census WORKED --kind perm IMAGES --cuts 2
+schedules 247; boot 247; none 0; panic 0; fault 0; most-ops 19; first-not-boot none
+$ census WORKED --kind test IMAGES --grain unit --cuts 1
+schedules 110; boot 110; none 0; panic 0; fault 0; most-ops 109; first-not-boot none
+";
+
+#[test]
+fn censuses_of_images_and_flashes(rt: HostRuntime) -> Result<(), Fail> {
+    plays(&rt, rt.alloc(), CENSUSES)
+}
+
+/// A line has the kind of a start and the options, and how many schedules there are.
+static SCHEDULES: &str = "\
+test --cuts 2 --grain unit --profile 2: 7837
+perm --cuts 2 --grain unit --profile 1: 7954
+revert --cuts 2 --grain unit --profile 1: 8419
+revert --cuts 2 --grain unit --profile 2: 8534
+";
+
+/// Looks whether a census tells so many schedules.
+fn has_schedules(rt: &impl Abort, alloc: Global, row: &str) -> Result<(), Fail> {
+    let (options, want) = row.split_once(": ").ok_or("options and a number")?;
+    let options = format!(in alloc; "WORKED --kind {options}")?;
+    let census = prints(alloc, "census", options.as_str())?;
+    let want = format!(in alloc; "schedules {want}")?;
+    assert_eq!(rt; census.as_str().lines().next(), Some(want.as_str()));
+    Ok(())
+}
+
+#[test]
+fn counts_schedules_of_cuts_between_units(rt: HostRuntime) -> Result<(), Fail> {
+    for row in SCHEDULES.lines() {
+        has_schedules(&rt, rt.alloc(), row)?;
+    }
+    Ok(())
+}
