@@ -3,7 +3,7 @@ use Rattle.std.proofs.Common.{◌≡◌, ℕ, ◌+◌, ◌*◌, ◌<◌, ◌≤�
 use Rattle.std.proofs.Common.{length-append, refl, sym, ap, subst, ◌∙◌, arith}
 use Rattle.std.proofs.Math.Nat.{mul-le-mul_right}
 use Rattle.std.proofs.lemmas.List.{map-append, length-map, get_or_at, set_at}
-use Rattle.mc_tree.specs.Tree.{Allowed, IsMember}
+use Rattle.mc_tree.specs.Tree.{Allowed}
 use Rattle.mc_tree.specs.facts.Order.{IsNextBeyond, allowed-last, none_beyond, next_beyond}
 use Rattle.mc_flash.specs.Content.{Content}
 use Rattle.mc_flash.specs.Usage.{Counts, Limits, Checkpoint}
@@ -11,7 +11,7 @@ use Rattle.mc_flash.specs.Seen.{Seen, Keeps, no_checkpoint, checkpoint_of, went_
 use Rattle.mc_flash.specs.Spends.{Spent, Stays, HasRoom, LeaveRoom, plus, room_of}
 use Rattle.mc_flash.specs.facts.Spends.{spent_back, spent_both, spent_more}
 use Rattle.mc_flash.specs.declared.flash.FlashError.{FlashError}
-use Rattle.mc_walk.specs.Kind.{Kind, owed_there, telling, IsAt, IsNode, HasNext, GoesOn, CanReach, Reaches}
+use Rattle.mc_walk.specs.Kind.{Kind, owed_there, telling, IsAt, IsNode, IsParent, HasNext, GoesOn, CanReach, Reaches}
 use Rattle.mc_walk.specs.Stack.{path_of, most_at, AreSpent, IsLastOpen, AreFrames, Stacked, node_of, Stands, Comes, CanGoOn, IsLeft, IsOneOn, IsRoomy}
 use Rattle.mc_walk.specs.Walks.{walked, origin_of, IsFresh, Begins, IsThere, IsGoing, IsLastStep, IsPath, GoesDown, Climbs}
 use Rattle.mc_walk.specs.declared.frame.Frame.{Frame}
@@ -204,41 +204,47 @@ module _ {N A T : Type 0} (k : Kind N A T) where
   here_node : (old : Seen) (fs : List (Frame A T)) (told : T) → Stands k (origin_of old) old fs told → IsNode k (node_of k (origin_of old) fs) told old
   here_node old fs told s = record { told_is = s.told_is; content_is = s.content_is; layout_is = s.layout_is }
 
-  pub can_reach : (bound number width : ℕ) (old : Seen) (fs : List (Frame A T)) (told : T) → IsGoing k bound old fs told → length fs < bound
-      → ((n : N) → k.IsTold n told → width ≡ k.tree.width n) → number < width → CanReach k number told old
-  can_reach bound number width old fs told go few has lt =
-      let s = go.stands in
-      let n : N = node_of k (origin_of old) fs in
-      (n, here_node old fs told s, omega (arith, lt, has n s.told_is), steps_room bound (length fs) old.usage.counts (k.owed n) old go.roomy (omega (arith, few)) s.counts)
+  -- It is told of the node where the walk stands, which has a child of that number.
+  module _ (number bound steps : ℕ) (old : Seen) (fs : List (Frame A T)) (stood : Option T) (going : IfSome stood (IsGoing k bound old fs)) (e : steps ≡ length fs) (told : T)
+      (p : IsParent k number bound steps stood (Some told)) where
+    below_parent : IsGoing k bound old fs told
+    below_parent = subst (λ z. IfSome z (IsGoing k bound old fs)) p.0 going
 
-  pub ready_down : (bound number width cost : ℕ) (old mid : Seen) (fs : List (Frame A T)) (told : T) (at : A) → IsGoing k bound old fs told → length fs < bound
-      → ((n : N) → k.IsTold n told → width ≡ k.tree.width n) → number < width → Keeps old mid → Reaches k {E = FlashError} number told old (Ok at) mid → Spent cost old mid
-      → Ready bound cost old mid fs (record { at = at; number = number; parent = told })
-  ready_down bound number width cost old mid fs told at go few has lt keeps reaches spent =
-      let s = go.stands in
-      let n : N = node_of k (origin_of old) fs in
-      let below : number < k.tree.width n = omega (arith, lt, has n s.told_is) in
-      let (here, left) = reaches n (here_node old fs told s) below in
-      let next : LeaveRoom mid.usage.counts (k.left at) (most_at k (length fs)) = record {
-        entries = omega (arith, left.entries, s.counts.entries);
-        saved = omega (arith, left.saved, s.counts.saved);
-      } in
-      record {
-        comes = record {
-          stacked = subst (λ ms. Stacked k (origin_of old) ms fs) (sym keeps.checkpoints) s.stacked;
-          layout_is = here.layout_is;
-          frame = record {
-            some = below;
-            on_is = here.on_is;
-            content_is = here.content_is;
-            told_is = s.told_is;
-            room = next;
+    pub can_reach : CanReach k number told old
+    can_reach =
+        let go = below_parent in
+        let s = go.stands in
+        let n : N = node_of k (origin_of old) fs in
+        (n, here_node old fs told s, p.2 n s.told_is, steps_room bound (length fs) old.usage.counts (k.owed n) old go.roomy go.few s.counts)
+
+    pub ready_down : (cost : ℕ) (mid : Seen) (at : A) → Keeps old mid → Reaches k {E = FlashError} number told old (Ok at) mid → Spent cost old mid
+        → Ready bound cost old mid fs (record { at = at; number = number; parent = told })
+    ready_down cost mid at keeps reaches spent =
+        let go = below_parent in
+        let s = go.stands in
+        let n : N = node_of k (origin_of old) fs in
+        let below : number < k.tree.width n = p.2 n s.told_is in
+        let (here, left) = reaches n (here_node old fs told s) below in
+        let next : LeaveRoom mid.usage.counts (k.left at) (most_at k (length fs)) = record {
+          entries = omega (arith, left.entries, s.counts.entries);
+          saved = omega (arith, left.saved, s.counts.saved);
+        } in
+        record {
+          comes = record {
+            stacked = subst (λ ms. Stacked k (origin_of old) ms fs) (sym keeps.checkpoints) s.stacked;
+            layout_is = here.layout_is;
+            frame = record {
+              some = below;
+              on_is = here.on_is;
+              content_is = here.content_is;
+              told_is = s.told_is;
+              room = next;
+            };
           };
-        };
-        few = few;
-        roomy = go.roomy;
-        spent = spent;
-      }
+          few = omega (arith, p.1, e);
+          roomy = go.roomy;
+          spent = spent;
+        }
 
   module _ (bound cost : ℕ) (old mid : Seen) (fs : List (Frame A T)) (f : Frame A T) (r : Ready bound cost old mid fs f) where
     pub ready_here : Comes k (origin_of mid) mid fs f
@@ -370,10 +376,16 @@ module _ {N A T : Type 0} (k : Kind N A T) where
       let allowed = subst (λ z. Allowed k.tree (k.root z) (path_of all)) a.origin (frames_allowed k (k.root (origin_of new)) 0 st.above all st.frames) in
       (path, (omega (arith, a.going.few, length-map all (λ (h : Frame A T). h.number)), allowed), record { branches = refl; bound = refl; origin = a.origin }, refl)
 
-  pub not_that_child : (bound number width : ℕ) (old : Seen) (fs : List (Frame A T)) (told : T) → IsGoing k bound old fs told → ((n : N) → k.IsTold n told → width ≡ k.tree.width n)
-      → width ≤ number → IsMember k.tree (k.root (origin_of old)) bound (path_of fs ++ number ∷ []) → ⊥
-  not_that_child bound number width old fs told go has le m =
-      omega (arith, le, has (node_of k (origin_of old) fs) go.stands.told_is, allowed-last k.tree (k.root (origin_of old)) (path_of fs) number m.1)
+  -- It is told of none, and stays.
+  pub no_child : {B : Type 0} (b : B) (number bound steps : ℕ) (old : Seen) (fs : List (Frame A T)) (stood : Option T) → IfSome stood (IsGoing k bound old fs) → steps ≡ length fs
+      → is_some stood ≡ true → IsParent k number bound steps stood None → GoesDown k number (walked b bound old fs stood) false (walked b bound old fs stood)
+  no_child b number bound steps old fs None going e stands p = absurd cc
+  no_child b number bound steps old fs (Some told) going e stands p = (
+    λ m.
+        let few : steps < bound = omega (arith, m.0, e, length-append (path_of fs) (number ∷ []), length-map fs (λ (f : Frame A T). f.number)) in
+        omega (arith, p told refl few (node_of k (origin_of old) fs) going.stands.told_is, allowed-last k.tree (k.root (origin_of old)) (path_of fs) number m.1),
+    refl,
+  )
 
   -- The order of its paths.
   climbed_to : (origin : Content) (checkpoints : List Checkpoint) (all fs : List (Frame A T)) (f g : Frame A T) → Stacked k origin checkpoints all → IsLastOpen k f all fs → g.number ≡ f.number + 1

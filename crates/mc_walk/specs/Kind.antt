@@ -1,5 +1,5 @@
 -- A kind of tree over the contents of a flash.
-use Rattle.std.specs.Prelude.{◌≡◌, ℕ, ◌+◌, ◌<◌, Result, Ok, Err}
+use Rattle.std.specs.Prelude.{◌≡◌, ℕ, ◌+◌, ◌<◌, ◌≤◌, Option, Some, None, Result, Ok, Err}
 use Rattle.mc_tree.specs.Tree.{Tree}
 use Rattle.mc_flash.specs.Content.{Content}
 use Rattle.mc_flash.specs.Geometry.{Geometry}
@@ -52,6 +52,13 @@ module _ {N A T : Type 0} (k : Kind N A T) where
 
   abbrev pub HasWidth : T → ℕ → Type 0
   HasWidth told width = (n : N) → k.IsTold n told → width ≡ k.tree.width n
+
+  -- That is told of the node where a path of so many steps stands, which may be longer, and to a child of that number; or it may not.
+  abbrev pub IsParent : ℕ → ℕ → ℕ → Option T → Option T → Type 0
+  IsParent number bound steps stood (Some told) =
+      (stood ≡ Some told) × (steps < bound) × ((n : N) → k.IsTold n told → number < k.tree.width n)
+  IsParent number bound steps stood None =
+      (told : T) → stood ≡ Some told → steps < bound → (n : N) → k.IsTold n told → k.tree.width n ≤ number
 
   -- It has a child of that number, and there is room to go to it and on.
   abbrev pub CanReach : ℕ → T → Seen → Type 0

@@ -1,11 +1,32 @@
 //! From a node to one of its children.
-ghost use Rattle.std.specs.Prelude.{◌≡◌, ◌+◌, ◌*◌, OnOk, IfErr};
+ghost use Rattle.std.specs.Prelude.{◌≡◌, ◌+◌, ◌*◌, length, OnOk, IfErr};
 ghost use Rattle.mc_flash.specs.Seen.{Keeps};
 ghost use Rattle.mc_flash.specs.Spends.{Spends};
-ghost use Rattle.mc_walk.specs.Kind.{CanReach, Reaches};
+ghost use Rattle.mc_walk.specs.Kind.{CanReach, Reaches, IsParent};
 
 use crate::Branches;
+use crate::frame::Frame;
 use mc_flash::{Flash, FlashError};
+
+/// What is told of the node at the end of a path, where the path may be longer and that node has a child of that number.
+pub(crate) fn parent<B: Branches>(
+    branches: B,
+    bound: usize,
+    frames: &[Frame<B::At, B::Told>],
+    told: Option<B::Told>,
+    number: u32,
+) -> Option<B::Told>
+    ensures { IsParent (B.kind branches) number bound (length frames.now) told result }
+{
+    if frames.len() >= bound {
+        return None;
+    }
+    let told = told?;
+    if number >= branches.width(&told) {
+        return None;
+    }
+    Some(told)
+}
 
 /// Goes from a node, of which that is told, to its child of that number.
 pub(crate) fn reach<F: Flash, B: Branches>(

@@ -9,7 +9,7 @@ ghost use Rattle.mc_walk.specs.Walks.{IsClear, IsFresh, IsOf, Begins, GoesDown, 
 use crate::Branches;
 use crate::enter::{enter, go_on};
 use crate::frame::{Frame, leave_spent};
-use crate::reach::reach;
+use crate::reach::{parent, reach};
 use arrayvec::ArrayVec;
 use mc_flash::{Flash, FlashError};
 use std::alloc::Global;
@@ -169,22 +169,12 @@ impl<F: Flash, B: Branches> Walk<F, B> {
             self.new.seen }
         ensures err { IfErr result (λ e. e ≡ FlashError.Memory) }
     {
-        if self.frames.len() >= self.bound {
-            return Ok(false);
-        }
-        let Some(told) = self.told else {
+        let Some(parent) = parent(self.branches, self.bound, &self.frames, self.told, number) else {
             return Ok(false);
         };
-        if number >= self.branches.width(&told) {
-            return Ok(false);
-        }
         self.told = None;
-        let at = reach(self.branches, &mut self.flash, &told, number)?;
-        let frame = Frame {
-            at,
-            number,
-            parent: told,
-        };
+        let at = reach(self.branches, &mut self.flash, &parent, number)?;
+        let frame = Frame { at, number, parent };
         let told = enter(
             self.branches,
             &mut self.flash,
@@ -227,7 +217,6 @@ impl<F: Flash, B: Branches> Walk<F, B> {
     /// # Errors
     ///
     /// `Memory` where the flash was refused memory; then the walk stands nowhere.
-    #[tactic(auto, using(crate::proofs::Along::advanced_down))]
     pub fn advance(&mut self, known: &B::Known) -> Result<bool, FlashError>
         requires { self.old.stands ≡ true }
         ensures step { IfOk result (λ went. Advances (B.kind self.old.branches) self.old went

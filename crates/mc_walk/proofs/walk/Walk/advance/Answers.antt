@@ -2,9 +2,13 @@ use Rattle.std.proofs.Common.{rules, ◌≤◌, length, ap, subst, ◌∙◌, ar
 use Rattle.std.proofs.lemmas.List.{length-map}
 use Rattle.mc_walk.specs.Walks.{Walked}
 use Rattle.mc_walk.specs.declared.frame.Frame.{Frame}
-use Rattle.mc_walk.proofs.Along.{advanced_up}
+use Rattle.mc_walk.proofs.Along.{advanced_down, advanced_up}
 use Rattle.mc_walk.proofs.Steps.{standing}
 use Rattle.mc_walk.proofs.walk.Walk.advance.Goals as goal
+
+pub returns-then-branch-clause-step : goal.returns-then-branch-clause-step
+returns-then-branch-clause-step g c =
+    advanced_down g.B.Branches.kind c.args.self.now c.go_down.new.self c.in_ok-go_down.field-0 c.if-branch.true c.in_ok-go_down.ensures.step
 
 pub returns-clause-step : goal.returns-clause-step
 returns-clause-step g c =

@@ -1,19 +1,14 @@
-use Rattle.std.proofs.Common.{◌+◌, ◌*◌, ◌++◌, ◌∷◌, [], true, Some, IfSome, refl, subst, arith}
+use Rattle.std.proofs.Common.{◌+◌, ◌*◌, true, false, Some, length, refl, subst, ap, ◌∙◌, arith}
 use Rattle.mc_flash.specs.Spends.{Spent}
-use Rattle.mc_walk.specs.Walks.{Walked, walked, GoesDown, IsGoing, IsPath, child_cost}
+use Rattle.mc_walk.specs.Walks.{Walked, walked, GoesDown, child_cost}
 use Rattle.mc_walk.specs.declared.frame.Frame.{Frame}
-use Rattle.mc_walk.proofs.Steps.{Ready, Arrives, can_reach, ready_down, ready_here, ready_room, ready_mark, arrives, gone_down, not_that_child}
+use Rattle.mc_walk.proofs.Steps.{Ready, Arrives, can_reach, no_child, ready_down, ready_here, ready_room, ready_mark, arrives, gone_down}
 use Rattle.mc_walk.proofs.walk.Walk.go_down.Given.{Over}
 use Rattle.mc_walk.proofs.walk.Walk.go_down.Goals as goal
-use Rattle.mc_walk.proofs.walk.Walk.go_down.Goals.{In-Some, In_ok-at, In_ok-told}
-
-going : (g : Over) (c : In-Some g) → IsGoing (g.B.Branches.kind c.self.inside.branches) c.self.inside.bound (g.F.Flash.seen c.self.inside.flash) c.self.inside.frames.items c.in-Some.told
-going g c =
-    let w = c.self.inside in
-    subst (λ z. IfSome z (IsGoing (g.B.Branches.kind w.branches) w.bound (g.F.Flash.seen w.flash) w.frames.items)) c.in-Some.is c.self.invariant.going
+use Rattle.mc_walk.proofs.walk.Walk.go_down.Goals.{In_ok-at, In_ok-told}
 
 abbrev down : (g : Over) (c : In_ok-at g) → Frame g.row.B-At.Denot g.row.B-Told.Denot
-down g c = record { at = c.in_ok-at.at; number = c.args.number; parent = c.in-Some.told }
+down g c = record { at = c.in_ok-at.at; number = c.args.number; parent = c.in-Some.parent }
 
 abbrev IsReady : (g : Over) (c : In_ok-at g) → Frame g.row.B-At.Denot g.row.B-Told.Denot → Type 0
 IsReady g c f =
@@ -23,16 +18,14 @@ IsReady g c f =
 ready : (g : Over) (c : In_ok-at g) → IsReady g c (down g c)
 ready g c =
     let w = c.self.inside in
-    let k = g.B.Branches.kind w.branches in
-    let going = subst (λ z. IfSome z (IsGoing k w.bound (g.F.Flash.seen w.flash) w.frames.items)) c.in-Some.is c.self.invariant.going in
     let h = c.in_ok-at.ensures in
-    ready_down k w.bound c.args.number c.width.result _ _ _ w.frames.items c.in-Some.told c.in_ok-at.at going (omega (arith, c.len.ensures, w.frames.ok.0, c.if-len-self.false)) c.width.ensures
-    c.if-number-width.false h.keeps h.reaches h.spends
+    ready_down (g.B.Branches.kind w.branches) c.args.number w.bound _ (g.F.Flash.seen w.flash) w.frames.items w.told c.self.invariant.going (ap length c.deref.ensures.value) c.in-Some.parent
+    c.in-Some.ensures _ (g.F.Flash.seen c.reach.new.flash) c.in_ok-at.at h.keeps h.reaches h.spends
 
 abbrev WasReady : (g : Over) (c : In_ok-told g) → Type 0
 WasReady g c =
     let k = g.B.Branches.kind c.self.inside.branches in
-    let f : Frame g.row.B-At.Denot g.row.B-Told.Denot = record { at = c.in_ok-at.at; number = c.args.number; parent = c.in-Some.told } in
+    let f : Frame g.row.B-At.Denot g.row.B-Told.Denot = record { at = c.in_ok-at.at; number = c.args.number; parent = c.in-Some.parent } in
     Ready k c.self.inside.bound ((c.args.number + 1) * k.step) (g.F.Flash.seen c.self.inside.flash) (g.F.Flash.seen c.reach.new.flash) c.self.inside.frames.items f
 
 abbrev HasArrived : (g : Over) (c : In_ok-told g) → Type 0
@@ -45,22 +38,18 @@ there g c r =
     let h = c.in_ok-told.ensures in
     arrives (g.B.Branches.kind c.self.inside.branches) c.self.inside.bound _ _ _ _ _ _ _ c.in_ok-told.told r h.stands h.frames h.spends
 
-pub returns-then-number-width-clause-step : goal.returns-then-number-width-clause-step
-returns-then-number-width-clause-step g c =
+pub returns-in_default-clause-step : goal.returns-in_default-clause-step
+returns-in_default-clause-step g c =
     let w = c.self.inside in
-    let k = g.B.Branches.kind w.branches in
-    let s = (goal.at.returns-then-number-width-clause-step g c).In-Some in (
-      subst (λ (z : Walked g.row.B.Denot). IsPath (g.B.Branches.kind z.branches) z (z.path ++ c.args.number ∷ []) → ⊥) c.self.view_is
-          (not_that_child k w.bound c.args.number c.width.result _ w.frames.items c.in-Some.told (going g s) c.width.ensures c.if-number-width.true),
-      refl,
-    )
+    subst (λ (z : Walked g.row.B.Denot). GoesDown (g.B.Branches.kind z.branches) c.args.number z false z) c.self.view_is
+    (no_child (g.B.Branches.kind w.branches) w.branches c.args.number w.bound _ (g.F.Flash.seen w.flash) w.frames.items w.told c.self.invariant.going (ap length c.deref.ensures.value)
+    (ap (λ (z : Walked _). z.stands) c.self.view_is ∙ c.requires) c.in_default.ensures)
 
 pub reach-requires : goal.reach-requires
 reach-requires g c =
     let w = c.self.inside in
-    let s = (goal.at.reach-requires g c).In-Some in
-    can_reach (g.B.Branches.kind w.branches) w.bound c.args.number c.width.result _ w.frames.items c.in-Some.told (going g s) (omega (arith, c.len.ensures, w.frames.ok.0, c.if-len-self.false))
-    c.width.ensures c.if-number-width.false
+    can_reach (g.B.Branches.kind w.branches) c.args.number w.bound _ (g.F.Flash.seen w.flash) w.frames.items w.told c.self.invariant.going (ap length c.deref.ensures.value) c.in-Some.parent
+    c.in-Some.ensures
 
 pub enter-requires : goal.enter-requires
 enter-requires g c =
