@@ -8,8 +8,8 @@ use Rattle.mc_tree.specs.facts.Order.{IsNextBeyond, allowed-last, none_beyond, n
 use Rattle.mc_flash.specs.Content.{Content}
 use Rattle.mc_flash.specs.Usage.{Counts, Limits, Checkpoint}
 use Rattle.mc_flash.specs.Seen.{Seen, Keeps, no_checkpoint, checkpoint_of, went_back, marked}
-use Rattle.mc_flash.specs.Spends.{Spent, Stays, HasRoom, LeaveRoom, plus, room_of}
-use Rattle.mc_flash.specs.facts.Spends.{spent_back, spent_both, spent_more}
+use Rattle.mc_flash.specs.Spends.{Spent, Spends, Stays, HasRoom, LeaveRoom, plus, room_of}
+use Rattle.mc_flash.specs.facts.Spends.{ran_out_later, spent_back, spent_both, spent_marked, spent_more}
 use Rattle.mc_flash.specs.declared.flash.FlashError.{FlashError}
 use Rattle.mc_walk.specs.Kind.{Kind, owed_there, telling, IsAt, IsNode, IsParent, HasNext, GoesOn, CanReach, Reaches}
 use Rattle.mc_walk.specs.Stack.{path_of, most_at, AreSpent, IsLastOpen, AreFrames, Stacked, node_of, Stands, Comes, CanGoOn, IsLeft, IsOneOn, IsRoomy}
@@ -20,6 +20,11 @@ use Rattle.mc_walk.proofs.Stacks.{path-push, no_path, frames_allowed, frames_las
 pub ok_any : {X E P : Type 0} (r : Result X E) → P → OnOk r P
 ok_any (Ok x) p = p
 ok_any (Err e) p = tt
+
+-- A flash that was marked first spends no more.
+pub spends_marked : {X E : Type 0} (n : ℕ) (old mid new : Seen) (r : Result X E) → mid ≡ marked old → Spends n mid r new → Spends n old r new
+spends_marked n old mid new (Ok x) m s = spent_more (0 + n) n old new (omega arith) (spent_both 0 n old mid new (subst (Spent 0 old) (sym m) (spent_marked old)) s)
+spends_marked n old mid new (Err e) m s = ran_out_later 0 old mid new (subst (Spent 0 old) (sym m) (spent_marked old)) s
 
 module _ {N A T : Type 0} (k : Kind N A T) where
   pub roomy_stays : (bound : ℕ) (old new : Seen) → new.usage.limits ≡ old.usage.limits → IsRoomy k bound old → IsRoomy k bound new

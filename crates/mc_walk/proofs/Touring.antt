@@ -1,5 +1,5 @@
 -- The first node that a tour visits.
-use Rattle.std.proofs.Common.{◌≡◌, ℕ, List, [], Bool, true, false, refl, sym, subst, arith}
+use Rattle.std.proofs.Common.{◌≡◌, ◌⊎◌, inl, inr, ℕ, List, [], Bool, true, false, refl, sym, subst, arith}
 use Rattle.mc_tree.specs.Paths.{Position, AtStart, IsNext, IsOver}
 use Rattle.mc_tree.specs.facts.Order.{next_after_last, none_after_last, none_before_root}
 use Rattle.mc_walk.specs.Kind.{Kind}
@@ -49,3 +49,9 @@ module _ {N A T B : Type 0} (k : Kind N A T) (old : Toured B) (new : Walked B) (
     c.1,
     refl,
   )
+
+-- Where it visited no node yet, or there is no further one, it stays.
+pub stays_behind : {N A T B : Type 0} (k : Kind N A T) (old : Toured B) (position : Position (List ℕ)) → (old.phase ≡ Fresh) ⊎ (old.phase ≡ Done) → StandsBehind k old position
+    → Visits k old position false old
+stays_behind k old position (inl e) at = absurd (rw e at at)
+stays_behind k old position (inr e) at = (rw e at at, refl, record { branches = refl; bound = refl; origin = refl }, e)

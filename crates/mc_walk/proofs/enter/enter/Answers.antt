@@ -3,6 +3,7 @@ use Rattle.mc_flash.specs.Spends.{HasRoom}
 use Rattle.mc_walk.specs.Kind.{owed_there}
 use Rattle.mc_walk.specs.Walks.{origin_of}
 use Rattle.mc_walk.proofs.Stacks.{child_here, entered_told}
+use Rattle.mc_walk.proofs.Steps.{spends_marked}
 use Rattle.mc_walk.proofs.enter.enter.Goals as goal
 
 pub child-requires : goal.child-requires
@@ -17,3 +18,6 @@ returns-clause-stands g c =
     entered_told (g.B.Branches.kind c.args.branches) (origin_of seen) seen (g.F.Flash.seen c.mark.new.self) (g.F.Flash.seen c.child.new.flash) c.args.frames.now.items c.push.new.self.items
     c.args.frame
     c.child.result c.requires.comes c.in_ok-mark.ensures.1 c.in_ok-push.ensures.items c.child.ensures.tells c.child.ensures.stays
+
+pub returns-clause-spends : goal.returns-clause-spends
+returns-clause-spends g c = spends_marked _ _ _ _ c.child.result c.in_ok-mark.ensures.1 c.child.ensures.spends

@@ -1,4 +1,4 @@
-use Rattle.std.proofs.Common.{ℕ, List, true, subst}
+use Rattle.std.proofs.Common.{ℕ, List, true, refl, sym, ap, subst, ◌∙◌}
 use Rattle.mc_tree.specs.Paths.{Position}
 use Rattle.mc_walk.specs.Tours.{Toured, StandsAt, Visits}
 use Rattle.mc_walk.specs.declared.tour.Phase.TheVariants.{Going}
@@ -13,3 +13,6 @@ returns-in_ok-begin-in-Fresh-clause-visits g c =
     subst (λ (t : Toured g.row.B.Denot). (position : Position (List ℕ)) → StandsAt (g.B.Branches.kind t.walk.branches) t position
     → Visits (g.B.Branches.kind t.walk.branches) t position true (record { walk = c.begin.new.self; phase = Going })) c.self.view_is
     (λ position at. visits_first k old c.in_ok-begin-in-Fresh.field-0 c.begin.new.self c.in_ok-begin-in-Fresh.ensures.begins position c.in-Fresh.is at)
+
+pub returns-in-Broken-clause-costs : goal.returns-in-Broken-clause-costs
+returns-in-Broken-clause-costs g c = (ap (λ (t : Toured g.row.B.Denot). t.phase) (sym c.self.view_is) ∙ c.in-Broken.is, refl)
