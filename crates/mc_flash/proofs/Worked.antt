@@ -1,5 +1,5 @@
 -- The definitions computed at worked layouts.
-use Rattle.std.proofs.Common.{◌≡◌, ℕ, pos, negsuc, true, false, [], ◌∷◌, refl}
+use Rattle.std.proofs.Common.{◌≡◌, pos, negsuc, true, false, [], ◌∷◌, refl}
 use Rattle.std.specs.Prelude.{Some, None}
 use lib.Count.{ones}
 use Rattle.mc_flash.specs.Geometry.{Geometry, trailer_bytes, trailer_sectors, greatest_count, greatest_sectors, fits, refusal_of, of_numbers}

@@ -68,3 +68,8 @@ returns c =
     (erase_back s t c.args.slot (c.args.sector * g.sector) g.sector (replicate g.sector 255) c.erase.ensures.content (length-replicate g.sector 255) (omega (arith, fits, long)))
     (erase_done g s t c.args.slot c.args.sector c.erase.ensures.content) c.erase.ensures.layout c.self.invariant.ascend c.saturating_add-self-inside.ensures
     (omega (arith, f.entries.ok.0)) (omega (arith, f.saved.ok.0, c.if-self-len.false, size, c.self.invariant.few.saved))
+
+pub returns-in_err-extend_from_slice : goal.returns-in_err-extend_from_slice
+returns-in_err-extend_from_slice c =
+    let size = c.sector-size.ensures.value ∙ ap (λ (x : Geometry). x.sector) c.layout.ensures in
+    absurd (omega (arith, c.in_err-extend_from_slice.ensures.full, c.if-self-len.false, c.sector.ensures.len, size, c.self.invariant.room.saved))

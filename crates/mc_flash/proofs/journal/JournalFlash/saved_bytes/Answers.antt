@@ -1,0 +1,6 @@
+use Rattle.std.proofs.Common.{ap, arith}
+use Rattle.mc_flash.specs.Seen.{Seen}
+use Rattle.mc_flash.proofs.journal.JournalFlash.saved_bytes.Goals as goal
+
+pub returns-clause-value : goal.returns-clause-value
+returns-clause-value c = omega (arith, c.len.ensures, c.self.inside.saved.ok.0, ap (λ (f : Seen). f.usage.counts.saved) c.self.view_is)
