@@ -133,7 +133,6 @@ impl Flash for JournalFlash {
         self.slots.read(slot)
     }
 
-    #[tactic(auto, unfolding(crate::specs::Apply::apply))]
     fn erase(&mut self, slot: Slot, sector: u32) -> Result<(), FlashError> {
         let size = self.slots.layout().sector();
         if self.entries.len() >= self.reserve.entries {
@@ -150,7 +149,6 @@ impl Flash for JournalFlash {
         Ok(())
     }
 
-    #[tactic(auto, unfolding(crate::specs::Apply::apply))]
     fn program(&mut self, slot: Slot, offset: u32, bytes: &[u8]) -> Result<(), FlashError> {
         if !self.slots.is_blank(slot, offset as usize, bytes.len()) {
             return Err(FlashError::NotErased);
@@ -165,7 +163,6 @@ impl Flash for JournalFlash {
         Ok(())
     }
 
-    #[tactic(auto, unfolding(crate::specs::Apply::apply))]
     fn copy(
         &mut self,
         from: Slot,

@@ -90,7 +90,6 @@ fn trailer_count(sector: u32, unit: u32, max_sectors: u32) -> u32
 }
 
 // The most sectors of an image beside a trailer of so many sectors, or 0 where there is no room for one.
-#[tactic(auto, using(crate::proofs::Counts::zero_or_positive))]
 fn sectors_beside(trailer: u32, max_sectors: u32, primary: u32, secondary: u32) -> u32
     ensures value { result ≡ min (primary - 1 - trailer) (min (secondary - trailer) max_sectors) }
     ensures count { int_lt (count_beside trailer max_sectors primary secondary) (pos 1)
@@ -296,7 +295,7 @@ impl Layout {
     }
 
     /// The bytes of the largest image that fits both slots, its header and areas included.
-    #[tactic(auto, using(crate::specs::Largest::largest_inside, crate::specs::Largest::fits_largest))]
+    #[tactic(auto, using(crate::specs::Largest::largest_inside))]
     pub fn largest_image(&self) -> u32
         ensures value { result ≡ largest_image self.now }
         ensures fits { (size : ℕ) → (fits self.now size ≡ true) ↔ (size ≤ result) }

@@ -1,6 +1,9 @@
-use Rattle.std.proofs.Common.{inr}
+use Rattle.std.proofs.Common.{◌≡◌, ◌+◌, length, inr, ap, ◌∙◌, arith}
+use Rattle.mc_flash.specs.Usage.{limits_for}
+use Rattle.mc_trailer.specs.declared.tables.Rules.{Rules}
 use Rattle.mc_boot.specs.Outcome.{shown}
 use Rattle.mc_explore.specs.Start.{begun}
+use Rattle.mc_campaign.specs.Places.{pairs_of}
 use Rattle.mc_campaign.proofs.Replays.{refused_later, replayed_both}
 use Rattle.mc_campaign.proofs.Restarts.{campaign_restarts}
 use Rattle.mc_campaign.proofs.replaying.replay_campaign.Goals as goal
@@ -31,3 +34,12 @@ returns-in-Ok-clause-restarts g c =
     c.cuts-second.result.now c.read-primary.ensures.value c.read-secondary.ensures.value c.cuts-second.ensures two z c.in-Ok.ensures.replayed in
     campaign_restarts start.rules start.geometry c.args.confirms start.content c.args.campaign.now one two z c.layout.ensures.valid
     (c.restart_law.ensures.restart start.rules) (c.restart_law.ensures.rounds start.rules) both
+
+pub returns-in-Ok-clause-exact : goal.returns-in-Ok-clause-exact
+returns-in-Ok-clause-exact g c = λ counted.
+    let start = begun c.args.start.now in
+    let boots : c.len.result + 3 ≡ length (pairs_of c.args.campaign.now) + 3 = omega (arith, c.len.ensures.value) in
+    c.in-Ok.ensures.exact counted
+    ∙ ap (λ (r : Rules). limits_for r.grain c.layout.result.now (c.len.result + 3)) c.rules.ensures
+    ∙ ap (λ g. limits_for start.rules.grain g (c.len.result + 3)) c.layout.ensures.value
+    ∙ ap (limits_for start.rules.grain start.geometry) boots

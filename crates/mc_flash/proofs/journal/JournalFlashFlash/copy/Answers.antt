@@ -67,3 +67,9 @@ returns c =
     (write_back s t c.args.to c.args.offset c.args.len new c.put_copy.ensures.content n (omega (arith, can.1.inside, target)) blank)
     (copy_done f.slots.layout s t c.args.from c.args.to c.args.at c.args.offset c.args.len (omega (arith, can.0.inside, source)) blank c.put_copy.ensures.content)
     c.put_copy.ensures.layout c.self.invariant.ascend c.saturating_add-self-inside.ensures (omega (arith, f.entries.ok.0)) (omega (arith, c.self.invariant.few.saved))
+
+pub invariant_of-self : goal.invariant_of-self
+invariant_of-self c = absurd (omega (arith, c.in_err-push.ensures.full, c.if-len-self.false, c.self.invariant.room.entries))
+
+pub returns-in_err-push : goal.returns-in_err-push
+returns-in_err-push c = absurd (omega (arith, c.in_err-push.ensures.full, c.if-len-self.false, c.self.invariant.room.entries))

@@ -73,3 +73,14 @@ pub returns-in_err-extend_from_slice : goal.returns-in_err-extend_from_slice
 returns-in_err-extend_from_slice c =
     let size = c.sector-size.ensures.value ∙ ap (λ (x : Geometry). x.sector) c.layout.ensures in
     absurd (omega (arith, c.in_err-extend_from_slice.ensures.full, c.if-self-len.false, c.sector.ensures.len, size, c.self.invariant.room.saved))
+
+pub invariant_of-self : goal.invariant_of-self
+invariant_of-self c =
+    let size = c.sector-size.ensures.value ∙ ap (λ (x : Geometry). x.sector) c.layout.ensures in
+    absurd (omega (arith, c.in_err-extend_from_slice.ensures.full, c.if-self-len.false, c.sector.ensures.len, size, c.self.invariant.room.saved))
+
+pub returns-in_err-push : goal.returns-in_err-push
+returns-in_err-push c = absurd (omega (arith, c.in_err-push.ensures.full, c.if-len-self.false, c.self.invariant.room.entries))
+
+pub invariant_of-self-in_err-push : goal.invariant_of-self-in_err-push
+invariant_of-self-in_err-push c = absurd (omega (arith, c.in_err-push.ensures.full, c.if-len-self.false, c.self.invariant.room.entries))

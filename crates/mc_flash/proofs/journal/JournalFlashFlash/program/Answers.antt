@@ -54,3 +54,9 @@ returns c =
     (write_back s t c.args.slot c.args.offset (length c.args.bytes.now) c.args.bytes.now c.put.ensures.content refl (omega (arith, fits, long)) blank)
     (program_done f.slots.layout s t c.args.slot c.args.offset c.args.bytes.now blank c.put.ensures.content) c.put.ensures.layout c.self.invariant.ascend
     c.saturating_add-self-inside.ensures (omega (arith, f.entries.ok.0)) (omega (arith, c.self.invariant.few.saved))
+
+pub invariant_of-self : goal.invariant_of-self
+invariant_of-self c = absurd (omega (arith, c.in_err-push.ensures.full, c.if-len-self.false, c.self.invariant.room.entries))
+
+pub returns-in_err-push : goal.returns-in_err-push
+returns-in_err-push c = absurd (omega (arith, c.in_err-push.ensures.full, c.if-len-self.false, c.self.invariant.room.entries))
