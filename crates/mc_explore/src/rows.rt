@@ -92,8 +92,9 @@ impl<F: Flash + Drop> Rows<F> {
         requires none { at_cuts.outcomes.items ≡ [] }
         ensures { result ≡ record { walk = walk; phase = Phase.Fresh; last = [] } }
     {
+        let tour = Tour::fresh(walk);
         Rows {
-            tour: Tour::fresh(walk),
+            tour,
             path: Schedule::new(),
             at_cuts,
             last_cuts: None,
