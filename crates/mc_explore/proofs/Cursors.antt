@@ -2,7 +2,7 @@
 use Rattle.std.specs.Prelude.{◌≡◌, ◌≢◌, IsSomeAnd, ℕ, suc, ◌*◌, ◌/◌, ◌%◌, ◌<◌, ◌≤◌, List, [], ◌∷◌, ◌++◌, length, slice_index, Option, Some, None, decimal, Result, Ok, Err, MatchResult, true, false}
 use Rattle.std.specs.Prelude.{is_err, refl}
 use Rattle.std.specs.Str.Parse.{ParsesUnsigned}
-use Rattle.std.proofs.Common.{arith, sym, ap, ◌∙◌}
+use Rattle.std.proofs.Common.{append_assoc, arith, sym, ap, ◌∙◌}
 use Rattle.std.proofs.lemmas.Fmt.{parse-decimal}
 use Rattle.hex.specs.Hex.{IsBytes, decode_sized, encode_lower, encode_with, hex_digit_value, lower_digits}
 use Rattle.hex.specs.declared.error.FromHexError.{FromHexError}
@@ -15,6 +15,12 @@ use Rattle.mc_explore.specs.declared.cursor_fields.StartField.{StartField}
 use Rattle.mc_output.specs.facts.Parting.{Lacks, parted, one_piece, one_part, no_part, lacks_decimal}
 use Rattle.std.specs.Borrow.{Bor}
 use Rattle.std.proofs.lemmas.Str.Pattern.{IsSplitOnceResult}
+
+-- Two fields of a text, and what follows them.
+pub two_fields : (text a rest b rest' a' b' : List ℕ) → text ≡ a ++ 58 ∷ rest → rest ≡ b ++ 58 ∷ rest' → a ≡ a' → b ≡ b' → text ≡ (a' ++ (58 ∷ (b' ++ (58 ∷ [])))) ++ rest'
+two_fields text a rest b rest' a' b' first second is is' =
+    let fields : a ++ (58 ∷ (b ++ (58 ∷ rest'))) ≡ a' ++ (58 ∷ (b' ++ (58 ∷ rest'))) = ap (λ x. x ++ (58 ∷ (b ++ (58 ∷ rest')))) is ∙ ap (λ x. a' ++ (58 ∷ (x ++ (58 ∷ rest')))) is' in
+    first ∙ ap (λ r. a ++ (58 ∷ r)) second ∙ fields ∙ simp append_assoc
 
 -- ---- numbers and digits
 

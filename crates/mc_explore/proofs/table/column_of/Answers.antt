@@ -5,6 +5,7 @@ use Rattle.mc_explore.specs.Table.{IsLevel, weigh, weigh_fewer}
 use Rattle.mc_explore.specs.declared.census.Census.{Census}
 use Rattle.mc_explore.proofs.Tables.{entry_is, more_cut_off}
 use Rattle.mc_explore.proofs.table.column_of.Goals as goal
+use Rattle.mc_explore.specs.Totals.{no_totals}
 use Rattle.mc_boot.specs.PowerOn.{power_on}
 
 pub loop-fewer-preserved : goal.loop-fewer-preserved
@@ -47,3 +48,28 @@ returns c = λ r g s own positions some all.
       omega (arith, ap length pushed, length-append old (one ∷ []), i.many, c.loop-fewer-test.false, c.loop-fewer.auto.fewer-end),
       more_cut_off (λ k. weigh r g k s) old _ one c.loop-fewer.fewer pushed i.many (i.column r g s own positions some all) is,
     )
+
+pub loop-position-init : goal.loop-position-init
+loop-position-init c =
+    let none = ap length c.new-level.ensures.items in
+    record { many = none; none = λ i few. absurd (omega (arith, few, none)) }
+
+pub loop-position-preserved : goal.loop-position-preserved
+loop-position-preserved c =
+    let i = c.loop-position.invariant in
+    let old : List Census = c.loop-position.level.items in
+    let pushed : c.push.new.self.items ≡ old ++ c.new.result ∷ [] = c.in_ok-push.ensures.items in
+    record {
+      many = omega (arith, ap length pushed, length-append old (c.new.result ∷ []), i.many);
+      none = more_cut_off (λ k. no_totals) old _ c.new.result c.loop-position._position pushed i.many i.none c.new.ensures;
+    }
+
+pub loop-fewer-init : goal.loop-fewer-init
+loop-fewer-init c =
+    let none = ap length c.new-column.ensures.items in
+    let i = c.loop-position.invariant in
+    record {
+      many = none;
+      column = λ r g s own positions some all i few. absurd (omega (arith, few, none));
+      level = λ r g s own positions some all. (omega (arith, i.many, c.loop-position-test.false, c.loop-position.auto._position-end, all), i.none);
+    }

@@ -1,5 +1,5 @@
 use Rattle.mc_explore.specs.Start.{begun}
-use Rattle.std.proofs.Common.{arith, refl, ap, ◌∙◌}
+use Rattle.std.proofs.Common.{arith, refl, sym, ap, ◌∙◌}
 use Rattle.mc_explore.specs.Rowing.{Rowed, position_in}
 use Rattle.mc_explore.specs.View.{Followed, state_of}
 use Rattle.mc_explore.proofs.Going.{behind_it, followed, listed, not_listed, resumed}
@@ -31,3 +31,26 @@ returns-clause-resumes g c =
 
 pub returns-clause-applied : goal.returns-clause-applied
 returns-clause-applied g c = omega (arith, ap (λ (t : Rowed). t.walk.seen.usage.applied) c.behind.ensures, (there g (goal.at.returns-clause-applied g c).In_ok-at_cuts).applied)
+
+pub begin-requires : goal.begin-requires
+begin-requires g c = c.in_ok-walk.ensures.loaded.fresh
+
+pub follow-requires : goal.follow-requires
+follow-requires g c = c.in_ok-begin.ensures.begins.stands
+
+pub behind-requires-clause-stands : goal.behind-requires-clause-stands
+behind-requires-clause-stands g c = (there g (goal.at.behind-requires-clause-stands g c).In_ok-at_cuts).stands
+
+pub behind-requires-clause-path : goal.behind-requires-clause-path
+behind-requires-clause-path g c = sym (there g (goal.at.behind-requires-clause-path g c).In_ok-at_cuts).path_is
+
+pub behind-requires-clause-few : goal.behind-requires-clause-few
+behind-requires-clause-few g c = rw (there g (goal.at.behind-requires-clause-few g c).In_ok-at_cuts).bound_is c.requires
+
+pub behind-requires-clause-none : goal.behind-requires-clause-none
+behind-requires-clause-none g c = c.in_ok-at_cuts.ensures
+
+pub returns-clause-exact : goal.returns-clause-exact
+returns-clause-exact g c = λ counts.
+    ap (λ (t : Rowed). t.walk.seen.usage.limits) c.behind.ensures ∙ c.in_ok-follow.ensures.spends.limits ∙ c.in_ok-begin.ensures.spends.limits
+    ∙ c.in_ok-walk.ensures.exact counts
