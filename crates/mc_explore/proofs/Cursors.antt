@@ -1,5 +1,5 @@
 -- How the text of a cursor is taken apart.
-use Rattle.std.specs.Prelude.{◌≡◌, ◌≢◌, IsSomeAnd, ℕ, suc, ◌*◌, ◌/◌, ◌%◌, ◌<◌, ◌≤◌, List, [], ◌∷◌, ◌++◌, length, slice_index, Option, Some, None, decimal, Result, Ok, Err, MatchResult, true, false}
+use Rattle.std.specs.Prelude.{◌≡◌, ◌≢◌, IfSome, IsSomeAnd, ℕ, suc, ◌*◌, ◌/◌, ◌%◌, ◌<◌, ◌≤◌, List, [], ◌∷◌, ◌++◌, length, slice_index, Option, Some, None, decimal, Result, Ok, Err, MatchResult, true, false}
 use Rattle.std.specs.Prelude.{is_err, refl}
 use Rattle.std.specs.Str.Parse.{ParsesUnsigned}
 use Rattle.std.proofs.Common.{append_assoc, arith, sym, ap, ◌∙◌}
@@ -77,6 +77,10 @@ field_read text field rest None split lacks is = no_part 58 text field rest (one
 field_read text field rest (Some (a, b)) split lacks is =
     let p = parted 58 (omega arith) text (Some (a, b)) split a b refl in
     one_part 58 a.now field b.now rest p.lacks lacks (sym p.parts ∙ is)
+
+pub field_there : (text : List ℕ) (r : Option (Bor (List ℕ) × Bor (List ℕ))) → IsSplitOnceResult 58 text r → IfSome r (λ found. text ≡ found.0.now ++ 58 ∷ found.1.now)
+field_there text None split = tt
+field_there text (Some (a, b)) split = (parted 58 (omega arith) text (Some (a, b)) split a b refl).parts
 
 pub lacks_bound : (n : ℕ) → n ≤ 16 → Lacks 58 (decimal n)
 lacks_bound n few = lacks_decimal 58 colon_no_digit n (omega (arith, few))

@@ -11,3 +11,12 @@ pub returns-clause-followed : goal.returns-clause-followed
 returns-clause-followed g c =
     followed _ _ _ _ _ _ _ _ c.requires.loaded c.in_ok-begin.ensures.begins c.in_ok-follow.field-0 c.if-not-branch.false c.in_ok-follow.ensures.step c.in_ok-begin.ensures.spends
     c.in_ok-follow.ensures.spends
+
+pub begin-requires : goal.begin-requires
+begin-requires g c = c.requires.loaded.fresh
+
+pub follow-requires : goal.follow-requires
+follow-requires g c = c.in_ok-begin.ensures.begins.stands
+
+pub returns-clause-told : goal.returns-clause-told
+returns-clause-told g c = c.told-told.ensures

@@ -9,3 +9,6 @@ returns-clause-cuts g c =
     last_cuts_there c.args.walk.now c.in_ok-step.step.now c.told-told.result.now c.args.self.now.of c.args.path.now c.in_ok-of.field-0-0.now c.in_ok-step.ensures c.told-told.ensures c.requires.path
     (rw (sym of) at c.in_ok-of.ensures.cases.0) outcomes.items c.in_ok-rejoin.rejoin (rw c.flash.ensures at c.in_ok-rejoin.ensures)
     (omega (arith, c.len.ensures, c.if-len-whole.false, outcomes.ok.0)) (omega (arith, c.if-count-eq0.false)) (search rules)
+
+pub last_step-requires : goal.last_step-requires
+last_step-requires g c = c.requires.stands
