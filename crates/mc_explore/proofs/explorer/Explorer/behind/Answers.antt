@@ -13,6 +13,12 @@ returns-then-not-branch-clause-resumes g c = (
   not_listed _ _ _ _ _ _ _ _ c.in_ok-walk.ensures.loaded c.in_ok-begin.ensures.begins c.in_ok-follow.field-0 c.if-not-branch.true (rw c.cuts-cuts.ensures.value at c.in_ok-follow.ensures.step),
 )
 
+pub returns-then-not-branch-clause-applied : goal.returns-then-not-branch-clause-applied
+returns-then-not-branch-clause-applied g c = tt
+
+pub returns-then-not-branch-clause-exact : goal.returns-then-not-branch-clause-exact
+returns-then-not-branch-clause-exact g c = tt
+
 there : (g : Over) (c : In_ok-at_cuts g) → Followed g.F.Flash.counted (begun c.args.start.now) c.args.bound c.args.last.now c.follow.new.self
 there g c =
     followed _ _ _ _ _ _ _ _ c.in_ok-walk.ensures.loaded c.in_ok-begin.ensures.begins c.in_ok-follow.field-0 c.if-not-branch.false
