@@ -3,6 +3,16 @@ use Rattle.mc_boot.proofs.Can.{slot_small}
 use Rattle.mc_boot.proofs.Grains.{get_unit, unit_within}
 use Rattle.mc_boot.proofs.writes.write_op.Goals as goal
 
+pub overflow_mul-at : goal.overflow_mul-at
+overflow_mul-at c =
+    let within = unit_within _ _ c.args.index (rw c.in-Unit.is at c.requires.below) in
+    rw c.unit-unit.ensures.value (omega (arith, within, c.requires.short.1))
+
+pub overflow_add-at : goal.overflow_add-at
+overflow_add-at c =
+    let within = unit_within _ _ c.args.index (rw c.in-Unit.is at c.requires.below) in
+    rw c.unit-unit.ensures.value (omega (arith, within, c.requires.short.1))
+
 pub overflow_add-result : goal.overflow_add-result
 overflow_add-result c =
     let small = slot_small c.args.layout.now c.args.slot c.unit-unit.ensures.valid in
