@@ -417,8 +417,3 @@ ops_bounded x k ok =
 
 pub ops_few : (x : PowerOn) (k : ℕ) → IsLayout x.geometry → length (take k (ops_of x)) ≤ most_operations x.rules.grain x.geometry
 ops_few x k ok = (ops_bounded x k ok).few
-
--- And so does a boot on its way, with what it has done.
-left_over : (b : Bool) (rest : List Op) (P : List Op → Type 0) → P [] → P rest → P (if b then [] else rest)
-left_over true rest P at_end on_way = at_end
-left_over false rest P at_end on_way = on_way

@@ -12,5 +12,5 @@ returns-else-index-count-clause-at c =
 pub write_op-requires-clause-short : goal.write_op-requires-clause-short
 write_op-requires-clause-short c =
     let len : length c.bytes.result.now ≡ max c.args.layout.now.unit 4 =
-        rw (c.bytes.ensures.value, c.size_bytes-bytes.ensures) (length-size_bytes c.args.layout.now c.args.size) in
+    rw (c.bytes.ensures.value, c.size_bytes-bytes.ensures) (length-size_bytes c.args.layout.now c.args.size) in
     (omega (arith, len), c.bytes.ensures.few)
