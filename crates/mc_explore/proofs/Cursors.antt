@@ -1,6 +1,6 @@
 -- How the text of a cursor is taken apart.
-use Rattle.std.specs.Prelude.{◌≡◌, ◌≢◌, IfSome, IsSomeAnd, ℕ, suc, ◌*◌, ◌/◌, ◌%◌, ◌<◌, ◌≤◌, List, [], ◌∷◌, ◌++◌, length, slice_index, Option, Some, None, decimal, Result, Ok, Err, MatchResult, true, false}
-use Rattle.std.specs.Prelude.{is_err, refl}
+use Rattle.std.specs.Prelude.{◌≡◌, ◌≢◌, IsSomeAnd, ℕ, suc, ◌*◌, ◌/◌, ◌%◌, ◌<◌, ◌≤◌, List, [], ◌∷◌, ◌++◌, length, slice_index, Option, Some, None, decimal, Result, Ok, Err, MatchResult, true, false}
+use Rattle.std.specs.Prelude.{IfSome, is_err, refl}
 use Rattle.std.specs.Str.Parse.{ParsesUnsigned}
 use Rattle.std.proofs.Common.{append_assoc, arith, sym, ap, ◌∙◌}
 use Rattle.std.proofs.lemmas.Fmt.{parse-decimal}
