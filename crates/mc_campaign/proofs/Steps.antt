@@ -19,18 +19,34 @@ use Rattle.mc_boot.specs.Runs.{left_by, ops_of}
 use Rattle.mc_boot.specs.declared.boot.Boot.{Boot}
 use Rattle.mc_walk.specs.Kind.{IsAt, IsChild, TellsChild}
 use Rattle.mc_explore.specs.Boots.{at_cut}
-use Rattle.mc_explore.specs.Once.{CanPass, IsTold, LeavesAlike, once}
+use Rattle.mc_explore.specs.Once.{CanPass, CountsAtMost, IsTold, LeavesAlike, most_of, once}
 use Rattle.mc_explore.specs.facts.Occurring.{at_zero}
 use Rattle.mc_explore.specs.facts.Telling.{first_left, first_on, width_is}
 use Rattle.mc_explore.specs.declared.once.Told.{Told}
 use Rattle.mc_campaign.specs.Boots.{second_start}
-use Rattle.mc_campaign.specs.Twice.{AreTold, content_at, later_from, later_number, left_of_way, owed_at, twice_kind}
+use Rattle.mc_campaign.specs.Twice.{AreTold, content_at, later_from, later_number, left_of_way, most_of_both, owed_at, twice_kind}
 use Rattle.mc_campaign.specs.declared.campaign.Round.TheVariants as rounds_of
 use Rattle.mc_campaign.specs.declared.rounds.Both.{Both}
 use Rattle.mc_campaign.specs.declared.rounds.OnWay.{OnWay}
 use Rattle.mc_campaign.specs.declared.rounds.OnWay.TheVariants as ways
 use Rattle.mc_campaign.proofs.Ways.{at_begin, at_first, at_next, between, between_left, child, first_at, first_child, later_at, later_child, later_early, same_start, width}
 use Rattle.mc_boot.specs.PowerOn.{power_on}
+
+-- ---- the room of two rounds
+
+-- Where the first round is over there is room for the write between them, and then for the second.
+module _ (r : Rules) (g : Geometry) (old mid : Seen) (room : Allows (most_of_both r g) old) (counts : CountsAtMost (most_of r g) old mid) (limits : mid.usage.limits ≡ old.usage.limits) where
+  pub write_room : Allows one_write mid
+  write_room = record {
+    entries = omega (arith, room.entries, counts.counts.entries, ap (λ (l : Limits). l.entries) limits);
+    saved = omega (arith, room.saved, counts.counts.saved, ap (λ (l : Limits). l.saved) limits);
+  }
+
+  pub second_room : (new : Seen) → LeaveRoom new.usage.counts no_counts (plus mid.usage.counts one_write) → new.usage.limits ≡ mid.usage.limits → Allows (most_of r g) new
+  second_room new write same = record {
+    entries = omega (arith, room.entries, counts.counts.entries, write.entries, ap (λ (l : Limits). l.entries) limits, ap (λ (l : Limits). l.entries) same);
+    saved = omega (arith, room.saved, counts.counts.saved, write.saved, ap (λ (l : Limits). l.saved) limits, ap (λ (l : Limits). l.saved) same);
+  }
 
 module _ (r : Rules) (g : Geometry) (confirms : Bool) where
   -- ---- how many children

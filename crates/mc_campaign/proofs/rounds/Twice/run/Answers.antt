@@ -1,9 +1,8 @@
-use Rattle.std.proofs.Common.{◌+◌, ap, arith}
-use Rattle.mc_flash.specs.Usage.{Limits, most_operations}
-use Rattle.mc_flash.specs.Spends.{Allows}
-use Rattle.mc_flash.specs.facts.Spends.{spent_both}
-use Rattle.mc_boot.specs.Confirm.{one_write}
-use Rattle.mc_campaign.proofs.Steps.{both_told}
+use Rattle.std.proofs.Common.{◌+◌}
+use Rattle.std.proofs.lemmas.Result.{err_from_is_err_and}
+use Rattle.mc_flash.specs.Usage.{most_operations}
+use Rattle.mc_flash.specs.facts.Spends.{ran_out_later, spent_both}
+use Rattle.mc_campaign.proofs.Steps.{both_told, second_room, write_room}
 use Rattle.mc_campaign.proofs.rounds.Twice.run.Goals as goal
 
 pub returns-clause-told : goal.returns-clause-told
@@ -17,12 +16,31 @@ pub returns-clause-spends : goal.returns-clause-spends
 returns-clause-spends g c =
     let once = c.args.self.now.once in
     let n = most_operations once.rules.grain once.layout in
+    let h = c.in_ok-first.ensures in
+    let write = c.in_ok-go_between.ensures.spends (write_room once.rules once.layout _ _ c.requires.room h.counts h.spends.limits) in
+    spent_both n (1 + n) _ _ _ h.spends (spent_both 1 n _ _ (g.F.Flash.seen c.run-2.new.flash) write c.in_ok-second.ensures.spends)
+
+pub run-requires-2-clause-room : goal.run-requires-2-clause-room
+run-requires-2-clause-room g c =
+    let once = c.args.self.now.once in
+    let h = c.in_ok-first.ensures in
+    let between = c.in_ok-go_between.ensures in
     let old = g.F.Flash.seen c.args.flash.now in
     let mid = g.F.Flash.seen c.run.new.flash in
+    let write = between.spends (write_room once.rules once.layout old mid c.requires.room h.counts h.spends.limits) in
+    second_room once.rules once.layout old mid c.requires.room h.counts h.spends.limits (g.F.Flash.seen c.go_between.new.flash) between.counts write.limits
+
+pub returns-in_err-go_between-clause-spends : goal.returns-in_err-go_between-clause-spends
+returns-in_err-go_between-clause-spends g c =
+    let once = c.args.self.now.once in
     let h = c.in_ok-first.ensures in
-    let room : Allows one_write mid = record {
-      entries = omega (arith, c.requires.room.entries, h.counts.counts.entries, ap (λ (l : Limits). l.entries) h.spends.limits);
-      saved = omega (arith, c.requires.room.saved, h.counts.counts.saved, ap (λ (l : Limits). l.saved) h.spends.limits);
-    } in
-    spent_both n (1 + n) old mid (g.F.Flash.seen c.run-2.new.flash) h.spends
-    (spent_both 1 n mid (g.F.Flash.seen c.go_between.new.flash) (g.F.Flash.seen c.run-2.new.flash) (c.in_ok-go_between.ensures.spends room) c.in_ok-second.ensures.spends)
+    let p = err_from_is_err_and c.from_residual-in_err-go_between.result c.from_residual-in_err-go_between.ensures.1 in
+    rw p.1 (ran_out_later _ _ _ _ h.spends (c.in_err-go_between.ensures.spends (write_room once.rules once.layout _ _ c.requires.room h.counts h.spends.limits)))
+
+pub returns-in_err-second-clause-spends : goal.returns-in_err-second-clause-spends
+returns-in_err-second-clause-spends g c =
+    let once = c.args.self.now.once in
+    let h = c.in_ok-first.ensures in
+    let p = err_from_is_err_and c.from_residual-in_err-second.result c.from_residual-in_err-second.ensures.1 in
+    let write = c.in_ok-go_between.ensures.spends (write_room once.rules once.layout _ _ c.requires.room h.counts h.spends.limits) in
+    rw p.1 (ran_out_later _ _ _ _ h.spends (ran_out_later _ _ _ _ write c.in_err-second.ensures.spends))
