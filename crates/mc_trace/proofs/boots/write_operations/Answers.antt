@@ -1,4 +1,5 @@
-use Rattle.std.proofs.Common.{rules, ◌<◌, sym, ◌∙◌, inl, IfSome}
+use Rattle.std.specs.Prelude.{Err}
+use Rattle.std.proofs.Common.{rules, ◌<◌, sym, ap, ◌∙◌, inl, IfSome}
 use Rattle.std.proofs.lemmas.Result.{err_from_is_err_and}
 use Rattle.mc_output.specs.facts.Fronts.{out_all, out_stops}
 use Rattle.mc_boot.specs.Boot.{progress, to_come}
@@ -54,11 +55,12 @@ operations-preserved g c =
     let p = progress c.operations.boot in
     let q = progress c.step.new.self in
     let going : IfSome c.args.until (λ m. c.operations.boot.done < m) = search rules in
-    let lines = refused now new p q c.in-Some.op c.args.until (sym c.peek.ensures.first ∙ c.in-Some.is) going c.step.result (search rules) e.step in
+    let not = c.in-Err-NotErased.is ∙ ap (λ e. Err e) c.in-Err-NotErased.field-0-is in
+    let lines = refused now new p q c.in-Some.op c.args.until (sym c.peek.ensures.first ∙ c.in-Some.is) going c.step.result not e.step in
     record {
       out = refusal_out _ _ _ _ _ _ _ _ _ _ _ i.place c.count.ensures i.out lines c.in_ok-write_line-in-Err-NotErased.ensures.whole;
       goes = goes_up_to c.args.until c.args.boot.now old c.operations.boot now c.step.new.self new i.goes (record { come = e.come; layout = e.layout; whole = e.whole; keeps = e.keeps })
-          (none_more p q now new c.args.until c.step.result (search rules) e.step going);
+          (none_more p q now new c.args.until c.step.result not e.step going);
       place = i.place ∙ sym e.keeps.geometry;
     }
 
@@ -70,7 +72,8 @@ returns-in_err-write_line-in-Err-NotErased-clause-told g c =
     let p = progress c.operations.boot in
     let q = progress c.step.new.self in
     let going : IfSome c.args.until (λ m. c.operations.boot.done < m) = search rules in
-    let lines = refused now new p q c.in-Some.op c.args.until (sym c.peek.ensures.first ∙ c.in-Some.is) going c.step.result (search rules) c.step.ensures.step in
+    let not = c.in-Err-NotErased.is ∙ ap (λ e. Err e) c.in-Err-NotErased.field-0-is in
+    let lines = refused now new p q c.in-Some.op c.args.until (sym c.peek.ensures.first ∙ c.in-Some.is) going c.step.result not c.step.ensures.step in
     let failed = err_from_is_err_and c.from_residual-in_err-write_line-in-Err-NotErased.result c.from_residual-in_err-write_line-in-Err-NotErased.ensures.1 in
     rw failed.1 (refusal_begun _ _ _ _ _ _ _ _ _ _ _ i.place c.count.ensures i.out lines c.in_err-write_line-in-Err-NotErased.ensures.front)
 
