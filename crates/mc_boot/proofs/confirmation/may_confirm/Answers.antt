@@ -2,8 +2,12 @@ use Rattle.std.proofs.Common.{◌≡◌, ℕ, ◌+◌, ◌^◌, ◌≤◌, Fits,
 use Rattle.mc_flash.specs.Content.{size_of}
 use Rattle.mc_flash.specs.facts.Layouts.{small_unit}
 use Rattle.mc_flash.specs.declared.op.Slot.TheVariants.{Primary}
+use Rattle.mc_trailer.specs.Fields.{trailer_of}
+use Rattle.mc_trailer.specs.declared.trailer.Magic.TheVariants as magics
+use Rattle.mc_trailer.specs.declared.trailer.Flag.TheVariants as flags
 use Rattle.mc_boot.proofs.Can.{slot_small}
 use Rattle.mc_boot.proofs.confirmation.may_confirm.Goals as goal
+use Rattle.mc_boot.proofs.confirmation.may_confirm.Goals.{in-Good, in_default, then-matches+in-Set, then-matches+in_default-matches, else-matches}
 
 fits : (at e size u : ℕ) → at + e ≡ size → size ≤ 2 ^ 24 → u ≤ 8 → (Fits w64 at) × (Fits w64 u) × (Fits w64 (at + u)) × (at ≤ at + u)
 fits at e size u inside small short = (omega arith, omega arith, omega arith, omega arith)
@@ -30,3 +34,19 @@ returns-then-matches-2-clause-valid g c = rw c.layout.ensures at c.place-at.ensu
 
 pub returns-else-matches-2-clause-valid : goal.returns-else-matches-2-clause-valid
 returns-else-matches-2-clause-valid g c = rw c.layout.ensures at c.place-at.ensures.valid
+
+pub returns-then-matches-2-clause-may : goal.returns-then-matches-2-clause-may
+returns-then-matches-2-clause-may g c =
+    let seen = g.F.Flash.seen c.args.flash.now in
+    let read = trailer_of seen.geometry seen.content Primary in
+    elim c.if-matches.branch [
+      | then-matches+in-Set w ↦ elim c.match-matches.branch [
+        | in-Good v ↦
+            (let good : read.magic ≡ magics.Good = cc in
+            let set : read.copy_done ≡ flags.Set = cc in
+            rw (good, set) (rw (c.place-at.ensures.place, c.unit-unit.ensures.value, c.layout.ensures, c.layout-2.ensures, c.read.ensures.value) at c.blank.ensures))
+        | in_default v ↦ absurd cc
+      ]
+      | then-matches+in_default-matches w ↦ absurd cc
+      | else-matches w ↦ absurd cc
+    ]

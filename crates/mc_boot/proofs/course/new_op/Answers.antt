@@ -1,4 +1,4 @@
-use Rattle.std.proofs.Common.{◌≡◌, ◌-◌, ◌++◌, true, sym, ◌∙◌, arith}
+use Rattle.std.proofs.Common.{◌≡◌, ◌-◌, ◌++◌, true, false, sym, ◌∙◌, arith}
 use Rattle.mc_flash.specs.Geometry.{trailer_sectors}
 use Rattle.mc_flash.specs.declared.op.Slot.TheVariants.{Secondary}
 use Rattle.mc_boot.specs.Course.{swap_list}
@@ -36,3 +36,8 @@ returns-clause-at c =
     (rw c.trailer_sectors-count.ensures.value at c.if-index-count.false)
     ∙ get_behind (preparation_writes c.args.grain c.args.layout.now c.args.size) (swap_list c.args.grain c.args.layout.now c.args.kind c.args.size c.args.sectors)
     (c.args.index - trailer_sectors c.args.layout.now) (c.args.index - trailer_sectors c.args.layout.now - c.preparation_len-len.result) (omega (arith, len, past))))
+
+pub returns-then-not-is_revert-clause-at : goal.returns-then-not-is_revert-clause-at
+returns-then-not-is_revert-clause-at c =
+    let plain : is_revert c.args.kind ≡ false = cc in
+    rw plain c.swap_op.ensures.at

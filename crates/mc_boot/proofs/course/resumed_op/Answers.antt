@@ -16,3 +16,6 @@ returns-clause-at c =
     ((rw c.trailer_sectors-count.ensures.value at c.from_transfer_op-2.ensures.at)
     ∙ sym (get_after_erases c.args.layout.now Secondary (from_transfer c.args.layout.now c.args.sectors c.args.first c.args.image_ok) c.args.index
     (rw c.trailer_sectors-count.ensures.value at c.if-index-count.false)))
+
+pub returns-then-not-erases-clause-at : goal.returns-then-not-erases-clause-at
+returns-then-not-erases-clause-at c = rw c.if-not-erases.true c.from_transfer_op.ensures.at

@@ -1,8 +1,8 @@
-use Rattle.std.proofs.Common.{◌≡◌, Err}
+use Rattle.std.proofs.Common.{◌≡◌, Err, refl, ◌∙◌}
 use Rattle.mc_flash.specs.declared.flash.FlashError.TheVariants as errors
 use Rattle.mc_boot.specs.Boot.{progress, to_come}
 use Rattle.mc_boot.specs.Goes.{goes_further}
-use Rattle.mc_boot.specs.facts.Steps.{counts_on_both, none_first, step_allows, step_counts, step_spends, step_spends_both}
+use Rattle.mc_boot.specs.facts.Steps.{counts_on_both, none_first, step_allows, step_counts, step_ran_out, step_spends, step_spends_both}
 use Rattle.mc_boot.proofs.boot.Boot.finish.Goals as goal
 
 pub steps-preserved-in-Ok-1 : goal.steps-preserved-in-Ok-1
@@ -33,3 +33,13 @@ returns-clause-goes g c = c.steps.invariant.goes
 
 pub returns-clause-counts : goal.returns-clause-counts
 returns-clause-counts g c = c.steps.invariant.counts
+
+pub returns-in-Err-Memory-clause-end : goal.returns-in-Err-Memory-clause-end
+returns-in-Err-Memory-clause-end g c = refl
+
+pub returns-in-Err-Memory-clause-spends : goal.returns-in-Err-Memory-clause-spends
+returns-in-Err-Memory-clause-spends g c =
+    let i = c.steps.invariant in
+    let seen = g.F.Flash.seen in
+    let out = step_ran_out (progress c.steps.self) (progress c.step.new.self) (seen c.steps.flash) (seen c.step.new.flash) c.step.result (cc) c.step.ensures.step i.room in
+    record { counted = rw (← i.spends.limits) out.counted; limits = out.limits ∙ i.spends.limits; failed = out.failed }
