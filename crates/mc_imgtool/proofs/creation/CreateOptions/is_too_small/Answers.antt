@@ -8,4 +8,5 @@ less slot trailer size fits = grind arith
 pub returns-else-slot-trailer : goal.returns-else-slot-trailer
 returns-else-slot-trailer c =
     let o = c.args.self.now in
-    rw (c.from-slot.ensures, c.from.ensures, c.from-2.ensures) (less c.args.slot (3 * o.max_sectors * o.align + 48) c.args.size (rw (c.from-slot.ensures, c.from.ensures, c.from-2.ensures) at c.if-slot-trailer.false))
+    let fits = rw (c.from-slot.ensures, c.from.ensures, c.from-2.ensures) at c.if-slot-trailer.false in
+    rw (c.from-slot.ensures, c.from.ensures, c.from-2.ensures) (less c.args.slot (3 * o.max_sectors * o.align + 48) c.args.size fits)
