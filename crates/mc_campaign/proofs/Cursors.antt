@@ -3,7 +3,7 @@ use Rattle.std.specs.Prelude.{◌≡◌, ℕ, Bool, true, false, List, ◌++◌,
 use Rattle.std.proofs.Common.{arith, rules, sym, ap, ◌∙◌}
 use Rattle.mc_output.specs.facts.Parting.{Lacks}
 use Rattle.mc_trailer.specs.declared.tables.Rules.{Rules}
-use Rattle.mc_explore.specs.declared.cursor_fields.StartField.{StartField}
+use Rattle.mc_start.specs.declared.cursor_fields.StartField.{StartField}
 use Rattle.mc_campaign.specs.CursorText.{choice_text}
 use Rattle.mc_campaign.specs.Places.{Places}
 use Rattle.mc_campaign.specs.declared.cursor.CampaignCursor.{CampaignCursor}

@@ -11,7 +11,7 @@ use Rattle.mc_flash.specs.declared.flash.Grain.TheVariants as grains
 use Rattle.mc_trailer.specs.declared.tables.Rules.{Rules}
 use Rattle.mc_walk.specs.Walks.{IsClear, IsFresh, IsOf, Walked, origin_of}
 use Rattle.mc_boot.specs.PowerOn.{PowerOn}
-use Rattle.mc_explore.specs.facts.Room.{limits_are}
+use Rattle.mc_start.specs.facts.Room.{limits_are}
 use Rattle.mc_campaign.specs.Places.{Places, no_places, pairs_of}
 use Rattle.mc_campaign.specs.Twice.{twice_kind}
 use Rattle.mc_campaign.specs.View.{IsLoaded, IsSound}

@@ -9,7 +9,7 @@ use Rattle.mc_tree.specs.facts.Lists.{at_front, front_or_behind, no_element, no_
 use Rattle.mc_output.specs.facts.Parting.{Lacks, lacks_both, lacks_decimal, no_dash, one_part}
 use Rattle.mc_output.specs.Joined.{joined}
 use Rattle.mc_output.specs.facts.Reading.{IsSpelling}
-use Rattle.mc_explore.specs.Texts.{schedule_text, IsSchedule}
+use Rattle.mc_start.specs.Texts.{schedule_text, IsSchedule}
 use Rattle.mc_campaign.specs.facts.Pairs.{pairs_length}
 use Rattle.mc_campaign.specs.Places.{Places, pairs_of}
 use Rattle.mc_campaign.specs.Texts.{campaign_text, cut_text, FitsCut, IsAdded, IsCampaign}

@@ -1,6 +1,6 @@
 -- Where to go on with an exploration of campaigns, and the first reason why a cursor does not serve.
 use Rattle.std.specs.Prelude.{◌≡◌, ◌≢◌, ◌⊎◌, ℕ, Bool}
-use Rattle.mc_explore.specs.Start.{start_digest}
+use Rattle.mc_start.specs.Start.{start_digest}
 use Rattle.mc_boot.specs.PowerOn.{PowerOn}
 use Rattle.mc_explore.specs.declared.error.ExploreError.{ExploreError}
 use Rattle.mc_explore.specs.declared.error.ExploreError.TheVariants as errors

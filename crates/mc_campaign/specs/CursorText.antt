@@ -1,7 +1,7 @@
 -- Where to go on with an exploration of campaigns, as text: this project's own.
 use Rattle.std.specs.Prelude.{◌≡◌, ℕ, Bool, true, false, List, ◌++◌, codes, Result, Ok, Err}
-use Rattle.mc_explore.specs.CursorFields.{rules_text, start_text, IsStartField}
-use Rattle.mc_explore.specs.declared.cursor.CursorError.{CursorError}
+use Rattle.mc_start.specs.CursorFields.{rules_text, start_text, IsStartField}
+use Rattle.mc_start.specs.declared.cursor.CursorError.{CursorError}
 use Rattle.mc_campaign.specs.Texts.{campaign_text, IsCampaign}
 use Rattle.mc_campaign.specs.declared.cursor.CampaignCursor.{CampaignCursor}
 

@@ -4,7 +4,7 @@ ghost use Rattle.mc_tree.specs.Paths.{After};
 ghost use Rattle.mc_tree.specs.Tree.{labelled};
 ghost use Rattle.mc_walk.specs.Walks.{root_of};
 ghost use Rattle.mc_flash.specs.Usage.{limits_for};
-ghost use Rattle.mc_explore.specs.Start.{begun};
+ghost use Rattle.mc_start.specs.Start.{begun};
 ghost use Rattle.mc_campaign.specs.Boots.{pairs_along};
 ghost use Rattle.mc_campaign.specs.Cursor.{cursor_of};
 ghost use Rattle.mc_campaign.specs.Explores.{Explores, row_cost};
@@ -44,7 +44,7 @@ pub struct CampaignExplorer<'a, F: Flash> {
 }
 
 impl<'a, F: Flash> Model for CampaignExplorer<'a, F> {
-    ghost use Rattle.mc_explore.specs.Start.{begun};
+    ghost use Rattle.mc_start.specs.Start.{begun};
     ghost use Rattle.mc_explore.specs.View.{IsDigestOf};
     ghost use Rattle.mc_walk.specs.Tours.{position_of};
     ghost use Rattle.mc_campaign.specs.State.{Explored};

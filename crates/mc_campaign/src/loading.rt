@@ -1,7 +1,7 @@
 //! The walk from a start through two rounds, the cursors of that start, and whether a cursor is one of them.
 ghost use Rattle.std.specs.Prelude.{◌≡◌, ◌+◌, ◌≤◌, true, IfOk, IfErr, OnOk};
 ghost use Rattle.mc_flash.specs.Usage.{limits_for};
-ghost use Rattle.mc_explore.specs.Start.{begun};
+ghost use Rattle.mc_start.specs.Start.{begun};
 ghost use Rattle.mc_campaign.specs.Cursor.{Names, Refuses, cursor_of};
 ghost use Rattle.mc_campaign.specs.View.{IsLoaded};
 

@@ -5,7 +5,7 @@ ghost use Rattle.mc_flash.specs.Usage.{limits_for};
 ghost use Rattle.mc_flash.specs.declared.op.Slot.TheVariants.{Primary, Secondary};
 ghost use Rattle.mc_boot.specs.Outcome.{shown};
 ghost use Rattle.mc_explore.specs.Replay as replays;
-ghost use Rattle.mc_explore.specs.Start.{begun};
+ghost use Rattle.mc_start.specs.Start.{begun};
 ghost use Rattle.mc_explore.specs.View.{begun_with};
 ghost use Rattle.mc_campaign.specs.Places.{pairs_of};
 ghost use Rattle.mc_campaign.specs.Replay.{AreReplayed, Refuses};

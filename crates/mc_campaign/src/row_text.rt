@@ -4,7 +4,7 @@ ghost use Rattle.mc_campaign.specs.RowText.{row_text};
 ghost use Rattle.mc_campaign.specs.State.{told};
 
 use crate::row::CampaignRow;
-use mc_explore::{Labels, Line, MOST_LINE};
+use mc_explore::{Labels, Line, MOST_LINE, put_outcome, put_slots};
 use std::fmt;
 
 /// The campaign; the result, the type and how many operations happened, of the boot that ends the first round and of the one that
@@ -29,10 +29,10 @@ impl CampaignRow {
     {
         self.campaign.put_into(line);
         line.put(" ");
-        line.put_outcome(&self.first);
+        put_outcome(line, &self.first);
         line.put(" ");
-        line.put_outcome(&self.second);
+        put_outcome(line, &self.second);
         line.put(" ");
-        line.put_slots(&self.second, labels);
+        put_slots(line, &self.second, labels);
     }
 }

@@ -8,10 +8,10 @@ use Rattle.mc_command.specs.Numbers.{TellsNumber, MayTellNumber, IsUnit}
 use Rattle.mc_command.specs.declared.numbers.NumberOption.TheVariants as numbers
 use Rattle.mc_flash.specs.Geometry.{Geometry}
 use Rattle.mc_flash.specs.declared.layout.LayoutError.{LayoutError}
-use Rattle.mc_explore.specs.CursorText.{cursor_text}
+use Rattle.mc_start.specs.CursorText.{cursor_text}
 use Rattle.mc_campaign.specs.CursorText as campaigns
 use Rattle.mc_campaign.specs.declared.cursor.CampaignCursor.{CampaignCursor}
-use Rattle.mc_explore.specs.Texts.{schedule_text}
+use Rattle.mc_start.specs.Texts.{schedule_text}
 use Rattle.mc_boot.specs.declared.kind.Kind.{Kind}
 use Rattle.mc_boot.specs.declared.kind.Kind.TheVariants as kinds
 use Rattle.mc_flash.specs.Texts.{grain_text}

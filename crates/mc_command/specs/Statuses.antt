@@ -3,8 +3,8 @@ use Rattle.std.specs.Prelude.{ℕ}
 use Rattle.mc_image.specs.declared.error.ImageError.TheVariants as image_errors
 use Rattle.mc_imgtool.specs.declared.error.ToolError.{ToolError}
 use Rattle.mc_imgtool.specs.declared.error.ToolError.TheVariants as tool_errors
-use Rattle.mc_explore.specs.declared.start.StartError.{StartError}
-use Rattle.mc_explore.specs.declared.start.StartError.TheVariants as start_errors
+use Rattle.mc_start.specs.declared.start.StartError.{StartError}
+use Rattle.mc_start.specs.declared.start.StartError.TheVariants as start_errors
 use Rattle.mc_explore.specs.declared.replaying.ReplayError.{ReplayError}
 use Rattle.mc_explore.specs.declared.replaying.ReplayError.TheVariants as replay_errors
 use Rattle.mc_explore.specs.declared.error.ExploreError.{ExploreError}

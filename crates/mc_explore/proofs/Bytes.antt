@@ -23,11 +23,11 @@ use Rattle.mc_trailer.specs.declared.tables.SwapType.TheVariants as types
 use Rattle.mc_boot.specs.Texts.{result_text}
 use Rattle.mc_boot.specs.declared.outcome.BootResult.{BootResult}
 use Rattle.mc_boot.specs.declared.outcome.BootResult.TheVariants as results
-use Rattle.mc_explore.specs.CursorText.{head_text, cursor_text}
+use Rattle.mc_start.specs.CursorText.{head_text, cursor_text}
 use Rattle.mc_explore.specs.RowText.{slot_text, row_text}
 use Rattle.mc_explore.specs.State.{Told}
-use Rattle.mc_explore.specs.Texts.{schedule_text}
-use Rattle.mc_explore.specs.declared.cursor.Cursor.{Cursor}
+use Rattle.mc_start.specs.Texts.{schedule_text}
+use Rattle.mc_start.specs.declared.cursor.Cursor.{Cursor}
 
 abbrev pub IsBetween : ℕ → ℕ → ℕ → Type 0
 IsBetween low high c = (low ≤ c) × (c ≤ high)

@@ -1,7 +1,8 @@
 -- Totals that are cut off, one after another.
 use Rattle.std.proofs.Common.{◌≡◌, ℕ, List, [], ◌∷◌, take, Option, Some, None, option_map, refl, ap, ◌∙◌, arith}
 use Rattle.std.proofs.lemmas.List.{take-take}
-use Rattle.mc_explore.specs.Totals.{Totals, cut_off, lowered, totals}
+use Rattle.mc_start.specs.Cuts.{lowered}
+use Rattle.mc_explore.specs.Totals.{Totals, cut_off, totals}
 use Rattle.mc_explore.specs.declared.census.Census.{Census}
 
 -- The census with another first schedule.

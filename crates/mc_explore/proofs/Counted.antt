@@ -4,10 +4,11 @@ use Rattle.std.proofs.lemmas.List.{length-append}
 use Rattle.mc_tree.specs.Paths.{After}
 use Rattle.mc_explore.specs.Chain.{last_schedule}
 use Rattle.mc_explore.specs.Pages.{FindsBefore}
-use Rattle.mc_explore.specs.Rest.{cursor_of, schedules}
+use Rattle.mc_explore.specs.Rest.{schedules}
+use Rattle.mc_start.specs.CursorText.{cursor_of}
 use Rattle.mc_explore.specs.State.{State, Told}
 use Rattle.mc_explore.specs.Survey.{Surveys, SurveysUntil, tally_of, tally_so_far}
-use Rattle.mc_explore.specs.declared.cursor.Cursor.{Cursor}
+use Rattle.mc_start.specs.declared.cursor.Cursor.{Cursor}
 use Rattle.mc_explore.specs.declared.surveying.Tally.{Tally}
 use Rattle.mc_explore.specs.facts.Listed.{schedules_are_lawful}
 use Rattle.mc_explore.specs.facts.Whole.{whole_taken}

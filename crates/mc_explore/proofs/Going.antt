@@ -28,7 +28,7 @@ use Rattle.mc_explore.specs.Replay.{CannotOccurAt, IsReplayed}
 use Rattle.mc_explore.specs.Resume.{behind}
 use Rattle.mc_explore.specs.Rowing.{Rowed, position_in}
 use Rattle.mc_explore.specs.Schedules.{IsMember, CanOccur}
-use Rattle.mc_explore.specs.Start.{start_digest}
+use Rattle.mc_start.specs.Start.{start_digest}
 use Rattle.mc_boot.specs.PowerOn.{PowerOn, again, power_on}
 use Rattle.mc_explore.specs.State.{State}
 use Rattle.mc_walk.specs.Tours.{position_of}

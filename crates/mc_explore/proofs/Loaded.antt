@@ -1,24 +1,16 @@
 -- A flash that was just loaded.
-use Rattle.std.specs.Prelude.{◌≡◌, ℕ, ◌+◌, ◌*◌, ◌≤◌, Bool, List, [], length, Some}
-use Rattle.std.proofs.Common.{arith, sym, ap, ◌∙◌}
+use Rattle.std.specs.Prelude.{◌≡◌, ℕ, ◌+◌, ◌*◌, ◌≤◌, Bool, List, length}
+use Rattle.std.proofs.Common.{arith, ap}
 use Rattle.std.proofs.Math.Nat.{mul-le-mul_right}
 use Rattle.mc_flash.specs.Content.{Content}
 use Rattle.mc_flash.specs.Geometry.{Geometry}
 use Rattle.mc_flash.specs.Usage.{Usage, most_operations, most_saved}
 use Rattle.mc_flash.specs.Seen.{Seen, Loads}
-use Rattle.mc_flash.specs.Spends.{Allows}
 use Rattle.mc_trailer.specs.declared.tables.Rules.{Rules}
-use Rattle.mc_boot.specs.Boot.{Progress}
-use Rattle.mc_boot.specs.Bounds.{left_of}
-use Rattle.mc_boot.specs.Plan.{plain}
-use Rattle.mc_boot.specs.Run.{HasCome}
-use Rattle.mc_boot.specs.facts.Run.{come_left}
-use Rattle.mc_boot.specs.Runs.{left_by}
 use Rattle.mc_walk.specs.Walks.{IsClear}
 use Rattle.mc_explore.specs.Once.{once}
-use Rattle.mc_explore.specs.facts.Room.{limits_are}
-use Rattle.mc_explore.specs.Start.{Started, begun}
-use Rattle.mc_boot.specs.PowerOn.{power_on, powered}
+use Rattle.mc_start.specs.facts.Room.{limits_are}
+use Rattle.mc_start.specs.Start.{Started, begun}
 use Rattle.mc_explore.specs.Table.{HasRoomFor}
 use Rattle.mc_explore.specs.View.{begun_with}
 use Rattle.mc_explore.specs.declared.once.Once.{Once}
@@ -40,25 +32,6 @@ module _ (counted : Bool) (g : Geometry) (primary secondary : List ℕ) (f : See
           checkpoints = omega (arith, limits.for_checkpoints, few);
         };
       }
-
-  -- It has room for a boot.
-  pub allows : (p : Progress) → Loads counted g primary secondary plain.grain 1 f → length p.to_come ≤ most_operations plain.grain f.geometry → (left_of f.geometry p).saved ≤ most_saved f.geometry
-      → Allows (left_of f.geometry p) f
-  allows p l few saves =
-      let limits = limits_are plain.grain g 1 f.usage.limits l.room in
-      let entries = ap (λ x. most_operations plain.grain x) l.geometry_is in
-      let saved = ap most_saved l.geometry_is in
-      record {
-        entries = omega (arith, few, entries, limits.for_entries, ap (λ (x : Usage). x.counts.entries) l.usage_is);
-        saved = omega (arith, saves, saved, limits.for_saved, ap (λ (x : Usage). x.counts.saved) l.usage_is);
-      }
-
-  -- What the uncut boot leaves.
-  pub left_here : (p : Progress) (new : Seen) (v : Content) → Loads counted g primary secondary plain.grain 1 f → HasCome (powered plain f) p new.content → p.to_come ≡ [] → v ≡ new.content
-      → left_by (power_on plain g (record { primary = primary; secondary = secondary })) ≡ Some v
-  left_here p new v l come end same =
-      ap (λ (x : Geometry). left_by (power_on plain x (record { primary = primary; secondary = secondary }))) (sym l.geometry_is) ∙ ap (λ s. left_by (power_on plain f.geometry s)) (sym l.content_is)
-      ∙ come_left (powered plain f) p new.content come end ∙ ap (λ (x : Content). Some x) (sym same)
 
 -- It has room for so many boots, and their checkpoints.
 pub room_for : (counted : Bool) (g : Geometry) (primary secondary : List ℕ) (f : Seen) (r : Rules) (boots : ℕ) → Loads counted g primary secondary r.grain boots f → HasRoomFor r g boots f

@@ -17,14 +17,14 @@ use Rattle.mc_tree.specs.facts.Lists.{at_front, behind}
 use Rattle.mc_boot.specs.Runs.{ops_of}
 use Rattle.mc_boot.specs.Texts.{result_text}
 use Rattle.mc_explore.specs.Boots.{at_cut, boots}
-use Rattle.mc_explore.specs.CursorText.{cursor_text}
+use Rattle.mc_start.specs.CursorText.{cursor_text}
 use Rattle.mc_explore.specs.Page.{row_line, last_line}
 use Rattle.mc_explore.specs.Rest.{IsRest}
 use Rattle.mc_explore.specs.RowText.{row_text, slot_text}
 use Rattle.mc_explore.specs.State.{State, Told, moved_to}
-use Rattle.mc_explore.specs.Texts.{IsSchedule, schedule_text}
+use Rattle.mc_start.specs.Texts.{IsSchedule, schedule_text}
 use Rattle.mc_explore.specs.Torn.{AreLines, IsRowLine, AreRowLines, HasRows, IsOfLast, IsLastRow, Continues}
-use Rattle.mc_explore.specs.declared.cursor.Cursor.{Cursor}
+use Rattle.mc_start.specs.declared.cursor.Cursor.{Cursor}
 use Rattle.mc_explore.proofs.Bytes.{IsBetween, NoFeed, literal, and, feedless_front, schedule_between, lacks_feed, lacks_literal, row_feedless, cursor_feedless, no_space}
 use Rattle.mc_explore.proofs.Going.{few_ops}
 use Rattle.mc_explore.specs.facts.Listed.{schedules_are_lawful}
@@ -33,7 +33,7 @@ use Rattle.mc_explore.specs.Rest.{schedules}
 use Rattle.mc_explore.specs.facts.Occurring.{path_of}
 use Rattle.mc_output.specs.facts.Parting.{Lacks, lacks_each, one_part, no_part, lacks_decimal}
 use Rattle.mc_output.specs.facts.Reading.{dash}
-use Rattle.mc_explore.proofs.Reading.{point_no_digit, points, spelling}
+use Rattle.mc_start.specs.facts.Reading.{point_no_digit, points, spelling}
 use Rattle.mc_boot.specs.PowerOn.{PowerOn, again}
 
 lacks : (byte : ℕ) (xs : List ℕ) → LacksByte byte xs → Lacks byte xs

@@ -12,7 +12,8 @@ use Rattle.mc_tree.specs.Weights.{IsPlaced, IsWeighing, from, placed_below}
 use Rattle.mc_tree.specs.facts.Weighed.{placed_weight}
 use Rattle.mc_explore.specs.Boots.{at_cut, boots}
 use Rattle.mc_explore.specs.Table.{IsInside, own_totals, weigh, weigh_fewer}
-use Rattle.mc_explore.specs.Totals.{Totals, both, lowered, no_totals, totals}
+use Rattle.mc_start.specs.Cuts.{lowered}
+use Rattle.mc_explore.specs.Totals.{Totals, both, no_totals, totals}
 use Rattle.mc_explore.specs.facts.Occurring.{at_is, lands_at}
 use Rattle.mc_boot.specs.PowerOn.{power_on}
 

@@ -1,6 +1,6 @@
 -- A census as it is printed.
 use Rattle.std.specs.Prelude.{ℕ, ◌-◌, ◌^◌, ◌==◌, if◌then◌else◌, List, ◌++◌, codes, decimal, Option, Some, None}
-use Rattle.mc_explore.specs.Texts.{schedule_text}
+use Rattle.mc_start.specs.Texts.{schedule_text}
 use Rattle.mc_explore.specs.declared.census.Census.{Census}
 
 -- A number of schedules: the largest 128-bit number stands for itself and for all above it.

@@ -1,6 +1,3 @@
-pub mod Texts
-pub mod Slots
-pub mod Start
 pub mod Replay
 pub mod Schedules
 pub mod Boots
@@ -16,8 +13,6 @@ pub mod View
 pub mod Want
 pub mod Explores
 pub mod Bounds
-pub mod CursorFields
-pub mod CursorText
 pub mod Page
 pub mod Torn
 pub mod Until

@@ -3,7 +3,7 @@ use Rattle.std.specs.Prelude.{ℕ, List, Option}
 use Rattle.mc_explore.specs.Pages as pages
 use Rattle.mc_explore.specs.Rest.{schedules}
 use Rattle.mc_explore.specs.State.{State, Told}
-use Rattle.mc_explore.specs.declared.cursor.Cursor.{Cursor}
+use Rattle.mc_start.specs.declared.cursor.Cursor.{Cursor}
 
 abbrev pub Page : Type 0
 Page = pages.Page Told Cursor

@@ -1,19 +1,14 @@
 -- The rows of schedules, as they are listed.
 use Rattle.std.specs.Prelude.{ℕ, List, []}
 use Rattle.mc_tree.specs.Paths.{Precedes}
-use Rattle.mc_explore.specs.CursorText.{cursor_text}
+use Rattle.mc_start.specs.CursorText.{cursor_of, cursor_text}
 use Rattle.mc_explore.specs.Listing as listings
 use Rattle.mc_explore.specs.Listing.{Listing}
 use Rattle.mc_explore.specs.RowText.{row_text}
 use Rattle.mc_explore.specs.Schedules.{IsMember}
-use Rattle.mc_explore.specs.Start.{start_digest}
 use Rattle.mc_boot.specs.PowerOn.{PowerOn}
 use Rattle.mc_explore.specs.State.{State, Told, HasOutcome, moved_to}
-use Rattle.mc_explore.specs.declared.cursor.Cursor.{Cursor}
-
--- The cursor that goes on behind a schedule.
-abbrev pub cursor_of : PowerOn → ℕ → List ℕ → Cursor
-cursor_of start bound l = record { rules = start.rules; digest = start_digest start; bound = bound; schedule = l }
+use Rattle.mc_start.specs.declared.cursor.Cursor.{Cursor}
 
 -- A row of the whole list: one of the schedules to go through, with its outcome.
 pub record IsRow (start : PowerOn) (bound : ℕ) (row : Told) : Type 0 where

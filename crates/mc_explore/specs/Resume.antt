@@ -1,11 +1,11 @@
 -- Where a cursor serves to go on, and the first reason why it does not.
 use Rattle.std.specs.Prelude.{◌≡◌, ◌≢◌, ℕ, List, false, Result, Ok, Err}
 use Rattle.mc_explore.specs.Schedules.{IsMember}
-use Rattle.mc_explore.specs.Start.{start_digest}
+use Rattle.mc_start.specs.Start.{start_digest}
 use Rattle.mc_boot.specs.PowerOn.{PowerOn}
 use Rattle.mc_tree.specs.Paths.{After}
 use Rattle.mc_explore.specs.State.{Explored, State}
-use Rattle.mc_explore.specs.declared.cursor.Cursor.{Cursor}
+use Rattle.mc_start.specs.declared.cursor.Cursor.{Cursor}
 use Rattle.mc_explore.specs.declared.error.ExploreError.{ExploreError}
 use Rattle.mc_explore.specs.declared.error.ExploreError.TheVariants as errors
 

@@ -6,7 +6,7 @@ use Rattle.mc_trailer.specs.Texts.{type_text}
 use Rattle.mc_boot.specs.Outcome.{Report}
 use Rattle.mc_boot.specs.Texts.{result_text}
 use Rattle.mc_explore.specs.State.{Told}
-use Rattle.mc_explore.specs.Texts.{schedule_text}
+use Rattle.mc_start.specs.Texts.{schedule_text}
 
 -- The version and the size of the valid image of a slot, or `none`.
 abbrev pub slot_text : Option Identity → List ℕ

@@ -5,7 +5,7 @@ use Rattle.mc_explore.specs.Page.{row_line}
 use Rattle.mc_explore.specs.Rest.{IsRest}
 use Rattle.mc_explore.specs.RowText.{row_text}
 use Rattle.mc_explore.specs.State.{State, Told, moved_to}
-use Rattle.mc_explore.specs.Texts.{IsSchedule, schedule_text}
+use Rattle.mc_start.specs.Texts.{IsSchedule, schedule_text}
 
 -- The whole lines of a text, without their line feeds: what stands before the first line feed, and the whole lines behind it.
 abbrev pub AreLines : List ℕ → List (List ℕ) → Type 0

@@ -1,9 +1,10 @@
 -- What rows come to: how many there are and how many with each result, the greatest number of operations, and the first one whose
 -- result is not to boot.
-use Rattle.std.specs.Prelude.{ℕ, ◌+◌, ◌-◌, max, Bool, true, false, if◌then◌else◌, List, [], ◌∷◌, take, Option, Some, None, option_map}
+use Rattle.std.specs.Prelude.{ℕ, ◌+◌, max, Bool, true, false, if◌then◌else◌, List, [], ◌∷◌, take, Option, Some, None, option_map}
 use Rattle.std.specs.Option.{option_or}
 use Rattle.mc_boot.specs.Outcome.{Report}
 use Rattle.mc_tree.specs.Weights.{Weighing}
+use Rattle.mc_start.specs.Cuts.{lowered}
 use Rattle.mc_explore.specs.Census.{cut_number}
 use Rattle.mc_explore.specs.State.{Told}
 use Rattle.mc_explore.specs.Survey.{is_boot, is_none, is_panic, is_fault}
@@ -18,11 +19,6 @@ pub record Totals : Type 0 where
   pub fault : ℕ
   pub most : ℕ
   pub first : Option (List ℕ)
-
--- The first number so much lower, 0 at the least.
-abbrev pub lowered : ℕ → List ℕ → List ℕ
-lowered by [] = []
-lowered by (x ∷ xs) = (x - by) ∷ xs
 
 -- The totals of no rows, and of rows before others.
 abbrev pub no_totals : Totals

@@ -7,7 +7,7 @@ use Rattle.mc_flash.specs.Usage.{most_operations}
 use Rattle.mc_walk.specs.Walks.{Walked, IsFresh}
 use Rattle.mc_explore.specs.Boots.{boots}
 use Rattle.mc_explore.specs.Once.{begins, begun_of, once}
-use Rattle.mc_explore.specs.Start.{start_digest}
+use Rattle.mc_start.specs.Start.{start_digest}
 use Rattle.mc_boot.specs.PowerOn.{PowerOn}
 use Rattle.mc_explore.specs.State.{State, Explored}
 use Rattle.mc_explore.specs.declared.once.Once.{Once}

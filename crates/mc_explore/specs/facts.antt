@@ -2,7 +2,6 @@
 pub mod Occurring
 pub mod Telling
 pub mod Restarts
-pub mod Room
 pub mod Listed
 pub mod Listings
 pub mod Whole

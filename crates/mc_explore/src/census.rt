@@ -1,10 +1,11 @@
 //! What all schedules of power cuts come to.
 ghost use Rattle.std.specs.Prelude.{◌≡◌};
 ghost use Rattle.mc_boot.specs.Outcome.{shown};
-ghost use Rattle.mc_explore.specs.Totals.{Totals, both, cut_off, lowered, no_totals, report_totals, totals, with_first};
+ghost use Rattle.mc_start.specs.Cuts.{lowered};
+ghost use Rattle.mc_explore.specs.Totals.{Totals, both, cut_off, no_totals, report_totals, totals, with_first};
 
-use crate::schedule::Schedule;
 use mc_boot::{BootResult, Outcome};
+use mc_start::Schedule;
 
 /// What all schedules of at most so many cuts that can occur come to. Each number of schedules is cut off at the largest `u128`.
 #[derive(Clone, Copy, Debug)]

@@ -3,7 +3,7 @@ ghost use Rattle.std.specs.Prelude.{Some};
 ghost use Rattle.mc_explore.specs.CensusText.{census_text, count_text, first_text};
 
 use crate::census::Census;
-use crate::schedule::Schedule;
+use mc_start::Schedule;
 use std::fmt;
 
 // A number of schedules, with `>=` before it where it was cut off.

@@ -2,27 +2,25 @@
 ghost use Rattle.std.specs.Prelude.{◌≡◌, ℕ, List, [], ◌+◌, ◌*◌, ◌≤◌, true, length, IfOk, IfErr, IfSome, OnOk, OnErr, IsErrOf, ◌⊎◌};
 ghost use Rattle.mc_flash.specs.Usage.{limits_for, most_operations};
 ghost use Rattle.mc_explore.specs.Bounds.{row_cost};
-ghost use Rattle.mc_explore.specs.Rest.{cursor_of};
+ghost use Rattle.mc_start.specs.CursorText.{cursor_of};
 ghost use Rattle.mc_explore.specs.Resume.{Resumes};
 ghost use Rattle.mc_explore.specs.Restarts.{RowRestarts};
-ghost use Rattle.mc_explore.specs.Start.{begun};
+ghost use Rattle.mc_start.specs.Start.{begun};
 ghost use Rattle.mc_explore.specs.State.{State, Finds, told, state_after, at_start};
 ghost use Rattle.mc_explore.specs.Explores.{Explores};
 ghost use Rattle.mc_tree.specs.Paths.{After};
 
-use crate::cursor::Cursor;
 use crate::error::ExploreError;
 use crate::labels::Labels;
 use crate::last_cuts::AtCuts;
-use crate::line::Line;
 use crate::loading::{ask, load};
 use crate::output::{write_line, write_text};
 use crate::row::Row;
 use crate::rows::Rows;
 use crate::source::RowSource;
-use crate::{Schedule, Start};
 use mc_boot::restart_law;
 use mc_flash::{Flash, most_operations};
+use mc_start::{Cursor, Line, Schedule, Start};
 use std::alloc::{AllocError, Global};
 use std::io::Write;
 use std::marker::Model;
@@ -54,7 +52,7 @@ pub struct Explorer<'a, F: Flash> {
 }
 
 impl<'a, F: Flash> Model for Explorer<'a, F> {
-    ghost use Rattle.mc_explore.specs.Start.{begun};
+    ghost use Rattle.mc_start.specs.Start.{begun};
     ghost use Rattle.mc_explore.specs.State.{Explored};
     ghost use Rattle.mc_explore.specs.Rowing.{position_in};
     ghost use Rattle.mc_explore.specs.View.{explored, IsDigestOf, IsSound};
@@ -221,7 +219,7 @@ impl<'a, F: Flash + Drop> RowSource for Explorer<'a, F> {
     ghost use Rattle.mc_explore.specs.Bounds.{most_for_row};
     ghost use Rattle.mc_explore.specs.Rest.{schedules};
     ghost use Rattle.mc_explore.specs.State as states;
-    ghost use Rattle.mc_explore.specs.declared.cursor.Cursor as cursors;
+    ghost use Rattle.mc_start.specs.declared.cursor.Cursor as cursors;
     ghost use Rattle.mc_explore.specs.facts.Listed.{schedules_are_lawful};
 
     ghost State = { states.State };

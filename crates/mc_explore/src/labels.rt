@@ -3,10 +3,10 @@ ghost use Rattle.std.specs.Prelude.{◌≡◌, ◌≤◌, length, Some, IfSome};
 ghost use Rattle.mc_boot.specs.Image.{identity_of};
 ghost use Rattle.mc_explore.specs.RowText.{slot_text};
 
-use crate::Start;
-use crate::line::Line;
+use crate::row_text::put_image;
 use arrayvec::ArrayString;
 use mc_boot::ImageId;
+use mc_start::{Line, Start};
 
 /// The most bytes that a row has of an image.
 const MOST_LABEL: usize = 54;
@@ -26,7 +26,7 @@ impl Label {
         ensures { result.image ≡ image }
     {
         let mut line = Line::new();
-        line.put_image(image);
+        put_image(&mut line, image);
         let mut text = ArrayString::new();
         text.push_str(line.as_str());
         Label { image, text }

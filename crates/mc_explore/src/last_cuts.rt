@@ -6,10 +6,10 @@ ghost use Rattle.mc_boot.specs.Rejoin.{place_of};
 ghost use Rattle.mc_explore.specs.LastCuts.{flash_at, AreAtCuts, AreLastCuts, IsSpent};
 ghost use Rattle.mc_explore.specs.Once.{begun_of};
 
-use crate::Schedule;
 use crate::once::Once;
 use mc_boot::{Outcome, Rejoin};
 use mc_flash::Flash;
+use mc_start::Schedule;
 use mc_walk::Walk;
 use std::alloc::{AllocError, Global};
 

@@ -1,18 +1,16 @@
-//! The walk from a start, the cursors of that start, and whether a cursor is one of them.
+//! The walk from a start, and whether a cursor is one of that start.
 ghost use Rattle.std.specs.Prelude.{◌≡◌, ◌+◌, ◌≤◌, true, length, IfOk, IfErr, OnOk};
 ghost use Rattle.mc_flash.specs.Content.{size_of};
 ghost use Rattle.mc_flash.specs.declared.op.Slot.TheVariants.{Primary, Secondary};
 ghost use Rattle.mc_flash.specs.Usage.{limits_for};
-ghost use Rattle.mc_explore.specs.Rest.{cursor_of};
 ghost use Rattle.mc_explore.specs.Resume.{Names, Refuses};
-ghost use Rattle.mc_explore.specs.Start.{begun};
+ghost use Rattle.mc_start.specs.Start.{begun};
 ghost use Rattle.mc_explore.specs.View.{IsLoaded, begun_with};
 
-use crate::cursor::Cursor;
 use crate::error::ExploreError;
 use crate::once::Once;
-use crate::{Schedule, Start};
 use mc_flash::{Flash, FlashError};
+use mc_start::{Cursor, Start};
 use mc_walk::Walk;
 use std::alloc::Global;
 
@@ -63,22 +61,6 @@ pub fn load<F: Flash>(alloc: Global, start: &Start, bound: u8) -> Result<Walk<F,
     let (primary, secondary) = (start.primary(), start.secondary());
     let walk = load_for(alloc, once, primary, secondary, bound, bound + 1)?;
     Ok(walk)
-}
-
-impl Cursor {
-    /// The cursor that goes on after a schedule, of a start and at most so many cuts: the one that a page which ends with
-    /// the row of that schedule names. It takes no memory.
-    pub fn of(start: &Start, bound: u8, schedule: &Schedule) -> Cursor
-        requires { bound ≤ 16 }
-        ensures { result ≡ cursor_of (begun start.now) bound schedule.now }
-    {
-        Cursor {
-            rules: start.rules(),
-            digest: start.digest(),
-            bound,
-            schedule: *schedule,
-        }
-    }
 }
 
 /// Whether a cursor is one of this start and this bound.

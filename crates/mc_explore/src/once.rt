@@ -2,9 +2,9 @@
 //! leaves that is cut before its operation of that number.
 ghost use Rattle.mc_image.specs.Bytes.{IsBytes};
 
-use crate::start::Start;
 use mc_boot::{Boot, Outcome, outcome_after};
 use mc_flash::{Flash, FlashError, Layout, Slot};
+use mc_start::Start;
 use mc_trailer::Rules;
 use mc_walk::Branches;
 

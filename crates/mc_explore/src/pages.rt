@@ -9,11 +9,10 @@ ghost use Rattle.mc_explore.specs.Explores.{Explores, ExploresOn, GoesOn};
 
 use crate::error::ExploreError;
 use crate::explorer::Explorer;
-use crate::line::Line;
 use crate::output::write_text;
-use crate::schedule::Schedule;
 use crate::source::RowSource;
 use mc_flash::Flash;
+use mc_start::{Line, Schedule};
 use std::io::Write;
 
 // Writes a page, and leaves it to the caller to make the source fail where that fails.

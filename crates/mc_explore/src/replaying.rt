@@ -6,16 +6,15 @@ ghost use Rattle.mc_boot.specs.Runs.{after};
 ghost use Rattle.mc_walk.specs.Walks.{IsThere};
 ghost use Rattle.mc_explore.specs.Once.{once};
 ghost use Rattle.mc_explore.specs.Replay.{IsReplayed, Refuses, Restarts};
-ghost use Rattle.mc_explore.specs.Start.{begun};
+ghost use Rattle.mc_start.specs.Start.{begun};
 ghost use Rattle.mc_explore.specs.View.{Followed, IsLoaded};
 ghost use Rattle.mc_explore.specs.Once.{begun_of};
 
 use crate::loading::load;
 use crate::once::{Once, Told};
-use crate::schedule::Schedule;
-use crate::start::Start;
 use mc_boot::{Outcome, restart_law};
 use mc_flash::{Flash, FlashError};
+use mc_start::{Schedule, Start};
 use mc_walk::Walk;
 use std::alloc::Global;
 use thiserror::Error;

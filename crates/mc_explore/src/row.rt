@@ -1,6 +1,6 @@
 //! A schedule with its outcome.
-use crate::Schedule;
 use mc_boot::Outcome;
+use mc_start::Schedule;
 
 /// A schedule, and the outcome of the boot that is not cut after it.
 #[derive(Clone, Copy, Debug)]

@@ -7,80 +7,78 @@ ghost use Rattle.mc_explore.specs.RowText.{slot_text, outcome_text, slots_text, 
 ghost use Rattle.mc_explore.specs.State.{told};
 
 use crate::labels::Labels;
-use crate::line::{Line, MOST_LINE};
 use crate::row::Row;
 use mc_boot::{ImageId, Outcome};
 use mc_image::Version;
+use mc_start::{Line, MOST_LINE};
 use std::fmt;
 
-impl Line {
-    // Adds the four parts of a version.
-    fn put_version(&mut self, version: Version)
-        requires { length self.old + 43 ≤ MOST_LINE }
-        ensures text { self.new ≡ self.old ++ version_line version }
-        ensures length { length self.new ≤ length self.old + 43 }
-    {
-        self.put_number(u32::from(version.major));
-        self.put(".");
-        self.put_number(u32::from(version.minor));
-        self.put(".");
-        self.put_number(u32::from(version.revision));
-        self.put("+");
-        self.put_number(version.build);
-    }
+// Adds the four parts of a version.
+fn put_version(line: &mut Line, version: Version)
+    requires { length line.old + 43 ≤ MOST_LINE }
+    ensures text { line.new ≡ line.old ++ version_line version }
+    ensures length { length line.new ≤ length line.old + 43 }
+{
+    line.put_number(u32::from(version.major));
+    line.put(".");
+    line.put_number(u32::from(version.minor));
+    line.put(".");
+    line.put_number(u32::from(version.revision));
+    line.put("+");
+    line.put_number(version.build);
+}
 
-    /// Adds the version and the size of an image.
-    pub(crate) fn put_image(&mut self, image: ImageId)
-        requires { length self.old + 54 ≤ MOST_LINE }
-        ensures text { self.new ≡ self.old ++ slot_text (Some (identity_of image)) }
-        ensures length { length self.new ≤ length self.old + 54 }
-    {
-        self.put_version(image.version);
-        self.put("/");
-        self.put_number(image.size);
-    }
+/// Adds the version and the size of an image.
+pub(crate) fn put_image(line: &mut Line, image: ImageId)
+    requires { length line.old + 54 ≤ MOST_LINE }
+    ensures text { line.new ≡ line.old ++ slot_text (Some (identity_of image)) }
+    ensures length { length line.new ≤ length line.old + 54 }
+{
+    put_version(line, image.version);
+    line.put("/");
+    line.put_number(image.size);
+}
 
-    // Adds what a slot holds, in a word: the version and the size of its valid image.
-    fn put_slot(&mut self, held: &Option<ImageId>, labels: &Labels)
-        requires { length self.old + 54 ≤ MOST_LINE }
-        ensures text { self.new ≡ self.old ++ slot_text (option_map identity_of held.now) }
-        ensures length { length self.new ≤ length self.old + 54 }
-    {
-        match held {
-            None => self.put("none"),
-            Some(image) => match labels.find(image) {
-                Some(label) => self.put(label),
-                None => self.put_image(*image),
-            },
-        }
+// Adds what a slot holds, in a word: the version and the size of its valid image.
+fn put_slot(line: &mut Line, held: &Option<ImageId>, labels: &Labels)
+    requires { length line.old + 54 ≤ MOST_LINE }
+    ensures text { line.new ≡ line.old ++ slot_text (option_map identity_of held.now) }
+    ensures length { length line.new ≤ length line.old + 54 }
+{
+    match held {
+        None => line.put("none"),
+        Some(image) => match labels.find(image) {
+            Some(label) => line.put(label),
+            None => put_image(line, *image),
+        },
     }
+}
 
-    /// Adds how a boot ended, in words: the result, the type, and how many operations happened.
-    pub fn put_outcome(&mut self, outcome: &Outcome)
-        requires { length self.old + 23 ≤ MOST_LINE }
-        ensures text { self.new ≡ self.old ++ outcome_text (shown outcome.now) }
-        ensures length { length self.new ≤ length self.old + 23 }
-    {
-        self.put(outcome.result.name());
-        self.put(" ");
-        self.put(outcome.kind.name());
-        self.put(" ");
-        self.put_number(outcome.ops);
-    }
+/// Adds how a boot ended, in words: the result, the type, and how many operations happened.
+pub fn put_outcome(line: &mut Line, outcome: &Outcome)
+    requires { length line.old + 23 ≤ MOST_LINE }
+    ensures text { line.new ≡ line.old ++ outcome_text (shown outcome.now) }
+    ensures length { length line.new ≤ length line.old + 23 }
+{
+    line.put(outcome.result.name());
+    line.put(" ");
+    line.put(outcome.kind.name());
+    line.put(" ");
+    line.put_number(outcome.ops);
+}
 
-    /// Adds what a boot left, in words: what the slots hold (the version and the size of the valid image, or `none`), and
-    /// the next type. Images with a label are told by that.
-    pub fn put_slots(&mut self, outcome: &Outcome, labels: &Labels)
-        requires { length self.old + 116 ≤ MOST_LINE }
-        ensures text { self.new ≡ self.old ++ slots_text (shown outcome.now) }
-        ensures length { length self.new ≤ length self.old + 116 }
-    {
-        self.put_slot(&outcome.primary, labels);
-        self.put(" ");
-        self.put_slot(&outcome.secondary, labels);
-        self.put(" ");
-        self.put(outcome.next.name());
-    }
+/// Adds what a boot left, in words: what the slots hold (the version and the size of the valid image, or `none`), and
+/// the next type. Images with a label are told by that.
+pub fn put_slots(line: &mut Line, outcome: &Outcome, labels: &Labels)
+    requires { length line.old + 116 ≤ MOST_LINE }
+    ensures text { line.new ≡ line.old ++ slots_text (shown outcome.now) }
+    ensures length { length line.new ≤ length line.old + 116 }
+{
+    put_slot(line, &outcome.primary, labels);
+    line.put(" ");
+    put_slot(line, &outcome.secondary, labels);
+    line.put(" ");
+    line.put(outcome.next.name());
 }
 
 /// The schedule, the result, the type, how many operations happened, what the slots hold (the version and the size of the
@@ -104,8 +102,8 @@ impl Row {
     {
         self.schedule.put_into(line);
         line.put(" ");
-        line.put_outcome(&self.outcome);
+        put_outcome(line, &self.outcome);
         line.put(" ");
-        line.put_slots(&self.outcome, labels);
+        put_slots(line, &self.outcome, labels);
     }
 }

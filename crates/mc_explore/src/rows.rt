@@ -11,8 +11,8 @@ ghost use Rattle.mc_walk.specs.Tours.{Costs, Visits};
 use crate::last_cuts::{AtCuts, LastCuts, still_to_come};
 use crate::once::Once;
 use crate::row::Row;
-use crate::{Schedule, Start};
 use mc_flash::Flash;
+use mc_start::{Schedule, Start};
 use mc_walk::{Phase, Tour, TourError, Walk};
 use std::marker::Model;
 

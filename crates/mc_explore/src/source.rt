@@ -1,6 +1,6 @@
 //! What gives rows one after another.
 use crate::error::ExploreError;
-use crate::line::Line;
+use mc_start::Line;
 use std::io::Write;
 
 /// Gives rows, one after another and each as a line, and says where to go on behind the last: what pages are made of.

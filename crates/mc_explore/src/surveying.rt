@@ -5,14 +5,13 @@ ghost use Rattle.mc_explore.specs.State.{Told, told};
 ghost use Rattle.mc_explore.specs.Survey.{Surveys, SurveysUntil, tally_so_far, tally_text};
 ghost use Rattle.mc_explore.specs.Explores.{Explores};
 
-use crate::cursor::Cursor;
 use crate::error::ExploreError;
 use crate::explorer::Explorer;
 use crate::row::Row;
-use crate::schedule::Schedule;
 use crate::source::RowSource;
 use mc_boot::BootResult;
 use mc_flash::Flash;
+use mc_start::{Cursor, Schedule};
 use std::fmt;
 
 /// How many rows a page would have, how many of them with each result, and where it would go on.

@@ -1,15 +1,15 @@
 //! Takes the census of a start: level by level, without going through the schedules.
 ghost use Rattle.std.specs.Prelude.{◌≡◌, ◌+◌, ◌≤◌, IfOk, IfErr, OnOk};
 ghost use Rattle.mc_explore.specs.Census.{IsCensus};
-ghost use Rattle.mc_explore.specs.Start.{begun};
+ghost use Rattle.mc_start.specs.Start.{begun};
 
-use crate::Start;
 use crate::census::Census;
 use crate::error::ExploreError;
 use crate::once::{Once, Told};
 use crate::table::{Below, Position, census_at, column_of};
 use mc_boot::Rejoin;
 use mc_flash::{Flash, FlashError};
+use mc_start::Start;
 use mc_walk::Branches;
 use std::alloc::Global;
 

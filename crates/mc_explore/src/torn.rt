@@ -8,7 +8,7 @@ ghost use Rattle.mc_explore.specs.State.{State, Told};
 ghost use Rattle.mc_explore.specs.Torn.{IsRowLine, IsLastRow, Continues};
 ghost use Rattle.mc_explore.specs.Until.{Shown};
 
-use crate::schedule::Schedule;
+use mc_start::Schedule;
 use std::str;
 
 // What stands before the first such byte, and what stands behind it.

@@ -1,7 +1,7 @@
 //! A picture of a flash: what lies in each sector.
 ghost use Rattle.std.specs.Prelude.{◌≡◌, ◌<◌, ◌++◌, length, IfOk, OnOk, string_bytes};
 ghost use Rattle.mc_flash.specs.Content.{sectors_of, size_of};
-ghost use Rattle.mc_explore.specs.Start.{begun};
+ghost use Rattle.mc_start.specs.Start.{begun};
 ghost use Rattle.mc_trace.specs.Pictures.{Pictures, PicturesAs};
 ghost use Rattle.mc_trace.specs.Sectors.{first_like, line_of, sector_of, sector_word};
 

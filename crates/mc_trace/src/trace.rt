@@ -3,7 +3,7 @@ ghost use Rattle.std.specs.Prelude.{◌≡◌, IfErr, OnOk, OnErr};
 ghost use Rattle.std.specs.Io.KnownBytes.{Appends};
 ghost use Rattle.mc_output.specs.Fronts.{AppendsFront};
 ghost use Rattle.mc_explore.specs.Schedules.{CanOccur};
-ghost use Rattle.mc_explore.specs.Start.{begun};
+ghost use Rattle.mc_start.specs.Start.{begun};
 ghost use Rattle.mc_trace.specs.Trace.{trace_text, outcome_lines, boots_text};
 ghost use Rattle.mc_trace.specs.Refused.{RefusesTrace};
 

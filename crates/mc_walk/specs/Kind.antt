@@ -53,7 +53,8 @@ module _ {N A T : Type 0} (k : Kind N A T) where
   abbrev pub HasWidth : T → ℕ → Type 0
   HasWidth told width = (n : N) → k.IsTold n told → width ≡ k.tree.width n
 
-  -- That is told of the node where a path of so many steps stands, which may be longer, and to a child of that number; or it may not.
+  -- Given what is told of the node at the end of a path of so many steps: that node has a child of that number, and the path may be
+  -- longer; or one of these is not so.
   abbrev pub IsParent : ℕ → ℕ → ℕ → Option T → Option T → Type 0
   IsParent number bound steps stood (Some told) =
       (stood ≡ Some told) × (steps < bound) × ((n : N) → k.IsTold n told → number < k.tree.width n)

@@ -1,6 +1,6 @@
 use Rattle.std.specs.Prelude.{◌≡◌, ◌∷◌, ◌++◌, codes, Some}
 use Rattle.std.proofs.Common.{rules, sym, ap, ◌∙◌}
-use Rattle.mc_explore.specs.CursorFields.{rules_text, start_text}
+use Rattle.mc_start.specs.CursorFields.{rules_text, start_text}
 use Rattle.mc_campaign.specs.CursorText.{choice_text}
 use Rattle.mc_campaign.specs.Texts.{campaign_text}
 use Rattle.mc_campaign.specs.declared.cursor.CampaignCursor.{CampaignCursor}

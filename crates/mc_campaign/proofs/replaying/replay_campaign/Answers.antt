@@ -2,7 +2,7 @@ use Rattle.std.proofs.Common.{◌≡◌, ◌+◌, length, inr, ap, ◌∙◌, ar
 use Rattle.mc_flash.specs.Usage.{limits_for}
 use Rattle.mc_trailer.specs.declared.tables.Rules.{Rules}
 use Rattle.mc_boot.specs.Outcome.{shown}
-use Rattle.mc_explore.specs.Start.{begun}
+use Rattle.mc_start.specs.Start.{begun}
 use Rattle.mc_campaign.specs.Places.{pairs_of}
 use Rattle.mc_campaign.proofs.Replays.{refused_later, replayed_both}
 use Rattle.mc_campaign.proofs.Restarts.{campaign_restarts}

@@ -1,6 +1,6 @@
 use Rattle.std.proofs.Common.{◌≡◌, ◌+◌, sym, ap, ◌∙◌, arith}
 use Rattle.mc_flash.specs.Content.{Content}
-use Rattle.mc_explore.specs.Start.{begun}
+use Rattle.mc_start.specs.Start.{begun}
 use Rattle.mc_boot.specs.PowerOn.{PowerOn}
 use Rattle.mc_explore.specs.Table.{weigh}
 use Rattle.mc_explore.specs.Totals.{cut_off}

@@ -2,7 +2,7 @@ use Rattle.std.proofs.Common.{rules, ◌≡◌, List, ℕ, Some, sym, subst, ◌
 use Rattle.std.proofs.lemmas.Result.{err_from_is_err_and}
 use Rattle.mc_boot.specs.Outcome.{shown}
 use Rattle.mc_boot.specs.Runs.{after}
-use Rattle.mc_explore.specs.Start.{begun}
+use Rattle.mc_start.specs.Start.{begun}
 use Rattle.mc_output.specs.Fronts.{AppendsFront}
 use Rattle.mc_trace.specs.Trace.{trace_text}
 use Rattle.mc_trace.proofs.Tracing.{none_told, one_begun, one_told, last_begun, outcome_begun, no_refusal}

@@ -1,4 +1,4 @@
-use Rattle.mc_explore.specs.Start.{begun}
+use Rattle.mc_start.specs.Start.{begun}
 use Rattle.mc_trace.proofs.Tracing.{AreTold}
 use Rattle.mc_trace.proofs.trace.write_trace.Given as goal
 

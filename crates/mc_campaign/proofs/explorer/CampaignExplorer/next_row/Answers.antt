@@ -2,7 +2,7 @@ use Rattle.std.proofs.Common.{◌≡◌, ◌≤◌, Bool, true, false, Some, len
 use Rattle.mc_flash.specs.Seen.{Seen}
 use Rattle.mc_walk.specs.Tours.{Visits, position_of}
 use Rattle.mc_walk.specs.Walks.{Walked, IsThere}
-use Rattle.mc_explore.specs.Start.{begun}
+use Rattle.mc_start.specs.Start.{begun}
 use Rattle.mc_campaign.specs.Boots.{pairs_along}
 use Rattle.mc_campaign.specs.Places.{placed}
 use Rattle.mc_campaign.specs.Restarts.{RowRestarts}

@@ -1,6 +1,6 @@
 use Rattle.std.proofs.Common.{sym, ap, subst, ◌∙◌}
 use Rattle.mc_walk.specs.Tours.{Toured, position_of}
-use Rattle.mc_explore.specs.Start.{begun}
+use Rattle.mc_start.specs.Start.{begun}
 use Rattle.mc_campaign.specs.View.{IsSound, state_of}
 use Rattle.mc_campaign.specs.declared.rounds.Twice.{Twice}
 use Rattle.mc_campaign.proofs.Resumed.{behind_it, listed, resumed, valid_there}

@@ -1,6 +1,6 @@
 use Rattle.std.proofs.Common.{sym, subst}
 use Rattle.mc_walk.specs.Tours.{Toured}
-use Rattle.mc_explore.specs.Start.{begun}
+use Rattle.mc_start.specs.Start.{begun}
 use Rattle.mc_campaign.specs.View.{IsSound}
 use Rattle.mc_campaign.specs.declared.rounds.Twice.{Twice}
 use Rattle.mc_campaign.proofs.Loaded.{started}

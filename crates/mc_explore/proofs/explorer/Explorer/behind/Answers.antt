@@ -1,4 +1,4 @@
-use Rattle.mc_explore.specs.Start.{begun}
+use Rattle.mc_start.specs.Start.{begun}
 use Rattle.std.proofs.Common.{arith, refl, sym, ap, ◌∙◌}
 use Rattle.mc_explore.specs.Rowing.{Rowed, position_in}
 use Rattle.mc_explore.specs.View.{Followed, state_of}

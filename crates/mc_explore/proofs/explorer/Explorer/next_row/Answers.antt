@@ -1,5 +1,5 @@
 use Rattle.std.proofs.Common.{sym, ap, ◌∙◌}
-use Rattle.mc_explore.specs.Start.{begun}
+use Rattle.mc_start.specs.Start.{begun}
 use Rattle.mc_explore.specs.State.{Explored, state_after}
 use Rattle.mc_explore.proofs.Moving.{Found, costs_row, finds_it, moved_on, restarts_it, sound_on}
 use Rattle.mc_explore.proofs.explorer.Explorer.next_row.Given.{Over}

@@ -1,5 +1,5 @@
 use Rattle.std.proofs.Common.{ap, ◌∙◌}
-use Rattle.mc_explore.specs.Start.{begun}
+use Rattle.mc_start.specs.Start.{begun}
 use Rattle.mc_explore.specs.State.{Explored}
 use Rattle.mc_explore.proofs.Going.{same_digest}
 use Rattle.mc_explore.proofs.explorer.Explorer.resume.Goals as goal

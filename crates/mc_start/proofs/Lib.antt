@@ -1,0 +1,5 @@
+mod Images
+mod Room
+mod Booted
+mod Preceding
+mod Cursors

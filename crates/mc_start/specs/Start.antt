@@ -1,0 +1,84 @@
+-- The starts of an exploration: from two images, or from the bytes of both slots.
+use Rattle.std.specs.Prelude.{◌≡◌, ℕ, ◌+◌, ◌&&◌, if◌then◌else◌, List, [], ◌∷◌, ◌++◌, length, take, drop, Option, Some, None, Result, Ok, Err, IsOk, ◌==◌}
+use Rattle.sha2.specs.Sha256.{sha256}
+use Rattle.mc_image.specs.Valid.{Identity, id_of, image_fault}
+use Rattle.mc_image.specs.declared.error.ImageError.{ImageError}
+use Rattle.mc_flash.specs.Geometry.{Geometry, fits}
+use Rattle.mc_flash.specs.Content.{Content, size_of}
+use Rattle.mc_flash.specs.declared.op.Slot.TheVariants.{Primary, Secondary}
+use Rattle.mc_trailer.specs.declared.tables.Rules.{Rules}
+use Rattle.mc_boot.specs.Image.{image_size}
+use Rattle.mc_boot.specs.Plan.{plain}
+use Rattle.mc_boot.specs.PowerOn.{PowerOn, power_on}
+use Rattle.mc_boot.specs.Start.{start_flash, named, other}
+use Rattle.mc_boot.specs.declared.kind.Kind.{Kind}
+use Rattle.mc_boot.specs.declared.kind.Kind.TheVariants as starts
+use Rattle.mc_start.specs.Texts.{layout_line}
+use Rattle.mc_start.specs.declared.start.StartError.{StartError}
+use Rattle.mc_start.specs.declared.start.StartError.TheVariants as errors
+
+-- The first refusal of two images, or none: a fault of the first, one of the second, or that one of them does not fit.
+abbrev pub refusal_of : Geometry → List ℕ → List ℕ → Option StartError
+refusal_of g a b = in_first (image_fault a)
+  where
+    in_second : Option ImageError → Option StartError
+    in_second (Some e) = Some (errors.ImageB e)
+    in_second None =
+        if fits g (image_size a) && fits g (image_size b) then None else Some errors.DoesNotFit
+
+    in_first : Option ImageError → Option StartError
+    in_first (Some e) = Some (errors.ImageA e)
+    in_first None = in_second (image_fault b)
+
+-- A start: the layout, the rules of the boots from there on, and the flash; also its two images where it was made of them, that is
+-- what tells the named one apart, and the other one.
+pub record Started : Type 0 where
+  pub geometry : Geometry
+  pub rules : Rules
+  pub content : Content
+  pub named : Option (Identity × Identity)
+
+-- What its first boot begins with.
+abbrev pub begun : Started → PowerOn
+begun s = power_on s.rules s.geometry s.content
+
+-- The named one first.
+abbrev pub in_order : {A : Type 0} → Kind → A → A → A × A
+in_order starts.None a b = (a, b)
+in_order starts.Test a b = (b, a)
+in_order starts.Perm a b = (b, a)
+in_order starts.Revert a b = (b, a)
+
+abbrev both : Option Identity → Option Identity → Option (Identity × Identity)
+both (Some x) (Some y) = Some (x, y)
+both _ _ = None
+
+-- The identities of the named image and of the other, of two valid images.
+abbrev pub named_ids : Kind → List ℕ → List ℕ → Option (Identity × Identity)
+named_ids kind a b = both (id_of (named kind a b)) (id_of (other kind a b))
+
+-- The start of two images: it has the defined flash, and whole calls and the first profile are its rules. Where there is
+-- none the first refusal is answered. Memory is wanted only for images that are not refused.
+abbrev pub Starts : Geometry → Kind → List ℕ → List ℕ → Result Started StartError → Type 0
+Starts g kind a b (Ok s) =
+    (refusal_of g a b ≡ None) × (s.geometry ≡ g) × (s.rules ≡ plain) × (start_flash g kind a b ≡ Some s.content)
+    × (s.named ≡ named_ids kind a b)
+Starts g kind a b (Err errors.Memory) = refusal_of g a b ≡ None
+Starts g kind a b (Err e) = refusal_of g a b ≡ Some e
+
+-- The flash of the bytes of both slots, the primary's first.
+abbrev pub of_flash : Geometry → List ℕ → Result Content StartError
+of_flash g bytes =
+    if length bytes == size_of g Primary + size_of g Secondary
+    then Ok (record { primary = take (size_of g Primary) bytes; secondary = drop (size_of g Primary) bytes })
+    else Err errors.FlashSize
+
+-- The start of bytes, in the same way. It names no images. Memory is wanted only for bytes of the right length.
+abbrev pub Gives : Geometry → Result Started StartError → Result Content StartError → Type 0
+Gives g (Ok s) wanted = (s.geometry ≡ g) × (s.rules ≡ plain) × (wanted ≡ Ok s.content) × (s.named ≡ None)
+Gives g (Err errors.Memory) wanted = IsOk wanted
+Gives g (Err e) wanted = wanted ≡ Err e
+
+-- What tells starts apart in a cursor: the digest of the layout's line with its line feed, and then the bytes of both slots.
+abbrev pub start_digest : PowerOn → List ℕ
+start_digest s = sha256 (((layout_line s.geometry ++ 10 ∷ []) ++ s.content.primary) ++ s.content.secondary)

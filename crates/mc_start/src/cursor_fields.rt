@@ -1,0 +1,124 @@
+//! What the texts of cursors are made of: fields with a colon behind each. Nothing here takes memory.
+ghost use Rattle.std.specs.Prelude.{◌≡◌, ℕ, ◌≤◌, List, [], ◌∷◌, ◌++◌, length, decimal, Some, IfSome, IsSomeAnd};
+ghost use Rattle.hex.specs.Hex.{IsBytes, encode_lower};
+ghost use Rattle.mc_output.specs.facts.Parting.{Lacks};
+ghost use Rattle.mc_trailer.specs.declared.tables.Rules.{Rules};
+ghost use Rattle.mc_start.specs.CursorFields.{rules_text, start_text, IsRead, IsStartField};
+ghost use Rattle.mc_start.specs.declared.cursor_fields.StartField.{StartField};
+
+use crate::schedule::MOST_CUTS;
+use mc_flash::Grain;
+use mc_trailer::{Profile, Rules};
+use std::{fmt, str};
+
+/// The field before the first colon of a text, and what follows that.
+pub fn next_field(text: &str) -> Option<(&str, &str)>
+    ensures some { IfSome result (λ found. text.now ≡ found.0.now ++ 58 ∷ found.1.now) }
+    ensures only { (field rest : List ℕ) → Lacks 58 field → text.now ≡ field ++ 58 ∷ rest
+        → IsSomeAnd result (λ found. (found.0.now ≡ field) × (found.1.now ≡ rest)) }
+{
+    text.split_once(':')
+}
+
+/// Rules: the grain (`call`, `unit`), `:`, the profile (`1`, `2`) and `:`.
+#[derive(Clone, Copy, Debug)]
+pub struct RulesField(pub Rules);
+
+impl RulesField {
+    /// The rules that a text begins with, and what follows them.
+    pub fn read(text: &str) -> Option<(Rules, &str)>
+        ensures some { IfSome result (λ found. text.now
+            ≡ rules_text found.0.grain found.0.profile ++ found.1.now) }
+        ensures only { (rules : Rules) (rest : List ℕ)
+            → text.now ≡ rules_text rules.grain rules.profile ++ rest → IsRead result rules rest }
+    {
+        let (grain, rest) = next_field(text)?;
+        let (profile, rest) = next_field(rest)?;
+        let grain = Grain::read(grain)?;
+        let profile = Profile::read(profile)?;
+        Some((Rules { grain, profile }, rest))
+    }
+}
+
+impl fmt::Display for RulesField {
+    ghost output = { λ field. Some (rules_text field.0.grain field.0.profile) };
+
+    fn fmt<W: fmt::Write>(&self, f: &mut fmt::Formatter<W>) -> fmt::Result {
+        let grain = self.0.grain;
+        let profile = self.0.profile;
+        write!(f, "{grain}:{profile}:")
+    }
+}
+
+/// A start and a bound: the digest of the start in 64 lower-case digits, `:`, the most cuts (0 to 16, without leading zeros) and
+/// `:`.
+#[derive(Clone, Copy, Debug)]
+pub struct StartField {
+    pub digest: [u8; 32],
+    pub bound: u8,
+}
+
+// The digits of a digest.
+fn digits_of(digest: &[u8; 32]) -> [u8; 64]
+    ensures { result ≡ encode_lower digest.now }
+{
+    let mut digits = [0; 64];
+    let _whole = hex::encode_to_slice(digest.as_slice(), &mut digits);
+    digits
+}
+
+// The digest that 64 digits write.
+fn digest_of(text: &str) -> Option<[u8; 32]>
+    ensures exact { IfSome result (λ d. text.now ≡ encode_lower d) }
+    ensures only { (d : List ℕ) → length d ≡ 32 → IsBytes d → text.now ≡ encode_lower d → result
+        ≡ Some d }
+{
+    let mut digest = [0; 32];
+    if hex::decode_to_slice(text, &mut digest).is_err() {
+        return None;
+    }
+    // Upper case digits are read too.
+    if digits_of(&digest).as_slice() != text.as_bytes() {
+        return None;
+    }
+    Some(digest)
+}
+
+// The most cuts that a text writes, without leading zeros.
+fn bound_of(text: &str) -> Option<u8>
+    ensures exact { IfSome result (λ n. text.now ≡ decimal n) }
+    ensures only { (n : ℕ) → n ≤ 16 → text.now ≡ decimal n → result ≡ Some n }
+{
+    match text.parse::<u8>() {
+        Ok(bound) if usize::from(bound) <= MOST_CUTS && itoa::Buffer::new().format(bound) == text =>
+            { Some(bound) }
+        _ => None,
+    }
+}
+
+impl StartField {
+    /// The start and the bound that a text begins with, and what follows them.
+    pub fn read(text: &str) -> Option<(StartField, &str)>
+        ensures some { IfSome result (λ found. text.now
+            ≡ start_text found.0.digest found.0.bound found.1.now) }
+        ensures only { (start : StartField) (rest : List ℕ) → IsStartField start
+            → text.now ≡ start_text start.digest start.bound rest → IsRead result start rest }
+    {
+        let (digits, rest) = next_field(text)?;
+        let (number, rest) = next_field(rest)?;
+        let digest = digest_of(digits)?;
+        let bound = bound_of(number)?;
+        Some((StartField { digest, bound }, rest))
+    }
+}
+
+impl fmt::Display for StartField {
+    ghost output = { λ field. Some (start_text field.digest field.bound []) };
+
+    fn fmt<W: fmt::Write>(&self, f: &mut fmt::Formatter<W>) -> fmt::Result {
+        let room = digits_of(&self.digest);
+        let digits = str::from_utf8(&room).map_err(|_| fmt::Error)?;
+        let bound = self.bound;
+        write!(f, "{digits}:{bound}:")
+    }
+}
