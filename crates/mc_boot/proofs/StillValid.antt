@@ -1,7 +1,8 @@
 -- A valid image in the secondary is still valid where a boot was cut before its transfers.
-use Rattle.std.specs.Prelude.{◌≡◌, ◌*◌, ◌<◌, ◌≤◌, true, List, length, take, Some, refl}
+use Rattle.std.specs.Prelude.{◌≡◌, ◌*◌, ◌<◌, ◌≤◌, true, List, length, take, Option, Some, None, refl}
 use Rattle.std.proofs.Common.{arith, sym, ap, subst, ◌∙◌}
 use Rattle.std.proofs.Math.Nat.{mul-le-mul_right}
+use Rattle.std.proofs.lemmas.Bool.{false≢true, ltb-true}
 use Rattle.mc_flash.specs.Content.{Content, size_of}
 use Rattle.mc_flash.specs.facts.Layouts.{data_before_trailer, data_end, image_is_data}
 use Rattle.mc_flash.specs.Geometry.{Geometry, IsLayout, greatest_sectors}
@@ -10,7 +11,7 @@ use Rattle.mc_flash.specs.declared.op.Op.{Op}
 use Rattle.mc_flash.specs.declared.op.Slot.TheVariants.{Secondary}
 use Rattle.mc_image.specs.Bytes.{IsBytes}
 use Rattle.mc_image.specs.Valid.{is_valid}
-use Rattle.mc_boot.specs.After.{IsStopped}
+use Rattle.mc_boot.specs.After.{IsStopped, in_setup}
 use Rattle.mc_boot.specs.Course.{new_list}
 use Rattle.mc_boot.specs.CourseList.{list_from, setup_of, whole_list}
 use Rattle.mc_boot.specs.Image.{image_size}
@@ -38,9 +39,9 @@ valid_kept g s u laws ok bytes has len same =
     (image_front s.secondary u.secondary laws bytes has.valid front).valid
 
 -- A swap from its start had a valid image that fits, and before its transfers it changes trailers alone.
-pub still_valid : (g : Geometry) (s u : Content) (b : Boot) (a : Course) → ImageLaws → IsLayout g → IsStopped g s u b → b.course ≡ Some a
+course_valid : (g : Geometry) (s u : Content) (b : Boot) (a : Course) → ImageLaws → IsLayout g → IsStopped g s u b → b.course ≡ Some a
     → b.done < setup_of a.grain a.layout a.opening → is_valid u.secondary ≡ true
-still_valid g s u b a laws ok is at early = by a.opening refl early
+course_valid g s u b a laws ok is at early = by a.opening refl early
   where
     layout : a.layout ≡ in_pieces a.grain g
     layout = layout_is g b.course a at is.layout
@@ -56,3 +57,10 @@ still_valid g s u b a laws ok is at early = by a.opening refl early
         (setup_in l (pieces_layout a.grain g ok) a.grain kind size a.sectors b.done (let less = subst P layout few in omega (arith, less))) in
         let happened : applied g (take b.done (new_list a.grain l kind size a.sectors)) s ≡ Some u = ap (λ (ops : List Op). applied g (take b.done ops) s) (sym list) ∙ is.come.happened in
         valid_kept g s u laws ok is.bytes (new_fits g ok a.grain kind size a.sectors b.rules s list) is.sized.secondary (applied_keeps g _ s u inside is.sized happened)
+
+pub still_valid : (g : Geometry) (s u : Content) (b : Boot) → ImageLaws → IsLayout g → IsStopped g s u b → in_setup b.course b.done ≡ true → is_valid u.secondary ≡ true
+still_valid g s u b laws ok is early = by b.course refl early
+  where
+    by : (o : Option Course) → b.course ≡ o → in_setup o b.done ≡ true → is_valid u.secondary ≡ true
+    by None at e = absurd (false≢true e)
+    by (Some a) at e = course_valid g s u b a laws ok is at (ltb-true _ _ e)

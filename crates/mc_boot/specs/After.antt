@@ -1,11 +1,12 @@
 -- A boot that was cut, and what it would have done.
-use Rattle.std.specs.Prelude.{◌≡◌, ℕ, ◌<◌, ◌==◌, if◌then◌else◌, length, Option, Some, None, option_and_then}
+use Rattle.std.specs.Prelude.{◌≡◌, ℕ, ◌<◌, ◌==◌, nat_lt, Bool, false, if◌then◌else◌, length, Option, Some, None, option_and_then}
 use Rattle.mc_flash.specs.Geometry.{Geometry}
 use Rattle.mc_flash.specs.Content.{Content, IsSized}
 use Rattle.mc_image.specs.Bytes.{IsBytes}
 use Rattle.mc_boot.specs.declared.boot.Boot.{Boot}
 use Rattle.mc_boot.specs.declared.course.Course.{Course}
 use Rattle.mc_boot.specs.Boot.{all_of, progress, IsBootOf}
+use Rattle.mc_boot.specs.CourseList.{setup_of}
 use Rattle.mc_boot.specs.Joins.{joins_of}
 use Rattle.mc_boot.specs.Outcome.{Report, outcome_of}
 use Rattle.mc_boot.specs.Plan.{plan}
@@ -31,6 +32,11 @@ pub record IsStopped (g : Geometry) (s u : Content) (b : Boot) : Type 0 where
   pub layout : IsBootOf g b
   pub list : all_of b ≡ (plan (power_on b.rules g s)).list
   pub come : HasCome (power_on b.rules g s) (progress b) u
+
+-- Whether a course still makes the trailers anew after so many operations.
+abbrev pub in_setup : Option Course → ℕ → Bool
+in_setup None done = false
+in_setup (Some a) done = nat_lt done (setup_of a.grain a.layout a.opening)
 
 -- How many operations of a course that was cut after so many the next one does not make again. Before the first operation
 -- the next boot is the same boot, and makes all again.

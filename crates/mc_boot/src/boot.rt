@@ -59,7 +59,7 @@ fn confirms(kind: SwapType, image_ok: Flag) -> bool
 
 impl Boot {
     ghost use Rattle.mc_boot.specs.Boot.{all_of, to_come, progress, IsBootOf, Steps, begun};
-    ghost use Rattle.mc_boot.specs.After.{IsStopped};
+    ghost use Rattle.mc_boot.specs.After.{IsStopped, in_setup};
     ghost use Rattle.mc_boot.specs.Run.{HasCome};
     ghost use Rattle.mc_boot.specs.Goes.{GoesOn};
     ghost use Rattle.mc_boot.specs.Cold.{IsCold};
@@ -237,6 +237,16 @@ impl Boot {
         Boot::begin(flash, rules, None, known)
     }
 
+    // Whether it has not come to the operations that it would go on with after a cut.
+    fn in_setup(&self) -> bool
+        ensures { result ≡ in_setup self.now.course self.now.done }
+    {
+        match &self.course {
+            Some(course) => self.done < course.setup_len(),
+            None => false,
+        }
+    }
+
     /// The boot at power-on after a power cut, by the rules of the boot that was cut: the flash stands where that one left it. It
     /// hashes nothing where that one was a swap from its start and had not come to its transfers. The secondary's image was
     /// valid then, and still is: only trailers have changed.
@@ -252,9 +262,11 @@ impl Boot {
         let _sector = flash.layout().sector();
         let _primary = flash.read(Slot::Primary);
         let _secondary = flash.read(Slot::Secondary);
-        let images = match &cut.course {
-            Some(course) if cut.done < course.setup_len() => Some(Images::read_valid(flash)),
-            _ => None,
+        let early = cut.in_setup();
+        let images = if early {
+            Some(Images::read_valid(flash))
+        } else {
+            None
         };
         Boot::begin(flash, cut.rules, images, &[])
     }

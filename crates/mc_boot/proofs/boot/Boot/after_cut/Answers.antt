@@ -1,4 +1,4 @@
-use Rattle.std.proofs.Common.{subst}
+use Rattle.std.proofs.Common.{sym, subst, ◌∙◌}
 use Rattle.mc_flash.specs.Geometry.{Geometry, IsLayout}
 use Rattle.mc_boot.proofs.StillValid.{still_valid}
 use Rattle.mc_boot.proofs.AfterCut.{is_cold}
@@ -7,9 +7,8 @@ use Rattle.mc_boot.proofs.boot.Boot.after_cut.Goals as goal
 pub read_valid-requires : goal.read_valid-requires
 read_valid-requires g c =
     let f = g.F.Flash.seen c.args.flash.now in
-    let before = c.if-cut-setup_len.true in
-    still_valid f.geometry c.requires.0 f.content c.args.cut.now c.in-Some.course (record { begins = c.one_reading.ensures.begins; same = c.same_front.ensures.id })
-    (subst (λ (x : Geometry). IsLayout x) c.layout.ensures c.sector-sector.ensures.valid) c.requires.1 c.in-Some.is (rw c.setup_len.ensures at before)
+    still_valid f.geometry c.requires.0 f.content c.args.cut.now (record { begins = c.one_reading.ensures.begins; same = c.same_front.ensures.id })
+    (subst (λ (x : Geometry). IsLayout x) c.layout.ensures c.sector-sector.ensures.valid) c.requires.1 (sym c.in_setup-early.ensures ∙ c.if-early.true)
 
 pub returns : goal.returns
 returns g c =
