@@ -5,8 +5,10 @@
 ghost use Rattle.std.specs.Prelude.{◌≡◌, IfOk};
 ghost use Rattle.mc_flash.specs.Worked.{worked};
 
+mod changes;
 mod failing;
 
+pub use changes::change_at;
 pub use failing::{FAULTS, FailingReader, FailingWriter, Failure, Fault};
 use mc_flash::{Layout, LayoutError};
 use mc_image::{ImageError, ImageParts, Version, write_image};
@@ -16,7 +18,7 @@ use std::alloc::Global;
 pub static PAYLOAD: [u8; 8] = [1, 2, 3, 4, 5, 6, 7, 8];
 
 /// 32 zeros in the header's place, and `PAYLOAD`.
-pub static PADDED: [u8; 40] = [
+static PADDED: [u8; 40] = [
     0, 0, 0, 0, 0, 0, 0, 0, 0, 0, 0, 0, 0, 0, 0, 0, 0, 0, 0, 0, 0, 0, 0, 0, 0, 0, 0, 0, 0, 0, 0, 0,
     1, 2, 3, 4, 5, 6, 7, 8,
 ];

@@ -1,5 +1,5 @@
 //! What the tests share.
-use mc_fixtures::{named, worked};
+use mc_fixtures::{change_at, worked};
 use mc_flash::{Flash, Grain, SnapFlash};
 use std::alloc::{AllocError, Global};
 use std::fmt::{Debug, Display};
@@ -33,34 +33,11 @@ fn in_full(alloc: Global, text: &str) -> Result<String, AllocError> {
     Ok(whole)
 }
 
-/// Named bytes, or those of some digits.
-fn bytes_of(alloc: Global, told: &str) -> Result<Vec<u8>, Fail> {
-    match named(told) {
-        Some(file) => Ok(file.to_vec(alloc)?),
-        None => Ok(hex::decode(alloc, told)?),
-    }
-}
-
-/// Puts bytes in a place. What there is no room for is left out.
-fn put(bytes: &mut [u8], place: usize, new: &[u8]) {
-    for (old, byte) in bytes.iter_mut().skip(place).zip(new) {
-        *old = *byte;
-    }
-}
-
-/// Makes one change, as in `0=first`.
-fn change_one(alloc: Global, bytes: &mut [u8], change: &str) -> Result<(), Fail> {
-    let (place, told) = change.split_once('=').ok_or("a place and bytes")?;
-    let place = place.parse::<usize>()?;
-    put(bytes, place, bytes_of(alloc, told)?.as_slice());
-    Ok(())
-}
-
 /// Puts named bytes, or those of some digits, in their places, as in `0=first,984=02`. What there is no room for is left out.
 pub fn change(alloc: Global, bytes: &mut [u8], changes: &str) -> Result<(), Fail> {
     let changes = in_full(alloc, changes)?;
     for change in changes.as_str().split(',') {
-        change_one(alloc, bytes, change)?;
+        change_at(alloc, bytes, change)?;
     }
     Ok(())
 }

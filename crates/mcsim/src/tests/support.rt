@@ -1,7 +1,7 @@
 //! What the tests of command lines share: files in memory, and sessions over them.
 use super::faulty::FaultyFiles;
 use mc_command::run;
-use mc_fixtures::{FIRST_TOLD, Fault, GOOD_LINE, SECOND_TOLD, named};
+use mc_fixtures::{FIRST_TOLD, Fault, GOOD_LINE, SECOND_TOLD, change_at, named};
 use std::alloc::{AllocError, Global};
 use std::cell::RefCell;
 use std::io::Read;
@@ -197,29 +197,6 @@ pub fn filled(alloc: Global, text: &str, names: &[&str], line: &str) -> Result<S
     Ok(whole)
 }
 
-/// Named bytes, or those of some digits.
-fn bytes_of(alloc: Global, told: &str) -> Result<Vec<u8>, Fail> {
-    match named(told) {
-        Some(file) => Ok(file.to_vec(alloc)?),
-        None => Ok(hex::decode(alloc, told)?),
-    }
-}
-
-/// Puts bytes at a place.
-fn put(bytes: &mut [u8], place: usize, new: &[u8]) {
-    for (cell, byte) in bytes.iter_mut().skip(place).zip(new) {
-        *cell = *byte;
-    }
-}
-
-/// Puts bytes at a place, as told in `984=02` or `0=first`.
-fn change(alloc: Global, bytes: &mut [u8], told: &str) -> Result<(), Fail> {
-    let (place, told) = told.split_once('=').ok_or("a place and bytes")?;
-    let new = bytes_of(alloc, told)?;
-    put(bytes, place.parse::<usize>()?, new.as_slice());
-    Ok(())
-}
-
 /// The bytes of a file: a named one, or one of so many bytes `0xff` but for those at some places, as in `1792:0=first,984=02`.
 pub fn contents(alloc: Global, told: &str) -> Result<Vec<u8>, Fail> {
     let Some((length, changes)) = told.split_once(':') else {
@@ -227,7 +204,7 @@ pub fn contents(alloc: Global, told: &str) -> Result<Vec<u8>, Fail> {
     };
     let mut bytes = vec![in alloc; 0xffu8; length.parse::<usize>()?]?;
     for told in changes.split(',') {
-        change(alloc, bytes.as_mut_slice(), told)?;
+        change_at(alloc, bytes.as_mut_slice(), told)?;
     }
     Ok(bytes)
 }
