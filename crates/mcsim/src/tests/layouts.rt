@@ -29,27 +29,6 @@ $ layout --sector 4096 --unit 4 --max-sectors 128 --chunk 1024 --primary 118 --s
 ! mcsim: E33 Counts; exit 2
 $ layout --sector 4096 --unit 4 --max-sectors 128 --chunk 1024 --primary 118 --secondary x
 ! mcsim: --secondary takes a number from 0 to 4294967295; exit 2
-$ layout WORKED
-trailer-bytes 144
-trailer-sectors 1
-image-sectors 2
-image-bytes 512
-primary 880 entry 0
-primary 968 entry 11
-primary 976 swap-size
-primary 984 swap-info
-primary 992 copy-done
-primary 1000 image-ok
-primary 1008 magic
-secondary 720 swap-size
-secondary 728 swap-info
-secondary 736 copy-done
-secondary 744 image-ok
-secondary 752 magic
-call swap-ops 30
-call most-ops 36
-unit swap-ops 211
-unit most-ops 218
 ";
 
 #[test]
