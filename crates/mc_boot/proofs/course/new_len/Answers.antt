@@ -10,6 +10,9 @@ use Rattle.mc_boot.proofs.course.new_len.Goals as goal
 fits : (t o r p : ℕ) → t ≤ 262144 → o ≤ 34 → r ≤ 202000000 → p ≤ 33 → t + (p + (t + (o + r))) ≤ 204000000
 fits t o r p few opens resumes prepares = omega arith
 
+swap_fits : (t o r : ℕ) → t ≤ 262144 → o ≤ 34 → r ≤ 202000000 → t + (o + r) ≤ 204000000
+swap_fits t o r few opens resumes = omega arith
+
 small : (n : ℕ) → n ≤ 204000000 → Fits w32 n
 small n few = omega arith
 
@@ -60,3 +63,15 @@ overflow_add-result-then-is_revert c = small _ (whole c)
 
 pub returns-then-is_revert-clause-few : goal.returns-then-is_revert-clause-few
 returns-then-is_revert-clause-few c = whole c
+
+pub overflow_add-swap-2 : goal.overflow_add-swap-2
+overflow_add-swap-2 c =
+    small _ (swap_fits c.trailer_sectors-count.result c.opening_len-opening.result c.resumed_len.result
+    (few_told c.args.layout.now c.trailer_sectors-count.result c.trailer_sectors-count.ensures.value c.trailer_sectors-count.ensures.valid)
+    c.opening_len-opening.ensures.few c.resumed_len.ensures.few)
+
+pub returns-else-is_revert-clause-few : goal.returns-else-is_revert-clause-few
+returns-else-is_revert-clause-few c =
+    swap_fits c.trailer_sectors-count.result c.opening_len-opening.result c.resumed_len.result
+    (few_told c.args.layout.now c.trailer_sectors-count.result c.trailer_sectors-count.ensures.value c.trailer_sectors-count.ensures.valid)
+    c.opening_len-opening.ensures.few c.resumed_len.ensures.few

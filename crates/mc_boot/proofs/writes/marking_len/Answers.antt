@@ -1,17 +1,14 @@
-use Rattle.std.proofs.Common.{◌≡◌, ℕ, ◌+◌, ◌≤◌, max, Fits, w32, arith}
+use Rattle.std.proofs.Common.{ℕ, ◌+◌, ◌≤◌, Fits, w32, arith}
 use Rattle.mc_flash.specs.facts.Layouts.{small_unit}
-use Rattle.mc_boot.proofs.Grains.{length-marking}
+use Rattle.mc_boot.proofs.Grains.{length-marking, short_size}
 use Rattle.mc_boot.proofs.writes.marking_len.Goals as goal
-
-short : (u n : ℕ) → n ≡ max u 4 → u ≤ 8 → n ≤ 16
-short u n is small = omega arith
 
 sum : (a b : ℕ) → a ≤ 16 → b ≤ 16 → (Fits w32 (a + b)) × (a + b ≤ 32)
 sum a b p q = (omega arith, omega arith)
 
 pub write_len-requires : goal.write_len-requires
 write_len-requires c =
-    short c.unit.result c.max.result c.max.ensures (rw c.unit.ensures.value (small_unit c.args.layout.now c.unit.ensures.valid).1)
+    short_size c.unit.result c.max.result c.max.ensures (rw c.unit.ensures.value (small_unit c.args.layout.now c.unit.ensures.valid).1)
 
 pub overflow_add-result : goal.overflow_add-result
 overflow_add-result c = (sum c.write_len.result c.write_len-2.result c.write_len.ensures.few c.write_len-2.ensures.few).0
