@@ -1,5 +1,5 @@
 -- The outcome of a boot after a cut, by the courses of the two boots.
-use Rattle.std.specs.Prelude.{◌≡◌, ◌≤◌, ℕ, length, Bool, false, if◌then◌else◌, List, [], drop, Option, Some, option_map, IfSome}
+use Rattle.std.specs.Prelude.{◌≡◌, ◌≤◌, ℕ, length, Bool, false, if◌then◌else◌, List, [], take, drop, Option, Some, option_map, IfSome}
 use Rattle.std.proofs.Common.{sym, ap, subst, ◌∙◌}
 use Rattle.mc_flash.specs.Geometry.{Geometry, IsLayout}
 use Rattle.mc_flash.specs.Content.{Content, IsSized}
@@ -21,7 +21,7 @@ use Rattle.mc_boot.specs.Joins.{erases_of, joins_of}
 use Rattle.mc_boot.specs.Outcome.{Report, outcome_of}
 use Rattle.mc_boot.specs.Plan.{Plan, plan}
 use Rattle.mc_boot.specs.facts.Run.{come_at}
-use Rattle.mc_boot.specs.Runs.{left_by}
+use Rattle.mc_boot.specs.Runs.{applied, left_by}
 use Rattle.mc_boot.proofs.CourseJoins.{met_joins}
 use Rattle.mc_boot.proofs.Joins.{IsJoined, joined, less}
 use Rattle.mc_boot.proofs.JoinsMeet.{joins_meet}
@@ -50,6 +50,13 @@ is_cold r f b ok sized is of =
 
 pub layout_is : (g : Geometry) (o : Option Course) (a : Course) → o ≡ Some a → IfSome o (λ c. c.layout ≡ in_pieces c.grain g) → a.layout ≡ in_pieces a.grain g
 layout_is g o a is all = let P : Option Course → Type 0 = λ x. IfSome x (λ c. c.layout ≡ in_pieces c.grain g) in subst P is all
+
+-- Before the first operation the flash is as it was.
+pub at_start : (from : PowerOn) (u : Content) (cut : Boot) (whole : Report) → IsCut from u cut whole → cut.done ≡ 0 → again from u ≡ from
+at_start from u cut whole is none =
+    let same : Some from.content ≡ Some u = ap (λ (n : ℕ). applied from.geometry (take n (plan from).list) from.content) (sym none) ∙ is.come.happened in
+    let e : from.content ≡ u = cc in
+    ap (again from) (sym e)
 
 -- After a cut the next boot goes on as the one that was cut would have, where the test of their courses gives a number.
 module _ (from : PowerOn) (u : Content) (cut next : Boot) (a b : Course) (whole : Report) (j : ℕ) where

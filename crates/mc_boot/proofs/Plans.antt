@@ -11,13 +11,16 @@ use Rattle.mc_trailer.specs.declared.trailer.Trailer.{Trailer}
 use Rattle.mc_trailer.specs.declared.tables.SwapType.{SwapType}
 use Rattle.mc_trailer.specs.declared.tables.SwapType.TheVariants as kinds
 use Rattle.mc_trailer.specs.declared.tables.Rules.{Rules}
-use Rattle.mc_boot.specs.Course.{resumed_list}
+use Rattle.mc_boot.specs.Course.{new_list, resumed_list}
+use Rattle.mc_boot.specs.declared.image.Images.{Images}
+use Rattle.std.specs.Int.{div_ceil}
+use Rattle.std.proofs.lemmas.Bool.{ne_eqb, lt-ltb}
 use Rattle.mc_flash.specs.declared.op.Slot.TheVariants.{Primary, Secondary}
 use Rattle.mc_trailer.specs.Fields.{trailer_of}
 use Rattle.mc_trailer.specs.Entries.{highest_entry}
 use Rattle.mc_trailer.specs.Tables.{is_resumed, resumes, swap_type, table_of}
 use Rattle.mc_boot.specs.Image.{images_of}
-use Rattle.mc_boot.specs.Plan.{nothing, first_left, confirms, resumed_swap, resumed_from, resumed_plan, new_plan, plan_with, plan}
+use Rattle.mc_boot.specs.Plan.{nothing, first_left, confirms, resumed_swap, resumed_from, resumed_plan, new_swap, new_plan, plan_with, plan}
 use Rattle.mc_boot.specs.Boot.{Progress, begun}
 use Rattle.mc_boot.specs.PowerOn.{PowerOn}
 
@@ -31,6 +34,22 @@ pub resumed_count : (c : Grain) (g : Geometry) (image_ok : Flag) (highest : Opti
     → resumed_swap c g image_ok highest kind n ≡ resumed_from c g image_ok highest kind n (first_left g n highest)
 resumed_count c g image_ok highest kind n some few =
     ap (λ b. if b then nothing kinds.Panic else resumed_from c g image_ok highest kind n (first_left g n highest)) (may_swap n (greatest_sectors g) some few)
+
+-- a swap of more sectors than fit panics
+pub resumed_wide : (c : Grain) (g : Geometry) (image_ok : Flag) (highest : Option ℕ) (kind : SwapType) (n : ℕ) → greatest_sectors g < n → nothing kinds.Panic ≡ resumed_swap c g image_ok highest kind n
+resumed_wide c g image_ok highest kind n wide = rw (ne_eqb n 0 (λ e. absurd (omega (arith, e, wide))), lt-ltb (greatest_sectors g) n wide) refl
+
+-- and so does one that has no transfer of the highest entry
+pub resumed_lost : (c : Grain) (g : Geometry) (image_ok : Flag) (highest : Option ℕ) (kind : SwapType) (n : ℕ) → 0 < n → n ≤ greatest_sectors g
+    → first_left g n highest ≡ None → nothing kinds.Panic ≡ resumed_swap c g image_ok highest kind n
+resumed_lost c g image_ok highest kind n some few none = sym (resumed_count c g image_ok highest kind n some few ∙ ap (resumed_from c g image_ok highest kind n) none)
+
+-- a swap from its start, at power-on
+pub new_begun : (r : Rules) (g : Geometry) (images : Images) (kind : SwapType) (l : Geometry) (n : ℕ) → images.valid ≡ true → n ≡ div_ceil images.size g.sector → n ≤ greatest_sectors g
+    → l ≡ in_pieces r.grain g → record { rules = r; kind = kind; to_come = new_list r.grain l kind images.size n; count = 0; faulted = false } ≡ begun r (new_swap r.grain g images kind)
+new_begun r g images kind l n valid is few layout_is =
+    let fits : nat_lt (greatest_sectors g) (div_ceil images.size g.sector) ≡ false = grind (arith, nat_tests) in
+    rw (is, layout_is, valid, fits) refl
 
 pub none_of : (r : Bool) (o : Option ℕ) → is_some o ≡ not r → r ≡ is_none o
 none_of true None e = refl

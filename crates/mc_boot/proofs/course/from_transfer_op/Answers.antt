@@ -1,5 +1,7 @@
-use Rattle.std.proofs.Common.{sym, ◌∙◌}
-use Rattle.mc_boot.proofs.Sections.{get_transfer, get_closing}
+use Rattle.std.proofs.Common.{◌≡◌, ◌+◌, ◌*◌, ◌<◌, ◌≤◌, ℕ, Fits, w32, sym, arith, ◌∙◌}
+use Rattle.std.proofs.Math.Nat.{le-div_iff_mul-le, mod-lt}
+use Rattle.mc_flash.specs.facts.Usage.{few_sectors}
+use Rattle.mc_boot.proofs.Sections.{few_transfers, get_transfer, get_closing}
 use Rattle.mc_boot.proofs.course.from_transfer_op.Goals as goal
 
 pub returns-then-index-width-clause-at : goal.returns-then-index-width-clause-at
@@ -13,3 +15,42 @@ returns-clause-at c =
     let past = rw (c.saturating_sub-left.ensures, c.transfer_len-width.ensures.len) at c.if-index-width.false in
     (rw (c.saturating_sub-left.ensures, c.transfer_len-width.ensures.len) at c.closing_op.ensures.at)
     ∙ sym (get_closing c.args.layout.now c.args.sectors c.args.first c.args.image_ok c.args.index past).1
+
+thrice : (n : ℕ) → n ≤ 1024 → Fits w32 (3 * n)
+thrice n few = omega arith
+
+some : (w q : ℕ) → w ≡ q + 2 → 0 < w
+some w q is = omega arith
+
+pub overflow_mul-sectors : goal.overflow_mul-sectors
+overflow_mul-sectors c = thrice c.args.sectors (omega (arith, c.requires, few_sectors c.args.layout.now c.transfer_len-width.ensures.valid))
+
+pub nonzero_div-index : goal.nonzero_div-index
+nonzero_div-index c = some c.transfer_len-width.result _ c.transfer_len-width.ensures.len
+
+pub nonzero_rem-index : goal.nonzero_rem-index
+nonzero_rem-index c = some c.transfer_len-width.result _ c.transfer_len-width.ensures.len
+
+pub transfer_at-transfer-requires-clause-fits : goal.transfer_at-transfer-requires-clause-fits
+transfer_at-transfer-requires-clause-fits c = c.requires
+
+pub transfer_op-requires-clause-inside : goal.transfer_op-requires-clause-inside
+transfer_op-requires-clause-inside c = c.transfer_at-transfer.ensures.inside
+
+pub transfer_op-requires-clause-below : goal.transfer_op-requires-clause-below
+transfer_op-requires-clause-below c =
+    let width = c.transfer_len-width.ensures.len in
+    omega (arith, mod-lt c.args.index (some c.transfer_len-width.result _ width), width)
+
+pub returns-then-index-width-clause-inside : goal.returns-then-index-width-clause-inside
+returns-then-index-width-clause-inside c = c.transfer_op.ensures.inside
+
+pub overflow_mul-left : goal.overflow_mul-left
+overflow_mul-left c =
+    rw (c.saturating_sub-left.ensures, c.transfer_len-width.ensures.len) (omega (arith, few_transfers c.args.layout.now c.args.sectors c.args.first c.transfer_len-width.ensures.valid c.requires))
+
+pub overflow_sub-index : goal.overflow_sub-index
+overflow_sub-index c = (le-div_iff_mul-le (some c.transfer_len-width.result _ c.transfer_len-width.ensures.len)).0 c.if-index-width.false
+
+pub returns-clause-inside : goal.returns-clause-inside
+returns-clause-inside c = c.closing_op.ensures.inside
