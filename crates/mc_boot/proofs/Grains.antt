@@ -77,7 +77,8 @@ length-marking c g slot size =
     ∙ ap (λ n. write_count c g (max g.unit 4) + n) (length-write c g slot field.Magic magic_bytes)
 
 -- the size comes first
-pub get_size : (c : Grain) (g : Geometry) (slot : Slot) (size k : ℕ) (op : Op) → slice_get (write c g slot field.SwapSize (size_bytes g size)) k ≡ Some op → slice_get (marking c g slot size) k ≡ Some op
+pub get_size : (c : Grain) (g : Geometry) (slot : Slot) (size k : ℕ) (op : Op) → slice_get (write c g slot field.SwapSize (size_bytes g size)) k ≡ Some op
+    → slice_get (marking c g slot size) k ≡ Some op
 get_size c g slot size k op at = get_front (write c g slot field.SwapSize (size_bytes g size)) (write c g slot field.Magic magic_bytes) k op at
 
 -- behind the size comes the magic

@@ -125,7 +125,6 @@ fn erases_of(course: &Course) -> u32
 }
 
 /// Whether the operation of that number erases a sector that is erased.
-#[tactic(auto, using(crate::proofs::Rejoined::sector_there))]
 fn is_idle<F: Flash>(flash: &F, course: &Course, number: u32) -> bool
     requires { course.now.layout ≡ in_pieces course.now.grain (F.seen flash.now).geometry }
     ensures { result ≡ true → IfSome (slice_get (course_list course.now) number)

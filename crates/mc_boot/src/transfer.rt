@@ -129,7 +129,6 @@ pub fn transfer_len(layout: &Layout) -> u32
 }
 
 /// One operation of a transfer.
-#[tactic(auto, using(crate::proofs::TransferPlaces::get_copy, crate::proofs::TransferPlaces::get_entry))]
 pub fn transfer_op(layout: &Layout, transfer: Transfer, index: u32) -> Op
     requires inside { IsInside layout.now transfer }
     requires below { index < layout.now.sector / layout.now.chunk + 2 }

@@ -1,9 +1,14 @@
-use Rattle.std.proofs.Common.{◌≡◌, ℕ, ◌+◌, ◌^◌, ◌≤◌, Fits, w64, refl, arith}
+use Rattle.std.proofs.Common.{◌≡◌, ℕ, ◌+◌, ◌^◌, ◌≤◌, false, Fits, w64, refl, sym, ap, subst, arith, ◌∙◌}
+use Rattle.std.proofs.lemmas.Bool.{false≢true, and_left, and_right}
 use Rattle.mc_flash.specs.Content.{size_of}
 use Rattle.mc_flash.specs.facts.Layouts.{small_unit}
 use Rattle.mc_flash.specs.declared.op.Slot.TheVariants.{Primary}
 use Rattle.mc_trailer.specs.Fields.{trailer_of}
+use Rattle.mc_trailer.specs.Tables.{is_good, is_set}
+use Rattle.mc_trailer.specs.declared.trailer.Trailer.{Trailer}
+use Rattle.mc_trailer.specs.declared.trailer.Magic.{Magic}
 use Rattle.mc_trailer.specs.declared.trailer.Magic.TheVariants as magics
+use Rattle.mc_trailer.specs.declared.trailer.Flag.{Flag}
 use Rattle.mc_trailer.specs.declared.trailer.Flag.TheVariants as flags
 use Rattle.mc_boot.proofs.Can.{slot_small}
 use Rattle.mc_boot.proofs.confirmation.may_confirm.Goals as goal
@@ -11,6 +16,16 @@ use Rattle.mc_boot.proofs.confirmation.may_confirm.Goals.{in-Good, in_default, t
 
 fits : (at e size u : ℕ) → at + e ≡ size → size ≤ 2 ^ 24 → u ≤ 8 → (Fits w64 at) × (Fits w64 u) × (Fits w64 (at + u)) × (at ≤ at + u)
 fits at e size u inside small short = (omega arith, omega arith, omega arith, omega arith)
+
+other_magic : (m : Magic) → (m ≡ magics.Good → ⊥) → is_good m ≡ false
+other_magic magics.Good other = absurd (other refl)
+other_magic magics.Unset other = refl
+other_magic magics.Bad other = refl
+
+other_flag : (f : Flag) → (f ≡ flags.Set → ⊥) → is_set f ≡ false
+other_flag flags.Set other = absurd (other refl)
+other_flag flags.Unset other = refl
+other_flag flags.Bad other = refl
 
 pub overflow_cast-at : goal.overflow_cast-at
 overflow_cast-at g c =
@@ -42,11 +57,24 @@ returns-then-matches-2-clause-may g c =
     elim c.if-matches.branch [
       | then-matches+in-Set w ↦ elim c.match-matches.branch [
         | in-Good v ↦
-            (let good : read.magic ≡ magics.Good = cc in
-            let set : read.copy_done ≡ flags.Set = cc in
+            (let good : read.magic ≡ magics.Good = ap (λ (t : Trailer). t.magic) (sym c.read-primary.ensures) ∙ v.in-Good.is in
+            let set : read.copy_done ≡ flags.Set = ap (λ (t : Trailer). t.copy_done) (sym c.read-primary.ensures) ∙ w.in-Set.is in
             rw (good, set) (rw (c.place-at.ensures.place, c.unit-unit.ensures.value, c.layout.ensures, c.layout-2.ensures, c.read.ensures.value) at c.blank.ensures))
-        | in_default v ↦ absurd cc
+        | in_default v ↦ absurd (false≢true (sym v.matches-is ∙ w.if-matches.true))
       ]
-      | then-matches+in_default-matches w ↦ absurd cc
-      | else-matches w ↦ absurd cc
+      | then-matches+in_default-matches w ↦ absurd (false≢true (sym w.value-is ∙ c.if-matches-2.true))
+      | else-matches w ↦ absurd (false≢true (sym w.if-matches.false ∙ sym w.value-is ∙ c.if-matches-2.true))
     ]
+
+pub returns-else-matches-2-clause-may : goal.returns-else-matches-2-clause-may
+returns-else-matches-2-clause-may g c =
+    let seen = g.F.Flash.seen c.args.flash.now in
+    let read = trailer_of seen.geometry seen.content Primary in
+    c.if-matches-2.false ∙ (elim c.if-matches.branch [
+      | then-matches+in-Set w ↦ absurd (false≢true (sym c.if-matches-2.false ∙ w.value-is))
+      | then-matches+in_default-matches w ↦ sym (and_left _ _ (and_right _ _ (other_flag read.copy_done (subst (λ (t : Trailer). t.copy_done ≡ flags.Set → ⊥) c.read-primary.ensures w.in_default-matches.not-Set))))
+      | else-matches w ↦ elim c.match-matches.branch [
+        | in-Good v ↦ absurd (false≢true (sym w.if-matches.false ∙ v.matches-is))
+        | in_default v ↦ sym (and_left _ _ (and_left _ _ (other_magic read.magic (subst (λ (t : Trailer). t.magic ≡ magics.Good → ⊥) c.read-primary.ensures v.in_default.not-Good))))
+      ]
+    ])

@@ -1,7 +1,8 @@
-use Rattle.std.proofs.Common.{◌≡◌, ◌+◌, ◌*◌, ◌<◌, ◌≤◌, ℕ, Fits, w32, sym, arith, ◌∙◌}
+use Rattle.std.proofs.Common.{◌≡◌, ◌+◌, ◌<◌, ℕ, sym, arith, ◌∙◌}
 use Rattle.std.proofs.Math.Nat.{le-div_iff_mul-le, mod-lt}
 use Rattle.mc_flash.specs.facts.Usage.{few_sectors}
 use Rattle.mc_boot.proofs.Sections.{few_transfers, get_transfer, get_closing}
+use Rattle.mc_boot.proofs.Few.{thrice}
 use Rattle.mc_boot.proofs.course.from_transfer_op.Goals as goal
 
 pub returns-then-index-width-clause-at : goal.returns-then-index-width-clause-at
@@ -15,9 +16,6 @@ returns-clause-at c =
     let past = rw (c.saturating_sub-left.ensures, c.transfer_len-width.ensures.len) at c.if-index-width.false in
     (rw (c.saturating_sub-left.ensures, c.transfer_len-width.ensures.len) at c.closing_op.ensures.at)
     ∙ sym (get_closing c.args.layout.now c.args.sectors c.args.first c.args.image_ok c.args.index past).1
-
-thrice : (n : ℕ) → n ≤ 1024 → Fits w32 (3 * n)
-thrice n few = omega arith
 
 some : (w q : ℕ) → w ≡ q + 2 → 0 < w
 some w q is = omega arith

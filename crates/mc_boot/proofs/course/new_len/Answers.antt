@@ -1,4 +1,5 @@
 use Rattle.std.proofs.Common.{◌≡◌, ℕ, ◌+◌, ◌≤◌, ◌++◌, true, false, ◌∙◌, sym, arith, length-append, Fits, w32}
+use Rattle.mc_flash.specs.Geometry.{Geometry, IsLayout, trailer_sectors}
 use Rattle.mc_flash.specs.declared.op.Slot.TheVariants.{Secondary}
 use Rattle.mc_boot.specs.Course.{swap_list}
 use Rattle.mc_boot.specs.Writes.{preparation_writes, is_revert}
@@ -10,8 +11,8 @@ use Rattle.mc_boot.proofs.course.new_len.Goals as goal
 fits : (t o r p : ℕ) → t ≤ 262144 → o ≤ 34 → r ≤ 202000000 → p ≤ 33 → t + (p + (t + (o + r))) ≤ 204000000
 fits t o r p few opens resumes prepares = omega arith
 
-swap_fits : (t o r : ℕ) → t ≤ 262144 → o ≤ 34 → r ≤ 202000000 → t + (o + r) ≤ 204000000
-swap_fits t o r few opens resumes = omega arith
+swap_fits : (g : Geometry) (t o r : ℕ) → t ≡ trailer_sectors g → IsLayout g → o ≤ 34 → r ≤ 202000000 → t + (o + r) ≤ 204000000
+swap_fits g t o r is ok opens resumes = let few = few_told g t is ok in omega (arith, few)
 
 small : (n : ℕ) → n ≤ 204000000 → Fits w32 n
 small n few = omega arith
@@ -65,13 +66,7 @@ pub returns-then-is_revert-clause-few : goal.returns-then-is_revert-clause-few
 returns-then-is_revert-clause-few c = whole c
 
 pub overflow_add-swap-2 : goal.overflow_add-swap-2
-overflow_add-swap-2 c =
-    small _ (swap_fits c.trailer_sectors-count.result c.opening_len-opening.result c.resumed_len.result
-    (few_told c.args.layout.now c.trailer_sectors-count.result c.trailer_sectors-count.ensures.value c.trailer_sectors-count.ensures.valid)
-    c.opening_len-opening.ensures.few c.resumed_len.ensures.few)
+overflow_add-swap-2 c = small _ (swap_fits c.args.layout.now _ _ _ c.trailer_sectors-count.ensures.value c.trailer_sectors-count.ensures.valid c.opening_len-opening.ensures.few c.resumed_len.ensures.few)
 
 pub returns-else-is_revert-clause-few : goal.returns-else-is_revert-clause-few
-returns-else-is_revert-clause-few c =
-    swap_fits c.trailer_sectors-count.result c.opening_len-opening.result c.resumed_len.result
-    (few_told c.args.layout.now c.trailer_sectors-count.result c.trailer_sectors-count.ensures.value c.trailer_sectors-count.ensures.valid)
-    c.opening_len-opening.ensures.few c.resumed_len.ensures.few
+returns-else-is_revert-clause-few c = swap_fits c.args.layout.now _ _ _ c.trailer_sectors-count.ensures.value c.trailer_sectors-count.ensures.valid c.opening_len-opening.ensures.few c.resumed_len.ensures.few

@@ -1,27 +1,28 @@
 use Rattle.std.proofs.Common.{◌≡◌, ℕ, ◌+◌, ◌≤◌, true, false, ◌∙◌, sym, refl, arith, Fits, w32}
+use Rattle.mc_flash.specs.Geometry.{Geometry, IsLayout, trailer_sectors}
 use Rattle.mc_boot.specs.Writes.{is_revert}
 use Rattle.mc_boot.proofs.Few.{few_told}
 use Rattle.mc_boot.proofs.course.new_setup_len.Goals as goal
 
 -- each sum of the parts is small
-fits : (t o p : ℕ) → t ≤ 262144 → o ≤ 34 → p ≤ 33 → (Fits w32 (t + o)) × (Fits w32 (p + (t + o))) × (Fits w32 (t + (p + (t + o))))
-fits t o p few opens prepares = (omega arith, omega arith, omega arith)
+fits : (g : Geometry) (t o p : ℕ) → t ≡ trailer_sectors g → IsLayout g → o ≤ 34 → p ≤ 33 → (Fits w32 (t + o)) × (Fits w32 (p + (t + o))) × (Fits w32 (t + (p + (t + o))))
+fits g t o p is ok opens prepares = sums (few_told g t is ok)
+  where
+    sums : t ≤ 262144 → (Fits w32 (t + o)) × (Fits w32 (p + (t + o))) × (Fits w32 (t + (p + (t + o))))
+    sums few = (omega arith, omega arith, omega arith)
 
 pub overflow_add-swap : goal.overflow_add-swap
 overflow_add-swap c =
-    (fits c.trailer_sectors-count.result c.opening_len.result 0 (few_told c.args.layout.now c.trailer_sectors-count.result c.trailer_sectors-count.ensures.value c.trailer_sectors-count.ensures.valid)
-    c.opening_len.ensures.few (omega arith)).0
+    (fits c.args.layout.now c.trailer_sectors-count.result c.opening_len.result 0 c.trailer_sectors-count.ensures.value c.trailer_sectors-count.ensures.valid c.opening_len.ensures.few (omega arith)).0
 
 pub overflow_add-result : goal.overflow_add-result
 overflow_add-result c =
-    (fits c.trailer_sectors-count.result c.opening_len.result c.preparation_len.result
-    (few_told c.args.layout.now c.trailer_sectors-count.result c.trailer_sectors-count.ensures.value c.trailer_sectors-count.ensures.valid)
+    (fits c.args.layout.now c.trailer_sectors-count.result c.opening_len.result c.preparation_len.result c.trailer_sectors-count.ensures.value c.trailer_sectors-count.ensures.valid
     c.opening_len.ensures.few c.preparation_len.ensures.few).1
 
 pub overflow_add-result-then-is_revert : goal.overflow_add-result-then-is_revert
 overflow_add-result-then-is_revert c =
-    (fits c.trailer_sectors-count.result c.opening_len.result c.preparation_len.result
-    (few_told c.args.layout.now c.trailer_sectors-count.result c.trailer_sectors-count.ensures.value c.trailer_sectors-count.ensures.valid)
+    (fits c.args.layout.now c.trailer_sectors-count.result c.opening_len.result c.preparation_len.result c.trailer_sectors-count.ensures.value c.trailer_sectors-count.ensures.valid
     c.opening_len.ensures.few c.preparation_len.ensures.few).2
 
 pub returns-then-is_revert : goal.returns-then-is_revert

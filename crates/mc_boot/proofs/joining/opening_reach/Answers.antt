@@ -1,21 +1,18 @@
 use Rattle.std.proofs.Common.{◌≡◌, ℕ, ◌+◌, ◌≤◌, true, false, ◌∙◌, sym, refl, arith, Fits, w32}
+use Rattle.mc_flash.specs.Geometry.{Geometry, IsLayout, trailer_sectors}
 use Rattle.mc_boot.specs.Writes.{is_revert}
 use Rattle.mc_boot.proofs.Few.{few_told}
 use Rattle.mc_boot.proofs.joining.opening_reach.Goals as goal
 
-fits : (t o : ℕ) → t ≤ 262144 → o ≤ 34 → Fits w32 (t + o)
-fits t o few opens = omega arith
+fits : (g : Geometry) (t o : ℕ) → t ≡ trailer_sectors g → IsLayout g → o ≤ 34 → Fits w32 (t + o)
+fits g t o is ok opens = let few = few_told g t is ok in omega (arith, few)
 
 pub overflow_add-result : goal.overflow_add-result
 overflow_add-result c =
-    fits c.trailer_sectors-count.result c.preparation_len.result
-    (few_told c.args.layout.now c.trailer_sectors-count.result c.trailer_sectors-count.ensures.value c.trailer_sectors-count.ensures.valid)
-    (let few = c.preparation_len.ensures.few in omega (arith, few))
+    fits c.args.layout.now _ _ c.trailer_sectors-count.ensures.value c.trailer_sectors-count.ensures.valid (let few = c.preparation_len.ensures.few in omega (arith, few))
 
 pub overflow_add-result-else-is_revert : goal.overflow_add-result-else-is_revert
-overflow_add-result-else-is_revert c =
-    fits c.trailer_sectors-count.result c.opening_len.result
-    (few_told c.args.layout.now c.trailer_sectors-count.result c.trailer_sectors-count.ensures.value c.trailer_sectors-count.ensures.valid) c.opening_len.ensures.few
+overflow_add-result-else-is_revert c = fits c.args.layout.now _ _ c.trailer_sectors-count.ensures.value c.trailer_sectors-count.ensures.valid c.opening_len.ensures.few
 
 pub returns-then-is_revert : goal.returns-then-is_revert
 returns-then-is_revert c size =

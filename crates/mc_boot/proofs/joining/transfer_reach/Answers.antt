@@ -1,15 +1,16 @@
-use Rattle.std.proofs.Common.{◌≡◌, ℕ, ◌+◌, ◌-◌, ◌*◌, ◌≤◌, Fits, w32, refl, arith}
+use Rattle.std.proofs.Common.{◌≡◌, ℕ, ◌+◌, ◌-◌, ◌*◌, ◌/◌, ◌≤◌, Fits, w32, refl, arith}
 use Rattle.std.proofs.lemmas.Bool.{eq-eqb, ne_eqb}
+use Rattle.mc_flash.specs.Geometry.{Geometry, IsLayout}
 use Rattle.mc_flash.specs.facts.Usage.{few_chunks, few_sectors}
-use Rattle.mc_boot.proofs.Few.{few_told}
+use Rattle.mc_boot.proofs.Few.{few_told, thrice}
 use Rattle.mc_boot.proofs.joining.transfer_reach.Goals as goal
 
-thrice : (n : ℕ) → n ≤ 1024 → Fits w32 (3 * n)
-thrice n few = omega arith
-
--- of a transfer of q chunks, that is of n operations, behind t erases
-sums : (t q n : ℕ) → t ≤ 262144 → q ≤ 65536 → n ≡ q + 2 → (1 ≤ n) × (n - 1 ≤ 400000) × (Fits w32 (t + (n - 1))) × (t + (n - 1) ≤ 400000)
-sums t q n few short is = (omega arith, omega arith, omega arith, omega arith)
+-- how many operations a transfer has before its entry, and how many with the erases of a trailer before them
+counts : (g : Geometry) (t n : ℕ) → IsLayout g → t ≤ 262144 → n ≡ g.sector / g.chunk + 2 → (Fits w32 (t + (n - 1))) × (t + (n - 1) ≤ 400000) × (n - 1 ≤ 400000)
+counts g t n ok few is = sums (g.sector / g.chunk) (few_chunks g ok) is
+  where
+    sums : (q : ℕ) → q ≤ 65536 → n ≡ q + 2 → (Fits w32 (t + (n - 1))) × (t + (n - 1) ≤ 400000) × (n - 1 ≤ 400000)
+    sums q short e = (omega arith, omega arith, omega arith)
 
 pub returns-then-erases-clause-reach : goal.returns-then-erases-clause-reach
 returns-then-erases-clause-reach c =
@@ -23,16 +24,16 @@ overflow_mul-course c = thrice c.args.course.now.sectors (omega (arith, c.args.c
 
 pub overflow_add-result : goal.overflow_add-result
 overflow_add-result c =
-    (sums c.trailer_sectors.result _ c.transfer_len-copied.result (few_told c.args.course.now.layout c.trailer_sectors.result c.trailer_sectors.ensures.value c.trailer_sectors.ensures.valid)
-    (few_chunks c.args.course.now.layout c.transfer_len-copied.ensures.valid) c.transfer_len-copied.ensures.len).2
+    let l = c.args.course.now.layout in
+    (counts l c.trailer_sectors.result c.transfer_len-copied.result c.trailer_sectors.ensures.valid (few_told l _ c.trailer_sectors.ensures.value c.trailer_sectors.ensures.valid) c.transfer_len-copied.ensures.len).0
 
 pub returns-then-first-course-clause-reach : goal.returns-then-first-course-clause-reach
 returns-then-first-course-clause-reach c = rw (eq-eqb c.args.first (3 * c.args.course.now.sectors) c.if-first-course.true) refl
 
 pub returns-then-erases-clause-few : goal.returns-then-erases-clause-few
 returns-then-erases-clause-few c =
-    (sums c.trailer_sectors.result _ c.transfer_len-copied.result (few_told c.args.course.now.layout c.trailer_sectors.result c.trailer_sectors.ensures.value c.trailer_sectors.ensures.valid)
-    (few_chunks c.args.course.now.layout c.transfer_len-copied.ensures.valid) c.transfer_len-copied.ensures.len).3
+    let l = c.args.course.now.layout in
+    (counts l c.trailer_sectors.result c.transfer_len-copied.result c.trailer_sectors.ensures.valid (few_told l _ c.trailer_sectors.ensures.value c.trailer_sectors.ensures.valid) c.transfer_len-copied.ensures.len).1
 
 pub returns-else-erases-clause-few : goal.returns-else-erases-clause-few
-returns-else-erases-clause-few c = (sums 0 _ c.transfer_len-copied.result (omega arith) (few_chunks c.args.course.now.layout c.transfer_len-copied.ensures.valid) c.transfer_len-copied.ensures.len).1
+returns-else-erases-clause-few c = (counts c.args.course.now.layout 0 c.transfer_len-copied.result c.transfer_len-copied.ensures.valid (omega arith) c.transfer_len-copied.ensures.len).2
