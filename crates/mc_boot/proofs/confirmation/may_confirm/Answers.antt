@@ -1,4 +1,4 @@
-use Rattle.std.proofs.Common.{◌≡◌, ℕ, ◌+◌, ◌^◌, ◌≤◌, false, Fits, w64, refl, sym, ap, subst, arith, ◌∙◌}
+use Rattle.std.proofs.Common.{◌≡◌, ℕ, ◌+◌, ◌^◌, ◌≤◌, Bool, false, ◌&&◌, Fits, w64, refl, sym, ap, subst, arith, ◌∙◌}
 use Rattle.std.proofs.lemmas.Bool.{false≢true, and_left, and_right}
 use Rattle.mc_flash.specs.Content.{size_of}
 use Rattle.mc_flash.specs.facts.Layouts.{small_unit}
@@ -26,6 +26,12 @@ other_flag : (f : Flag) → (f ≡ flags.Set → ⊥) → is_set f ≡ false
 other_flag flags.Set other = absurd (other refl)
 other_flag flags.Unset other = refl
 other_flag flags.Bad other = refl
+
+not_good : (r t : Trailer) (b c : Bool) → r ≡ t → (r.magic ≡ magics.Good → ⊥) → (is_good t.magic && b && c) ≡ false
+not_good r t b c is other = and_left _ c (and_left _ b (other_magic t.magic (subst (λ (x : Trailer). x.magic ≡ magics.Good → ⊥) is other)))
+
+not_set : (r t : Trailer) (b c : Bool) → r ≡ t → (r.copy_done ≡ flags.Set → ⊥) → (b && is_set t.copy_done && c) ≡ false
+not_set r t b c is other = and_left _ c (and_right b _ (other_flag t.copy_done (subst (λ (x : Trailer). x.copy_done ≡ flags.Set → ⊥) is other)))
 
 pub overflow_cast-at : goal.overflow_cast-at
 overflow_cast-at g c =
@@ -72,9 +78,9 @@ returns-else-matches-2-clause-may g c =
     let read = trailer_of seen.geometry seen.content Primary in
     c.if-matches-2.false ∙ (elim c.if-matches.branch [
       | then-matches+in-Set w ↦ absurd (false≢true (sym c.if-matches-2.false ∙ w.value-is))
-      | then-matches+in_default-matches w ↦ sym (and_left _ _ (and_right _ _ (other_flag read.copy_done (subst (λ (t : Trailer). t.copy_done ≡ flags.Set → ⊥) c.read-primary.ensures w.in_default-matches.not-Set))))
+      | then-matches+in_default-matches w ↦ sym (not_set c.read-primary.result read _ _ c.read-primary.ensures w.in_default-matches.not-Set)
       | else-matches w ↦ elim c.match-matches.branch [
         | in-Good v ↦ absurd (false≢true (sym w.if-matches.false ∙ v.matches-is))
-        | in_default v ↦ sym (and_left _ _ (and_left _ _ (other_magic read.magic (subst (λ (t : Trailer). t.magic ≡ magics.Good → ⊥) c.read-primary.ensures v.in_default.not-Good))))
+        | in_default v ↦ sym (not_good c.read-primary.result read _ _ c.read-primary.ensures v.in_default.not-Good)
       ]
     ])

@@ -66,7 +66,9 @@ pub returns-then-is_revert-clause-few : goal.returns-then-is_revert-clause-few
 returns-then-is_revert-clause-few c = whole c
 
 pub overflow_add-swap-2 : goal.overflow_add-swap-2
-overflow_add-swap-2 c = small _ (swap_fits c.args.layout.now _ _ _ c.trailer_sectors-count.ensures.value c.trailer_sectors-count.ensures.valid c.opening_len-opening.ensures.few c.resumed_len.ensures.few)
+overflow_add-swap-2 c =
+    small _ (swap_fits c.args.layout.now _ _ _ c.trailer_sectors-count.ensures.value c.trailer_sectors-count.ensures.valid c.opening_len-opening.ensures.few c.resumed_len.ensures.few)
 
 pub returns-else-is_revert-clause-few : goal.returns-else-is_revert-clause-few
-returns-else-is_revert-clause-few c = swap_fits c.args.layout.now _ _ _ c.trailer_sectors-count.ensures.value c.trailer_sectors-count.ensures.valid c.opening_len-opening.ensures.few c.resumed_len.ensures.few
+returns-else-is_revert-clause-few c =
+    swap_fits c.args.layout.now _ _ _ c.trailer_sectors-count.ensures.value c.trailer_sectors-count.ensures.valid c.opening_len-opening.ensures.few c.resumed_len.ensures.few

@@ -25,7 +25,8 @@ overflow_mul-course c = thrice c.args.course.now.sectors (omega (arith, c.args.c
 pub overflow_add-result : goal.overflow_add-result
 overflow_add-result c =
     let l = c.args.course.now.layout in
-    (counts l c.trailer_sectors.result c.transfer_len-copied.result c.trailer_sectors.ensures.valid (few_told l _ c.trailer_sectors.ensures.value c.trailer_sectors.ensures.valid) c.transfer_len-copied.ensures.len).0
+    (counts l c.trailer_sectors.result c.transfer_len-copied.result c.trailer_sectors.ensures.valid (few_told l _ c.trailer_sectors.ensures.value c.trailer_sectors.ensures.valid)
+    c.transfer_len-copied.ensures.len).0
 
 pub returns-then-first-course-clause-reach : goal.returns-then-first-course-clause-reach
 returns-then-first-course-clause-reach c = rw (eq-eqb c.args.first (3 * c.args.course.now.sectors) c.if-first-course.true) refl
@@ -33,7 +34,8 @@ returns-then-first-course-clause-reach c = rw (eq-eqb c.args.first (3 * c.args.c
 pub returns-then-erases-clause-few : goal.returns-then-erases-clause-few
 returns-then-erases-clause-few c =
     let l = c.args.course.now.layout in
-    (counts l c.trailer_sectors.result c.transfer_len-copied.result c.trailer_sectors.ensures.valid (few_told l _ c.trailer_sectors.ensures.value c.trailer_sectors.ensures.valid) c.transfer_len-copied.ensures.len).1
+    (counts l c.trailer_sectors.result c.transfer_len-copied.result c.trailer_sectors.ensures.valid (few_told l _ c.trailer_sectors.ensures.value c.trailer_sectors.ensures.valid)
+    c.transfer_len-copied.ensures.len).1
 
 pub returns-else-erases-clause-few : goal.returns-else-erases-clause-few
 returns-else-erases-clause-few c = (counts c.args.course.now.layout 0 c.transfer_len-copied.result c.transfer_len-copied.ensures.valid (omega arith) c.transfer_len-copied.ensures.len).2
