@@ -16,3 +16,6 @@ returns-clause-written c =
 pub returns-clause-kept : goal.returns-clause-kept
 returns-clause-kept c =
     starts_with_trans _ _ _ c.put_protected.ensures.kept (starts_with_trans _ _ _ (starts_with_of_append _ _ _ c.in_ok-extend_from_slice.ensures.items) c.in_ok-put_header.ensures.kept)
+
+pub returns-in_err-put_header-clause-kept : goal.returns-in_err-put_header-clause-kept
+returns-in_err-put_header-clause-kept c = c.put_header.ensures.kept

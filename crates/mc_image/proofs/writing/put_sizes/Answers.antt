@@ -1,3 +1,4 @@
+use Rattle.std.proofs.Transfers.{starts_with_trans}
 use Rattle.std.proofs.Common.{append_assoc}
 use Rattle.mc_image.proofs.Appended.{on_ok}
 use Rattle.mc_image.proofs.writing.put_sizes.Goals as goal
@@ -13,3 +14,28 @@ returns-clause-written c =
       c.in_ok-put_u32.ensures.written,
       append_assoc,
     ))
+
+pub returns-in_err-put_u32-clause-kept : goal.returns-in_err-put_u32-clause-kept
+returns-in_err-put_u32-clause-kept c = c.put_u32.ensures.kept
+
+pub returns-in_err-put_u32-2-clause-kept : goal.returns-in_err-put_u32-2-clause-kept
+returns-in_err-put_u32-2-clause-kept c = starts_with_trans _ _ _ c.put_u32-2.ensures.kept c.in_ok-put_u32.ensures.kept
+
+pub returns-in_err-put_u16-clause-kept : goal.returns-in_err-put_u16-clause-kept
+returns-in_err-put_u16-clause-kept c = starts_with_trans _ _ _ c.put_u16.ensures.kept (starts_with_trans _ _ _ c.in_ok-put_u32-2.ensures.kept c.in_ok-put_u32.ensures.kept)
+
+pub returns-in_err-put_u16-2-clause-kept : goal.returns-in_err-put_u16-2-clause-kept
+returns-in_err-put_u16-2-clause-kept c =
+    starts_with_trans _ _ _ c.put_u16-2.ensures.kept (starts_with_trans _ _ _ c.in_ok-put_u16.ensures.kept
+    (starts_with_trans _ _ _ c.in_ok-put_u32-2.ensures.kept c.in_ok-put_u32.ensures.kept))
+
+pub returns-in_err-put_u32-3-clause-kept : goal.returns-in_err-put_u32-3-clause-kept
+returns-in_err-put_u32-3-clause-kept c =
+    starts_with_trans _ _ _ c.put_u32-3.ensures.kept (starts_with_trans _ _ _ c.in_ok-put_u16-2.ensures.kept
+    (starts_with_trans _ _ _ c.in_ok-put_u16.ensures.kept (starts_with_trans _ _ _ c.in_ok-put_u32-2.ensures.kept c.in_ok-put_u32.ensures.kept)))
+
+pub returns-clause-kept : goal.returns-clause-kept
+returns-clause-kept c =
+    starts_with_trans _ _ _ c.put_u32-4.ensures.kept (starts_with_trans _ _ _ c.in_ok-put_u32-3.ensures.kept
+    (starts_with_trans _ _ _ c.in_ok-put_u16-2.ensures.kept (starts_with_trans _ _ _ c.in_ok-put_u16.ensures.kept
+    (starts_with_trans _ _ _ c.in_ok-put_u32-2.ensures.kept c.in_ok-put_u32.ensures.kept))))
