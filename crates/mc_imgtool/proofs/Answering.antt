@@ -1,9 +1,8 @@
 -- An engine's answer at each of its ends.
 use Rattle.std.proofs.Common.{◌≡◌, ℕ, ◌<◌, ◌^◌, List, length, Option, None, Some, Result, Ok, Err, inl, inr, sym, ap, subst, ◌∙◌}
-use Rattle.std.specs.Prelude.{IfSome, IfErr, OnOk, ◌⊎◌}
-use Rattle.std.specs.Io.KnownBytes.{Appends}
+use Rattle.std.specs.Prelude.{IfSome, ◌⊎◌}
 use Rattle.std.proofs.KnownBytes.{Keeps-refl}
-use Rattle.mc_imgtool.specs.Engines.{RefusesReading, Refuses, Answers}
+use Rattle.mc_imgtool.specs.Engines.{RefusesReading, Refuses}
 use Rattle.mc_output.specs.Fronts.{AppendsFront}
 use Rattle.mc_imgtool.specs.declared.error.ToolError.{ToolError}
 use Rattle.mc_imgtool.specs.declared.error.ToolError.TheVariants.{Image, NotZeros, SlotTooSmall, NeedsSlotSize, InputTooLong, Read, Write, Memory}

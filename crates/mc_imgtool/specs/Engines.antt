@@ -1,6 +1,6 @@
 -- What an engine answers: the text that it is to write for its input, or a refusal. Of a reader and a writer the bytes
 -- that are left and that are held are known, or nothing is.
-use Rattle.std.specs.Prelude.{◌≡◌, ℕ, ◌<◌, ◌≤◌, List, length, take, Option, Result, Ok, Err, IfSome, ⊤, ◌⊎◌}
+use Rattle.std.specs.Prelude.{◌≡◌, ℕ, ◌<◌, ◌≤◌, List, length, Option, Result, Ok, Err, IfSome, ⊤, ◌⊎◌}
 use Rattle.std.specs.Io.KnownBytes.{Appends, Keeps}
 use Rattle.mc_image.specs.Judging.{verdict}
 use Rattle.mc_image.specs.declared.judge.Judged.{Judged}
