@@ -1,12 +1,62 @@
-use Rattle.std.proofs.Common.{◌++◌, arith, rules}
-use Rattle.std.proofs.KnownBytes.{Consumes-trans}
-use Rattle.mc_imgtool.proofs.Streams.{fits_with_more, longer}
+use Rattle.std.proofs.Common.{◌≡◌, ℕ, List, [], ◌++◌, Result, Ok, Err, length-append, take, drop, cond, refl, sym, ◌∙◌, arith}
+use Rattle.std.specs.Prelude.{is_ok, is_err, false}
+use Rattle.std.proofs.KnownBytes.{Consumes-nil, Consumes-trans, Consumes-all, Consumes-kept}
+use Rattle.std.proofs.lemmas.List.{take-append-le}
+use Rattle.mc_imgtool.proofs.Streams.{has_room, fits_with_more, nothing, longer}
+use Rattle.mc_imgtool.proofs.input.read_bounded.Given.{Over}
 use Rattle.mc_imgtool.proofs.input.read_bounded.Goals as goal
+use Rattle.mc_imgtool.proofs.input.read_bounded.Goals.{Else-is_err}
+
+at_ok : {A E : Type 0} (r : Result A E) (new more old : List ℕ) → new ≡ cond (is_ok r) more old → false ≡ is_err r → new ≡ more
+at_ok (Ok x) new more old e ok = e
+at_ok (Err x) new more old e ok = absurd (cc)
+
+-- the bytes after a read
+longer_by : (g : Over) (c : Else-is_err g) → c.extend_from_slice.new.self.items ≡ c.loop-buffer.bytes.items ++ take c.in-Ok.count c.read.new.buf
+longer_by g c =
+    let front = take-append-le c.in-Ok.count c.read.new.buf (drop c.min-room.result c.loop-buffer.buffer) c.in-Ok.ensures.bound.0 in
+    rw front at (at_ok c.extend_from_slice.result _ _ _ c.extend_from_slice.ensures.items c.if-is_err.ensures.value)
+
+pub loop-buffer-init : goal.loop-buffer-init
+loop-buffer-init g c = record {
+  within = rw c.new-bytes.ensures.items (omega arith);
+  taken = rw c.new-bytes.ensures.items (Consumes-nil _);
+}
+
+pub loop-buffer-preserved : goal.loop-buffer-preserved
+loop-buffer-preserved g c =
+    let b = c.loop-buffer in
+    let told = c.in-Ok.ensures in
+    let fits = fits_with_more _ _ _ _ b.bytes.items b.buffer _ c.min-room.ensures (c.len-in-loop-buffer.ensures ∙ b.bytes.ok.0) b.invariant.within c.read.auto.buf told.bound in
+    let is = longer_by g c in
+    record { within = rw is fits; taken = rw is (Consumes-trans _ _ _ b.bytes.items (take c.in-Ok.count c.read.new.buf) b.invariant.taken told.bytes.0) }
+
+pub loop-buffer-smaller : goal.loop-buffer-smaller
+loop-buffer-smaller g c =
+    let b = c.loop-buffer.bytes in
+    let sum = length-append b.items (take c.in-Ok.count c.read.new.buf) in
+    rw (longer_by g c) (omega (arith, sum, c.in-Ok.ensures.bound.1, c.if-count-eq0.false, c.loop-buffer-test.true, c.len.ensures, b.ok.0))
 
 pub returns-then-is_err-clause-taken : goal.returns-then-is_err-clause-taken
 returns-then-is_err-clause-taken g c =
+    let b = c.loop-buffer in
     let told = c.in-Ok.ensures in
-    (c.loop-buffer.bytes.items ++ _, Consumes-trans _ _ _ _ _ c.loop-buffer.invariant.taken told.bytes.0, search (rules, fits_with_more))
+    let fits = fits_with_more _ _ _ _ b.bytes.items b.buffer _ c.min-room.ensures (c.len-in-loop-buffer.ensures ∙ b.bytes.ok.0) b.invariant.within c.read.auto.buf told.bound in
+    (b.bytes.items ++ take c.in-Ok.count c.read.new.buf, Consumes-trans _ _ _ b.bytes.items _ b.invariant.taken told.bytes.0, omega (arith, fits))
+
+pub returns-then-count-eq0 : goal.returns-then-count-eq0
+returns-then-count-eq0 g c =
+    let b = c.loop-buffer in
+    let below = rw (c.len.ensures ∙ sym c.len-in-loop-buffer.ensures) at c.loop-buffer-test.true in
+    let room = has_room _ c.len-in-loop-buffer.result c.min-room.result b.buffer c.read.new.buf below c.min-room.ensures (omega arith) c.read.auto.buf in
+    let took = nothing _ _ _ b.bytes.items c.read.new.buf c.in-Ok.count b.invariant.taken c.in-Ok.ensures.bytes.0 c.if-count-eq0.true in
+    let end = c.in-Ok.ensures.bytes.1 c.if-count-eq0.true room in
+    record {
+      whole = (omega (arith, c.loop-buffer-test.true, c.len.ensures, b.bytes.ok.0), Consumes-all _ _ b.bytes.items [] b.bytes.items took end refl);
+      end = end;
+      refused = tt;
+      taken = (b.bytes.items, took, omega (arith, b.invariant.within));
+    }
 
 pub returns-clause-refused : goal.returns-clause-refused
 returns-clause-refused g c =
@@ -17,3 +67,6 @@ returns-in_default-clause-whole g c = tt
 
 pub returns-in_default-clause-end : goal.returns-in_default-clause-end
 returns-in_default-clause-end g c = tt
+
+pub returns-in_default-clause-taken : goal.returns-in_default-clause-taken
+returns-in_default-clause-taken g c = (c.loop-buffer.bytes.items, Consumes-kept _ _ _ _ c.loop-buffer.invariant.taken c.in_default.ensures.bytes, omega (arith, c.loop-buffer.invariant.within))

@@ -1,5 +1,4 @@
-use Rattle.std.proofs.Common.{◌≡◌, ℕ, ◌+◌, ◌-◌, ◌<◌, ◌≤◌, ◌^◌, min, List, [], ◌++◌, length, length-append, length-take, append-nil, take, drop, Option, None, Some, Result, Ok, Err, IfSome, refl, sym, subst, arith}
-use Rattle.std.specs.Io.KnownBytes.{Consumes}
+use Rattle.std.proofs.Common.{◌≡◌, ℕ, ◌≤◌, ◌^◌, List, [], ◌++◌, length, length-append, length-take, take, drop, Option, None, Some, Result, Ok, Err, IfSome, refl, sym, subst, arith}
 use Rattle.std.proofs.lemmas.List.{take-append-le}
 use Rattle.std.specs.Result.{IsErrAnd, MatchResult}
 use Rattle.std.proofs.KnownBytes.{Consumes-nil, Consumes-trans, Consumes-all, Consumes-kept}
@@ -9,20 +8,8 @@ use Rattle.mc_image.specs.declared.judge.Judged.{Judged}
 use Rattle.mc_imgtool.specs.Engines.{Judges}
 use Rattle.mc_imgtool.specs.declared.error.ToolError.{ToolError}
 use Rattle.mc_imgtool.specs.declared.error.ToolError.TheVariants.{Image as image_error}
-use Rattle.mc_imgtool.proofs.Streams.{longer}
+use Rattle.mc_imgtool.proofs.Streams.{has_room, within, nothing, longer}
 use Rattle.mc_imgtool.proofs.verification.judge_input.Goals as goal
-
--- a read has room
-has_room : (taken room : ℕ) (buffer piece : List ℕ) → taken < 16777217 → room ≡ min (16777217 - taken) 4096 → length buffer ≡ 4096 → length piece ≡ length (take room buffer) → 0 < length piece
-has_room taken room buffer piece below is all e = omega (arith, length-take room buffer, is, e, all, below)
-
--- a read stays within the limit
-within : (taken room count : ℕ) (buffer piece : List ℕ) → room ≤ 16777217 - taken → taken ≤ 16777217 → length piece ≡ length (take room buffer) → count ≤ length piece → taken + count ≤ 16777217
-within taken room count buffer piece fits below e few = omega (arith, length-take room buffer, fits, e, few, below)
-
--- a read that gave nothing took nothing
-nothing : (old mid new : Option (List ℕ)) (fed buf : List ℕ) (count : ℕ) → Consumes old mid fed → Consumes mid new (take count buf) → count ≡ 0 → Consumes old new fed
-nothing old mid new fed buf count p q e = rw append-nil at (Consumes-trans old mid new fed [] p (rw e at q))
 
 of_all : (known : Option (List ℕ)) (fed : List ℕ) (P : List ℕ → Type 0) → IfSome known (λ xs. fed ≡ xs) → P fed → IfSome known P
 of_all None fed P all h = tt
@@ -50,7 +37,8 @@ loop-taken-preserved g c =
       fed ++ piece,
       rw front at (c.feed.ensures fed c.loop-taken.invariant.1),
       omega (arith, length-append fed piece, c.loop-taken.invariant.2, c.in-Ok.ensures.bound.1),
-      within c.loop-taken.taken c.min-room.result c.in-Ok.count c.loop-taken.buffer c.read.new.buf (omega (arith, c.min-room.ensures)) c.loop-taken.invariant.3 c.read.auto.buf c.in-Ok.ensures.bound.0,
+      within 16777217 c.loop-taken.taken c.min-room.result c.in-Ok.count c.loop-taken.buffer c.read.new.buf (omega (arith, c.min-room.ensures))
+          c.loop-taken.invariant.3 c.read.auto.buf c.in-Ok.ensures.bound.0,
       Consumes-trans _ _ _ fed piece c.loop-taken.invariant.4 c.in-Ok.ensures.bytes.0,
     )
 
@@ -60,7 +48,7 @@ loop-taken-smaller g c = omega arith
 pub returns-then-count-eq0-clause-judged : goal.returns-then-count-eq0-clause-judged
 returns-then-count-eq0-clause-judged g c =
     let fed = c.loop-taken.invariant.0 in
-    let room = has_room c.loop-taken.taken c.min-room.result c.loop-taken.buffer c.read.new.buf c.loop-taken-test.true c.min-room.ensures (omega arith) c.read.auto.buf in
+    let room = has_room 16777217 c.loop-taken.taken c.min-room.result c.loop-taken.buffer c.read.new.buf c.loop-taken-test.true c.min-room.ensures (omega arith) c.read.auto.buf in
     let took = nothing _ _ _ fed c.read.new.buf c.in-Ok.count c.loop-taken.invariant.4 c.in-Ok.ensures.bytes.0 c.if-count-eq0.true in
     judged_all _ fed c.finish.result c.map_err.result (Consumes-all _ _ fed [] fed took (c.in-Ok.ensures.bytes.1 c.if-count-eq0.true room) refl)
     (omega (arith, c.loop-taken.invariant.2, c.loop-taken-test.true)) (c.finish.ensures fed c.loop-taken.invariant.1) c.map_err.ensures.cases
@@ -79,7 +67,8 @@ returns-clause-taken g c = (c.loop-taken.invariant.0, c.loop-taken.invariant.4, 
 pub feed-requires : goal.feed-requires
 feed-requires g c =
     let fed = c.loop-taken.invariant.0 in
-    let le = within c.loop-taken.taken c.min-room.result c.in-Ok.count c.loop-taken.buffer c.read.new.buf (omega (arith, c.min-room.ensures)) c.loop-taken.invariant.3 c.read.auto.buf c.in-Ok.ensures.bound.0 in
+    let le = within 16777217 c.loop-taken.taken c.min-room.result c.in-Ok.count c.loop-taken.buffer c.read.new.buf (omega (arith, c.min-room.ensures))
+    c.loop-taken.invariant.3 c.read.auto.buf c.in-Ok.ensures.bound.0 in
     let few = length-take c.in-Ok.count (c.read.new.buf ++ drop c.min-room.result c.loop-taken.buffer) in
     (fed, c.loop-taken.invariant.1, omega (arith, c.loop-taken.invariant.2, few, le))
 
