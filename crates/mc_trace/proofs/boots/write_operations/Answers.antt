@@ -4,7 +4,9 @@ use Rattle.std.proofs.lemmas.Result.{err_from_is_err_and}
 use Rattle.mc_output.specs.facts.Fronts.{out_all, out_stops}
 use Rattle.mc_boot.specs.Boot.{progress, to_come}
 use Rattle.mc_trace.proofs.Telling.{none_to_come, happened, refused, over, line_out, line_begun, refusal_out, refusal_begun, one_more, none_more, goes_up_to}
+use Rattle.mc_trace.proofs.boots.write_operations.Given.{Over}
 use Rattle.mc_trace.proofs.boots.write_operations.Goals as goal
+use Rattle.mc_trace.proofs.boots.write_operations.Goals.{In-Some}
 
 pub returns-in_default-clause-told : goal.returns-in_default-clause-told
 returns-in_default-clause-told g c =
@@ -15,6 +17,10 @@ returns-in_default-clause-told g c =
 pub returns-in_default-clause-end : goal.returns-in_default-clause-end
 returns-in_default-clause-end g c = inl (none_to_come (to_come c.operations.boot) c.peek.result c.peek.ensures.first c.in_default.not-Some)
 
+-- The next operation comes before the number that was told.
+below : (g : Over) (c : In-Some g) → IfSome c.args.until (λ m. c.operations.boot.done < m)
+below g c = search rules
+
 pub operations-preserved-in-Continue-1 : goal.operations-preserved-in-Continue-1
 operations-preserved-in-Continue-1 g c =
     let i = c.operations.invariant in
@@ -24,10 +30,10 @@ operations-preserved-in-Continue-1 g c =
     let new = g.F.Flash.seen c.step.new.flash in
     let p = progress c.operations.boot in
     let q = progress c.step.new.self in
-    let going : IfSome c.args.until (λ m. c.operations.boot.done < m) = search rules in
+    let going = below g (goal.at.operations-preserved-in-Continue-1 g c).In-Some in
     let lines = happened now new p q c.in-Some.op c.args.until (sym c.peek.ensures.first ∙ c.in-Some.is) going c.step.result c.in-Ok.is e.step in
     record {
-      out = line_out _ _ _ _ _ _ _ _ _ _ _ i.place c.count.ensures i.out lines c.in_ok-write_line-in-Ok.ensures.whole;
+      out = line_out _ _ (g.W.Write.contents c.write_line.new.writer) _ _ _ _ _ _ _ _ i.place c.count.ensures i.out lines c.in_ok-write_line-in-Ok.ensures.whole;
       goes = goes_up_to c.args.until c.args.boot.now old c.operations.boot now c.step.new.self new i.goes (record { come = e.come; layout = e.layout; whole = e.whole; keeps = e.keeps })
           (one_more p q now new c.args.until c.step.result c.in-Ok.is e.step going);
       place = i.place ∙ sym e.keeps.geometry;
@@ -40,10 +46,10 @@ returns-in_err-write_line-in-Ok-clause-told g c =
     let new = g.F.Flash.seen c.step.new.flash in
     let p = progress c.operations.boot in
     let q = progress c.step.new.self in
-    let going : IfSome c.args.until (λ m. c.operations.boot.done < m) = search rules in
+    let going = below g (goal.at.returns-in_err-write_line-in-Ok-clause-told g c).In-Some in
     let lines = happened now new p q c.in-Some.op c.args.until (sym c.peek.ensures.first ∙ c.in-Some.is) going c.step.result c.in-Ok.is c.step.ensures.step in
     let failed = err_from_is_err_and c.from_residual.result c.from_residual.ensures.1 in
-    rw failed.1 (line_begun _ _ _ _ _ _ _ _ _ _ _ i.place c.count.ensures i.out lines c.in_err-write_line-in-Ok.ensures.front)
+    rw failed.1 (line_begun _ _ (g.W.Write.contents c.write_line.new.writer) _ _ _ _ _ _ _ _ i.place c.count.ensures i.out lines c.in_err-write_line-in-Ok.ensures.front)
 
 pub operations-preserved : goal.operations-preserved
 operations-preserved g c =
@@ -54,11 +60,11 @@ operations-preserved g c =
     let new = g.F.Flash.seen c.step.new.flash in
     let p = progress c.operations.boot in
     let q = progress c.step.new.self in
-    let going : IfSome c.args.until (λ m. c.operations.boot.done < m) = search rules in
+    let going = below g (goal.at.operations-preserved g c).In-Some in
     let not = c.in-Err-NotErased.is ∙ ap (λ e. Err e) c.in-Err-NotErased.field-0-is in
     let lines = refused now new p q c.in-Some.op c.args.until (sym c.peek.ensures.first ∙ c.in-Some.is) going c.step.result not e.step in
     record {
-      out = refusal_out _ _ _ _ _ _ _ _ _ _ _ i.place c.count.ensures i.out lines c.in_ok-write_line-in-Err-NotErased.ensures.whole;
+      out = refusal_out _ _ (g.W.Write.contents c.write_line-in-Err-NotErased.new.writer) _ _ _ _ _ _ _ _ i.place c.count.ensures i.out lines c.in_ok-write_line-in-Err-NotErased.ensures.whole;
       goes = goes_up_to c.args.until c.args.boot.now old c.operations.boot now c.step.new.self new i.goes (record { come = e.come; layout = e.layout; whole = e.whole; keeps = e.keeps })
           (none_more p q now new c.args.until c.step.result not e.step going);
       place = i.place ∙ sym e.keeps.geometry;
@@ -71,11 +77,11 @@ returns-in_err-write_line-in-Err-NotErased-clause-told g c =
     let new = g.F.Flash.seen c.step.new.flash in
     let p = progress c.operations.boot in
     let q = progress c.step.new.self in
-    let going : IfSome c.args.until (λ m. c.operations.boot.done < m) = search rules in
+    let going = below g (goal.at.returns-in_err-write_line-in-Err-NotErased-clause-told g c).In-Some in
     let not = c.in-Err-NotErased.is ∙ ap (λ e. Err e) c.in-Err-NotErased.field-0-is in
     let lines = refused now new p q c.in-Some.op c.args.until (sym c.peek.ensures.first ∙ c.in-Some.is) going c.step.result not c.step.ensures.step in
     let failed = err_from_is_err_and c.from_residual-in_err-write_line-in-Err-NotErased.result c.from_residual-in_err-write_line-in-Err-NotErased.ensures.1 in
-    rw failed.1 (refusal_begun _ _ _ _ _ _ _ _ _ _ _ i.place c.count.ensures i.out lines c.in_err-write_line-in-Err-NotErased.ensures.front)
+    rw failed.1 (refusal_begun _ _ (g.W.Write.contents c.write_line-in-Err-NotErased.new.writer) _ _ _ _ _ _ _ _ i.place c.count.ensures i.out lines c.in_err-write_line-in-Err-NotErased.ensures.front)
 
 pub returns-in-Err-Memory-clause-told : goal.returns-in-Err-Memory-clause-told
 returns-in-Err-Memory-clause-told g c = out_stops _ _ _ _ c.operations.invariant.out
