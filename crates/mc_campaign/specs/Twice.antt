@@ -7,7 +7,6 @@ use Rattle.mc_tree.specs.facts.Rounds.{child_second}
 use Rattle.mc_flash.specs.Content.{Content}
 use Rattle.mc_flash.specs.Geometry.{Geometry}
 use Rattle.mc_flash.specs.Usage.{Counts, no_counts}
-use Rattle.mc_flash.specs.Seen.{Seen}
 use Rattle.mc_flash.specs.Spends.{LeaveRoom, plus}
 use Rattle.mc_trailer.specs.declared.tables.Rules.{Rules}
 use Rattle.mc_boot.specs.Boot.{progress}
