@@ -15,7 +15,7 @@ use Rattle.mc_boot.specs.Confirm.{one_write}
 use Rattle.mc_boot.specs.Runs.{ops_of}
 use Rattle.mc_boot.specs.declared.boot.Boot.{Boot}
 use Rattle.mc_walk.specs.Kind.{Kind}
-use Rattle.mc_explore.specs.Once.{HasMade, IsBegun, IsTold, most_of}
+use Rattle.mc_explore.specs.Once.{HasMade, IsTold, most_of}
 use Rattle.mc_explore.specs.declared.once.Told.{Told}
 use Rattle.mc_explore.specs.Boots.{boots}
 use Rattle.mc_campaign.specs.Boots.{rounds, second_start}

@@ -5,7 +5,7 @@ use Rattle.std.proofs.Common.{arith, inl, inr, sym, ap, subst, get_or, drop-cons
 use Rattle.std.proofs.lemmas.Bool.Decides.{nat_tests}
 use Rattle.mc_flash.specs.Content.{Content}
 use Rattle.mc_flash.specs.Seen.{Seen}
-use Rattle.mc_output.specs.facts.Fronts.{IsOut, out_all, out_begun, out_front, out_more}
+use Rattle.mc_output.specs.facts.Fronts.{IsOut, out_begun, out_front, out_more}
 use Rattle.mc_output.specs.Fronts.{AppendsFront}
 use Rattle.mc_boot.specs.Outcome.{Report, outcome_of}
 use Rattle.mc_boot.specs.Texts.{outcome_text}

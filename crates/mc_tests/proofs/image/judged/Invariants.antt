@@ -1,4 +1,4 @@
-use Rattle.std.proofs.Common.{◌≡◌, ◌≤◌, ◌+◌, ◌^◌, ℕ, List, length}
+use Rattle.std.proofs.Common.{◌≤◌, ◌+◌, ◌^◌, ℕ, List, length}
 use Rattle.mc_image.specs.Judging.{Judges}
 use Rattle.mc_tests.proofs.image.judged.Given as goal
 
