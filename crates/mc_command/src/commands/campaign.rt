@@ -1,16 +1,16 @@
 //! `campaign`: every campaign of power cuts in two rounds, with what the boots that end its rounds do.
 ghost use Rattle.std.specs.Prelude.{◌≤◌, IfOk};
 
-use super::PAGE_BUFFER;
+use super::write_in_blocks;
 use crate::options::{ExploreOptions, campaign_cursor, explore_options, flash_options};
 use crate::refusal::Refusal;
 use crate::source::read_start;
 use clap::ArgMatches;
 use mc_campaign::{CampaignCursor, CampaignExplorer, write_campaign_page};
-use mc_explore::{ExploreError, Start};
+use mc_explore::Start;
 use mc_flash::JournalFlash;
 use std::alloc::Global;
-use std::io::{BufWriter, Write};
+use std::io::Write;
 use std::rt::Files;
 
 /// An exploration that the words tell: where it starts, and the rows that are wanted of it.
@@ -74,7 +74,12 @@ impl Exploration {
         requires limit { 1 ≤ self.now.extent.limit }
     {
         let mut explorer = self.explorer(alloc)?;
-        print_page(alloc, &mut explorer, self.extent.limit, out)?;
+        let limit = self.extent.limit;
+        write_in_blocks(
+            alloc,
+            out,
+            |page| write_campaign_page(&mut explorer, limit, page),
+        )?;
         Ok(())
     }
 }
@@ -92,24 +97,4 @@ pub fn run<F: Files, O: Write>(
     out: &mut O,
 ) -> Result<(), Refusal> {
     read(files, alloc, arguments)?.print(alloc, out)
-}
-
-/// Prints a page, which goes out in blocks.
-///
-/// # Errors
-///
-/// `Memory`, `Write`, and what the pages refuse.
-fn print_page<O: Write>(
-    alloc: Global,
-    explorer: &mut CampaignExplorer<'_, JournalFlash>,
-    limit: u32,
-    out: &mut O,
-) -> Result<(), ExploreError>
-    requires { 1 ≤ limit }
-{
-    let mut page = BufWriter::with_capacity(alloc, PAGE_BUFFER, out).map_err(
-        |_| ExploreError::Memory,
-    )?;
-    write_campaign_page(explorer, limit, &mut page)?;
-    page.flush().map_err(|_| ExploreError::Write)
 }

@@ -1,15 +1,15 @@
 //! `explore` and `survey`: every schedule of power cuts, with what the boot after it does, and how many do what.
 ghost use Rattle.std.specs.Prelude.{◌≤◌, IfOk};
 
-use super::PAGE_BUFFER;
+use super::write_in_blocks;
 use crate::options::{ExploreOptions, RangeOptions, explore_options, flash_options, range_options};
 use crate::refusal::Refusal;
 use crate::source::read_start;
 use clap::ArgMatches;
-use mc_explore::{ExploreError, Explorer, Schedule, Start, Tally, survey_until, write_page_until};
+use mc_explore::{Explorer, Start, Tally, survey_until, write_page_until};
 use mc_flash::JournalFlash;
 use std::alloc::Global;
-use std::io::{BufWriter, Write};
+use std::io::Write;
 use std::rt::Files;
 
 /// An exploration that the words tell: where it starts, and the rows that are wanted of it.
@@ -72,12 +72,11 @@ impl Exploration {
         requires limit { 1 ≤ self.now.extent.limit }
     {
         let mut explorer = self.explorer(alloc)?;
-        print_page(
+        let (until, limit) = (self.range.until, self.extent.limit);
+        write_in_blocks(
             alloc,
-            &mut explorer,
-            self.range.until,
-            self.extent.limit,
             out,
+            |page| write_page_until(&mut explorer, until, limit, page),
         )?;
         Ok(())
     }
@@ -110,27 +109,6 @@ pub fn run<F: Files, O: Write>(
     out: &mut O,
 ) -> Result<(), Refusal> {
     read(files, alloc, arguments)?.print(alloc, out)
-}
-
-/// Prints a page, which goes out in blocks.
-///
-/// # Errors
-///
-/// `Memory`, `Write`, and what the pages refuse.
-fn print_page<O: Write>(
-    alloc: Global,
-    explorer: &mut Explorer<'_, JournalFlash>,
-    until: Option<Schedule>,
-    limit: u32,
-    out: &mut O,
-) -> Result<(), ExploreError>
-    requires { 1 ≤ limit }
-{
-    let mut page = BufWriter::with_capacity(alloc, PAGE_BUFFER, out).map_err(
-        |_| ExploreError::Memory,
-    )?;
-    write_page_until(explorer, until, limit, &mut page)?;
-    page.flush().map_err(|_| ExploreError::Write)
 }
 
 /// Prints how many rows that page would have, how many of them with each result, the greatest number of operations, and where
