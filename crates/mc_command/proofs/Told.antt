@@ -9,7 +9,6 @@ use Rattle.mc_image.specs.declared.version.Version.{Version}
 use Rattle.mc_image.specs.VersionText.{Names}
 use Rattle.mc_command.specs.Numbers.{MayTellNumber, SaysNumber, IsTaken, option_name}
 use Rattle.mc_command.specs.declared.numbers.NumberOption.{NumberOption}
-use Rattle.mc_command.specs.declared.numbers.NumberOption.TheVariants as options
 use Rattle.mc_command.specs.Arguments.{TellsSource, RefusesSource, is_source, Judges}
 use Rattle.mc_command.specs.declared.options.Source.{Source}
 use Rattle.mc_command.specs.declared.options.Source.TheVariants as sources
