@@ -1,5 +1,5 @@
 //! A walk through a tree.
-ghost use Rattle.std.specs.Prelude.{◌≡◌, ◌≤◌, is_some, IfOk, IfErr, IfSome, true, false};
+ghost use Rattle.std.specs.Prelude.{◌≡◌, ◌≤◌, [], None, is_some, IfOk, IfErr, IfSome, true, false};
 ghost use Rattle.std.specs.List.{slice_get};
 ghost use Rattle.mc_tree.specs.Tree.{labelled};
 ghost use Rattle.mc_flash.specs.Spends.{Spends, Spent};
@@ -110,8 +110,9 @@ impl<F: Flash, B: Branches> Walk<F, B> {
     /// The last step of its path, if it has one: the child where the flash stands, and what is told of its parent.
     pub fn last_step(&self) -> Option<&Frame<B::At, B::Told>>
         requires { self.now.stands ≡ true }
-        ensures { IfSome result (λ frame. IsLastStep (B.kind self.now.branches) self.now
+        ensures step { IfSome result (λ frame. IsLastStep (B.kind self.now.branches) self.now
             frame.now) }
+        ensures none { result ≡ None → self.now.path ≡ [] }
     {
         let last = self.frames.last()?;
         Some(last)

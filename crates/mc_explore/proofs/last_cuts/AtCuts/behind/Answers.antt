@@ -6,7 +6,8 @@ pub returns-clause-cuts : goal.returns-clause-cuts
 returns-clause-cuts g c =
     let outcomes = c.args.self.now.outcomes in
     let of : c.args.self.now.of ≡ c.in_ok-of.of.now = search rules in
-    last_cuts_there c.args.walk.now c.in_ok-step.step.now c.told-told.result.now c.args.self.now.of c.args.path.now c.in_ok-of.field-0-0.now c.in_ok-step.ensures c.told-told.ensures c.requires.path
+    last_cuts_there c.args.walk.now c.in_ok-step.step.now c.told-told.result.now c.args.self.now.of c.args.path.now c.in_ok-of.field-0-0.now
+    c.in_ok-step.ensures.step c.told-told.ensures c.requires.path
     (rw (sym of) at c.in_ok-of.ensures.cases.0) outcomes.items c.in_ok-rejoin.rejoin (rw c.flash.ensures at c.in_ok-rejoin.ensures)
     (omega (arith, c.len.ensures, c.if-len-whole.false, outcomes.ok.0)) (omega (arith, c.if-count-eq0.false)) (search rules)
 

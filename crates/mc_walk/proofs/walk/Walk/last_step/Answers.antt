@@ -5,8 +5,8 @@ use Rattle.mc_walk.proofs.Frames.{last_of}
 use Rattle.mc_walk.proofs.Steps.{last_there, standing}
 use Rattle.mc_walk.proofs.walk.Walk.last_step.Goals as goal
 
-pub returns : goal.returns
-returns g c =
+pub returns-clause-step : goal.returns-clause-step
+returns-clause-step g c =
     let w = c.self.inside in
     let k = g.B.Branches.kind w.branches in
     let fs = w.frames.items in
