@@ -5,6 +5,10 @@ ghost use Rattle.std.specs.Prelude.{◌≡◌, ◌++◌, ◌∷◌, [], IfSome, 
 ghost use Rattle.std.specs.Io.KnownBytes.{Appends};
 ghost use Rattle.mc_output.specs.Fronts.{AppendsFront};
 
+mod line;
+
+pub use line::{Line, MOST_LINE};
+
 use arrayvec::ArrayString;
 use std::fmt::{Display, Write as _};
 use std::io::Write;
