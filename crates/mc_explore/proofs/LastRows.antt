@@ -40,12 +40,11 @@ module _ (from : PowerOn) where
   pub none_kept : (of : List ℕ) (outcomes : List Outcome) → outcomes ≡ [] → AreAtCuts from of outcomes
   none_kept of outcomes none i o is = absurd (omega (arith, slice_get_within outcomes i o is, ap length none))
 
-  -- One outcome more, where there is room for it.
-  pub kept_more : (of schedule before : List ℕ) (outcomes new : List Outcome) (o : Outcome) (last first : ℕ) (fits : Bool) → AreAtCuts from of outcomes
+  -- One outcome more.
+  pub kept_more : (of schedule before : List ℕ) (outcomes new : List Outcome) (o : Outcome) (last first : ℕ) → AreAtCuts from of outcomes
       → outcome_of (again from (flash_at from schedule)) ≡ Some (shown o) → schedule ≡ before ++ last ∷ [] → before ≡ of ++ first ∷ [] → first ≡ 0 → length outcomes ≡ last
-      → new ≡ (if fits then outcomes ++ o ∷ [] else outcomes) → AreAtCuts from of new
-  kept_more of schedule before outcomes new o last first false are told s b f count is = subst (AreAtCuts from of) (sym is) are
-  kept_more of schedule before outcomes new o last first true are told s b f count is =
+      → new ≡ outcomes ++ o ∷ [] → AreAtCuts from of new
+  kept_more of schedule before outcomes new o last first are told s b f count is =
       let path : schedule ≡ (of ++ 0 ∷ []) ++ last ∷ [] = s ∙ ap (λ l. l ++ last ∷ []) (b ∙ ap (λ n. of ++ n ∷ []) f) in
       let here : outcome_of (again from (at_cut (again from (flash_at from of)) (length outcomes))) ≡ Some (shown o) =
       ap (λ n. outcome_of (again from (at_cut (again from (flash_at from of)) n))) count

@@ -16,3 +16,4 @@ mod Counted
 mod Continued
 pub mod LastRows
 pub mod Rowing
+mod Verdicts

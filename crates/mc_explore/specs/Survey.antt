@@ -1,5 +1,5 @@
 -- What is counted of the rows of a page in place of their text.
-use Rattle.std.specs.Prelude.{◌≡◌, ℕ, Bool, true, false, max, List, ◌++◌, length, drop, fold, count_by, codes, decimal, Option, None}
+use Rattle.std.specs.Prelude.{◌≡◌, ℕ, Bool, true, false, max, List, ◌++◌, length, drop, fold, count_by, codes, decimal, Option, None, All}
 use Rattle.mc_boot.specs.declared.outcome.BootResult.{BootResult}
 use Rattle.mc_boot.specs.declared.outcome.BootResult.TheVariants as results
 use Rattle.mc_explore.specs.Page.{Page, last_line, page_at, state_past}
@@ -32,6 +32,10 @@ is_fault results.Boot = false
 is_fault results.None = false
 is_fault results.Panic = false
 is_fault results.Fault = true
+
+-- Each of some rows ends in a boot.
+abbrev pub AllBoot : List Told → Type 0
+AllBoot rows = All (λ row. row.outcome.result ≡ results.Boot) rows
 
 -- How many of some rows have such a result.
 abbrev pub rows_with : (BootResult → Bool) → List Told → ℕ

@@ -1,7 +1,10 @@
 //! What all schedules of power cuts come to.
-ghost use Rattle.std.specs.Prelude.{◌≡◌};
+ghost use Rattle.std.specs.Prelude.{◌≡◌, ◌↔◌, true, List};
 ghost use Rattle.mc_boot.specs.Outcome.{shown};
 ghost use Rattle.mc_start.specs.Cuts.{lowered};
+ghost use Rattle.mc_explore.specs.Census.{census_of};
+ghost use Rattle.mc_explore.specs.State.{Told};
+ghost use Rattle.mc_explore.specs.Survey.{AllBoot};
 ghost use Rattle.mc_explore.specs.Totals.{Totals, both, cut_off, no_totals, report_totals, totals, with_first};
 
 use mc_boot::{BootResult, Outcome};
@@ -80,6 +83,13 @@ impl Census {
             most_operations: self.most_operations.max(later.most_operations),
             first_not_boot: self.first_not_boot.or(later.first_not_boot),
         }
+    }
+
+    /// Whether each of the schedules ends in a boot.
+    pub fn all_boot(&self) -> bool
+        ensures { (rows : List Told) → self.now ≡ census_of rows → (result ≡ true) ↔ AllBoot rows }
+    {
+        self.first_not_boot.is_none()
     }
 
     /// Of the same schedules, each after that cut.

@@ -16,13 +16,13 @@ use std::alloc::{AllocError, Global};
 /// More operations than a boot makes.
 const MOST_COUNT: u32 = 0x8000_0000;
 
-/// The outcomes of the boots after the first cuts of one boot. It keeps no more of them than it took room for.
+/// The outcomes of the boots after the first cuts of one boot. It keeps no more of them than it took room for, and so takes memory
+/// only when it is made.
 #[derive(Drop)]
 pub(crate) struct AtCuts {
     /// The schedule behind which that boot begins.
     pub of: Schedule,
     pub outcomes: Vec<Outcome>,
-    room: usize,
 }
 
 /// The last cuts that are still to come, in a boot that goes on with the one that was cut.
@@ -58,7 +58,6 @@ impl AtCuts {
         Ok(AtCuts {
             of: Schedule::new(),
             outcomes: Vec::with_capacity(alloc, room)?,
-            room,
         })
     }
 
@@ -123,8 +122,8 @@ impl AtCuts {
             self.outcomes.clear();
         }
         let count = self.outcomes.len();
-        if self.of.cuts() == of && count == *last as usize && count < self.room {
-            let _ = self.outcomes.push(outcome);
+        if self.of.cuts() == of && count == *last as usize && count < self.outcomes.capacity() {
+            self.outcomes.push_reserved(outcome);
         }
     }
 }

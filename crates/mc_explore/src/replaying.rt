@@ -1,8 +1,10 @@
 //! One schedule of power cuts, replayed or followed to its last cut.
-ghost use Rattle.std.specs.Prelude.{◌≡◌, ◌+◌, ◌≤◌, true, length, Some, IfOk, IfErr, MatchResult};
-ghost use Rattle.mc_flash.specs.Usage.{limits_for};
+ghost use Rattle.std.specs.Prelude.{◌≡◌, ◌+◌, ◌≤◌, true, false, length, Some, IfOk, IfErr, IsErrOf, MatchResult};
+ghost use Rattle.mc_flash.specs.Spends.{LeaveRoom};
+ghost use Rattle.mc_flash.specs.Usage.{limits_for, no_counts};
 ghost use Rattle.mc_boot.specs.Outcome.{shown};
 ghost use Rattle.mc_boot.specs.Runs.{after};
+ghost use Rattle.mc_walk.specs.Stack.{most_at};
 ghost use Rattle.mc_walk.specs.Walks.{IsThere};
 ghost use Rattle.mc_explore.specs.Once.{once};
 ghost use Rattle.mc_explore.specs.Replay.{IsReplayed, Refuses, Restarts};
@@ -55,6 +57,7 @@ fn follow<F: Flash>(
     ensures limits { IfOk result
         (λ at. at.0.seen.usage.limits ≡ walk.seen.usage.limits) }
     ensures refused { IfErr result (Refuses (begun_of walk) cuts.now) }
+    ensures cause { IsErrOf result ReplayError.Memory → F.counted ≡ false }
 {
     walk.begin(start)?;
     if !walk.follow(cuts, start)? {
@@ -68,7 +71,8 @@ fn follow<F: Flash>(
 ///
 /// # Errors
 ///
-/// `CannotOccur` with the place of the first cut that is not less than the operations that its boot makes uncut; `Memory`.
+/// `CannotOccur` with the place of the first cut that is not less than the operations that its boot makes uncut; `Memory` where the
+/// flash was refused memory, which one that counts never is.
 pub fn replay_on<F: Flash>(
     walk: Walk<F, Once>,
     cuts: &[u32],
@@ -83,6 +87,11 @@ pub fn replay_on<F: Flash>(
         (λ done. (F.seen done.1).geometry ≡ (begun_of walk).geometry) }
     ensures limits { IfOk result
         (λ done. (F.seen done.1).usage.limits ≡ walk.seen.usage.limits) }
+    // No more is counted than a boot for each cut and one more make.
+    ensures counts { let s = begun_of walk in IfOk result
+        (λ done. LeaveRoom (F.seen done.1).usage.counts no_counts
+        (most_at (once s.rules s.geometry) (length cuts.now))) }
+    ensures cause { IsErrOf result ReplayError.Memory → F.counted ≡ false }
 {
     let (there, told) = follow(walk, cuts, start)?;
     let mut flash = there.into_flash();

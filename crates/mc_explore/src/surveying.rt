@@ -1,8 +1,9 @@
 //! What the rows of an exploration come to.
-ghost use Rattle.std.specs.Prelude.{◌≡◌, ◌+◌, ◌-◌, ◌*◌, ◌^◌, ◌<◌, ◌≤◌, ◌⊎◌, List, ◌∷◌, ◌++◌, [], Some, IfOk, IfErr, OnOk, OnErr, IsErrOf, length};
+ghost use Rattle.std.specs.Prelude.{◌≡◌, ◌+◌, ◌-◌, ◌*◌, ◌^◌, ◌<◌, ◌≤◌, ◌⊎◌, ◌↔◌, true, List, ◌∷◌, ◌++◌, [], Some, IfOk, IfErr, OnOk, OnErr, IsErrOf, length};
 ghost use Rattle.mc_explore.specs.Bounds.{most_for_row};
 ghost use Rattle.mc_explore.specs.State.{Told, told};
-ghost use Rattle.mc_explore.specs.Survey.{Surveys, SurveysUntil, tally_so_far, tally_text};
+ghost use Rattle.mc_explore.specs.Page.{Page};
+ghost use Rattle.mc_explore.specs.Survey.{AllBoot, Surveys, SurveysUntil, tally_of, tally_so_far, tally_text};
 ghost use Rattle.mc_explore.specs.Explores.{Explores};
 
 use crate::error::ExploreError;
@@ -63,6 +64,13 @@ impl Tally {
             BootResult::Fault => self.fault += 1,
         }
         self.most_ops = self.most_ops.max(row.outcome.ops);
+    }
+
+    /// Whether each of the rows that it counts ends in a boot.
+    pub fn all_boot(&self) -> bool
+        ensures { (page : Page) → self.now ≡ tally_of page → (result ≡ true) ↔ AllBoot page.rows }
+    {
+        self.boot == self.rows
     }
 }
 

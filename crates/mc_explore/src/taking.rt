@@ -1,20 +1,22 @@
 //! Takes the census of a start: level by level, without going through the schedules.
-ghost use Rattle.std.specs.Prelude.{◌≡◌, ◌+◌, ◌≤◌, IfOk, IfErr, OnOk};
+ghost use Rattle.std.specs.Prelude.{◌≡◌, ◌+◌, ◌≤◌, false, IfOk, IfErr, IsErrOf, OnOk};
 ghost use Rattle.mc_explore.specs.Census.{IsCensus};
 ghost use Rattle.mc_start.specs.Start.{begun};
+ghost use Rattle.mc_explore.specs.Table.{HasRoomFor, weigh};
+ghost use Rattle.mc_explore.specs.Totals.{cut_off};
 
 use crate::census::Census;
-use crate::error::ExploreError;
+use crate::error::{CensusError, ExploreError};
 use crate::once::{Once, Told};
 use crate::table::{Below, Position, census_at, column_of};
 use mc_boot::Rejoin;
-use mc_flash::{Flash, FlashError};
+use mc_flash::Flash;
 use mc_start::Start;
 use mc_walk::Branches;
 use std::alloc::Global;
 
 impl Once {
-    ghost use Rattle.mc_explore.specs.Table.{HasRoomFor, IsColumn, IsToldHere, StaysSo};
+    ghost use Rattle.mc_explore.specs.Table.{IsColumn, IsToldHere, StaysSo};
 
     // The censuses of a flash, of which that is told, for each bound up to that one. The flash stays. Of a boot that goes on with
     // the one that was cut the positions of that one are enough; only another one is stepped through by itself.
@@ -25,14 +27,15 @@ impl Once {
         told: &Told,
         bound: u32,
         start: &Start,
-    ) -> Result<Vec<Census>, FlashError>
+    ) -> Result<Vec<Census>, CensusError>
         requires told { IsToldHere self.now.rules self.now.layout (F.seen flash.old) told.now }
         requires room { HasRoomFor self.now.rules self.now.layout (bound + 1) (F.seen flash.old) }
         requires few { bound ≤ 16 }
         ensures column { IfOk result (λ column. IsColumn self.now.rules self.now.layout
             (F.seen flash.old).content (bound + 1) column.items) }
         ensures stays { OnOk result (StaysSo (F.seen flash.old) (F.seen flash.new)) }
-        ensures err { IfErr result (λ e. e ≡ FlashError.Memory) }
+        ensures cause { IsErrOf result CensusError.Flash → (F.seen flash.old).usage.limits.counted
+            ≡ false }
     {
         let own = Census::of(&told.outcome);
         if bound == 0 {
@@ -58,6 +61,27 @@ impl Once {
     }
 }
 
+// The census of a flash that was just loaded for one boot more than there are cuts.
+fn census_from<F: Flash>(
+    alloc: Global,
+    once: &Once,
+    flash: &mut F,
+    bound: u32,
+    start: &Start,
+) -> Result<Census, CensusError>
+    requires layout { (F.seen flash.old).geometry ≡ once.now.layout }
+    requires room { HasRoomFor once.now.rules once.now.layout (bound + 1) (F.seen flash.old) }
+    requires few { bound ≤ 16 }
+    ensures census { IfOk result (λ census. census ≡ cut_off
+        (weigh once.now.rules once.now.layout bound (F.seen flash.old).content)) }
+    ensures cause { IsErrOf result CensusError.Flash → (F.seen flash.old).usage.limits.counted
+        ≡ false }
+{
+    let told = once.root(flash, start)?;
+    let column = once.census_column(alloc, flash, &told, bound, start)?;
+    Ok(census_at(&column, bound as usize))
+}
+
 /// What all schedules of at most so many cuts that can occur come to, without going through them: its time grows with the
 /// operations of a boot and with the bound, not with the schedules. It loads a flash for one boot more than there are cuts, and
 /// keeps a table of the flashes on the way of each boot that does not go on with the one that was cut.
@@ -81,7 +105,6 @@ pub fn take_census<F: Flash>(
     let (primary, secondary) = (start.primary(), start.secondary());
     let grain = once.rules.grain;
     let mut flash = F::load(alloc, &once.layout, grain, primary, secondary, bound + 1)?;
-    let told = once.root(&mut flash, start)?;
-    let column = once.census_column(alloc, &mut flash, &told, bound, start)?;
-    Ok(census_at(&column, bound as usize))
+    let census = census_from(alloc, &once, &mut flash, bound, start)?;
+    Ok(census)
 }

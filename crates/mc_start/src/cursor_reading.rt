@@ -1,5 +1,5 @@
 //! Cursors from their text.
-ghost use Rattle.std.specs.Prelude.{◌≡◌, ℕ, List, ◌++◌, Ok, IfSome};
+ghost use Rattle.std.specs.Prelude.{◌≡◌, ℕ, ◌≤◌, List, ◌++◌, Ok, IfOk, IfSome};
 ghost use Rattle.mc_start.specs.CursorFields.{IsRead};
 ghost use Rattle.mc_start.specs.CursorText.{head_text, cursor_text, IsCursor, ReadsCursor};
 ghost use Rattle.mc_trailer.specs.declared.tables.Rules.{Rules};
@@ -36,6 +36,7 @@ impl Cursor {
     /// `CursorError` for every other text.
     pub fn read(text: &str) -> Result<Cursor, CursorError>
         ensures exact { ReadsCursor text.now result }
+        ensures few { IfOk result (λ c. c.bound ≤ 16) }
         // The text of each cursor is read as that cursor.
         ensures only { (c : Cursor) → IsCursor c → text.now ≡ cursor_text c → result ≡ Ok c }
     {

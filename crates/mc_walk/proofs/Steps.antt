@@ -274,6 +274,7 @@ module _ {N A T : Type 0} (k : Kind N A T) where
           allows = steps_room bound (length fs) seen.usage.counts (k.owed (node_of k (origin_of seen) fs)) seen going.roomy going.few s.counts;
           mark = omega (arith, going.few, going.roomy.checkpoints, length-stack k (origin_of seen) seen.checkpoints fs s.stacked);
         };
+        counts = rw (length-map fs (λ (f : Frame A T). f.number)) s.counts;
       }
 
   pub told_there : {B : Type 0} (b : B) (bound : ℕ) (seen : Seen) (fs : List (Frame A T)) (stood : Option T) (told : T) → stood ≡ Some told → IfSome stood (IsGoing k bound seen fs)

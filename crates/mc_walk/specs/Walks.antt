@@ -6,9 +6,9 @@ use Rattle.mc_tree.specs.facts.Order.{IsNextBeyond, NoneBeyond}
 use Rattle.mc_flash.specs.Content.{Content}
 use Rattle.mc_flash.specs.Usage.{no_counts}
 use Rattle.mc_flash.specs.Seen.{Seen, checkpoint_at, checkpoint_of}
-use Rattle.mc_flash.specs.Spends.{HasRoom}
+use Rattle.mc_flash.specs.Spends.{HasRoom, LeaveRoom}
 use Rattle.mc_walk.specs.Kind.{Kind, IsAt, telling}
-use Rattle.mc_walk.specs.Stack.{Stands, IsRoomy, path_of}
+use Rattle.mc_walk.specs.Stack.{Stands, IsRoomy, most_at, path_of}
 use Rattle.mc_walk.specs.declared.frame.Frame.{Frame}
 
 -- A walk: its kind of tree, the most steps of a path, the flash, the path, and whether the flash stands at its end, of which
@@ -42,12 +42,14 @@ module _ {N A T B : Type 0} (k : Kind N A T) where
   abbrev pub node_at : Walked B → N
   node_at w = landed k.tree (root_of w) w.path
 
-  -- The flash stands at that node, of which that is told, and has room to tell of it once more.
+  -- The flash stands at that node, of which that is told, and has room to tell of it once more. No more is counted than a path so
+  -- long makes, and that.
   pub record IsThere (w : Walked B) (told : T) : Type 0 where
     pub told_is : k.IsTold (node_at w) told
     pub content_is : w.seen.content ≡ k.content (node_at w)
     pub layout_is : w.seen.geometry ≡ k.geometry
     pub room : HasRoom (k.owed (node_at w)) w.seen
+    pub counts : LeaveRoom w.seen.usage.counts (k.owed (node_at w)) (most_at k (length w.path))
 
   -- The last step of its path is to that child of the node before, where the flash stands.
   pub record IsLastStep (w : Walked B) (f : Frame A T) : Type 0 where

@@ -1,12 +1,12 @@
-use Rattle.std.proofs.Common.{rules, ◌≡◌, ◌++◌, ◌∷◌, [], is_ok, sym, ap, subst, ◌∙◌, arith}
+use Rattle.std.proofs.Common.{rules, ◌≡◌, ◌++◌, ◌∷◌, [], sym, ap, subst, ◌∙◌, arith}
 use Rattle.mc_explore.specs.LastCuts.{AreAtCuts}
 use Rattle.mc_explore.specs.declared.last_cuts.AtCuts.{AtCuts}
 use Rattle.mc_explore.proofs.LastRows.{kept_more, none_kept}
 use Rattle.mc_explore.proofs.last_cuts.AtCuts.keep.Goals as goal
 use Rattle.mc_explore.proofs.last_cuts.AtCuts.keep.Goals.{then-last-eq0, else-last-eq0}
 
-pub returns-then-count-self : goal.returns-then-count-self
-returns-then-count-self c = λ from known told.
+pub returns-then-count-capacity : goal.returns-then-count-capacity
+returns-then-count-capacity c = λ from known told.
     let here : AtCuts = c.if-last-eq0.self in
     let P : AtCuts → Type 0 = λ x. AreAtCuts from x.of x.outcomes.items in
     let are : P here = elim c.if-last-eq0.branch [
@@ -14,6 +14,6 @@ returns-then-count-self c = λ from known told.
       | else-last-eq0 w ↦ subst P (sym w.self-is) known
     ] in
     let of : here.of ≡ c.in-Some-eq0-default.of.now = search rules in
-    kept_more from here.of c.args.schedule.now c.in-Some.before.now here.outcomes.items c.push.new.self.items c.args.outcome c.in-Some.last.now c.in-Some-eq0-default.field-0-0.now
-    (is_ok c.push.result) are told c.in-Some.ensures.cases.0 (c.in-Some-eq0-default.ensures.cases.0 ∙ ap (λ l. l ++ c.in-Some-eq0-default.field-0-0.now ∷ []) (sym of))
-    c.in-Some-eq0-default.field-0-0-test (omega (arith, c.len-count.ensures, c.if-count-last.true, here.outcomes.ok.0)) c.push.ensures.items
+    kept_more from here.of c.args.schedule.now c.in-Some.before.now here.outcomes.items c.push_reserved.new.self.items c.args.outcome c.in-Some.last.now
+    c.in-Some-eq0-default.field-0-0.now are told c.in-Some.ensures.cases.0 (c.in-Some-eq0-default.ensures.cases.0 ∙ ap (λ l. l ++ c.in-Some-eq0-default.field-0-0.now ∷ []) (sym of))
+    c.in-Some-eq0-default.field-0-0-test (omega (arith, c.len-count.ensures, c.if-count-last.true, here.outcomes.ok.0)) c.push_reserved.ensures.items
