@@ -1,16 +1,20 @@
 -- A flash that was just loaded, and a walk through two rounds on it.
 use Rattle.std.specs.Prelude.{◌≡◌, ℕ, ◌+◌, ◌*◌, ◌≤◌, Bool, List, [], refl}
 use Rattle.std.proofs.Common.{arith, sym, ap, subst, ◌∙◌}
+use Rattle.std.proofs.Math.Nat.{mul-le-mul_right}
 use Rattle.mc_flash.specs.Content.{Content}
 use Rattle.mc_flash.specs.Geometry.{Geometry, IsLayout}
-use Rattle.mc_flash.specs.Usage.{Usage, Limits, most_operations, most_saved}
+use Rattle.mc_flash.specs.Usage.{Usage, Limits, limits_for, most_operations, most_saved, no_counts}
 use Rattle.mc_flash.specs.Seen.{Seen, Loads}
-use Rattle.mc_flash.specs.Spends.{Spent}
+use Rattle.mc_flash.specs.Spends.{Allows, LeaveRoom, Spent}
 use Rattle.mc_flash.specs.declared.flash.Grain.{Grain}
 use Rattle.mc_flash.specs.declared.flash.Grain.TheVariants as grains
 use Rattle.mc_trailer.specs.declared.tables.Rules.{Rules}
+use Rattle.mc_walk.specs.Stack.{most_at}
 use Rattle.mc_walk.specs.Walks.{IsClear, IsFresh, IsOf, Walked, origin_of}
+use Rattle.mc_boot.specs.Confirm.{one_write}
 use Rattle.mc_boot.specs.PowerOn.{PowerOn}
+use Rattle.mc_explore.specs.Once.{once}
 use Rattle.mc_start.specs.facts.Room.{limits_are}
 use Rattle.mc_campaign.specs.Places.{Places, no_places, pairs_of}
 use Rattle.mc_campaign.specs.Twice.{twice_kind}
@@ -45,6 +49,23 @@ module _ (counted : Bool) (g : Geometry) (primary secondary : List ℕ) (f : See
     where
       three : (n m : ℕ) → (n + 3) * m ≡ n * m + 3 * m
       three n m = omega arith
+
+-- A flash loaded for two boots more than so many cuts have room for, on which no more was counted than those cuts and a boot make, has
+-- room for one write more.
+pub room_for_one : (r : Rules) (g : Geometry) (n boots : ℕ) (f : Seen) → LeaveRoom f.usage.counts no_counts (most_at (once r g) n)
+    → f.usage.limits ≡ limits_for r.grain g boots → n + 2 ≤ boots → Allows one_write f
+unfolding limits_for
+room_for_one r g n boots f counted is many =
+    let most = most_operations r.grain g in
+    let entries : n * most + 2 * most ≤ boots * most = rw (sym (two n most)) (mul-le-mul_right most many) in
+    let saved : n * most_saved g + 2 * most_saved g ≤ boots * most_saved g = rw (sym (two n (most_saved g))) (mul-le-mul_right (most_saved g) many) in
+    record {
+      entries = omega (arith, counted.entries, some_operations r.grain g, entries, ap (λ (l : Limits). l.entries) is);
+      saved = omega (arith, counted.saved, saved, ap (λ (l : Limits). l.saved) is);
+    }
+  where
+    two : (n m : ℕ) → (n + 2) * m ≡ n * m + 2 * m
+    two n m = omega arith
 
 -- A walk from there.
 pub loaded : (counted : Bool) (start : PowerOn) (confirms : Bool) (primary secondary : List ℕ) (bound many : ℕ) (f : Seen) (b : Twice) (w : Walked Twice)

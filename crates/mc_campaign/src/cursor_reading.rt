@@ -1,5 +1,5 @@
 //! Cursors of campaigns from their text.
-ghost use Rattle.std.specs.Prelude.{◌≡◌, Bool, Some, Ok, MatchOption, IfSome};
+ghost use Rattle.std.specs.Prelude.{◌≡◌, ◌≤◌, Bool, Some, Ok, MatchOption, IfOk, IfSome};
 ghost use Rattle.mc_campaign.specs.CursorText.{choice_text, cursor_text, IsCursor, ReadsCursor};
 ghost use Rattle.mc_campaign.specs.declared.cursor.CampaignCursor.{CampaignCursor};
 
@@ -22,6 +22,7 @@ fn choice_of(word: &str) -> Option<bool>
 // The cursor that a text tells, if it is one's.
 fn cursor_of(text: &str) -> Option<CampaignCursor>
     ensures some { IfSome result (λ c. text.now ≡ cursor_text c) }
+    ensures few { IfSome result (λ c. c.bound ≤ 16) }
     ensures only { (c : CampaignCursor) → IsCursor c → text.now ≡ cursor_text c → result ≡ Some c }
 {
     let (rules, rest) = RulesField::read(text.strip_prefix("mc3:")?)?;
@@ -51,6 +52,7 @@ impl CampaignCursor {
     /// `CursorError` for every other text.
     pub fn read(text: &str) -> Result<CampaignCursor, CursorError>
         ensures exact { ReadsCursor text.now result }
+        ensures few { IfOk result (λ c. c.bound ≤ 16) }
         // The text of each cursor is read as that cursor.
         ensures only { (c : CampaignCursor) → IsCursor c → text.now ≡ cursor_text c → result
             ≡ Ok c }

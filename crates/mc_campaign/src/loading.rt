@@ -46,6 +46,7 @@ pub(crate) fn load<F: Flash>(
 impl CampaignCursor {
     /// The cursor that goes on after a campaign, of a start, a choice and at most so many cuts. It takes no memory.
     pub fn of(start: &Start, bound: u8, confirms: bool, campaign: &Campaign) -> CampaignCursor
+        requires { bound ≤ 16 }
         ensures { result ≡ cursor_of (begun start.now) confirms bound campaign.now }
     {
         CampaignCursor {

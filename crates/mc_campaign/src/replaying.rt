@@ -1,9 +1,14 @@
 //! One campaign of power cuts, replayed.
-ghost use Rattle.std.specs.Prelude.{◌≡◌, ◌+◌, ◌≤◌, true, length, IfOk, MatchResult};
+ghost use Rattle.std.specs.Prelude.{◌≡◌, ◌+◌, ◌≤◌, true, false, length, IfOk, IfErr, IsErr, OnOk, MatchResult};
 ghost use Rattle.mc_flash.specs.Content.{size_of};
-ghost use Rattle.mc_flash.specs.Usage.{limits_for};
+ghost use Rattle.mc_flash.specs.Seen.{Keeps};
+ghost use Rattle.mc_flash.specs.Spends.{Allows, LeaveRoom};
+ghost use Rattle.mc_flash.specs.Usage.{limits_for, no_counts};
 ghost use Rattle.mc_flash.specs.declared.op.Slot.TheVariants.{Primary, Secondary};
+ghost use Rattle.mc_boot.specs.Confirm.{confirmed_if, one_write};
 ghost use Rattle.mc_boot.specs.Outcome.{shown};
+ghost use Rattle.mc_walk.specs.Stack.{most_at};
+ghost use Rattle.mc_explore.specs.Once as trees;
 ghost use Rattle.mc_explore.specs.Replay as replays;
 ghost use Rattle.mc_start.specs.Start.{begun};
 ghost use Rattle.mc_explore.specs.View.{begun_with};
@@ -37,10 +42,27 @@ fn replay_round<F: Flash>(
     ensures geometry { IfOk result (λ done. (F.seen done.1).geometry ≡ once.now.layout) }
     ensures exact { IfOk result (λ done. F.counted ≡ true → (F.seen done.1).usage.limits
         ≡ limits_for once.now.rules.grain once.now.layout boots) }
+    // No more is counted than a boot for each cut and one more make.
+    ensures counts { IfOk result (λ done. LeaveRoom (F.seen done.1).usage.counts no_counts
+        (most_at (trees.once once.now.rules once.now.layout) (length cuts.now))) }
+    ensures counted { IfOk result (λ done. (F.seen done.1).usage.limits.counted ≡ F.counted) }
 {
     let walk = load_for(alloc, *once, primary, secondary, cuts.len() as u8, boots)?;
     let done = replay_on(walk, cuts, start)?;
     Ok(done)
+}
+
+// From one round to the next. A flash that counts has room for one write more, and so is not refused memory.
+fn settle<F: Flash>(confirms: bool, flash: &mut F) -> Result<(), ReplayError>
+    requires { let f = F.seen flash.old in f.usage.limits.counted ≡ true → Allows one_write f }
+    ensures content { OnOk result ((F.seen flash.new).content ≡ confirmed_if confirms
+        (F.seen flash.old).geometry (F.seen flash.old).content) }
+    ensures keeps { Keeps (F.seen flash.old) (F.seen flash.new) }
+    ensures refused { IfErr result (λ e. e ≡ ReplayError.Memory) }
+    ensures cause { IsErr result → (F.seen flash.old).usage.limits.counted ≡ false }
+{
+    go_between(confirms, flash)?;
+    Ok(())
 }
 
 /// The outcomes of both rounds of a campaign from a start, between which the image confirms itself or not, and the flash that the
@@ -80,7 +102,7 @@ pub fn replay_campaign<F: Flash>(
     let (one, mut middle) = replay_round::<F>(
         alloc, &once, primary, secondary, first, boots, start,
     )?;
-    go_between(confirms, &mut middle)?;
+    settle(confirms, &mut middle)?;
     let (primary, secondary) = (middle.read(Slot::Primary), middle.read(Slot::Secondary));
     match replay_round(alloc, &once, primary, secondary, second, boots, start) {
         Ok((two, flash)) => Ok((one, two, flash)),

@@ -1,9 +1,11 @@
-use Rattle.std.proofs.Common.{◌≡◌, ◌+◌, length, inr, ap, ◌∙◌, arith}
+use Rattle.std.proofs.Common.{◌≡◌, ℕ, ◌+◌, ◌≤◌, length, length-append, inr, sym, ap, ◌∙◌, arith}
+use Rattle.std.proofs.lemmas.List.{length-map}
 use Rattle.mc_flash.specs.Usage.{limits_for}
 use Rattle.mc_trailer.specs.declared.tables.Rules.{Rules}
 use Rattle.mc_boot.specs.Outcome.{shown}
 use Rattle.mc_start.specs.Start.{begun}
 use Rattle.mc_campaign.specs.Places.{pairs_of}
+use Rattle.mc_campaign.proofs.Loaded.{room_for_one}
 use Rattle.mc_campaign.proofs.Replays.{refused_later, replayed_both}
 use Rattle.mc_campaign.proofs.Restarts.{campaign_restarts}
 use Rattle.mc_campaign.proofs.replaying.replay_campaign.Goals as goal
@@ -11,11 +13,11 @@ use Rattle.mc_campaign.proofs.replaying.replay_campaign.Goals as goal
 pub returns-in-Err-CannotOccur-clause-replayed : goal.returns-in-Err-CannotOccur-clause-replayed
 returns-in-Err-CannotOccur-clause-replayed g c =
     let middle = g.F.Flash.seen c.in_ok-one.middle in
-    let left = g.F.Flash.seen c.go_between.new.flash in
+    let left = g.F.Flash.seen c.settle.new.flash in
     inr (refused_later (begun c.args.start.now) c.args.confirms c.args.campaign.now c.rules.result c.layout.result.now c.rules.ensures c.layout.ensures.value
     c.primary-primary.result.now c.secondary-secondary.result.now c.cuts-first.result.now (shown c.in_ok-one.one) middle.content
     c.primary-primary.ensures.value c.secondary-secondary.ensures.value c.cuts-first.ensures c.in_ok-one.ensures.replayed
-    middle.geometry left.content c.in_ok-one.ensures.geometry c.in_ok-go_between.ensures.content c.read-primary.result.now c.read-secondary.result.now
+    middle.geometry left.content c.in_ok-one.ensures.geometry c.in_ok-settle.ensures.content c.read-primary.result.now c.read-secondary.result.now
     c.cuts-second.result.now c.read-primary.ensures.value c.read-secondary.ensures.value c.cuts-second.ensures
     c.in-Err-CannotOccur.field-0 c.in-Err-CannotOccur.later _ c.in-Err-CannotOccur.field-0-is c.in-Err-CannotOccur.later-is c.in-Err-CannotOccur.ensures.replayed)
 
@@ -23,14 +25,14 @@ pub returns-in-Ok-clause-restarts : goal.returns-in-Ok-clause-restarts
 returns-in-Ok-clause-restarts g c =
     let start = begun c.args.start.now in
     let middle = g.F.Flash.seen c.in_ok-one.middle in
-    let left = g.F.Flash.seen c.go_between.new.flash in
+    let left = g.F.Flash.seen c.settle.new.flash in
     let one = shown c.in_ok-one.one in
     let two = shown c.in-Ok.two in
     let z = (g.F.Flash.seen c.in-Ok.flash).content in
     let both = replayed_both start c.args.confirms c.args.campaign.now c.rules.result c.layout.result.now c.rules.ensures c.layout.ensures.value
     c.primary-primary.result.now c.secondary-secondary.result.now c.cuts-first.result.now one middle.content
     c.primary-primary.ensures.value c.secondary-secondary.ensures.value c.cuts-first.ensures c.in_ok-one.ensures.replayed
-    middle.geometry left.content c.in_ok-one.ensures.geometry c.in_ok-go_between.ensures.content c.read-primary.result.now c.read-secondary.result.now
+    middle.geometry left.content c.in_ok-one.ensures.geometry c.in_ok-settle.ensures.content c.read-primary.result.now c.read-secondary.result.now
     c.cuts-second.result.now c.read-primary.ensures.value c.read-secondary.ensures.value c.cuts-second.ensures two z c.in-Ok.ensures.replayed in
     campaign_restarts start.rules start.geometry c.args.confirms start.content c.args.campaign.now one two z c.layout.ensures.valid
     (c.restart_law.ensures.restart start.rules) (c.restart_law.ensures.rounds start.rules) both
@@ -43,3 +45,11 @@ returns-in-Ok-clause-exact g c = λ counted.
     ∙ ap (λ (r : Rules). limits_for r.grain c.layout.result.now (c.len.result + 3)) c.rules.ensures
     ∙ ap (λ g. limits_for start.rules.grain g (c.len.result + 3)) c.layout.ensures.value
     ∙ ap (limits_for start.rules.grain start.geometry) boots
+
+pub settle-requires : goal.settle-requires
+settle-requires g c = λ counts.
+    let one = c.in_ok-one.ensures in
+    let n : ℕ = length c.cuts-first.result.now in
+    let pairs = simp (length-append, length-map) at c.len.ensures.value in
+    let few : n ≤ c.len.result = omega (arith, pairs, ap length c.cuts-first.ensures) in
+    room_for_one c.rules.result c.layout.result.now n (c.len.result + 3) (g.F.Flash.seen c.in_ok-one.middle) one.counts (one.exact (sym one.counted ∙ counts)) (omega (arith, few))
