@@ -5,7 +5,10 @@ ghost use Rattle.std.specs.Prelude.{◌≡◌, ◌++◌, ◌∷◌, [], IfSome, 
 ghost use Rattle.std.specs.Io.KnownBytes.{Appends};
 ghost use Rattle.mc_output.specs.Fronts.{AppendsFront};
 
+mod line;
+
 use arrayvec::ArrayString;
+pub use line::{Line, MOST_LINE};
 use std::fmt::{Display, Write as _};
 use std::io::Write;
 

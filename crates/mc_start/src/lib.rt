@@ -5,13 +5,12 @@ mod cursor;
 mod cursor_fields;
 mod cursor_reading;
 mod cursor_text;
-mod line;
 mod schedule;
 mod slots;
 mod start;
 
 pub use cursor::{Cursor, CursorError};
 pub use cursor_fields::{RulesField, StartField, next_field};
-pub use line::{Line, MOST_LINE};
+pub use mc_output::{Line, MOST_LINE};
 pub use schedule::{MOST_CUTS, Schedule, ScheduleError};
 pub use start::{Start, StartError};

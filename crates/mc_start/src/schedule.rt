@@ -4,7 +4,7 @@ ghost use Rattle.mc_tree.specs.Paths.{Precedes};
 ghost use Rattle.mc_start.specs.Cuts.{lowered};
 ghost use Rattle.mc_start.specs.Texts.{schedule_text, FitsCut, IsSchedule, IsAdded, ReadsSchedule};
 
-use crate::line::{Line, MOST_LINE};
+use mc_output::{Line, MOST_LINE};
 use std::fmt;
 use std::marker::Model;
 use thiserror::Error;
