@@ -76,6 +76,15 @@ impl Line {
         self.put(itoa::Buffer::new().format(number));
     }
 
+    /// Adds a number of 64 bits in decimal digits, of which there are at most 20.
+    pub fn put_long_number(&mut self, number: u64)
+        requires { length self.old + 20 ≤ MOST_LINE }
+        ensures text { self.new ≡ self.old ++ decimal number }
+        ensures length { length self.new ≤ length self.old + 20 }
+    {
+        self.put(itoa::Buffer::new().format(number));
+    }
+
     // Adds one hexadecimal digit.
     #[inline]
     fn put_digit(&mut self, digit: u8)
