@@ -22,8 +22,13 @@ abbrev pub slot_text : Option Identity → List ℕ
 slot_text None = codes "none"
 slot_text (Some id) = identity_text id
 
+-- What happened, and what the boot left: three lines each.
+abbrev pub happened_text : Report → List ℕ
+happened_text o = codes "result " ++ (result_text o.result ++ (codes "\ntype " ++ (type_text o.kind ++ (codes "\nops " ++ (decimal o.ops ++ codes "\n")))))
+
+abbrev pub left_text : Report → List ℕ
+left_text o = codes "primary " ++ (slot_text o.primary ++ (codes "\nsecondary " ++ (slot_text o.secondary ++ (codes "\nnext " ++ (type_text o.next ++ codes "\n")))))
+
 -- Six lines.
 abbrev pub outcome_text : Report → List ℕ
-outcome_text o =
-    (codes "result " ++ (result_text o.result ++ (codes "\ntype " ++ (type_text o.kind ++ (codes "\nops " ++ (decimal o.ops ++ codes "\n"))))))
-    ++ (codes "primary " ++ (slot_text o.primary ++ (codes "\nsecondary " ++ (slot_text o.secondary ++ (codes "\nnext " ++ (type_text o.next ++ codes "\n"))))))
+outcome_text o = happened_text o ++ left_text o

@@ -1,12 +1,13 @@
 //! Outcomes as text.
-ghost use Rattle.std.specs.Prelude.{◌≡◌, ◌≤◌, length, Some, option_map};
+ghost use Rattle.std.specs.Prelude.{◌≡◌, ◌+◌, ◌≤◌, ◌++◌, length, Some, option_map};
 ghost use Rattle.mc_boot.specs.Image.{identity_of};
 ghost use Rattle.mc_boot.specs.Outcome.{shown};
-ghost use Rattle.mc_boot.specs.Texts.{result_text, identity_text, slot_text, outcome_text};
+ghost use Rattle.mc_boot.specs.Texts.{result_text, identity_text, slot_text, happened_text, left_text, outcome_text};
 
 use crate::image::ImageId;
 use crate::outcome::{BootResult, Outcome};
-use std::{fmt, str};
+use mc_output::{Line, MOST_LINE};
+use std::fmt;
 
 impl BootResult {
     /// Its name in one word.
@@ -31,32 +32,83 @@ impl fmt::Display for BootResult {
     }
 }
 
+impl ImageId {
+    /// Adds the version, the size and the digest in hexadecimal digits to a line, with one space between: at most 119 bytes.
+    pub fn put_into(&self, line: &mut Line)
+        requires { length line.old + 119 ≤ MOST_LINE }
+        ensures text { line.new ≡ line.old ++ identity_text (identity_of self.now) }
+        ensures length { length line.new ≤ length line.old + 119 }
+    {
+        self.version.put_into(line);
+        line.put(" ");
+        line.put_number(self.size);
+        line.put(" ");
+        line.put_hex(&self.digest);
+    }
+}
+
 /// The version, the size and the digest in hexadecimal digits, with one space between.
 impl fmt::Display for ImageId {
     ghost output = { λ id. Some (identity_text (identity_of id)) };
 
     fn fmt<W: fmt::Write>(&self, f: &mut fmt::Formatter<W>) -> fmt::Result {
-        let mut digits = [0; 64];
-        hex::encode_to_slice(&self.digest, &mut digits).map_err(|_| fmt::Error)?;
-        let digest = str::from_utf8(&digits).map_err(|_| fmt::Error)?;
-        let version = self.version;
-        let size = self.size;
-        write!(f, "{version} {size} {digest}")
+        let mut line = Line::new();
+        self.put_into(&mut line);
+        f.write_str(line.as_str())
     }
 }
 
-// What a slot holds, or `none`.
-#[derive(Clone, Copy)]
-struct SlotLine(Option<ImageId>);
+// Adds what a slot holds, or `none`: at most 119 bytes.
+fn put_slot(line: &mut Line, held: &Option<ImageId>)
+    requires { length line.old + 119 ≤ MOST_LINE }
+    ensures text { line.new ≡ line.old ++ slot_text (option_map identity_of held.now) }
+    ensures length { length line.new ≤ length line.old + 119 }
+{
+    match held {
+        None => line.put("none"),
+        Some(image) => image.put_into(line),
+    }
+}
 
-impl fmt::Display for SlotLine {
-    ghost output = { λ line. Some (slot_text (option_map identity_of line.0)) };
+impl Outcome {
+    // Adds the lines of the result, the type and the operations: at most 40 bytes.
+    fn put_happened(&self, line: &mut Line)
+        requires { length line.old + 40 ≤ MOST_LINE }
+        ensures text { line.new ≡ line.old ++ happened_text (shown self.now) }
+        ensures length { length line.new ≤ length line.old + 40 }
+    {
+        line.put("result ");
+        line.put(self.result.name());
+        line.put("\ntype ");
+        line.put(self.kind.name());
+        line.put("\nops ");
+        line.put_number(self.ops);
+        line.put("\n");
+    }
 
-    fn fmt<W: fmt::Write>(&self, f: &mut fmt::Formatter<W>) -> fmt::Result {
-        match self.0 {
-            None => f.write_str("none"),
-            Some(image) => write!(f, "{image}"),
-        }
+    // Adds the lines of what the slots hold and of the next type: at most 270 bytes.
+    fn put_left(&self, line: &mut Line)
+        requires { length line.old + 270 ≤ MOST_LINE }
+        ensures text { line.new ≡ line.old ++ left_text (shown self.now) }
+        ensures length { length line.new ≤ length line.old + 270 }
+    {
+        line.put("primary ");
+        put_slot(line, &self.primary);
+        line.put("\nsecondary ");
+        put_slot(line, &self.secondary);
+        line.put("\nnext ");
+        line.put(self.next.name());
+        line.put("\n");
+    }
+
+    /// Adds its six lines to a line: at most 310 bytes.
+    pub fn put_into(&self, line: &mut Line)
+        requires { length line.old + 310 ≤ MOST_LINE }
+        ensures text { line.new ≡ line.old ++ outcome_text (shown self.now) }
+        ensures length { length line.new ≤ length line.old + 310 }
+    {
+        self.put_happened(line);
+        self.put_left(line);
     }
 }
 
@@ -65,13 +117,8 @@ impl fmt::Display for Outcome {
     ghost output = { λ outcome. Some (outcome_text (shown outcome)) };
 
     fn fmt<W: fmt::Write>(&self, f: &mut fmt::Formatter<W>) -> fmt::Result {
-        let result = self.result;
-        let kind = self.kind;
-        let ops = self.ops;
-        write!(f, "result {result}\ntype {kind}\nops {ops}\n")?;
-        let primary = SlotLine(self.primary);
-        let secondary = SlotLine(self.secondary);
-        let next = self.next;
-        write!(f, "primary {primary}\nsecondary {secondary}\nnext {next}\n")
+        let mut line = Line::new();
+        self.put_into(&mut line);
+        f.write_str(line.as_str())
     }
 }

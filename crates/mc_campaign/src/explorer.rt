@@ -21,7 +21,7 @@ use crate::loading::{ask, load};
 use crate::rounds::Twice;
 use crate::row::CampaignRow;
 use mc_boot::restart_law;
-use mc_explore::{ExploreError, Labels, Line, RowSource, Start, write_line, write_text};
+use mc_explore::{ExploreError, Labels, Line, RowSource, Start, write_text};
 use mc_flash::Flash;
 use mc_walk::{Tour, Walk};
 use std::alloc::Global;
@@ -266,7 +266,11 @@ impl<'a, F: Flash + Drop> RowSource for CampaignExplorer<'a, F> {
 
     fn write_next<W: Write>(&self, writer: &mut W) -> Result<(), ExploreError> {
         let cursor = self.cursor();
-        write_line(writer, format_args!("next {cursor}"))
+        let mut line = Line::new();
+        line.put("next ");
+        cursor.put_into(&mut line);
+        line.put("\n");
+        write_text(writer, line.as_str().as_bytes())
     }
 
     fn give_up(&mut self) {

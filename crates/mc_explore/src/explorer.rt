@@ -14,7 +14,7 @@ use crate::error::ExploreError;
 use crate::labels::Labels;
 use crate::last_cuts::AtCuts;
 use crate::loading::{ask, load};
-use crate::output::{write_line, write_text};
+use crate::output::write_text;
 use crate::row::Row;
 use crate::rows::Rows;
 use crate::source::RowSource;
@@ -280,7 +280,11 @@ impl<'a, F: Flash + Drop> RowSource for Explorer<'a, F> {
 
     fn write_next<W: Write>(&self, writer: &mut W) -> Result<(), ExploreError> {
         let cursor = self.cursor();
-        write_line(writer, format_args!("next {cursor}"))
+        let mut line = Line::new();
+        line.put("next ");
+        cursor.put_into(&mut line);
+        line.put("\n");
+        write_text(writer, line.as_str().as_bytes())
     }
 
     fn give_up(&mut self) {

@@ -34,7 +34,7 @@ pub use mc_start::{
     StartError, StartField, next_field,
 };
 pub use once::{Once, Told};
-pub use output::{write_line, write_text};
+pub use output::write_text;
 pub use pages::{write_page, write_page_until, write_rows};
 pub use replaying::{ReplayError, flash_at_cut, replay, replay_on};
 pub use row::Row;

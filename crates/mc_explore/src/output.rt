@@ -1,11 +1,10 @@
-//! Lines of text, written whole and without memory.
-ghost use Rattle.std.specs.Prelude.{◌≡◌, ◌++◌, ◌∷◌, [], IfErr, IfSome, OnOk, OnErr};
+//! Text, written whole and without memory.
+ghost use Rattle.std.specs.Prelude.{◌≡◌, IfErr, OnOk, OnErr};
 ghost use Rattle.std.specs.Io.KnownBytes.{Appends};
 ghost use Rattle.mc_output.specs.Fronts.{AppendsFront};
 
 use crate::error::ExploreError;
 use mc_output::WriteFailed;
-use std::fmt::Display;
 use std::io::Write;
 
 /// Writes the whole text, or a prefix of it.
@@ -20,25 +19,6 @@ pub fn write_text<W: Write>(writer: &mut W, text: &[u8]) -> Result<(), ExploreEr
     ensures err { IfErr result (λ e. e ≡ ExploreError.Write) }
 {
     match mc_output::write_text(writer, text) {
-        Ok(()) => Ok(()),
-        Err(WriteFailed) => Err(ExploreError::Write),
-    }
-}
-
-/// Writes a text and a line feed, or a prefix of them.
-///
-/// # Errors
-///
-/// `Write` where a write fails or takes no bytes, or the line is too long.
-pub fn write_line<D: Display + Drop, W: Write>(writer: &mut W, text: D) -> Result<(), ExploreError>
-    ensures whole { OnOk result (IfSome (D.Display.output text)
-        (λ bytes. Appends (W.contents writer.old) (W.contents writer.new) (bytes ++ 10 ∷ []))) }
-    ensures front { OnErr result (IfSome (D.Display.output text)
-        (λ bytes. AppendsFront (W.contents writer.old) (W.contents writer.new)
-        (bytes ++ 10 ∷ []))) }
-    ensures err { IfErr result (λ e. e ≡ ExploreError.Write) }
-{
-    match mc_output::write_line(writer, text) {
         Ok(()) => Ok(()),
         Err(WriteFailed) => Err(ExploreError::Write),
     }

@@ -2,31 +2,14 @@
 ghost use Rattle.std.specs.Prelude.{◌≡◌, ◌+◌, ◌<◌, ◌≤◌, ◌++◌, [], length, Some, option_map};
 ghost use Rattle.mc_boot.specs.Image.{identity_of};
 ghost use Rattle.mc_boot.specs.Outcome.{shown};
-ghost use Rattle.mc_image.specs.VersionText.{version_line};
 ghost use Rattle.mc_explore.specs.RowText.{slot_text, outcome_text, slots_text, row_text};
 ghost use Rattle.mc_explore.specs.State.{told};
 
 use crate::labels::Labels;
 use crate::row::Row;
 use mc_boot::{ImageId, Outcome};
-use mc_image::Version;
 use mc_start::{Line, MOST_LINE};
 use std::fmt;
-
-// Adds the four parts of a version.
-fn put_version(line: &mut Line, version: Version)
-    requires { length line.old + 43 ≤ MOST_LINE }
-    ensures text { line.new ≡ line.old ++ version_line version }
-    ensures length { length line.new ≤ length line.old + 43 }
-{
-    line.put_number(u32::from(version.major));
-    line.put(".");
-    line.put_number(u32::from(version.minor));
-    line.put(".");
-    line.put_number(u32::from(version.revision));
-    line.put("+");
-    line.put_number(version.build);
-}
 
 /// Adds the version and the size of an image.
 pub(crate) fn put_image(line: &mut Line, image: ImageId)
@@ -34,7 +17,7 @@ pub(crate) fn put_image(line: &mut Line, image: ImageId)
     ensures text { line.new ≡ line.old ++ slot_text (Some (identity_of image)) }
     ensures length { length line.new ≤ length line.old + 54 }
 {
-    put_version(line, image.version);
+    image.version.put_into(line);
     line.put("/");
     line.put_number(image.size);
 }

@@ -1,5 +1,5 @@
 //! Grains and slots as text.
-ghost use Rattle.std.specs.Prelude.{◌≡◌, Some, MatchOption};
+ghost use Rattle.std.specs.Prelude.{◌≡◌, ◌≤◌, length, Some, MatchOption};
 ghost use Rattle.mc_flash.specs.declared.flash.Grain.{Grain};
 ghost use Rattle.mc_flash.specs.Texts.{grain_text, slot_text};
 
@@ -19,15 +19,36 @@ impl Grain {
             _ => None,
         }
     }
+
+    /// Its name in one word.
+    pub fn name(self) -> &'static str
+        ensures text { result.now ≡ grain_text self }
+        ensures few { length result.now ≤ 4 }
+    {
+        match self {
+            Grain::Call => "call",
+            Grain::Unit => "unit",
+        }
+    }
 }
 
 impl fmt::Display for Grain {
     ghost output = { λ grain. Some (grain_text grain) };
 
     fn fmt<W: fmt::Write>(&self, f: &mut fmt::Formatter<W>) -> fmt::Result {
+        f.write_str(self.name())
+    }
+}
+
+impl Slot {
+    /// Its name in one word.
+    pub fn name(self) -> &'static str
+        ensures text { result.now ≡ slot_text self }
+        ensures few { length result.now ≤ 9 }
+    {
         match self {
-            Grain::Call => f.write_str("call"),
-            Grain::Unit => f.write_str("unit"),
+            Slot::Primary => "primary",
+            Slot::Secondary => "secondary",
         }
     }
 }
@@ -36,9 +57,6 @@ impl fmt::Display for Slot {
     ghost output = { λ slot. Some (slot_text slot) };
 
     fn fmt<W: fmt::Write>(&self, f: &mut fmt::Formatter<W>) -> fmt::Result {
-        match self {
-            Slot::Primary => f.write_str("primary"),
-            Slot::Secondary => f.write_str("secondary"),
-        }
+        f.write_str(self.name())
     }
 }

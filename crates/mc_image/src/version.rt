@@ -1,9 +1,10 @@
 //! Versions and their text.
-ghost use Rattle.std.specs.Prelude.{◌≡◌, Some, MatchResult, ℕ, List};
+ghost use Rattle.std.specs.Prelude.{◌≡◌, Some, MatchResult, ℕ, ◌+◌, ◌≤◌, List, ◌++◌, length};
 ghost use Rattle.mc_image.specs.VersionText.{version_line, IsForm, AreInRange, IsVersion, Names, IsRefused};
 
 use crate::VersionError;
 use crate::reading::version_read;
+use mc_output::{Line, MOST_LINE};
 use std::fmt;
 
 /// The version of an image. Its text is `major.minor.revision+build` (imgtool, option `--version`).
@@ -37,16 +38,29 @@ impl Version {
     {
         version_read(text.as_bytes())
     }
+
+    /// Adds its four parts to a line: at most 43 bytes.
+    pub fn put_into(self, line: &mut Line)
+        requires { length line.old + 43 ≤ MOST_LINE }
+        ensures text { line.new ≡ line.old ++ version_line self }
+        ensures length { length line.new ≤ length line.old + 43 }
+    {
+        line.put_number(u32::from(self.major));
+        line.put(".");
+        line.put_number(u32::from(self.minor));
+        line.put(".");
+        line.put_number(u32::from(self.revision));
+        line.put("+");
+        line.put_number(self.build);
+    }
 }
 
 impl fmt::Display for Version {
     ghost output = { λ v. Some (version_line v) };
 
     fn fmt<W: fmt::Write>(&self, f: &mut fmt::Formatter<W>) -> fmt::Result {
-        let major = self.major;
-        let minor = self.minor;
-        let revision = self.revision;
-        let build = self.build;
-        write!(f, "{major}.{minor}.{revision}+{build}")
+        let mut line = Line::new();
+        self.put_into(&mut line);
+        f.write_str(line.as_str())
     }
 }

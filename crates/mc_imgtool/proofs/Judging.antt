@@ -1,8 +1,6 @@
 -- What a judge's answer says of what is wanted of `verify`.
-use Rattle.std.proofs.Common.{◌≡◌, ℕ, ◌<◌, ◌≤◌, ◌^◌, List, length, Option, None, Some, Result, Ok, Err, refl, sym, ap, ◌∙◌, subst, [], ◌++◌, false}
-use Rattle.std.specs.Prelude.{IfSome, IfErr, OnOk, is_err}
-use Rattle.std.specs.Fmt.{WritesText}
-use Rattle.std.proofs.lemmas.Fmt.{contents_after_writes}
+use Rattle.std.proofs.Common.{◌≡◌, ℕ, ◌<◌, ◌≤◌, ◌^◌, List, length, Option, None, Some, Result, Ok, Err, refl, sym, ap, ◌∙◌, subst}
+use Rattle.std.specs.Prelude.{IfSome, IfErr, OnOk}
 use Rattle.std.specs.Io.KnownBytes.{Appends}
 use Rattle.std.proofs.KnownBytes.{Keeps-refl}
 use Rattle.mc_image.specs.Image.{Image, image_in}
@@ -69,10 +67,3 @@ pub answered_good : {A : Type 0} (known old new : Option (List ℕ)) (j : Judged
     → OnOk r (Appends old new (good_text j)) → IfErr r (λ e. (e ≡ Write) × AppendsFront old new (good_text j)) → Answers verified known old new r
 answered_good known old new j (Ok x) h whole front = known_good known j (Appends old new) h whole
 answered_good known old new j (Err e) h whole front = at_write known old new e front.0 (known_good known j (AppendsFront old new) h front.1)
-
--- a text in a room that it fits
-pub in_room : {W E : Type 0} (took : W → List ℕ → W → Type 0) (contents : W → List ℕ)
-    (appends : (w : W) (bs : List ℕ) (v : W) → took w bs v → contents v ≡ contents w ++ bs) (bs : List ℕ) (w v : W) (r : Result (Unit {0}) E)
-    → contents w ≡ [] → OnOk r (WritesText took w (Some bs) v) → false ≡ is_err r → contents v ≡ bs
-in_room took contents appends bs w v (Err e) none wrote fine = absurd cc
-in_room took contents appends bs w v (Ok x) none wrote fine = contents_after_writes took contents appends w bs v wrote ∙ ap (λ (z : List ℕ). z ++ bs) none

@@ -1,6 +1,6 @@
 -- What an engine answers: the text that it is to write for its input, or a refusal. Of a reader and a writer the bytes
 -- that are left and that are held are known, or nothing is.
-use Rattle.std.specs.Prelude.{◌≡◌, ℕ, ◌<◌, ◌≤◌, List, length, Option, Result, Ok, Err, IfSome, ⊤, ◌⊎◌}
+use Rattle.std.specs.Prelude.{◌≡◌, ℕ, ◌<◌, ◌≤◌, List, length, Option, Result, Ok, Err, IfSome, IsErrAnd, ⊤, ◌⊎◌}
 use Rattle.std.specs.Io.KnownBytes.{Appends, Keeps}
 use Rattle.mc_image.specs.Judging.{verdict}
 use Rattle.mc_image.specs.declared.judge.Judged.{Judged}
@@ -18,6 +18,10 @@ RefusesReading known limit NotZeros = ⊥
 RefusesReading known limit SlotTooSmall = ⊥
 RefusesReading known limit NeedsSlotSize = ⊥
 RefusesReading known limit Write = ⊥
+
+-- an input that is known to be longer is refused as that, unless a read or memory failed: the known input, the limit
+abbrev pub RefusesLonger : {A : Type 0} → Option (List ℕ) → ℕ → Result A ToolError → Type 0
+RefusesLonger known limit r = IfSome known (λ xs. limit < length xs → IsErrAnd r (λ e. (e ≡ InputTooLong) ⊎ ((e ≡ Read) ⊎ (e ≡ Memory))))
 
 -- when a judge of an input of at most `limit` bytes gives each answer: the known input, the limit
 abbrev pub Judges : Option (List ℕ) → ℕ → Result Judged ToolError → Type 0

@@ -1,7 +1,7 @@
 //! Input, read whole.
 ghost use Rattle.std.specs.Prelude.{◌≡◌, ℕ, List, ◌+◌, ◌≤◌, length, IfOk, IfErr, IfSome, OnOk};
 ghost use Rattle.std.specs.Io.KnownBytes.{Consumes, IsAtEnd};
-ghost use Rattle.mc_imgtool.specs.Engines.{RefusesReading};
+ghost use Rattle.mc_imgtool.specs.Engines.{RefusesReading, RefusesLonger};
 
 use crate::ToolError;
 use std::alloc::Global;
@@ -20,6 +20,7 @@ pub fn read_bounded<R: Read>(alloc: Global, input: &mut R, limit: u32) -> Result
         (λ v. (length v.items ≤ limit) × IfSome (R.remaining input.old) (λ xs. v.items ≡ xs)) }
     ensures end { OnOk result (IsAtEnd (R.remaining input.new)) }
     ensures refused { IfErr result (λ e. RefusesReading (R.remaining input.old) limit e) }
+    ensures longer { RefusesLonger (R.remaining input.old) limit result }
     ensures taken { (bs : List ℕ) × Consumes (R.remaining input.old) (R.remaining input.new) bs
         × (length bs ≤ limit + 1) }
 {

@@ -1,5 +1,5 @@
 //! `verify`: is an input a valid image?
-ghost use Rattle.std.specs.Prelude.{◌≡◌, ℕ, List, ◌+◌, ◌≤◌, ◌^◌, length, Some, IfErr, OnOk, ◌≢◌};
+ghost use Rattle.std.specs.Prelude.{◌≡◌, ℕ, List, ◌+◌, ◌≤◌, ◌^◌, length, IfErr, OnOk, ◌≢◌};
 ghost use Rattle.std.specs.Io.KnownBytes.{Appends, Consumes, IsAtEnd};
 ghost use Rattle.mc_imgtool.specs.Engines.{Answers, Judges, RefusesAnImage};
 ghost use Rattle.mc_output.specs.Fronts.{AppendsFront};
@@ -8,49 +8,38 @@ ghost use Rattle.mc_imgtool.specs.Lines.{good_text, verified};
 use crate::ToolError;
 use crate::input::GREATEST_INPUT;
 use crate::output::write_text;
-use arrayvec::ArrayString;
 use mc_image::{Judge, Judged};
-use std::fmt::Write as _;
+use mc_output::Line;
 use std::io::{Read, Write};
-use std::{fmt, str};
-
-/// The most bytes of a line. The longest has 116.
-const MOST_BYTES: usize = 128;
 
 /// The line for a valid image.
-#[derive(Drop)]
-struct GoodLine(Judged);
-
-impl fmt::Display for GoodLine {
-    ghost output = { λ line. Some (good_text line.0) };
-
-    #[tactic(auto, unfolding(crate::specs::Lines::good_text))]
-    fn fmt<W: fmt::Write>(&self, f: &mut fmt::Formatter<W>) -> fmt::Result {
-        let mut digits = [0; 64];
-        hex::encode_to_slice(&self.0.digest, &mut digits).map_err(|_| fmt::Error)?;
-        let digest = str::from_utf8(&digits).map_err(|_| fmt::Error)?;
-        let version = self.0.version;
-        let size = self.0.size;
-        write!(f, "good {version} {size} {digest}\n")
-    }
+#[tactic(auto, unfolding(crate::specs::Lines::good_text))]
+fn good_line(judged: &Judged) -> Line
+    ensures { result ≡ good_text judged.now }
+{
+    let mut line = Line::new();
+    line.put("good ");
+    judged.version.put_into(&mut line);
+    line.put(" ");
+    line.put_long_number(judged.size);
+    line.put(" ");
+    line.put_hex(&judged.digest);
+    line.put("\n");
+    line
 }
 
 /// Writes the line for a valid image.
 ///
 /// # Errors
 ///
-/// `Write` where a write fails or takes no bytes, or the line is too long.
-fn write_good<W: Write>(output: &mut W, judged: Judged) -> Result<(), ToolError>
+/// `Write` where a write fails or takes no bytes.
+fn write_good<W: Write>(output: &mut W, judged: &Judged) -> Result<(), ToolError>
     ensures whole { OnOk result
-        (Appends (W.contents output.old) (W.contents output.new) (good_text judged)) }
+        (Appends (W.contents output.old) (W.contents output.new) (good_text judged.now)) }
     ensures front { IfErr result (λ e. (e ≡ ToolError.Write)
-        × AppendsFront (W.contents output.old) (W.contents output.new) (good_text judged)) }
+        × AppendsFront (W.contents output.old) (W.contents output.new) (good_text judged.now)) }
 {
-    let text = GoodLine(judged);
-    let mut line = ArrayString::<MOST_BYTES>::new();
-    if write!(line, "{text}").is_err() {
-        return Err(ToolError::Write);
-    }
+    let line = good_line(judged);
     write_text(output, line.as_str().as_bytes())
 }
 
@@ -102,5 +91,5 @@ pub fn verify<R: Read, W: Write>(input: &mut R, output: &mut W) -> Result<(), To
         × (length bs ≤ 2 ^ 24 + 1) }
 {
     let judged = judge_input(input)?;
-    write_good(output, judged)
+    write_good(output, &judged)
 }

@@ -1,11 +1,14 @@
 //! Lines of text that are put together without memory.
-ghost use Rattle.std.specs.Prelude.{◌≡◌, ◌+◌, ◌≤◌, ◌++◌, [], length, decimal};
+ghost use Rattle.std.specs.Prelude.{◌≡◌, ◌+◌, ◌*◌, ◌<◌, ◌≤◌, ◌++◌, ◌∷◌, [], length, slice_index, decimal};
+ghost use Rattle.hex.specs.Hex.{encode_lower, lower_digits};
 
 use arrayvec::ArrayString;
 use std::marker::Model;
 
 /// The most bytes of a line.
 pub const MOST_LINE: usize = 512;
+
+const DIGITS: &[u8; 16] = b"0123456789abcdef";
 
 /// A text of at most 512 bytes, which grows at its end. It takes no memory.
 #[derive(Drop)]
@@ -71,5 +74,36 @@ impl Line {
             return;
         }
         self.put(itoa::Buffer::new().format(number));
+    }
+
+    /// Adds a number of 64 bits in decimal digits, of which there are at most 20.
+    pub fn put_long_number(&mut self, number: u64)
+        requires { length self.old + 20 ≤ MOST_LINE }
+        ensures text { self.new ≡ self.old ++ decimal number }
+        ensures length { length self.new ≤ length self.old + 20 }
+    {
+        self.put(itoa::Buffer::new().format(number));
+    }
+
+    // Adds one hexadecimal digit.
+    #[inline]
+    fn put_digit(&mut self, digit: u8)
+        requires digit { digit < 16 }
+        requires room { length self.old < MOST_LINE }
+        ensures { self.new ≡ self.old ++ slice_index lower_digits digit ∷ [] }
+    {
+        self.text.push(char::from(DIGITS[usize::from(digit)]));
+    }
+
+    /// Adds bytes in lower-case hexadecimal digits, two for each.
+    pub fn put_hex(&mut self, bytes: &[u8])
+        requires { length self.old + 2 * length bytes.now ≤ MOST_LINE }
+        ensures text { self.new ≡ self.old ++ encode_lower bytes.now }
+        ensures length { length self.new ≡ length self.old + 2 * length bytes.now }
+    {
+        for byte in bytes {
+            self.put_digit(*byte / 16);
+            self.put_digit(*byte % 16);
+        }
     }
 }

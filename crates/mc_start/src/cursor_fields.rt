@@ -1,5 +1,5 @@
 //! What the texts of cursors are made of: fields with a colon behind each. Nothing here takes memory.
-ghost use Rattle.std.specs.Prelude.{◌≡◌, ℕ, ◌≤◌, List, [], ◌∷◌, ◌++◌, length, decimal, Some, IfSome, IsSomeAnd};
+ghost use Rattle.std.specs.Prelude.{◌≡◌, ℕ, ◌+◌, ◌≤◌, List, [], ◌∷◌, ◌++◌, length, decimal, Some, IfSome, IsSomeAnd};
 ghost use Rattle.hex.specs.Hex.{IsBytes, encode_lower};
 ghost use Rattle.mc_output.specs.facts.Parting.{Lacks};
 ghost use Rattle.mc_trailer.specs.declared.tables.Rules.{Rules};
@@ -8,8 +8,8 @@ ghost use Rattle.mc_start.specs.declared.cursor_fields.StartField.{StartField};
 
 use crate::schedule::MOST_CUTS;
 use mc_flash::Grain;
+use mc_output::{Line, MOST_LINE};
 use mc_trailer::{Profile, Rules};
-use std::{fmt, str};
 
 /// The field before the first colon of a text, and what follows that.
 pub fn next_field(text: &str) -> Option<(&str, &str)>
@@ -40,13 +40,17 @@ impl RulesField {
     }
 }
 
-impl fmt::Display for RulesField {
-    ghost output = { λ field. Some (rules_text field.0.grain field.0.profile) };
-
-    fn fmt<W: fmt::Write>(&self, f: &mut fmt::Formatter<W>) -> fmt::Result {
-        let grain = self.0.grain;
-        let profile = self.0.profile;
-        write!(f, "{grain}:{profile}:")
+impl RulesField {
+    /// Adds its text to a line: at most 7 bytes.
+    pub fn put_into(self, line: &mut Line)
+        requires { length line.old + 7 ≤ MOST_LINE }
+        ensures text { line.new ≡ line.old ++ rules_text self.0.grain self.0.profile }
+        ensures length { length line.new ≤ length line.old + 7 }
+    {
+        line.put(self.0.grain.name());
+        line.put(":");
+        line.put(self.0.profile.name());
+        line.put(":");
     }
 }
 
@@ -114,13 +118,16 @@ impl StartField {
     }
 }
 
-impl fmt::Display for StartField {
-    ghost output = { λ field. Some (start_text field.digest field.bound []) };
-
-    fn fmt<W: fmt::Write>(&self, f: &mut fmt::Formatter<W>) -> fmt::Result {
-        let room = digits_of(&self.digest);
-        let digits = str::from_utf8(&room).map_err(|_| fmt::Error)?;
-        let bound = self.bound;
-        write!(f, "{digits}:{bound}:")
+impl StartField {
+    /// Adds its text to a line: at most 76 bytes.
+    pub fn put_into(&self, line: &mut Line)
+        requires { length line.old + 76 ≤ MOST_LINE }
+        ensures text { line.new ≡ line.old ++ start_text self.now.digest self.now.bound [] }
+        ensures length { length line.new ≤ length line.old + 76 }
+    {
+        line.put_hex(&self.digest);
+        line.put(":");
+        line.put_number(u32::from(self.bound));
+        line.put(":");
     }
 }

@@ -1,7 +1,7 @@
 -- The lines of a boot's operations, one step after another.
 use Rattle.std.specs.Prelude.{◌≡◌, ℕ, zero, suc, ◌+◌, ◌-◌, ◌<◌, ◌≤◌, List, [], ◌∷◌, ◌++◌, take, slice_get, codes, Option, Some, None, IfSome, Result, Ok, Err, is_some, true, refl, OnOk, OnErr}
 use Rattle.std.specs.Io.KnownBytes.{Appends}
-use Rattle.std.proofs.Common.{arith, sym, ap, subst, append-nil, ◌∙◌}
+use Rattle.std.proofs.Common.{arith, sym, ap, subst, append_assoc, append-nil, ◌∙◌}
 use Rattle.mc_flash.specs.facts.Done.{did, undefined}
 use Rattle.mc_flash.specs.Geometry.{Geometry}
 use Rattle.mc_flash.specs.Seen.{Seen}
@@ -90,7 +90,13 @@ module _ (before mid new : Option (List ℕ)) (text all rest : List ℕ) (g here
   line x k = numbered_text x k op ++ 10 ∷ []
 
   abbrev refusal : Geometry → ℕ → List ℕ
-  refusal x k = (numbered_text x k op ++ codes " refused") ++ 10 ∷ []
+  refusal x k = numbered_text x k op ++ codes " refused\n"
+
+  abbrev Refuses : Type 0
+  Refuses = all ≡ ((numbered_text here count op ++ codes " refused") ++ 10 ∷ []) ++ rest
+
+  refusal_is : Refuses → all ≡ refusal here count ++ rest
+  refusal_is e = e ∙ ap (λ (z : List ℕ). z ++ rest) (append_assoc (numbered_text here count op) (codes " refused") (10 ∷ []))
 
   there : (P : Geometry → ℕ → Type 0) → P g n → P here count
   there P p = subst (λ x. P x count) place (subst (P g) at p)
@@ -101,11 +107,11 @@ module _ (before mid new : Option (List ℕ)) (text all rest : List ℕ) (g here
   pub line_begun : all ≡ line here count ++ rest → AppendsFront mid new (line g n) → AppendsFront before new text
   line_begun e p = out_front before mid new text (line here count) rest (subst (IsOut before mid text) e out) (there (λ x k. AppendsFront mid new (line x k)) p)
 
-  pub refusal_out : all ≡ refusal here count ++ rest → Appends mid new (refusal g n) → IsOut before new text rest
-  refusal_out e p = out_more before mid new text (refusal here count) rest (subst (IsOut before mid text) e out) (there (λ x k. Appends mid new (refusal x k)) p)
+  pub refusal_out : Refuses → Appends mid new (refusal g n) → IsOut before new text rest
+  refusal_out e p = out_more before mid new text (refusal here count) rest (subst (IsOut before mid text) (refusal_is e) out) (there (λ x k. Appends mid new (refusal x k)) p)
 
-  pub refusal_begun : all ≡ refusal here count ++ rest → AppendsFront mid new (refusal g n) → AppendsFront before new text
-  refusal_begun e p = out_front before mid new text (refusal here count) rest (subst (IsOut before mid text) e out) (there (λ x k. AppendsFront mid new (refusal x k)) p)
+  pub refusal_begun : Refuses → AppendsFront mid new (refusal g n) → AppendsFront before new text
+  refusal_begun e p = out_front before mid new text (refusal here count) rest (subst (IsOut before mid text) (refusal_is e) out) (there (λ x k. AppendsFront mid new (refusal x k)) p)
 
 -- ---- how many operations happened
 

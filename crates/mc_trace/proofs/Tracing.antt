@@ -5,7 +5,7 @@ use Rattle.std.proofs.Common.{arith, inl, inr, sym, ap, subst, get_or, drop-cons
 use Rattle.std.proofs.lemmas.Bool.Decides.{nat_tests}
 use Rattle.mc_flash.specs.Content.{Content}
 use Rattle.mc_flash.specs.Seen.{Seen}
-use Rattle.mc_output.specs.facts.Fronts.{IsOut, out_begun, out_front, out_more}
+use Rattle.mc_output.specs.facts.Fronts.{IsOut, out_all, out_begun, out_front, out_more}
 use Rattle.mc_output.specs.Fronts.{AppendsFront}
 use Rattle.mc_boot.specs.Outcome.{Report, outcome_of}
 use Rattle.mc_boot.specs.Texts.{outcome_text}
@@ -116,6 +116,9 @@ module _ (start : PowerOn) (cuts : List ℕ) (before : Option (List ℕ)) where
 
         pub outcome_begun : AppendsFront mid new (outcome_text outcome) → AppendsFront before new (trace_text start cuts)
         outcome_begun p = out_front before mid new _ (outcome_text outcome) [] out_last p
+
+        pub outcome_told : Appends mid new (outcome_text outcome) → Appends before new (trace_text start cuts)
+        outcome_told p = out_all before new _ (out_more before mid new _ (outcome_text outcome) [] out_last p)
 
 -- Memory and a failed write are no refusals.
 pub no_refusal : {W : Type 0} (start : PowerOn) (cuts : List ℕ) (old new : W) (e : TraceError) → (e ≡ errors.Memory) ⊎ (e ≡ errors.Write) → RefusesTrace start cuts old new e

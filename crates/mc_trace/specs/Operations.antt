@@ -43,13 +43,22 @@ part_text parts.Data = codes "data"
 
 -- An erase has its slot and its sector; a write its slot, its place, what stands there and its bytes in hexadecimal digits; a copy the
 -- places from which and to which it goes, and how many bytes.
+abbrev pub erase_text : Slot → ℕ → List ℕ
+erase_text slot sector = codes "erase " ++ (slot_text slot ++ (codes " " ++ decimal sector))
+
+abbrev pub write_text : Slot → ℕ → Part → List ℕ → List ℕ
+write_text slot place part bytes = codes "write " ++ (slot_text slot ++ (codes " " ++ (decimal place ++ (codes " " ++ (part_text part ++ (codes " " ++ encode_lower bytes))))))
+
+abbrev pub source_text : Slot → ℕ → List ℕ
+source_text from place = codes "copy " ++ (slot_text from ++ (codes " " ++ (decimal place ++ codes " to ")))
+
+abbrev pub target_text : Slot → ℕ → ℕ → List ℕ
+target_text to offset len = slot_text to ++ (codes " " ++ (decimal offset ++ (codes " length " ++ decimal len)))
+
 abbrev pub operation_text : Geometry → Op → List ℕ
-operation_text g (ops.Erase slot sector) = codes "erase " ++ (slot_text slot ++ (codes " " ++ decimal sector))
-operation_text g (ops.Program slot place bytes) =
-    codes "write " ++ (slot_text slot ++ (codes " " ++ (decimal place ++ (codes " " ++ (part_text (part_at g slot place) ++ (codes " " ++ encode_lower bytes))))))
-operation_text g (ops.Copy from place to offset len) =
-    (codes "copy " ++ (slot_text from ++ (codes " " ++ (decimal place ++ codes " to "))))
-    ++ (slot_text to ++ (codes " " ++ (decimal offset ++ (codes " length " ++ decimal len))))
+operation_text g (ops.Erase slot sector) = erase_text slot sector
+operation_text g (ops.Program slot place bytes) = write_text slot place (part_at g slot place) bytes
+operation_text g (ops.Copy from place to offset len) = source_text from place ++ target_text to offset len
 
 -- With its number in its boot.
 abbrev pub numbered_text : Geometry → ℕ → Op → List ℕ

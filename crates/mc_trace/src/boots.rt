@@ -1,5 +1,5 @@
 //! One boot, told operation by operation.
-ghost use Rattle.std.specs.Prelude.{◌≡◌, ◌+◌, ◌<◌, ◌≤◌, ◌⊎◌, [], length, IfErr, IfSome, OnOk, OnErr, Some};
+ghost use Rattle.std.specs.Prelude.{◌≡◌, ◌+◌, ◌<◌, ◌≤◌, ◌++◌, ◌⊎◌, [], length, IfErr, IfSome, OnOk, OnErr, Some};
 ghost use Rattle.std.specs.Io.KnownBytes.{Appends};
 ghost use Rattle.mc_output.specs.Fronts.{AppendsFront};
 ghost use Rattle.mc_boot.specs.Boot.{progress, to_come, IsBootOf};
@@ -7,15 +7,51 @@ ghost use Rattle.mc_boot.specs.PowerOn.{powered};
 ghost use Rattle.mc_boot.specs.Runs.{ops_of};
 ghost use Rattle.mc_explore.specs.Boots.{at_cut};
 ghost use Rattle.mc_trace.specs.Boots.{Tells, GoesUpTo};
-ghost use Rattle.mc_trace.specs.Trace.{told, up_to, cut_text, last_text};
+ghost use Rattle.mc_trace.specs.Operations.{numbered_text};
+ghost use Rattle.mc_trace.specs.Trace.{told, up_to, head_line, cut_line, cut_text, last_text};
 
 use crate::error::TraceError;
 use crate::operation::Numbered;
 use mc_boot::Boot;
 use mc_flash::{Flash, FlashError};
-use mc_output::write_line;
-use mc_trailer::Rules;
+use mc_output::{Line, write_line};
+use mc_trailer::{Rules, SwapType};
 use std::io::Write;
+
+// The number and the type of a boot.
+fn head_line(boot: u32, kind: SwapType) -> Line
+    ensures { result ≡ head_line boot kind }
+{
+    let mut line = Line::new();
+    line.put("boot ");
+    line.put_number(boot);
+    line.put(" ");
+    line.put(kind.name());
+    line.put("\n");
+    line
+}
+
+// An operation, and what is said behind it.
+fn told_line(told: &Numbered<'_>, end: &str) -> Line
+    requires { length end.now ≤ 9 }
+    ensures { let o = told.now in result ≡ numbered_text o.layout.now o.number o.op ++ end.now }
+{
+    let mut line = Line::new();
+    told.put_into(&mut line);
+    line.put(end);
+    line
+}
+
+// The operation before which the power is cut.
+fn cut_line(told: &Numbered<'_>) -> Line
+    ensures { let o = told.now in result ≡ cut_line o.layout.now o.number (Some o.op) }
+{
+    let mut line = Line::new();
+    line.put("cut before ");
+    told.put_into(&mut line);
+    line.put("\n");
+    line
+}
 
 // Makes the operations of a boot up to a number, or all that are left, and writes a line for each.
 fn write_operations<F: Flash, W: Write>(
@@ -46,8 +82,8 @@ fn write_operations<F: Flash, W: Write>(
             op,
         };
         match boot.step(flash) {
-            Ok(()) => write_line(writer, told)?,
-            Err(FlashError::NotErased) => write_line(writer, format_args!("{told} refused"))?,
+            Ok(()) => write_line(writer, &told_line(&told, "\n"))?,
+            Err(FlashError::NotErased) => write_line(writer, &told_line(&told, " refused\n"))?,
             Err(FlashError::Memory) => return Err(TraceError::Memory),
         }
     }
@@ -80,8 +116,7 @@ pub fn write_cut_boot<F: Flash, W: Write>(
 {
     let layout = *flash.layout();
     let mut machine = Boot::cold(flash, rules);
-    let kind = machine.kind();
-    write_line(writer, format_args!("boot {boot} {kind}"))?;
+    write_line(writer, &head_line(boot, machine.kind()))?;
     write_operations(flash, &mut machine, Some(cut), writer)?;
     if let Some(op) = machine.peek() {
         let told = Numbered {
@@ -89,7 +124,7 @@ pub fn write_cut_boot<F: Flash, W: Write>(
             number: cut,
             op,
         };
-        write_line(writer, format_args!("cut before {told}"))?;
+        write_line(writer, &cut_line(&told))?;
     }
     Ok(())
 }
@@ -114,7 +149,6 @@ pub fn write_last_boot<F: Flash, W: Write>(
     ensures err { IfErr result (λ e. (e ≡ TraceError.Memory) ⊎ (e ≡ TraceError.Write)) }
 {
     let mut machine = Boot::cold(flash, rules);
-    let kind = machine.kind();
-    write_line(writer, format_args!("boot {boot} {kind}"))?;
+    write_line(writer, &head_line(boot, machine.kind()))?;
     write_operations(flash, &mut machine, None, writer)
 }

@@ -1,37 +1,33 @@
 //! A layout in numbers: what the trailers take, how large an image may be, where each field stands, and how long a boot is.
-ghost use Rattle.std.specs.Prelude.{◌≡◌, ◌<◌, ◌*◌, Some, IfErr, OnOk, OnErr};
+ghost use Rattle.std.specs.Prelude.{◌≡◌, ◌<◌, ◌≤◌, ◌+◌, ◌*◌, ◌++◌, length, IfErr, OnOk, OnErr};
 ghost use Rattle.std.specs.Io.KnownBytes.{Appends};
 ghost use Rattle.mc_output.specs.Fronts.{AppendsFront};
+ghost use Rattle.mc_flash.specs.declared.flash.Grain.TheVariants.{Call, Unit};
 ghost use Rattle.mc_trace.specs.LayoutText.{sizes_text, place_of_field, place_of_entry, place_line, fields_text, places_text, operations_text, layout_text};
 
 use crate::error::TraceError;
 use crate::operation::Part;
 use mc_boot::swap_operations;
 use mc_flash::{Grain, Layout, Slot, most_operations};
-use mc_output::write_display;
+use mc_output::{Line, MOST_LINE, write_line};
 use mc_trailer::{Field, entry_place, place};
-use std::fmt;
 use std::io::Write;
 
 // What a trailer takes of a slot, and the most that an image may have.
-#[derive(Clone, Copy)]
-struct Sizes<'a>(&'a Layout);
-
-impl fmt::Display for Sizes<'_> {
-    ghost output = { λ sizes. Some (sizes_text sizes.0.now) };
-
-    #[tactic(auto, unfolding(crate::specs::LayoutText::sizes_text))]
-    fn fmt<W: fmt::Write>(&self, f: &mut fmt::Formatter<W>) -> fmt::Result {
-        let layout = self.0;
-        let trailer_bytes = layout.trailer_bytes();
-        let trailer_sectors = layout.trailer_sectors();
-        let image_sectors = layout.greatest_sectors();
-        let image_bytes = layout.largest_image();
-        write!(f, "trailer-bytes {trailer_bytes}\n")?;
-        write!(f, "trailer-sectors {trailer_sectors}\n")?;
-        write!(f, "image-sectors {image_sectors}\n")?;
-        write!(f, "image-bytes {image_bytes}\n")
-    }
+fn sizes_line(layout: &Layout) -> Line
+    ensures { result ≡ sizes_text layout.now }
+{
+    let mut line = Line::new();
+    line.put("trailer-bytes ");
+    line.put_number(layout.trailer_bytes());
+    line.put("\ntrailer-sectors ");
+    line.put_number(layout.trailer_sectors());
+    line.put("\nimage-sectors ");
+    line.put_number(layout.greatest_sectors());
+    line.put("\nimage-bytes ");
+    line.put_number(layout.largest_image());
+    line.put("\n");
+    line
 }
 
 /// The first byte of a part of a slot.
@@ -65,82 +61,74 @@ fn place_of_entry(layout: &Layout, entry: u32) -> Place
     }
 }
 
-impl fmt::Display for Place {
-    ghost output = { λ place. Some (place_line place) };
-
-    fn fmt<W: fmt::Write>(&self, f: &mut fmt::Formatter<W>) -> fmt::Result {
-        let slot = self.slot;
-        let at = self.at;
-        let part = self.part;
-        write!(f, "{slot} {at} {part}\n")
+impl Place {
+    // Adds its line, with the line feed: at most 38 bytes.
+    fn put_into(self, line: &mut Line)
+        requires { length line.old + 38 ≤ MOST_LINE }
+        ensures text { line.new ≡ line.old ++ place_line self }
+        ensures length { length line.new ≤ length line.old + 38 }
+    {
+        line.put(self.slot.name());
+        line.put(" ");
+        line.put_number(self.at);
+        line.put(" ");
+        self.part.put_into(line);
+        line.put("\n");
     }
 }
 
-// The fields of a slot.
-#[derive(Clone, Copy)]
-struct Fields<'a> {
-    layout: &'a Layout,
-    slot: Slot,
-}
-
-impl fmt::Display for Fields<'_> {
-    ghost output = { λ fields. Some (fields_text fields.layout.now fields.slot) };
-
-    fn fmt<W: fmt::Write>(&self, f: &mut fmt::Formatter<W>) -> fmt::Result {
-        let layout = self.layout;
-        let slot = self.slot;
-        let swap_size = place_of_field(layout, slot, Field::SwapSize);
-        let swap_info = place_of_field(layout, slot, Field::SwapInfo);
-        write!(f, "{swap_size}{swap_info}")?;
-        let copy_done = place_of_field(layout, slot, Field::CopyDone);
-        let image_ok = place_of_field(layout, slot, Field::ImageOk);
-        let magic = place_of_field(layout, slot, Field::Magic);
-        write!(f, "{copy_done}{image_ok}{magic}")
-    }
+// Adds the lines of the fields of a slot: at most 190 bytes.
+fn put_fields(line: &mut Line, layout: &Layout, slot: Slot)
+    requires { length line.old + 190 ≤ MOST_LINE }
+    ensures text { line.new ≡ line.old ++ fields_text layout.now slot }
+    ensures length { length line.new ≤ length line.old + 190 }
+{
+    place_of_field(layout, slot, Field::SwapSize).put_into(line);
+    place_of_field(layout, slot, Field::SwapInfo).put_into(line);
+    place_of_field(layout, slot, Field::CopyDone).put_into(line);
+    place_of_field(layout, slot, Field::ImageOk).put_into(line);
+    place_of_field(layout, slot, Field::Magic).put_into(line);
 }
 
 // The status entries and the fields.
-#[derive(Clone, Copy)]
-struct Places<'a>(&'a Layout);
-
-impl fmt::Display for Places<'_> {
-    ghost output = { λ places. Some (places_text places.0.now) };
-
-    #[tactic(auto, unfolding(crate::specs::LayoutText::places_text))]
-    fn fmt<W: fmt::Write>(&self, f: &mut fmt::Formatter<W>) -> fmt::Result {
-        let layout = self.0;
-        let last = place_of_entry(layout, 3 * layout.max_sectors() - 1);
-        let first = place_of_entry(layout, 0);
-        write!(f, "{first}{last}")?;
-        let primary = Fields {
-            layout,
-            slot: Slot::Primary,
-        };
-        let secondary = Fields {
-            layout,
-            slot: Slot::Secondary,
-        };
-        write!(f, "{primary}{secondary}")
-    }
+#[tactic(auto, unfolding(crate::specs::LayoutText::places_text))]
+fn places_line(layout: &Layout) -> Line
+    ensures { result ≡ places_text layout.now }
+{
+    let last = 3 * layout.max_sectors() - 1;
+    let mut line = Line::new();
+    place_of_entry(layout, 0).put_into(&mut line);
+    place_of_entry(layout, last).put_into(&mut line);
+    put_fields(&mut line, layout, Slot::Primary);
+    put_fields(&mut line, layout, Slot::Secondary);
+    line
 }
 
-// How many operations boots have by a grain: the whole swap of the largest images for a test, and the most of any boot.
-#[derive(Clone, Copy)]
-struct Operations<'a> {
-    layout: &'a Layout,
-    grain: Grain,
+// Adds how many operations boots have by a grain: the whole swap of the largest images for a test, and the most of any boot.
+// The lines have at most 60 bytes.
+fn put_operations(line: &mut Line, layout: &Layout, grain: Grain)
+    requires { length line.old + 60 ≤ MOST_LINE }
+    ensures text { line.new ≡ line.old ++ operations_text grain layout.now }
+    ensures length { length line.new ≤ length line.old + 60 }
+{
+    line.put(grain.name());
+    line.put(" swap-ops ");
+    line.put_number(swap_operations(layout, grain));
+    line.put("\n");
+    line.put(grain.name());
+    line.put(" most-ops ");
+    line.put_long_number(most_operations(layout, grain));
+    line.put("\n");
 }
 
-impl fmt::Display for Operations<'_> {
-    ghost output = { λ operations. Some (operations_text operations.grain operations.layout.now) };
-
-    #[tactic(auto, unfolding(crate::specs::LayoutText::operations_text))]
-    fn fmt<W: fmt::Write>(&self, f: &mut fmt::Formatter<W>) -> fmt::Result {
-        let grain = self.grain;
-        let swap = swap_operations(self.layout, grain);
-        let most = most_operations(self.layout, grain);
-        write!(f, "{grain} swap-ops {swap}\n{grain} most-ops {most}\n")
-    }
+// The operations by both grains.
+fn operations_line(layout: &Layout) -> Line
+    ensures { result ≡ operations_text Call layout.now ++ operations_text Unit layout.now }
+{
+    let mut line = Line::new();
+    put_operations(&mut line, layout, Grain::Call);
+    put_operations(&mut line, layout, Grain::Unit);
+    line
 }
 
 /// Writes what follows from the numbers of a layout, a line each: the bytes and sectors of a trailer; the most sectors and bytes
@@ -158,16 +146,8 @@ pub fn write_layout<W: Write>(layout: &Layout, writer: &mut W) -> Result<(), Tra
         (layout_text layout.now)) }
     ensures err { IfErr result (λ e. e ≡ TraceError.Write) }
 {
-    let call = Operations {
-        layout,
-        grain: Grain::Call,
-    };
-    let unit = Operations {
-        layout,
-        grain: Grain::Unit,
-    };
-    write_display(writer, Sizes(layout))?;
-    write_display(writer, Places(layout))?;
-    write_display(writer, format_args!("{call}{unit}"))?;
+    write_line(writer, &sizes_line(layout))?;
+    write_line(writer, &places_line(layout))?;
+    write_line(writer, &operations_line(layout))?;
     Ok(())
 }

@@ -1,11 +1,11 @@
 //! Operations as text.
-ghost use Rattle.std.specs.Prelude.{◌≡◌, Some};
+ghost use Rattle.std.specs.Prelude.{◌≡◌, ◌+◌, ◌≤◌, ◌++◌, length};
 ghost use Rattle.mc_flash.specs.Geometry.{Geometry};
-ghost use Rattle.mc_trace.specs.Operations.{part_at, part_text, operation_text, numbered_text};
+ghost use Rattle.mc_trace.specs.Operations.{part_at, part_text, erase_text, write_text, source_text, target_text, numbered_text};
 
-use mc_flash::{Bytes16, Layout, Op, Slot};
+use mc_flash::{Layout, Op, Slot};
+use mc_output::{Line, MOST_LINE};
 use mc_trailer::Field;
-use std::{fmt, str};
 
 /// What stands at a place of a slot.
 #[derive(Clone, Copy)]
@@ -36,20 +36,81 @@ pub fn part_at(layout: &Layout, slot: Slot, place: u32) -> Part
     }
 }
 
-impl fmt::Display for Part {
-    ghost output = { λ part. Some (part_text part) };
-
-    fn fmt<W: fmt::Write>(&self, f: &mut fmt::Formatter<W>) -> fmt::Result {
+impl Part {
+    /// Adds its words to a line: at most 16 bytes.
+    pub fn put_into(self, line: &mut Line)
+        requires { length line.old + 16 ≤ MOST_LINE }
+        ensures text { line.new ≡ line.old ++ part_text self }
+        ensures length { length line.new ≤ length line.old + 16 }
+    {
         match self {
-            Part::Field(Field::Magic) => f.write_str("magic"),
-            Part::Field(Field::ImageOk) => f.write_str("image-ok"),
-            Part::Field(Field::CopyDone) => f.write_str("copy-done"),
-            Part::Field(Field::SwapInfo) => f.write_str("swap-info"),
-            Part::Field(Field::SwapSize) => f.write_str("swap-size"),
-            Part::Entry(entry) => write!(f, "entry {entry}"),
-            Part::Data => f.write_str("data"),
+            Part::Field(Field::Magic) => line.put("magic"),
+            Part::Field(Field::ImageOk) => line.put("image-ok"),
+            Part::Field(Field::CopyDone) => line.put("copy-done"),
+            Part::Field(Field::SwapInfo) => line.put("swap-info"),
+            Part::Field(Field::SwapSize) => line.put("swap-size"),
+            Part::Entry(entry) => {
+                line.put("entry ");
+                line.put_number(entry);
+            }
+            Part::Data => line.put("data"),
         }
     }
+}
+
+// Adds an erase to a line: at most 26 bytes.
+fn put_erase(line: &mut Line, slot: Slot, sector: u32)
+    requires { length line.old + 26 ≤ MOST_LINE }
+    ensures text { line.new ≡ line.old ++ erase_text slot sector }
+    ensures length { length line.new ≤ length line.old + 26 }
+{
+    line.put("erase ");
+    line.put(slot.name());
+    line.put(" ");
+    line.put_number(sector);
+}
+
+// Adds a write to a line: at most 76 bytes.
+fn put_write(line: &mut Line, slot: Slot, place: u32, part: Part, bytes: &[u8])
+    requires room { length line.old + 76 ≤ MOST_LINE }
+    requires few { length bytes.now ≤ 16 }
+    ensures text { line.new ≡ line.old ++ write_text slot place part bytes.now }
+    ensures length { length line.new ≤ length line.old + 76 }
+{
+    line.put("write ");
+    line.put(slot.name());
+    line.put(" ");
+    line.put_number(place);
+    line.put(" ");
+    part.put_into(line);
+    line.put(" ");
+    line.put_hex(bytes);
+}
+
+// Adds from where a copy goes to a line: at most 29 bytes.
+fn put_source(line: &mut Line, from: Slot, place: u32)
+    requires { length line.old + 29 ≤ MOST_LINE }
+    ensures text { line.new ≡ line.old ++ source_text from place }
+    ensures length { length line.new ≤ length line.old + 29 }
+{
+    line.put("copy ");
+    line.put(from.name());
+    line.put(" ");
+    line.put_number(place);
+    line.put(" to ");
+}
+
+// Adds where to a copy goes to a line, and how many bytes: at most 38 bytes.
+fn put_target(line: &mut Line, to: Slot, offset: u32, len: u32)
+    requires { length line.old + 38 ≤ MOST_LINE }
+    ensures text { line.new ≡ line.old ++ target_text to offset len }
+    ensures length { length line.new ≤ length line.old + 38 }
+{
+    line.put(to.name());
+    line.put(" ");
+    line.put_number(offset);
+    line.put(" length ");
+    line.put_number(len);
 }
 
 /// An operation on a flash of a layout, with its number in its boot: the one that a cut counts.
@@ -60,39 +121,25 @@ pub struct Numbered<'a> {
     pub op: Op,
 }
 
-// Bytes in hexadecimal digits.
-#[derive(Clone, Copy)]
-struct Digits(Bytes16);
-
-impl fmt::Display for Digits {
-    ghost use Rattle.hex.specs.Hex.{encode_lower};
-
-    ghost output = { λ digits. Some (encode_lower digits.0) };
-
-    fn fmt<W: fmt::Write>(&self, f: &mut fmt::Formatter<W>) -> fmt::Result {
-        let bytes = self.0.bytes();
-        let mut room = [0; 32];
-        let digits = &mut room[..2 * bytes.len()];
-        hex::encode_to_slice(bytes, digits).map_err(|_| fmt::Error)?;
-        f.write_str(str::from_utf8(digits).map_err(|_| fmt::Error)?)
-    }
-}
-
-impl fmt::Display for Numbered<'_> {
-    ghost output = { λ told. Some (numbered_text told.layout.now told.number told.op) };
-
-    fn fmt<W: fmt::Write>(&self, f: &mut fmt::Formatter<W>) -> fmt::Result {
-        let number = self.number;
+impl Numbered<'_> {
+    /// Adds its text to a line: at most 87 bytes.
+    pub fn put_into(&self, line: &mut Line)
+        requires { length line.old + 87 ≤ MOST_LINE }
+        ensures text { line.new ≡ line.old
+            ++ numbered_text self.now.layout.now self.now.number self.now.op }
+        ensures length { length line.new ≤ length line.old + 87 }
+    {
+        line.put_number(self.number);
+        line.put(" ");
         match self.op {
-            Op::Erase(slot, sector) => write!(f, "{number} erase {slot} {sector}"),
+            Op::Erase(slot, sector) => put_erase(line, slot, sector),
             Op::Program(slot, place, bytes) => {
                 let part = part_at(self.layout, slot, place);
-                let digits = Digits(bytes);
-                write!(f, "{number} write {slot} {place} {part} {digits}")
+                put_write(line, slot, place, part, bytes.bytes());
             }
             Op::Copy(from, place, to, offset, len) => {
-                write!(f, "{number} copy {from} {place} to ")?;
-                write!(f, "{to} {offset} length {len}")
+                put_source(line, from, place);
+                put_target(line, to, offset, len);
             }
         }
     }

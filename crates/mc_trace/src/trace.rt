@@ -11,7 +11,7 @@ use crate::boots::{write_cut_boot, write_last_boot};
 use crate::error::TraceError;
 use mc_explore::{Schedule, Start, replay};
 use mc_flash::Flash;
-use mc_output::write_display;
+use mc_output::{Line, write_line};
 use std::alloc::Global;
 use std::io::Write;
 
@@ -55,6 +55,8 @@ pub fn write_trace<F: Flash + Drop, W: Write>(
         boot += 1;
     }
     write_last_boot(&mut flash, rules, boot, writer)?;
-    write_display(writer, outcome)?;
+    let mut line = Line::new();
+    outcome.put_into(&mut line);
+    write_line(writer, &line)?;
     Ok(())
 }

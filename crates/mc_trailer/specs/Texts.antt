@@ -1,9 +1,11 @@
 -- How fields, types and profiles are written: this project's own texts.
-use Rattle.std.specs.Prelude.{ℕ, List, codes}
+use Rattle.std.specs.Prelude.{ℕ, List, [], ◌∷◌, ◌++◌, codes, decimal}
+use Rattle.hex.specs.Hex.{encode_lower}
 use Rattle.mc_trailer.specs.declared.trailer.Magic.{Magic}
 use Rattle.mc_trailer.specs.declared.trailer.Magic.TheVariants as magics
 use Rattle.mc_trailer.specs.declared.trailer.Flag.{Flag}
 use Rattle.mc_trailer.specs.declared.trailer.Flag.TheVariants as flags
+use Rattle.mc_trailer.specs.declared.trailer.Trailer.{Trailer}
 use Rattle.mc_trailer.specs.declared.tables.Profile.{Profile}
 use Rattle.mc_trailer.specs.declared.tables.Profile.TheVariants as profiles
 use Rattle.mc_trailer.specs.declared.tables.SwapType.{SwapType}
@@ -30,3 +32,13 @@ type_text types.Panic = codes "panic"
 abbrev pub profile_text : Profile → List ℕ
 profile_text profiles.One = codes "1"
 profile_text profiles.Two = codes "2"
+
+-- The five fields of a trailer: the magic and the flags, then the type and the size of a swap. The type is a byte in two digits.
+abbrev pub flags_text : Trailer → List ℕ
+flags_text t = codes "magic=" ++ (magic_text t.magic ++ (codes " image-ok=" ++ (flag_text t.image_ok ++ (codes " copy-done=" ++ (flag_text t.copy_done ++ codes " ")))))
+
+abbrev pub swap_text : Trailer → List ℕ
+swap_text t = codes "swap-info=0x" ++ (encode_lower (t.swap_info ∷ []) ++ (codes " swap-size=" ++ decimal t.swap_size))
+
+abbrev pub trailer_text : Trailer → List ℕ
+trailer_text t = flags_text t ++ swap_text t

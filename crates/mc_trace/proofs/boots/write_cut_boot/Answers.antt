@@ -9,15 +9,15 @@ pub returns-in_err-write_line-clause-front : goal.returns-in_err-write_line-clau
 returns-in_err-write_line-clause-front g c =
     let f = g.F.Flash.seen c.args.flash.now in
     let failed = err_from_is_err_and c.from_residual.result c.from_residual.ensures.1 in
-    rw failed.1 (head_begun (powered c.args.rules f) (progress c.cold-machine.result) c.cold-machine.ensures.cold.boot c.args.boot c.kind-kind.result c.kind-kind.ensures _ _ _
-    c.in_err-write_line.ensures.front)
+    rw failed.1 (head_begun (powered c.args.rules f) (progress c.cold-machine.result) c.cold-machine.ensures.cold.boot c.args.boot c.kind.result c.kind.ensures _ _ _
+    (rw c.head_line.ensures at c.in_err-write_line.ensures.front))
 
 pub returns-in_err-write_operations-clause-front : goal.returns-in_err-write_operations-clause-front
 returns-in_err-write_operations-clause-front g c =
     let f = g.F.Flash.seen c.args.flash.now in
     let failed = err_from_is_err_and c.from_residual-in_err-write_operations.result c.from_residual-in_err-write_operations.ensures.1 in
-    rw failed.1 (cut_begun (powered c.args.rules f) (progress c.cold-machine.result) c.cold-machine.ensures.cold.boot c.args.boot c.kind-kind.result c.kind-kind.ensures _ _
-    c.in_ok-write_line.ensures.whole _ c.args.cut c.in_err-write_operations.ensures.told)
+    rw failed.1 (cut_begun (powered c.args.rules f) (progress c.cold-machine.result) c.cold-machine.ensures.cold.boot c.args.boot c.kind.result c.kind.ensures _ _
+    (rw c.head_line.ensures at c.in_ok-write_line.ensures.whole) _ c.args.cut c.in_err-write_operations.ensures.told)
 
 pub returns-in_err-write_line-2-clause-front : goal.returns-in_err-write_line-2-clause-front
 returns-in_err-write_line-2-clause-front g c =
@@ -26,9 +26,9 @@ returns-in_err-write_line-2-clause-front g c =
     let next = next_there (powered c.args.rules f) (progress c.write_operations.new.boot) (g.F.Flash.seen c.write_operations.new.flash).content c.args.cut
     (e.goes.goes.come c.args.rules f.content c.cold-machine.ensures.come) e.goes.below e.end c.requires in
     let failed = err_from_is_err_and c.from_residual-in_err-write_line-2.result c.from_residual-in_err-write_line-2.ensures.1 in
-    rw failed.1 (cut_line_begun (powered c.args.rules f) (progress c.cold-machine.result) c.cold-machine.ensures.cold.boot c.args.boot c.kind-kind.result c.kind-kind.ensures _ _
-    c.in_ok-write_line.ensures.whole _ c.args.cut e.told c.in-Some.op (sym next ∙ sym c.peek.ensures.first ∙ c.in-Some.is) _ c.layout.result.now c.layout.ensures
-    c.in_err-write_line-2.ensures.front)
+    rw failed.1 (cut_line_begun (powered c.args.rules f) (progress c.cold-machine.result) c.cold-machine.ensures.cold.boot c.args.boot c.kind.result c.kind.ensures _ _
+    (rw c.head_line.ensures at c.in_ok-write_line.ensures.whole) _ c.args.cut e.told c.in-Some.op (sym next ∙ sym c.peek.ensures.first ∙ c.in-Some.is) _ c.layout.result.now c.layout.ensures
+    (rw c.cut_line.ensures at c.in_err-write_line-2.ensures.front))
 
 pub returns-in_ok-write_line-2-clause-whole : goal.returns-in_ok-write_line-2-clause-whole
 returns-in_ok-write_line-2-clause-whole g c =
@@ -36,8 +36,8 @@ returns-in_ok-write_line-2-clause-whole g c =
     let e = c.in_ok-write_operations.ensures in
     let next = next_there (powered c.args.rules f) (progress c.write_operations.new.boot) (g.F.Flash.seen c.write_operations.new.flash).content c.args.cut
     (e.goes.goes.come c.args.rules f.content c.cold-machine.ensures.come) e.goes.below e.end c.requires in
-    cut_out (powered c.args.rules f) (progress c.cold-machine.result) c.cold-machine.ensures.cold.boot c.args.boot c.kind-kind.result c.kind-kind.ensures _ _
-    c.in_ok-write_line.ensures.whole _ c.args.cut e.told c.in-Some.op (sym next ∙ sym c.peek.ensures.first ∙ c.in-Some.is) _ c.layout.result.now c.layout.ensures c.in_ok-write_line-2.ensures.whole
+    cut_out (powered c.args.rules f) (progress c.cold-machine.result) c.cold-machine.ensures.cold.boot c.args.boot c.kind.result c.kind.ensures _ _
+    (rw c.head_line.ensures at c.in_ok-write_line.ensures.whole) _ c.args.cut e.told c.in-Some.op (sym next ∙ sym c.peek.ensures.first ∙ c.in-Some.is) _ c.layout.result.now c.layout.ensures (rw c.cut_line.ensures at c.in_ok-write_line-2.ensures.whole)
 
 pub returns-in_ok-write_line-2-clause-left : goal.returns-in_ok-write_line-2-clause-left
 returns-in_ok-write_line-2-clause-left g c =
@@ -52,8 +52,8 @@ returns-in_default-clause-whole g c =
     let e = c.in_ok-write_operations.ensures in
     let next = next_there (powered c.args.rules f) (progress c.write_operations.new.boot) (g.F.Flash.seen c.write_operations.new.flash).content c.args.cut
     (e.goes.goes.come c.args.rules f.content c.cold-machine.ensures.come) e.goes.below e.end c.requires in
-    cut_out_none (powered c.args.rules f) (progress c.cold-machine.result) c.cold-machine.ensures.cold.boot c.args.boot c.kind-kind.result c.kind-kind.ensures _ _
-    c.in_ok-write_line.ensures.whole _ c.args.cut e.told (sym next ∙ sym c.peek.ensures.first ∙ c.in_default.is)
+    cut_out_none (powered c.args.rules f) (progress c.cold-machine.result) c.cold-machine.ensures.cold.boot c.args.boot c.kind.result c.kind.ensures _ _
+    (rw c.head_line.ensures at c.in_ok-write_line.ensures.whole) _ c.args.cut e.told (sym next ∙ sym c.peek.ensures.first ∙ c.in_default.is)
 
 pub returns-in_default-clause-left : goal.returns-in_default-clause-left
 returns-in_default-clause-left g c =

@@ -10,17 +10,17 @@ pub returns-in_err-write_line-clause-front : goal.returns-in_err-write_line-clau
 returns-in_err-write_line-clause-front g c =
     let f = g.F.Flash.seen c.args.flash.now in
     let failed = err_from_is_err_and c.from_residual.result c.from_residual.ensures.1 in
-    rw failed.1 (head_begun (powered c.args.rules f) (progress c.cold-machine.result) c.cold-machine.ensures.cold.boot c.args.boot c.kind-kind.result c.kind-kind.ensures _ _ _
-    c.in_err-write_line.ensures.front)
+    rw failed.1 (head_begun (powered c.args.rules f) (progress c.cold-machine.result) c.cold-machine.ensures.cold.boot c.args.boot c.kind.result c.kind.ensures _ _ _
+    (rw c.head_line.ensures at c.in_err-write_line.ensures.front))
 
 pub returns-clause-whole : goal.returns-clause-whole
 returns-clause-whole g c =
     let f = g.F.Flash.seen c.args.flash.now in
-    on_ok c.write_operations.result _ _ (last_out (powered c.args.rules f) (progress c.cold-machine.result) c.cold-machine.ensures.cold.boot c.args.boot c.kind-kind.result c.kind-kind.ensures
-    _ _ c.in_ok-write_line.ensures.whole _) (tells_ok c.write_operations.result _ _ _ c.write_operations.ensures.told)
+    on_ok c.write_operations.result _ _ (last_out (powered c.args.rules f) (progress c.cold-machine.result) c.cold-machine.ensures.cold.boot c.args.boot c.kind.result c.kind.ensures
+    _ _ (rw c.head_line.ensures at c.in_ok-write_line.ensures.whole) _) (tells_ok c.write_operations.result _ _ _ c.write_operations.ensures.told)
 
 pub returns-clause-front : goal.returns-clause-front
 returns-clause-front g c =
     let f = g.F.Flash.seen c.args.flash.now in
-    on_err c.write_operations.result _ _ (last_begun (powered c.args.rules f) (progress c.cold-machine.result) c.cold-machine.ensures.cold.boot c.args.boot c.kind-kind.result
-    c.kind-kind.ensures _ _ c.in_ok-write_line.ensures.whole _) (tells_err c.write_operations.result _ _ _ c.write_operations.ensures.told)
+    on_err c.write_operations.result _ _ (last_begun (powered c.args.rules f) (progress c.cold-machine.result) c.cold-machine.ensures.cold.boot c.args.boot c.kind.result
+    c.kind.ensures _ _ (rw c.head_line.ensures at c.in_ok-write_line.ensures.whole) _) (tells_err c.write_operations.result _ _ _ c.write_operations.ensures.told)
