@@ -9,11 +9,14 @@ use Rattle.mc_flash.specs.declared.flash.FlashError.{FlashError}
 use Rattle.mc_flash.specs.declared.flash.FlashError.TheVariants as errors
 use Rattle.mc_flash.specs.declared.op.Op.{Op}
 use Rattle.mc_boot.specs.Boot.{Progress, StepsAlong, Steps, progress}
+use Rattle.mc_boot.specs.Bounds.{CountsOn, left_of}
 use Rattle.mc_boot.specs.Goes.{GoesOn, goes_further}
 use Rattle.mc_boot.specs.declared.boot.Boot.{Boot}
 use Rattle.mc_output.specs.facts.Fronts.{IsOut, out_front, out_more}
 use Rattle.mc_output.specs.Fronts.{AppendsFront}
-use Rattle.mc_trace.specs.Boots.{GoesUpTo, Tells}
+use Rattle.mc_trace.specs.Boots.{CountsUpTo, GoesUpTo, Tells}
+use Rattle.mc_trace.specs.declared.error.TraceError.{TraceError}
+use Rattle.mc_trace.specs.declared.error.TraceError.TheVariants as traces
 use Rattle.mc_trace.specs.Operations.{numbered_text}
 use Rattle.mc_trace.specs.Trace.{told, told_first, up_to}
 
@@ -153,3 +156,12 @@ tells_ok (Err _) before after text t = tt
 pub tells_err : {A E : Type 0} (r : Result A E) (before after : Option (List ℕ)) (text : List ℕ) → Tells r before after text → OnErr r (AppendsFront before after text)
 tells_err (Ok _) before after text t = tt
 tells_err (Err _) before after text t = t
+
+-- What a write that failed leaves counted.
+pub counted_up_to : (o q : Progress) (old new : Seen) (result : Result (Unit {0}) TraceError) (e : TraceError) → result ≡ Err e → e ≡ traces.Write → CountsOn o q old new
+    → new.usage.limits ≡ old.usage.limits → CountsUpTo (left_of old.geometry o) old result new
+counted_up_to o q old new result e is write counts limits = record {
+  counts = record { entries = omega (arith, counts.entries); saved = omega (arith, counts.saved) };
+  limits = limits;
+  cause = λ wanted. absurd (let w = rw is at wanted in cc);
+}

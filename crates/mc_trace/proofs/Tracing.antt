@@ -1,10 +1,17 @@
 -- Boots that are told one after another.
-use Rattle.std.specs.Prelude.{◌≡◌, ℕ, suc, ◌+◌, ◌<◌, ◌≤◌, ◌⊎◌, nat_lt, Bool, true, false, if◌then◌else◌, List, [], ◌∷◌, ◌++◌, length, drop, Option, Some, None, option_and_then, refl}
+use Rattle.std.specs.Prelude.{◌≡◌, ℕ, suc, ◌+◌, ◌*◌, ◌<◌, ◌≤◌, ◌⊎◌, nat_lt, Bool, true, false, if◌then◌else◌, List, [], ◌∷◌, ◌++◌, length, drop, Option, Some, None, option_and_then, refl}
 use Rattle.std.specs.Io.KnownBytes.{Appends}
 use Rattle.std.proofs.Common.{arith, inl, inr, sym, ap, subst, get_or, drop-cons, drop_of_length-le, append-nil, ◌∙◌}
+use Rattle.std.proofs.Math.Nat.{mul-le-mul_right}
 use Rattle.std.proofs.lemmas.Bool.Decides.{nat_tests}
 use Rattle.mc_flash.specs.Content.{Content}
+use Rattle.mc_flash.specs.Geometry.{Geometry}
 use Rattle.mc_flash.specs.Seen.{Seen}
+use Rattle.mc_flash.specs.Spends.{LeaveRoom, plus, room_of, times}
+use Rattle.mc_flash.specs.Usage.{Counts, IsWithin, Limits, limits_for, most_operations, most_saved, no_counts}
+use Rattle.mc_trailer.specs.declared.tables.Rules.{Rules}
+use Rattle.mc_start.specs.facts.Room.{limits_are}
+use Rattle.mc_explore.specs.Once.{most_of}
 use Rattle.mc_output.specs.facts.Fronts.{IsOut, out_all, out_begun, out_front, out_more}
 use Rattle.mc_output.specs.Fronts.{AppendsFront}
 use Rattle.mc_boot.specs.Outcome.{Report, outcome_of}
@@ -125,3 +132,28 @@ pub no_refusal : {W : Type 0} (start : PowerOn) (cuts : List ℕ) (old new : W) 
 no_refusal start cuts old new (errors.CannotOccur place) is = elim is [ inl m ↦ absurd cc | inr w ↦ absurd cc ]
 no_refusal start cuts old new errors.Memory is = tt
 no_refusal start cuts old new errors.Write is = tt
+
+-- ---- the room of the flash
+
+-- After so many boots there is room for one more, among those for which the flash was loaded.
+module _ (r rules : Rules) (g place : Geometry) (same_rules : rules ≡ r) (same_place : place ≡ g) (n : ℕ) (old : Counts) (counts : LeaveRoom old no_counts (times n (most_of r g))) where
+  most_here : most_of rules place ≡ most_of r g
+  most_here = ap (λ (x : Rules). most_of x place) same_rules ∙ ap (most_of r) same_place
+
+  pub one_counted : (new : Counts) → LeaveRoom new no_counts (plus old (most_of rules place)) → LeaveRoom new no_counts (times (n + 1) (most_of r g))
+  one_counted new more =
+      let here : LeaveRoom new no_counts (plus old (most_of r g)) = subst (λ (c : Counts). LeaveRoom new no_counts (plus old c)) most_here more in
+      record { entries = omega (arith, counts.entries, here.entries); saved = omega (arith, counts.saved, here.saved) }
+
+  pub room_left : (boots : ℕ) (limits : Limits) → n + 1 ≤ boots → IsWithin (limits_for r.grain g boots) limits → LeaveRoom old (most_of rules place) (room_of limits)
+  room_left boots limits few within =
+      let l = limits_are r.grain g boots limits within in
+      let entries : n * most_operations r.grain g + most_operations r.grain g ≤ boots * most_operations r.grain g = rw (← more (most_operations r.grain g)) (mul-le-mul_right (most_operations r.grain g) few) in
+      let saved : n * most_saved g + most_saved g ≤ boots * most_saved g = rw (← more (most_saved g)) (mul-le-mul_right (most_saved g) few) in
+      subst (λ (c : Counts). LeaveRoom old c (room_of limits)) (sym most_here) (record {
+        entries = omega (arith, counts.entries, entries, l.for_entries);
+        saved = omega (arith, counts.saved, saved, l.for_saved);
+      })
+    where
+      more : (m : ℕ) → (n + 1) * m ≡ n * m + m
+      more m = omega arith

@@ -2,11 +2,14 @@
 ghost use Rattle.std.specs.Prelude.{◌≡◌, ◌+◌, ◌<◌, ◌≤◌, ◌++◌, ◌⊎◌, [], length, IfErr, IfSome, OnOk, OnErr, Some};
 ghost use Rattle.std.specs.Io.KnownBytes.{Appends};
 ghost use Rattle.mc_output.specs.Fronts.{AppendsFront};
+ghost use Rattle.mc_flash.specs.Spends.{Allows};
+ghost use Rattle.mc_boot.specs.Bounds.{left_of};
+ghost use Rattle.mc_explore.specs.Once.{most_of};
 ghost use Rattle.mc_boot.specs.Boot.{progress, to_come, IsBootOf};
 ghost use Rattle.mc_boot.specs.PowerOn.{powered};
 ghost use Rattle.mc_boot.specs.Runs.{ops_of};
 ghost use Rattle.mc_explore.specs.Boots.{at_cut};
-ghost use Rattle.mc_trace.specs.Boots.{Tells, GoesUpTo};
+ghost use Rattle.mc_trace.specs.Boots.{CountsUpTo, GoesUpTo, Tells};
 ghost use Rattle.mc_trace.specs.Operations.{numbered_text};
 ghost use Rattle.mc_trace.specs.Trace.{told, up_to, head_line, cut_line, cut_text, last_text};
 
@@ -62,6 +65,7 @@ fn write_operations<F: Flash, W: Write>(
 ) -> Result<(), TraceError>
     requires layout { IsBootOf (F.seen flash.old).geometry boot.old }
     requires before { IfSome until (λ n. (progress boot.old).count ≤ n) }
+    requires room { let f = F.seen flash.old in Allows (left_of f.geometry (progress boot.old)) f }
     ensures told { let p = progress boot.old in Tells result
         (W.contents writer.old) (W.contents writer.new)
         (told (F.seen flash.old).geometry p.count (up_to until p.count p.to_come)
@@ -69,6 +73,8 @@ fn write_operations<F: Flash, W: Write>(
     ensures goes { GoesUpTo until boot.old (F.seen flash.old) boot.new (F.seen flash.new) }
     ensures end { OnOk result ((to_come boot.new ≡ [])
         ⊎ IfSome until (λ n. (progress boot.new).count ≡ n)) }
+    ensures counts { let f = F.seen flash.old in
+        CountsUpTo (left_of f.geometry (progress boot.old)) f result (F.seen flash.new) }
     ensures err { IfErr result (λ e. (e ≡ TraceError.Memory) ⊎ (e ≡ TraceError.Write)) }
 {
     let layout = *flash.layout();
@@ -94,7 +100,7 @@ fn write_operations<F: Flash, W: Write>(
 ///
 /// # Errors
 ///
-/// `Memory` where the flash was refused memory; `Write`.
+/// `Memory` where the flash was refused memory, which one that counts never is; `Write`.
 pub fn write_cut_boot<F: Flash, W: Write>(
     flash: &mut F,
     rules: Rules,
@@ -102,7 +108,8 @@ pub fn write_cut_boot<F: Flash, W: Write>(
     cut: u32,
     writer: &mut W,
 ) -> Result<(), TraceError>
-    requires { cut < length (ops_of (powered rules (F.seen flash.old))) }
+    requires inside { cut < length (ops_of (powered rules (F.seen flash.old))) }
+    requires room { let f = F.seen flash.old in Allows (most_of rules f.geometry) f }
     ensures whole { let f = F.seen flash.old in OnOk result
         (Appends (W.contents writer.old) (W.contents writer.new)
         (cut_text rules f.geometry boot f.content cut)) }
@@ -112,6 +119,8 @@ pub fn write_cut_boot<F: Flash, W: Write>(
     ensures left { let x = powered rules (F.seen flash.old) in OnOk result
         ((F.seen flash.new).content ≡ at_cut x cut) }
     ensures layout { (F.seen flash.new).geometry ≡ (F.seen flash.old).geometry }
+    ensures counts { let f = F.seen flash.old in
+        CountsUpTo (most_of rules f.geometry) f result (F.seen flash.new) }
     ensures err { IfErr result (λ e. (e ≡ TraceError.Memory) ⊎ (e ≡ TraceError.Write)) }
 {
     let layout = *flash.layout();
@@ -133,19 +142,22 @@ pub fn write_cut_boot<F: Flash, W: Write>(
 ///
 /// # Errors
 ///
-/// `Memory` where the flash was refused memory; `Write`.
+/// `Memory` where the flash was refused memory, which one that counts never is; `Write`.
 pub fn write_last_boot<F: Flash, W: Write>(
     flash: &mut F,
     rules: Rules,
     boot: u32,
     writer: &mut W,
 ) -> Result<(), TraceError>
+    requires { let f = F.seen flash.old in Allows (most_of rules f.geometry) f }
     ensures whole { let f = F.seen flash.old in OnOk result
         (Appends (W.contents writer.old) (W.contents writer.new)
         (last_text rules f.geometry boot f.content)) }
     ensures front { let f = F.seen flash.old in OnErr result
         (AppendsFront (W.contents writer.old) (W.contents writer.new)
         (last_text rules f.geometry boot f.content)) }
+    ensures counts { let f = F.seen flash.old in
+        CountsUpTo (most_of rules f.geometry) f result (F.seen flash.new) }
     ensures err { IfErr result (λ e. (e ≡ TraceError.Memory) ⊎ (e ≡ TraceError.Write)) }
 {
     let mut machine = Boot::cold(flash, rules);

@@ -1,5 +1,5 @@
 //! A schedule of power cuts, told boot by boot.
-ghost use Rattle.std.specs.Prelude.{◌≡◌, IfErr, OnOk, OnErr};
+ghost use Rattle.std.specs.Prelude.{◌≡◌, true, IfErr, IsErrOf, OnOk, OnErr};
 ghost use Rattle.std.specs.Io.KnownBytes.{Appends};
 ghost use Rattle.mc_output.specs.Fronts.{AppendsFront};
 ghost use Rattle.mc_explore.specs.Schedules.{CanOccur};
@@ -36,6 +36,8 @@ pub fn write_trace<F: Flash + Drop, W: Write>(
     ensures refused { IfErr result (RefusesTrace (begun start.now) schedule.now writer.old
         writer.new) }
     ensures occurs { OnOk result (CanOccur (begun start.now) schedule.now) }
+    // A flash that counts is loaded with enough room before anything is written.
+    ensures cause { F.counted ≡ true → IsErrOf result TraceError.Memory → writer.new ≡ writer.old }
 {
     // Nothing is written of a schedule that can't occur.
     let (outcome, _) = replay::<F>(alloc, start, schedule)?;

@@ -24,7 +24,7 @@ returns-in_err-write_line-2-clause-front g c =
     let f = g.F.Flash.seen c.args.flash.now in
     let e = c.in_ok-write_operations.ensures in
     let next = next_there (powered c.args.rules f) (progress c.write_operations.new.boot) (g.F.Flash.seen c.write_operations.new.flash).content c.args.cut
-    (e.goes.goes.come c.args.rules f.content c.cold-machine.ensures.come) e.goes.below e.end c.requires in
+    (e.goes.goes.come c.args.rules f.content c.cold-machine.ensures.come) e.goes.below e.end c.requires.inside in
     let failed = err_from_is_err_and c.from_residual-in_err-write_line-2.result c.from_residual-in_err-write_line-2.ensures.1 in
     rw failed.1 (cut_line_begun (powered c.args.rules f) (progress c.cold-machine.result) c.cold-machine.ensures.cold.boot c.args.boot c.kind.result c.kind.ensures _ _
     (rw c.head_line.ensures at c.in_ok-write_line.ensures.whole) _ c.args.cut e.told
@@ -36,7 +36,7 @@ returns-in_ok-write_line-2-clause-whole g c =
     let f = g.F.Flash.seen c.args.flash.now in
     let e = c.in_ok-write_operations.ensures in
     let next = next_there (powered c.args.rules f) (progress c.write_operations.new.boot) (g.F.Flash.seen c.write_operations.new.flash).content c.args.cut
-    (e.goes.goes.come c.args.rules f.content c.cold-machine.ensures.come) e.goes.below e.end c.requires in
+    (e.goes.goes.come c.args.rules f.content c.cold-machine.ensures.come) e.goes.below e.end c.requires.inside in
     cut_out (powered c.args.rules f) (progress c.cold-machine.result) c.cold-machine.ensures.cold.boot c.args.boot c.kind.result c.kind.ensures _ _
     (rw c.head_line.ensures at c.in_ok-write_line.ensures.whole) _ c.args.cut e.told
     c.in-Some.op (sym next ∙ sym c.peek.ensures.first ∙ c.in-Some.is) _ c.layout.result.now c.layout.ensures (rw c.cut_line.ensures at c.in_ok-write_line-2.ensures.whole)
@@ -46,14 +46,14 @@ returns-in_ok-write_line-2-clause-left g c =
     let f = g.F.Flash.seen c.args.flash.now in
     let e = c.in_ok-write_operations.ensures in
     left_there (powered c.args.rules f) (progress c.write_operations.new.boot) (g.F.Flash.seen c.write_operations.new.flash).content c.args.cut
-    (e.goes.goes.come c.args.rules f.content c.cold-machine.ensures.come) e.goes.below e.end c.requires
+    (e.goes.goes.come c.args.rules f.content c.cold-machine.ensures.come) e.goes.below e.end c.requires.inside
 
 pub returns-in_default-clause-whole : goal.returns-in_default-clause-whole
 returns-in_default-clause-whole g c =
     let f = g.F.Flash.seen c.args.flash.now in
     let e = c.in_ok-write_operations.ensures in
     let next = next_there (powered c.args.rules f) (progress c.write_operations.new.boot) (g.F.Flash.seen c.write_operations.new.flash).content c.args.cut
-    (e.goes.goes.come c.args.rules f.content c.cold-machine.ensures.come) e.goes.below e.end c.requires in
+    (e.goes.goes.come c.args.rules f.content c.cold-machine.ensures.come) e.goes.below e.end c.requires.inside in
     cut_out_none (powered c.args.rules f) (progress c.cold-machine.result) c.cold-machine.ensures.cold.boot c.args.boot c.kind.result c.kind.ensures _ _
     (rw c.head_line.ensures at c.in_ok-write_line.ensures.whole) _ c.args.cut e.told (sym next ∙ sym c.peek.ensures.first ∙ c.in_default.is)
 
@@ -62,4 +62,4 @@ returns-in_default-clause-left g c =
     let f = g.F.Flash.seen c.args.flash.now in
     let e = c.in_ok-write_operations.ensures in
     left_there (powered c.args.rules f) (progress c.write_operations.new.boot) (g.F.Flash.seen c.write_operations.new.flash).content c.args.cut
-    (e.goes.goes.come c.args.rules f.content c.cold-machine.ensures.come) e.goes.below e.end c.requires
+    (e.goes.goes.come c.args.rules f.content c.cold-machine.ensures.come) e.goes.below e.end c.requires.inside

@@ -3,7 +3,8 @@ use Rattle.std.proofs.Common.{rules, ◌<◌, sym, ap, ◌∙◌, inl, IfSome}
 use Rattle.std.proofs.lemmas.Result.{err_from_is_err_and}
 use Rattle.mc_output.specs.facts.Fronts.{out_all, out_stops}
 use Rattle.mc_boot.specs.Boot.{progress, to_come}
-use Rattle.mc_trace.proofs.Telling.{none_to_come, happened, refused, over, line_out, line_begun, refusal_out, refusal_begun, one_more, none_more, goes_up_to}
+use Rattle.mc_boot.specs.facts.Steps.{counts_on_both, step_counts, step_ran_out, step_spends}
+use Rattle.mc_trace.proofs.Telling.{counted_up_to, none_to_come, happened, refused, over, line_out, line_begun, refusal_out, refusal_begun, one_more, none_more, goes_up_to}
 use Rattle.mc_trace.proofs.boots.write_operations.Given.{Over}
 use Rattle.mc_trace.proofs.boots.write_operations.Goals as goal
 use Rattle.mc_trace.proofs.boots.write_operations.Goals.{In-Some}
@@ -36,6 +37,8 @@ operations-preserved-in-Continue-1 g c =
       out = line_out _ _ (g.W.Write.contents c.write_line.new.writer) _ _ _ _ _ _ _ _ i.place c.count.ensures i.out lines (rw c.told_line.ensures at c.in_ok-write_line-in-Ok.ensures.whole);
       goes = goes_up_to c.args.until c.args.boot.now old c.operations.boot now c.step.new.self new i.goes (record { come = e.come; layout = e.layout; whole = e.whole; keeps = e.keeps })
           (one_more p q now new c.args.until c.step.result c.in-Ok.is e.step going);
+      counts = counts_on_both (progress c.args.boot.now) p q old now new i.goes.goes.keeps.geometry i.counts (step_counts p q now new c.step.result e.step);
+      limits = (step_spends p q now new c.step.result (λ memory. absurd cc) e.step).limits ∙ i.limits;
       place = i.place ∙ sym e.keeps.geometry;
     }
 
@@ -68,6 +71,8 @@ operations-preserved g c =
           (rw c.told_line-in-Err-NotErased.ensures at c.in_ok-write_line-in-Err-NotErased.ensures.whole);
       goes = goes_up_to c.args.until c.args.boot.now old c.operations.boot now c.step.new.self new i.goes (record { come = e.come; layout = e.layout; whole = e.whole; keeps = e.keeps })
           (none_more p q now new c.args.until c.step.result not e.step going);
+      counts = counts_on_both (progress c.args.boot.now) p q old now new i.goes.goes.keeps.geometry i.counts (step_counts p q now new c.step.result e.step);
+      limits = (step_spends p q now new c.step.result (λ memory. absurd cc) e.step).limits ∙ i.limits;
       place = i.place ∙ sym e.keeps.geometry;
     }
 
@@ -87,3 +92,29 @@ returns-in_err-write_line-in-Err-NotErased-clause-told g c =
 
 pub returns-in-Err-Memory-clause-told : goal.returns-in-Err-Memory-clause-told
 returns-in-Err-Memory-clause-told g c = out_stops _ _ _ _ c.operations.invariant.out
+
+pub returns-in_err-write_line-in-Ok-clause-counts : goal.returns-in_err-write_line-in-Ok-clause-counts
+returns-in_err-write_line-in-Ok-clause-counts g c =
+    let i = c.operations.invariant in
+    let now = g.F.Flash.seen c.operations.flash in
+    let new = g.F.Flash.seen c.step.new.flash in
+    let p = progress c.operations.boot in
+    let q = progress c.step.new.self in
+    let e = c.step.ensures.step in
+    let failed = err_from_is_err_and c.from_residual.result c.from_residual.ensures.1 in
+    counted_up_to (progress c.args.boot.now) q (g.F.Flash.seen c.args.flash.now) new _ failed.0 failed.1 failed.2
+    (counts_on_both (progress c.args.boot.now) p q (g.F.Flash.seen c.args.flash.now) now new i.goes.goes.keeps.geometry i.counts (step_counts p q now new c.step.result e))
+    ((step_spends p q now new c.step.result (λ memory. absurd cc) e).limits ∙ i.limits)
+
+pub returns-in_err-write_line-in-Err-NotErased-clause-counts : goal.returns-in_err-write_line-in-Err-NotErased-clause-counts
+returns-in_err-write_line-in-Err-NotErased-clause-counts g c =
+    let i = c.operations.invariant in
+    let now = g.F.Flash.seen c.operations.flash in
+    let new = g.F.Flash.seen c.step.new.flash in
+    let p = progress c.operations.boot in
+    let q = progress c.step.new.self in
+    let e = c.step.ensures.step in
+    let failed = err_from_is_err_and c.from_residual-in_err-write_line-in-Err-NotErased.result c.from_residual-in_err-write_line-in-Err-NotErased.ensures.1 in
+    counted_up_to (progress c.args.boot.now) q (g.F.Flash.seen c.args.flash.now) new _ failed.0 failed.1 failed.2
+    (counts_on_both (progress c.args.boot.now) p q (g.F.Flash.seen c.args.flash.now) now new i.goes.goes.keeps.geometry i.counts (step_counts p q now new c.step.result e))
+    ((step_spends p q now new c.step.result (λ memory. absurd cc) e).limits ∙ i.limits)

@@ -1,4 +1,5 @@
-use Rattle.std.proofs.Common.{rules, ◌≡◌, List, ℕ, Some, sym, subst, ◌∙◌}
+use Rattle.std.proofs.Common.{rules, ◌≡◌, ◌+◌, length, List, ℕ, Some, refl, sym, ap, subst, ◌∙◌, arith}
+use Rattle.mc_flash.specs.Usage.{Counts, IsWithin, Limits, Usage, limits_for, no_counts}
 use Rattle.std.proofs.lemmas.Result.{err_from_is_err_and}
 use Rattle.mc_boot.specs.Outcome.{shown}
 use Rattle.mc_boot.specs.Runs.{after}
@@ -6,13 +7,20 @@ use Rattle.mc_start.specs.Start.{begun}
 use Rattle.std.specs.Io.KnownBytes.{Appends}
 use Rattle.mc_output.specs.Fronts.{AppendsFront}
 use Rattle.mc_trace.specs.Trace.{trace_text}
-use Rattle.mc_trace.proofs.Tracing.{none_told, one_begun, one_told, last_begun, outcome_begun, outcome_told, no_refusal}
+use Rattle.mc_trace.proofs.Tracing.{none_told, one_begun, one_told, one_counted, room_left, last_begun, outcome_begun, outcome_told, no_refusal}
+use Rattle.mc_trace.proofs.trace.write_trace.Given.{Over}
 use Rattle.mc_trace.proofs.trace.write_trace.Goals as goal
+use Rattle.mc_trace.proofs.trace.write_trace.Goals.{In_ok-flash}
 
 pub boots-init : goal.boots-init
 boots-init g c =
     let l = c.in_ok-flash.ensures.loads in
-    none_told (begun c.args.start.now) c.cuts-cuts.result.now _ (g.F.Flash.seen c.in_ok-flash.flash) (search rules) (l.geometry_is ∙ c.layout.ensures.value)
+    let counts : (g.F.Flash.seen c.in_ok-flash.flash).usage.counts ≡ no_counts = ap (λ (x : Usage). x.counts) l.usage_is in
+    record {
+      told = none_told (begun c.args.start.now) c.cuts-cuts.result.now _ (g.F.Flash.seen c.in_ok-flash.flash) (search rules) (l.geometry_is ∙ c.layout.ensures.value);
+      counts = record { entries = omega (arith, ap (λ (x : Counts). x.entries) counts); saved = omega (arith, ap (λ (x : Counts). x.saved) counts) };
+      limits = refl;
+    }
 
 pub returns-in_err-write_cut_boot-clause-front : goal.returns-in_err-write_cut_boot-clause-front
 returns-in_err-write_cut_boot-clause-front g c =
@@ -23,7 +31,7 @@ returns-in_err-write_cut_boot-clause-front g c =
     let failed = err_from_is_err_and c.from_residual-in_err-write_cut_boot.result c.from_residual-in_err-write_cut_boot.ensures.1 in
     let P : List ℕ → Type 0 = λ l. AppendsFront (g.W.Write.contents c.args.writer.now) (g.W.Write.contents c.write_cut_boot.new.writer) (trace_text start l) in
     rw failed.1 (subst P same (one_begun start c.cuts-cuts.result.now (g.W.Write.contents c.args.writer.now) (g.W.Write.contents c.boots.writer) (g.W.Write.contents c.write_cut_boot.new.writer)
-    c.boots.cut-index c.boots.boot (g.F.Flash.seen c.boots.flash) c.boots.invariant c.boots-test.true r.cut occurs (rw c.rules-rules.ensures at c.in_err-write_cut_boot.ensures.front)))
+    c.boots.cut-index c.boots.boot (g.F.Flash.seen c.boots.flash) c.boots.invariant.told c.boots-test.true r.cut occurs (rw c.rules-rules.ensures at c.in_err-write_cut_boot.ensures.front)))
 
 pub returns-in_err-write_cut_boot-clause-refused : goal.returns-in_err-write_cut_boot-clause-refused
 returns-in_err-write_cut_boot-clause-refused g c =
@@ -37,9 +45,14 @@ boots-preserved g c =
     let same = c.cuts-cuts.ensures.value in
     let occurs = subst (λ (l : List ℕ). after start l ≡ Some r.cut) (sym same) r.occurs in
     let e = c.in_ok-write_cut_boot.ensures in
-    one_told start c.cuts-cuts.result.now (g.W.Write.contents c.args.writer.now) (g.W.Write.contents c.boots.writer) (g.W.Write.contents c.write_cut_boot.new.writer) c.boots.cut-index c.boots.boot
-    (g.F.Flash.seen c.boots.flash) c.boots.invariant c.boots-test.true r.cut occurs (g.F.Flash.seen c.write_cut_boot.new.flash) (rw c.rules-rules.ensures at e.whole)
-    (rw c.rules-rules.ensures at e.left) e.layout
+    let i = c.boots.invariant in
+    record {
+      told = one_told start c.cuts-cuts.result.now (g.W.Write.contents c.args.writer.now) (g.W.Write.contents c.boots.writer) (g.W.Write.contents c.write_cut_boot.new.writer) c.boots.cut-index
+          c.boots.boot (g.F.Flash.seen c.boots.flash) i.told c.boots-test.true r.cut occurs (g.F.Flash.seen c.write_cut_boot.new.flash) (rw c.rules-rules.ensures at e.whole)
+          (rw c.rules-rules.ensures at e.left) e.layout;
+      counts = one_counted start.rules _ start.geometry _ c.rules-rules.ensures i.told.layout c.boots.cut-index _ i.counts (g.F.Flash.seen c.write_cut_boot.new.flash).usage.counts e.counts.counts;
+      limits = e.counts.limits ∙ i.limits;
+    }
 
 pub returns-in_err-write_last_boot-clause-front : goal.returns-in_err-write_last_boot-clause-front
 returns-in_err-write_last_boot-clause-front g c =
@@ -50,7 +63,7 @@ returns-in_err-write_last_boot-clause-front g c =
     let failed = err_from_is_err_and c.from_residual-in_err-write_last_boot.result c.from_residual-in_err-write_last_boot.ensures.1 in
     let P : List ℕ → Type 0 = λ l. AppendsFront (g.W.Write.contents c.args.writer.now) (g.W.Write.contents c.write_last_boot.new.writer) (trace_text start l) in
     rw failed.1 (subst P same (last_begun start c.cuts-cuts.result.now (g.W.Write.contents c.args.writer.now) (g.W.Write.contents c.boots.writer) c.boots.cut-index c.boots.boot
-    (g.F.Flash.seen c.boots.flash) c.boots.invariant c.boots-test.false r.cut occurs (shown c.in_ok-outcome.outcome) r.outcome_is _
+    (g.F.Flash.seen c.boots.flash) c.boots.invariant.told c.boots-test.false r.cut occurs (shown c.in_ok-outcome.outcome) r.outcome_is _
     (rw c.rules-rules.ensures at c.in_err-write_last_boot.ensures.front)))
 
 pub returns-in_err-write_last_boot-clause-refused : goal.returns-in_err-write_last_boot-clause-refused
@@ -67,7 +80,7 @@ returns-in_err-write_line-clause-front g c =
     let failed = err_from_is_err_and c.from_residual-in_err-write_line.result c.from_residual-in_err-write_line.ensures.1 in
     let P : List ℕ → Type 0 = λ l. AppendsFront (g.W.Write.contents c.args.writer.now) (g.W.Write.contents c.write_line.new.writer) (trace_text start l) in
     rw failed.1 (subst P same (outcome_begun start c.cuts-cuts.result.now (g.W.Write.contents c.args.writer.now) (g.W.Write.contents c.boots.writer) c.boots.cut-index c.boots.boot
-    (g.F.Flash.seen c.boots.flash) c.boots.invariant c.boots-test.false r.cut occurs (shown c.in_ok-outcome.outcome) r.outcome_is _
+    (g.F.Flash.seen c.boots.flash) c.boots.invariant.told c.boots-test.false r.cut occurs (shown c.in_ok-outcome.outcome) r.outcome_is _
     (rw c.rules-rules.ensures at c.in_ok-write_last_boot.ensures.whole) _ (rw (c.put_into.ensures.text, c.new-line.ensures) at c.in_err-write_line.ensures.front)))
 
 pub returns-clause-told : goal.returns-clause-told
@@ -78,5 +91,28 @@ returns-clause-told g c =
     let occurs = subst (λ (l : List ℕ). after start l ≡ Some r.cut) (sym same) r.occurs in
     let P : List ℕ → Type 0 = λ l. Appends (g.W.Write.contents c.args.writer.now) (g.W.Write.contents c.write_line.new.writer) (trace_text start l) in
     subst P same (outcome_told start c.cuts-cuts.result.now (g.W.Write.contents c.args.writer.now) (g.W.Write.contents c.boots.writer) c.boots.cut-index c.boots.boot
-    (g.F.Flash.seen c.boots.flash) c.boots.invariant c.boots-test.false r.cut occurs (shown c.in_ok-outcome.outcome) r.outcome_is _
+    (g.F.Flash.seen c.boots.flash) c.boots.invariant.told c.boots-test.false r.cut occurs (shown c.in_ok-outcome.outcome) r.outcome_is _
     (rw c.rules-rules.ensures at c.in_ok-write_last_boot.ensures.whole) _ (rw (c.put_into.ensures.text, c.new-line.ensures) at c.in_ok-write_line.ensures.whole))
+
+-- The flash is still one that was loaded for a boot more than there are cuts.
+loaded_for : (g : Over) (c : In_ok-flash g) (limits : Limits) → limits ≡ (g.F.Flash.seen c.in_ok-flash.flash).usage.limits
+    → IsWithin (limits_for (begun c.args.start.now).rules.grain (begun c.args.start.now).geometry (length c.cuts-cuts.result.now + 1)) limits
+loaded_for g c limits same = rw same (rw (c.rules-rules.ensures, c.layout.ensures.value) at c.in_ok-flash.ensures.loads.room)
+
+pub write_cut_boot-requires-clause-room : goal.write_cut_boot-requires-clause-room
+write_cut_boot-requires-clause-room g c =
+    let start = begun c.args.start.now in
+    let i = c.boots.invariant in
+    let f = g.F.Flash.seen c.boots.flash in
+    let a = goal.at.write_cut_boot-requires-clause-room g c in
+    room_left start.rules c.rules-rules.result start.geometry f.geometry c.rules-rules.ensures i.told.layout c.boots.cut-index f.usage.counts i.counts
+    (length c.cuts-cuts.result.now + 1) f.usage.limits (omega arith) (loaded_for g a.In_ok-flash f.usage.limits i.limits)
+
+pub write_last_boot-requires : goal.write_last_boot-requires
+write_last_boot-requires g c =
+    let start = begun c.args.start.now in
+    let i = c.boots.invariant in
+    let f = g.F.Flash.seen c.boots.flash in
+    let a = goal.at.write_last_boot-requires g c in
+    room_left start.rules c.rules-rules.result start.geometry f.geometry c.rules-rules.ensures i.told.layout c.boots.cut-index f.usage.counts i.counts
+    (length c.cuts-cuts.result.now + 1) f.usage.limits (omega arith) (loaded_for g a.In_ok-flash f.usage.limits i.limits)
