@@ -27,7 +27,8 @@ returns-in_err-write_line-2-clause-front g c =
     (e.goes.goes.come c.args.rules f.content c.cold-machine.ensures.come) e.goes.below e.end c.requires in
     let failed = err_from_is_err_and c.from_residual-in_err-write_line-2.result c.from_residual-in_err-write_line-2.ensures.1 in
     rw failed.1 (cut_line_begun (powered c.args.rules f) (progress c.cold-machine.result) c.cold-machine.ensures.cold.boot c.args.boot c.kind.result c.kind.ensures _ _
-    (rw c.head_line.ensures at c.in_ok-write_line.ensures.whole) _ c.args.cut e.told c.in-Some.op (sym next ∙ sym c.peek.ensures.first ∙ c.in-Some.is) _ c.layout.result.now c.layout.ensures
+    (rw c.head_line.ensures at c.in_ok-write_line.ensures.whole) _ c.args.cut e.told
+    c.in-Some.op (sym next ∙ sym c.peek.ensures.first ∙ c.in-Some.is) _ c.layout.result.now c.layout.ensures
     (rw c.cut_line.ensures at c.in_err-write_line-2.ensures.front))
 
 pub returns-in_ok-write_line-2-clause-whole : goal.returns-in_ok-write_line-2-clause-whole
@@ -37,7 +38,8 @@ returns-in_ok-write_line-2-clause-whole g c =
     let next = next_there (powered c.args.rules f) (progress c.write_operations.new.boot) (g.F.Flash.seen c.write_operations.new.flash).content c.args.cut
     (e.goes.goes.come c.args.rules f.content c.cold-machine.ensures.come) e.goes.below e.end c.requires in
     cut_out (powered c.args.rules f) (progress c.cold-machine.result) c.cold-machine.ensures.cold.boot c.args.boot c.kind.result c.kind.ensures _ _
-    (rw c.head_line.ensures at c.in_ok-write_line.ensures.whole) _ c.args.cut e.told c.in-Some.op (sym next ∙ sym c.peek.ensures.first ∙ c.in-Some.is) _ c.layout.result.now c.layout.ensures (rw c.cut_line.ensures at c.in_ok-write_line-2.ensures.whole)
+    (rw c.head_line.ensures at c.in_ok-write_line.ensures.whole) _ c.args.cut e.told
+    c.in-Some.op (sym next ∙ sym c.peek.ensures.first ∙ c.in-Some.is) _ c.layout.result.now c.layout.ensures (rw c.cut_line.ensures at c.in_ok-write_line-2.ensures.whole)
 
 pub returns-in_ok-write_line-2-clause-left : goal.returns-in_ok-write_line-2-clause-left
 returns-in_ok-write_line-2-clause-left g c =

@@ -64,7 +64,8 @@ operations-preserved g c =
     let not = c.in-Err-NotErased.is ∙ ap (λ e. Err e) c.in-Err-NotErased.field-0-is in
     let lines = refused now new p q c.in-Some.op c.args.until (sym c.peek.ensures.first ∙ c.in-Some.is) going c.step.result not e.step in
     record {
-      out = refusal_out _ _ (g.W.Write.contents c.write_line-in-Err-NotErased.new.writer) _ _ _ _ _ _ _ _ i.place c.count.ensures i.out lines (rw c.told_line-in-Err-NotErased.ensures at c.in_ok-write_line-in-Err-NotErased.ensures.whole);
+      out = refusal_out _ _ (g.W.Write.contents c.write_line-in-Err-NotErased.new.writer) _ _ _ _ _ _ _ _ i.place c.count.ensures i.out lines
+          (rw c.told_line-in-Err-NotErased.ensures at c.in_ok-write_line-in-Err-NotErased.ensures.whole);
       goes = goes_up_to c.args.until c.args.boot.now old c.operations.boot now c.step.new.self new i.goes (record { come = e.come; layout = e.layout; whole = e.whole; keeps = e.keeps })
           (none_more p q now new c.args.until c.step.result not e.step going);
       place = i.place ∙ sym e.keeps.geometry;
@@ -81,7 +82,8 @@ returns-in_err-write_line-in-Err-NotErased-clause-told g c =
     let not = c.in-Err-NotErased.is ∙ ap (λ e. Err e) c.in-Err-NotErased.field-0-is in
     let lines = refused now new p q c.in-Some.op c.args.until (sym c.peek.ensures.first ∙ c.in-Some.is) going c.step.result not c.step.ensures.step in
     let failed = err_from_is_err_and c.from_residual-in_err-write_line-in-Err-NotErased.result c.from_residual-in_err-write_line-in-Err-NotErased.ensures.1 in
-    rw failed.1 (refusal_begun _ _ (g.W.Write.contents c.write_line-in-Err-NotErased.new.writer) _ _ _ _ _ _ _ _ i.place c.count.ensures i.out lines (rw c.told_line-in-Err-NotErased.ensures at c.in_err-write_line-in-Err-NotErased.ensures.front))
+    rw failed.1 (refusal_begun _ _ (g.W.Write.contents c.write_line-in-Err-NotErased.new.writer) _ _ _ _ _ _ _ _ i.place c.count.ensures i.out lines
+    (rw c.told_line-in-Err-NotErased.ensures at c.in_err-write_line-in-Err-NotErased.ensures.front))
 
 pub returns-in-Err-Memory-clause-told : goal.returns-in-Err-Memory-clause-told
 returns-in-Err-Memory-clause-told g c = out_stops _ _ _ _ c.operations.invariant.out

@@ -12,7 +12,9 @@ put_digit-requires-in-loop-byte-clause-room c =
     omega (arith, one_more, length_shown c.args.self.now c.loop-byte.self c.args.bytes.now c.loop-byte.byte-index c.loop-byte.invariant)
 
 pub loop-byte-preserved : goal.loop-byte-preserved
-loop-byte-preserved c = rw (c.put_digit-in-loop-byte.ensures, c.put_digit.ensures) (next_shown c.args.self.now c.loop-byte.self c.args.bytes.now c.loop-byte.byte-index c.loop-byte.invariant (omega arith))
+loop-byte-preserved c =
+    rw (c.put_digit-in-loop-byte.ensures, c.put_digit.ensures)
+    (next_shown c.args.self.now c.loop-byte.self c.args.bytes.now c.loop-byte.byte-index c.loop-byte.invariant (omega arith))
 
 pub returns-clause-text : goal.returns-clause-text
 returns-clause-text c = all_shown c.args.self.now c.loop-byte.self c.args.bytes.now c.loop-byte.byte-index c.loop-byte.invariant (omega arith)
