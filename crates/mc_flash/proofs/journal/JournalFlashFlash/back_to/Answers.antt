@@ -12,6 +12,16 @@ undo_to-requires-clause-above c =
     let below = has_place f.slots.layout f.slots.content f.reserve (journal_with f.entries.items f.saved.items) f.checkpoints.items f.applied _ c.self.view_is c.args.place c.requires in
     checkpoint_below f.entries.items f.checkpoints.items c.args.place c.index-count.result.now c.self.invariant.ascend c.index-count.ensures below
 
+pub returns : goal.returns
+returns c =
+    let f = c.self.inside in
+    let u = c.undo_to.ensures in
+    let j : Journal = journal_with f.entries.items f.saved.items in
+    let below = has_place f.slots.layout f.slots.content f.reserve j f.checkpoints.items f.applied _ c.self.view_is c.args.place c.requires in
+    back f.slots.layout f.slots.content f.reserve j f.checkpoints.items f.applied _ c.self.view_is
+    c.undo_to.new.slots.layout c.undo_to.new.slots.content (journal_with c.undo_to.new.entries.items c.undo_to.new.saved.items) c.truncate.new.self.items c.args.place
+    c.index-count.result.now u.undone c.truncate.ensures.items c.index-count.ensures below c.self.invariant.ascend u.layout
+
 pub invariant_of-self : goal.invariant_of-self
 invariant_of-self c =
     let f = c.self.inside in
@@ -23,13 +33,3 @@ invariant_of-self c =
     (journal_with c.undo_to.new.entries.items c.undo_to.new.saved.items) c.truncate.new.self.items c.args.place c.index-count.result.now u.undone c.truncate.ensures.items
     c.index-count.ensures below u.layout
     (record { entries = omega (arith, u.room_entries); saved = omega (arith, u.room_saved); checkpoints = omega (arith, c.truncate.ensures.capacity) })
-
-pub returns : goal.returns
-returns c =
-    let f = c.self.inside in
-    let u = c.undo_to.ensures in
-    let j : Journal = journal_with f.entries.items f.saved.items in
-    let below = has_place f.slots.layout f.slots.content f.reserve j f.checkpoints.items f.applied _ c.self.view_is c.args.place c.requires in
-    back f.slots.layout f.slots.content f.reserve j f.checkpoints.items f.applied _ c.self.view_is
-    c.undo_to.new.slots.layout c.undo_to.new.slots.content (journal_with c.undo_to.new.entries.items c.undo_to.new.saved.items) c.truncate.new.self.items c.args.place
-    c.index-count.result.now u.undone c.truncate.ensures.items c.index-count.ensures below c.self.invariant.ascend u.layout
