@@ -63,7 +63,7 @@ of_asked : (b : Bool) → IsSwapOf b (kind_asked b)
 of_asked true = refl
 of_asked false = refl
 
-asked_swaps : (R : Content → Type 0) (x : PowerOn) (size n : ℕ) (b : Bool) → in_pieces x.rules.grain x.geometry ≡ x.geometry → Swap x.geometry x.content size n → (s : Content)
+pub asked_swaps : (R : Content → Type 0) (x : PowerOn) (size n : ℕ) (b : Bool) → in_pieces x.rules.grain x.geometry ≡ x.geometry → Swap x.geometry x.content size n → (s : Content)
     → Asked x.geometry x.content n b s
     → Swaps R x size n b s
 asked_swaps R from size n b whole w s is =
@@ -81,7 +81,7 @@ running_keeps R g start size n b kind (suc j) s w of most is =
     let E : Bool → Type 0 = λ c. Keeps g (Phase R g start size n b) (running g kind n (suc j) c).list s (Ended g start size n b) in
     subst E (sym (other_number (suc j) 0 (λ e. omega (arith, e)))) (rest_keeps g start size n w R b kind of (suc j) s most is)
 
-running_swaps : (R : Content → Type 0) (x : PowerOn) (size n : ℕ) (b : Bool) (kind : SwapType) (k : ℕ) → in_pieces x.rules.grain x.geometry ≡ x.geometry → Swap x.geometry x.content size n
+pub running_swaps : (R : Content → Type 0) (x : PowerOn) (size n : ℕ) (b : Bool) (kind : SwapType) (k : ℕ) → in_pieces x.rules.grain x.geometry ≡ x.geometry → Swap x.geometry x.content size n
     → IsSwapOf b kind
     → k ≤ 3 * n → (s : Content) → Under x.geometry x.content size n kind k s → Swaps R x size n b s
 running_swaps R from size n b kind k whole w of most s is =

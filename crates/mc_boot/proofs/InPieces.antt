@@ -57,7 +57,7 @@ pub exchanged_pieces : (c : Grain) (g : Geometry) (n : ℕ) (s z : Content) → 
 exchanged_pieces grains.Call g n s z are = are
 exchanged_pieces grains.Unit g n s z are = record { primary = are.primary; secondary = are.secondary }
 
-sized_pieces : (c : Grain) (g : Geometry) (s : Content) → IsSized g s → IsSized (in_pieces c g) s
+pub sized_pieces : (c : Grain) (g : Geometry) (s : Content) → IsSized g s → IsSized (in_pieces c g) s
 sized_pieces grains.Call g s sized = sized
 sized_pieces grains.Unit g s sized = record { primary = sized.primary; secondary = sized.secondary }
 
@@ -77,11 +77,11 @@ swap_pieces grains.Unit g start size n w = record {
 }
 
 -- the fields at the start
-secondary_pieces : (c : Grain) (g : Geometry) (s : Content) (v : Field → List ℕ) → FieldsAre g s Secondary v → FieldsAre (in_pieces c g) s Secondary v
+pub secondary_pieces : (c : Grain) (g : Geometry) (s : Content) (v : Field → List ℕ) → FieldsAre g s Secondary v → FieldsAre (in_pieces c g) s Secondary v
 secondary_pieces grains.Call g s v are = are
 secondary_pieces grains.Unit g s v are = λ f i short within. are f i short within
 
-primary_pieces : (c : Grain) (g : Geometry) (s : Content) (v : Field → List ℕ) → FieldsAre g s Primary v → FieldsAre (in_pieces c g) s Primary v
+pub primary_pieces : (c : Grain) (g : Geometry) (s : Content) (v : Field → List ℕ) → FieldsAre g s Primary v → FieldsAre (in_pieces c g) s Primary v
 primary_pieces grains.Call g s v are = are
 primary_pieces grains.Unit g s v are = λ f i short within. are f i short within
 

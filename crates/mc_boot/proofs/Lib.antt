@@ -36,6 +36,16 @@ pub mod Starts
 pub mod RestartProof
 pub mod Confirming
 pub mod RoundsProof
+pub mod Readings
+pub mod Works
+pub mod Wearing
+pub mod DeliveredStarts
+pub mod Telling
+pub mod Turning
+pub mod Cycles
+pub mod Reverting
+pub mod AtRest
+pub mod LifeProof
 pub mod BoolTests
 pub mod Meets
 pub mod Blanking

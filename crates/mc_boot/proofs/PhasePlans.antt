@@ -50,7 +50,7 @@ not_when_asked p q good = rw good (never (is_good p.magic && is_unset p.copy_don
     never true = refl
     never false = refl
 
-not_when_done : (p q : Trailer) → p.copy_done ≡ flags.Set → resumes p q ≡ false
+pub not_when_done : (p q : Trailer) → p.copy_done ≡ flags.Set → resumes p q ≡ false
 not_when_done p q set = rw set (never (is_good p.magic))
   where
     never : (b : Bool) → (b && false && not (is_good q.magic)) ≡ false
@@ -66,7 +66,7 @@ stays_when profile p q good set = rw good (rw set refl)
 all_hold : (a b c d : Bool) → a ≡ true → b ≡ true → c ≡ true → d ≡ true → (a && b && c && d) ≡ true
 all_hold a b c d at_a at_b at_c at_d = rw at_a (rw at_b (rw at_c (rw at_d refl)))
 
-reverts_when : (profile : Profile) (p q : Trailer) → p.magic ≡ magics.Good → reverts_at profile q.magic ≡ true → p.image_ok ≡ flags.Unset → p.copy_done ≡ flags.Set
+pub reverts_when : (profile : Profile) (p q : Trailer) → p.magic ≡ magics.Good → reverts_at profile q.magic ≡ true → p.image_ok ≡ flags.Unset → p.copy_done ≡ flags.Set
     → swap_type profile p q ≡ kinds.Revert
 reverts_when profile p q good reverts unset set =
     (types_are_rows profile p q kinds.Revert).1
@@ -80,7 +80,7 @@ third_fails false b c d is = refl
 nothing_asked : (p q : Trailer) → q.magic ≡ magics.Unset → (asks_test p q ≡ false) × (asks_perm p q ≡ false)
 nothing_asked p q absent = (rw absent refl, rw absent refl)
 
-none_when : (profile : Profile) (p q : Trailer) → q.magic ≡ magics.Unset → p.image_ok ≡ flags.Set → swap_type profile p q ≡ kinds.None
+pub none_when : (profile : Profile) (p q : Trailer) → q.magic ≡ magics.Unset → p.image_ok ≡ flags.Set → swap_type profile p q ≡ kinds.None
 none_when profile p q absent set =
     let asks = nothing_asked p q absent in
     (types_are_rows profile p q kinds.None).1 (asks.0, asks.1, third_fails (is_good p.magic) (reverts_at profile q.magic) (is_unset p.image_ok) (is_set p.copy_done) (ap is_unset set))
@@ -91,7 +91,7 @@ none_at_all profile p q absent_p absent_q =
     (rw absent_p refl, (types_are_rows profile p q kinds.None).1 (asks.0, asks.1, rw absent_p refl))
 
 -- a plan where the boot does not resume
-new_is : (x : PowerOn) (kind : SwapType) (p : Plan) → is_resumed x.geometry x.content ≡ false → table_of x.rules.profile x.geometry x.content ≡ kind
+pub new_is : (x : PowerOn) (kind : SwapType) (p : Plan) → is_resumed x.geometry x.content ≡ false → table_of x.rules.profile x.geometry x.content ≡ kind
     → new_plan x.rules.grain x.geometry (images_of x.content) kind ≡ p → plan x ≡ p
 new_is x kind p not_so of is = plan_new x not_so ∙ ap (new_plan x.rules.grain x.geometry (images_of x.content)) of ∙ is
 
@@ -175,7 +175,7 @@ plan_under x size n b kind k s w of most u =
 abbrev pub starting : Grain → Geometry → SwapType → ℕ → ℕ → Plan
 starting c g kind size n = record { kind = kind; sectors = n; list = new_list c (in_pieces c g) kind size n }
 
-new_swap_is : (c : Grain) (g : Geometry) (images : Images) (kind : SwapType) (size n : ℕ) → images.valid ≡ true → images.size ≡ size → div_ceil size g.sector ≡ n → n ≤ greatest_sectors g
+pub new_swap_is : (c : Grain) (g : Geometry) (images : Images) (kind : SwapType) (size n : ℕ) → images.valid ≡ true → images.size ≡ size → div_ceil size g.sector ≡ n → n ≤ greatest_sectors g
     → new_swap c g images kind ≡ starting c g kind size n
 new_swap_is c g images kind size n valid larger count few =
     ap (λ (z : ℕ). if not images.valid || nat_lt (greatest_sectors g) (div_ceil z g.sector) then nothing kinds.Fail else record {

@@ -52,7 +52,7 @@ calm_boots kinds.Revert calm = refl
 calm_boots kinds.Fail calm = refl
 calm_boots kinds.Panic calm = absurd (calm refl)
 
-boots_so : (x : PowerOn) (z : Content) → left_by x ≡ Some z → is_faulted x ≡ false → (plan x).kind ≢ kinds.Panic → is_valid z.primary ≡ true
+pub boots_so : (x : PowerOn) (z : Content) → left_by x ≡ Some z → is_faulted x ≡ false → (plan x).kind ≢ kinds.Panic → is_valid z.primary ≡ true
     → option_map (λ o. o.result) (outcome_of x) ≡ Some results.Boot
 unfolding outcome_of report
 boots_so from z end whole calm valid =
@@ -175,10 +175,10 @@ ended r g kind c n a b s u z is_named is_other l swapped = record {
 }
 
 -- Nothing is before a test or an upgrade that was asked for.
-abbrev Nothing : Content → Type 0
+abbrev pub Nothing : Content → Type 0
 Nothing s = ⊥
 
-asked_boots : (r : Rules) (g : Geometry) (s : Content) (size n : ℕ) (b : Bool) → Swap g s size n → BootsSwap Nothing r g s size n b
+pub asked_boots : (r : Rules) (g : Geometry) (s : Content) (size n : ℕ) (b : Bool) → Swap g s size n → BootsSwap Nothing r g s size n b
 asked_boots r g s size n b w = phase_swaps Nothing (power_on r (in_pieces r.grain g) s) size n b (pieces_again r.grain g) (swap_pieces r.grain g s size n w) (λ t none. absurd none)
 
 -- a revert: from what a test of the images exchanged leaves
@@ -189,7 +189,7 @@ pub record Reverts (g : Geometry) (a b : List ℕ) (size n : ℕ) (s : Content) 
   pub primary : SameImage a s.primary
   pub secondary : SameImage b s.secondary
 
-tested_fields : (g : Geometry) (start : Content) (size n : ℕ) (z : Content) (e : Ended g start size n true z) → FieldsAre g z Primary tested
+pub tested_fields : (g : Geometry) (start : Content) (size n : ℕ) (z : Content) (e : Ended g start size n true z) → FieldsAre g z Primary tested
 tested_fields g start size n z e = fields_front g z Primary (closed g e.0 size) tested less e.2.primary
   where
     less : (f : Field) → (rest : List ℕ) × (closed g e.0 size f ≡ tested f ++ rest)

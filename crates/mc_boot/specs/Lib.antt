@@ -23,4 +23,5 @@ pub mod Restart
 pub mod WholeSwap
 pub mod Confirm
 pub mod Rounds
+pub mod Life
 pub mod facts

@@ -1,0 +1,360 @@
+-- The life law.
+use Rattle.std.specs.Prelude.{◌≡◌, ◌⊎◌, ℕ, ◌*◌, ◌≤◌, ◌&&◌, ◌-◌, Bool, true, false, if◌then◌else◌, List, [], ◌∷◌, ◌++◌, replicate, Option, Some, None, option_and_then, option_map, refl, length}
+use Rattle.std.specs.Int.{div_ceil}
+use Rattle.std.proofs.Common.{arith, sym, ap, subst, ◌∙◌, inl, inr}
+use Rattle.std.proofs.lemmas.Grind.{div_ceil_times}
+use Rattle.std.proofs.Math.Nat.{mul-le-mul_right}
+use Rattle.mc_boot.proofs.AtRest.{AtRest}
+use Rattle.mc_boot.proofs.FieldWrites.{place_behind_data}
+use Rattle.mc_boot.proofs.SameImages.{HasImage, ImageLaws, SameImage, has_same, same_image}
+use Rattle.mc_boot.proofs.Telling.{next_is}
+use Rattle.mc_boot.proofs.Turning.{done_rests, no_trial, rest_law, same_names}
+use Rattle.mc_boot.specs.Confirm.{confirmed, may_confirm}
+use Rattle.mc_boot.specs.Image.{image_size}
+use Rattle.mc_boot.specs.Life.{AreSecondary, Event, Forgets, AllStored, IsDelivered, Leads, LifeLaw, Lives, Moment, NextLaw, OnlyLaw, Standing, Tells, Turned, asked_of, booted_by, can_swap, confirmed_by, done_or_fails, is_boot, is_on_trial, resting, standing, starts_image, cut, boot, store, confirm, mark}
+use Rattle.mc_boot.specs.Outcome.{Report, outcome_of}
+use Rattle.mc_boot.specs.PowerOn.{PowerOn, power_on}
+use Rattle.mc_boot.specs.declared.outcome.BootResult.TheVariants as results
+use Rattle.mc_boot.specs.Plan.{plan}
+use Rattle.mc_boot.specs.Runs.{after, cut_at}
+use Rattle.mc_flash.specs.Blank.{is_blank}
+use Rattle.mc_flash.specs.Changes.{Changed, changed, changed_sized, same_content, sized_is}
+use Rattle.mc_flash.specs.Content.{Content, put, with_bytes}
+use Rattle.mc_flash.specs.facts.Layouts.{data_end, fits_few, image_is_data}
+use Rattle.mc_flash.specs.Geometry.{Geometry, IsLayout, greatest_sectors}
+use Rattle.mc_flash.specs.declared.op.Slot.TheVariants.{Primary, Secondary}
+use Rattle.mc_image.specs.Bytes.{IsBytes}
+use Rattle.mc_image.specs.Valid.{Identity, id_of, is_valid}
+use Rattle.mc_trailer.specs.declared.tables.SwapType.{SwapType}
+use Rattle.mc_trailer.specs.declared.tables.SwapType.TheVariants as kinds
+use Rattle.mc_trailer.specs.facts.Fields.{field_kept_beside, reads_image_ok, same_copy_done, written_field}
+use Rattle.mc_trailer.specs.facts.Places.{field_ends, one_unit_fits}
+use Rattle.mc_trailer.specs.Fields.{bytes_at, one_unit, trailer_of}
+use Rattle.mc_trailer.specs.Places.{place, room}
+use Rattle.mc_trailer.specs.Tables.{is_good, is_set}
+use Rattle.mc_trailer.specs.declared.places.Field.TheVariants as field
+use Rattle.mc_trailer.specs.declared.tables.Rules.{Rules}
+use Rattle.mc_trailer.specs.declared.trailer.Flag.{Flag}
+use Rattle.mc_trailer.specs.declared.trailer.Flag.TheVariants as flags
+
+-- ---- rest
+
+-- valid bytes begin with their own image
+its_own : (xs : List ℕ) → IsBytes xs → is_valid xs ≡ true → HasImage xs
+its_own xs bytes valid = record { image = xs; bytes = bytes; valid = valid; same = record { valid = valid; size = refl; id = refl; front = refl } }
+
+rests_delivered : (g : Geometry) (s : Content) → IsLayout g → IsDelivered g s → AtRest g s
+rests_delivered g s ok is = record {
+  sized = is.sized;
+  primary = its_own s.primary is.primary is.valid;
+  few =
+      let wide = ok.least_sector in
+      let rows : image_size s.primary ≤ div_ceil (image_size s.primary) g.sector * g.sector = (div_ceil_times (image_size s.primary) g.sector (omega (arith, wide))).0 in
+      let most : div_ceil (image_size s.primary) g.sector * g.sector ≤ greatest_sectors g * g.sector = mul-le-mul_right g.sector (fits_few g (image_size s.primary) ok is.fitting) in
+      omega (arith, rows, most);
+  secondary = λ valid. its_own s.secondary is.secondary valid;
+  rest = is.rest;
+}
+
+-- whatever the image leaves in the secondary
+rests_stored : (g : Geometry) (s : Content) (bytes : List ℕ) → AtRest g s → AreSecondary g bytes → AtRest g (with_bytes s Secondary bytes)
+unfolding trailer_of
+rests_stored g s bytes rest are = record {
+  sized = record { primary = rest.sized.primary; secondary = are.sized };
+  primary = rest.primary;
+  few = rest.few;
+  secondary = λ valid. its_own bytes are.numbers valid;
+  rest = rest.rest;
+}
+
+-- when it confirms itself
+three_hold : (a b c : Bool) → (a && b && c) ≡ true → b ≡ true
+three_hold true true c is = refl
+three_hold true false c is = absurd cc
+three_hold false b c is = absurd cc
+
+set_of : (f : Flag) → is_set f ≡ true → f ≡ flags.Set
+set_of flags.Set is = refl
+set_of flags.Unset is = absurd cc
+set_of flags.Bad is = absurd cc
+
+module _ (laws : ImageLaws) (g : Geometry) (ok : IsLayout g) (s : Content) (rest : AtRest g s) where
+  -- the image ends before the trailer
+  before_trailer : image_size s.primary ≤ place g Primary field.ImageOk
+  before_trailer =
+      let few = rest.few in
+      let rows : greatest_sectors g * g.sector ≤ data_end g Primary = mul-le-mul_right g.sector (image_is_data g Primary (greatest_sectors g) (omega arith)) in
+      omega (arith, few, rows, place_behind_data g Primary field.ImageOk ok)
+
+  -- any bytes at image-ok, where the swap is finished
+  module _ (new : List ℕ) (short : length new ≤ room field.ImageOk) where
+    abbrev with_mark : Content
+    with_mark = with_bytes s Primary (put s.primary (place g Primary field.ImageOk) new)
+
+    marks : Changed s with_mark Primary (place g Primary field.ImageOk) new
+    marks = changed s Primary (place g Primary field.ImageOk) new (omega (arith, field_ends g Primary field.ImageOk ok, short, sized_is g s Primary rest.sized))
+
+    kept_mark : SameImage s.primary with_mark.primary
+    kept_mark =
+        let ends = field_ends g Primary field.ImageOk ok in
+        let sized = sized_is g s Primary rest.sized in
+        same_image s.primary with_mark.primary laws rest.primary (omega (arith, before_trailer, ends, sized)) (omega (arith, before_trailer, ends, sized, marks.sizes Primary))
+        (λ i h. marks.before i (omega (arith, h, before_trailer)))
+
+    rests_marked : (trailer_of g s Primary).copy_done ≡ flags.Set → AtRest g with_mark
+    rests_marked set =
+        let copied : (trailer_of g with_mark Primary).copy_done ≡ flags.Set =
+        same_copy_done g s with_mark Primary (field_kept_beside g s with_mark Primary field.ImageOk field.CopyDone new ok marks short (λ same. cc)) ∙ set in
+        record {
+          sized = changed_sized g s with_mark Primary (place g Primary field.ImageOk) new marks rest.sized;
+          primary = has_same s.primary with_mark.primary rest.primary kept_mark;
+          few = let few = rest.few in let same = kept_mark.size in omega (arith, few, same);
+          secondary = rest.secondary;
+          rest = done_rests (trailer_of g with_mark Primary) copied;
+        }
+
+  -- the bytes that a confirmation writes
+  abbrev with_ok : Content
+  with_ok = with_bytes s Primary (put s.primary (place g Primary field.ImageOk) (one_unit g 1))
+
+  changes : Changed s with_ok Primary (place g Primary field.ImageOk) (one_unit g 1)
+  changes = marks (one_unit g 1) (one_unit_fits g 1 field.ImageOk ok)
+
+  kept : SameImage s.primary with_ok.primary
+  kept = kept_mark (one_unit g 1) (one_unit_fits g 1 field.ImageOk ok)
+
+  rests_with_ok : (trailer_of g s Primary).copy_done ≡ flags.Set → AtRest g with_ok
+  rests_with_ok set = rests_marked (one_unit g 1) (one_unit_fits g 1 field.ImageOk ok) set
+
+  rests_confirmed : AtRest g (confirmed g s)
+  unfolding confirmed
+  rests_confirmed = go (may_confirm g s) refl
+    where
+      go : (b : Bool) → may_confirm g s ≡ b → AtRest g (if b then with_ok else s)
+      go true may =
+          rests_with_ok (set_of (trailer_of g s Primary).copy_done
+          (three_hold (is_good (trailer_of g s Primary).magic) (is_set (trailer_of g s Primary).copy_done) (is_blank (bytes_at s Primary (place g Primary field.ImageOk) g.unit)) may))
+      go false may = rest
+
+  -- the images stay
+  confirmed_primary : id_of (confirmed g s).primary ≡ id_of s.primary
+  unfolding confirmed
+  confirmed_primary = go (may_confirm g s)
+    where
+      go : (b : Bool) → id_of (if b then with_ok else s).primary ≡ id_of s.primary
+      go true = kept.id
+      go false = refl
+
+  confirmed_secondary : (confirmed g s).secondary ≡ s.secondary
+  unfolding confirmed
+  confirmed_secondary = go (may_confirm g s)
+    where
+      go : (b : Bool) → (if b then with_ok else s).secondary ≡ s.secondary
+      go true = refl
+      go false = refl
+
+-- ---- one cut more
+
+cut_more : (r : Rules) (g : Geometry) (cuts : List ℕ) (c : ℕ) (s u t : Content) → after (power_on r g s) cuts ≡ Some u → cut_at (power_on r g u) c ≡ Some t
+    → after (power_on r g s) (cuts ++ c ∷ []) ≡ Some t
+cut_more r g [] c s u t come is =
+    let same : s ≡ u = same_content s u come in
+    let E : Content → Type 0 = λ x. cut_at (power_on r g x) c ≡ Some t in
+    ap (option_and_then (λ y. after (power_on r g y) [])) (subst E (sym same) is)
+cut_more r g (d ∷ cuts) c s u t come is = go (λ y e. cut_more r g cuts c y u t e is) (cut_at (power_on r g s) d) come
+  where
+    go : ((y : Content) → after (power_on r g y) cuts ≡ Some u → after (power_on r g y) (cuts ++ c ∷ []) ≡ Some t) → (o : Option Content)
+        → option_and_then (λ y. after (power_on r g y) cuts) o ≡ Some u → option_and_then (λ y. after (power_on r g y) (cuts ++ c ∷ [])) o ≡ Some t
+    go later None e = absurd (none e)
+      where
+        none : None ≡ Some u → ⊥
+        none e = cc
+    go later (Some y) e = later y e
+
+-- ---- a life
+
+-- Where a device has come to: since it rested there were cuts alone, and none where an image runs.
+record Reached (r : Rules) (g : Geometry) (m : Moment) : Type 0 where
+  rest : AtRest g m.rested
+  cuts : List ℕ
+  come : after (power_on r g m.rested) cuts ≡ Some m.content
+  running : m.runs ≡ true → m.content ≡ m.rested
+
+at_rest : (r : Rules) (g : Geometry) (s : Content) (runs : Bool) → AtRest g s → Reached r g (resting s runs)
+at_rest r g s runs rest = record { rest = rest; cuts = []; come = refl; running = λ _. refl }
+
+runs_at_rest : (r : Rules) (g : Geometry) (m : Moment) → Reached r g m → m.runs ≡ true → AtRest g m.content
+runs_at_rest r g m is runs = let E : Content → Type 0 = λ s. AtRest g s in subst E (sym (is.running runs)) is.rest
+
+module _ (laws : ImageLaws) (r : Rules) (g : Geometry) (ok : IsLayout g) where
+  leads : (m : Moment) (e : Event) (n : Moment) → Reached r g m → Leads r g m e n → Reached r g n
+  leads m (cut c) n is to =
+      let E : Moment → Type 0 = λ x. Reached r g x in
+      subst E (sym to.2) (record {
+        rest = is.rest;
+        cuts = is.cuts ++ c ∷ [];
+        come = cut_more r g is.cuts c m.rested m.content to.0 is.come to.1;
+        running = λ e. absurd cc;
+      })
+  leads m boot n is to =
+      let end = rest_law laws r g ok m.rested is.rest m.content is.cuts is.come in
+      let same : end.0 ≡ to.0 = same_content end.0 to.0 (sym end.1.end ∙ to.2) in
+      let F : Content → Type 0 = λ x. AtRest g x in
+      let E : Moment → Type 0 = λ x. Reached r g x in
+      subst E (sym to.4) (at_rest r g to.0 to.1 (subst F same end.2.rest))
+  leads m (store bytes) n is to =
+      let E : Moment → Type 0 = λ x. Reached r g x in
+      subst E (sym to.2) (at_rest r g (with_bytes m.content Secondary bytes) true (rests_stored g m.content bytes (runs_at_rest r g m is to.0) to.1))
+  leads m (mark bytes) n is to =
+      let E : Moment → Type 0 = λ x. Reached r g x in
+      subst E (sym to.3) (at_rest r g (with_bytes m.content Primary (put m.content.primary (place g Primary field.ImageOk) bytes)) true
+      (rests_marked laws g ok m.content (runs_at_rest r g m is to.0) bytes to.2 (set_of (trailer_of g m.content Primary).copy_done to.1)))
+  leads m confirm n is to =
+      let E : Moment → Type 0 = λ x. Reached r g x in
+      subst E (sym to.1) (at_rest r g (confirmed g m.content) true (rests_confirmed laws g ok m.content (runs_at_rest r g m is to.0)))
+
+  lives : (events : List Event) (m n : Moment) → Reached r g m → Lives r g m events n → Reached r g n
+  lives [] m n is same = let E : Moment → Type 0 = λ x. Reached r g x in subst E (sym same) is
+  lives (e ∷ events) m n is to = lives events to.0 n (leads m e to.0 is to.1) to.2
+
+-- ---- what it tells
+
+module _ (laws : ImageLaws) (r : Rules) (g : Geometry) (ok : IsLayout g) (s : Content) (rest : AtRest g s) where
+  -- the trailer of the secondary is another
+  other_trailer : trailer_of g (with_ok laws g ok s rest) Secondary ≡ trailer_of g s Secondary
+  unfolding trailer_of
+  other_trailer = refl
+
+  -- what is asked for when the trial is over
+  after_trial : (trial good : Bool) → is_good (trailer_of g s Secondary).magic ≡ good
+      → done_or_fails (asked_of r.profile false (trailer_of g s Secondary)) (can_swap g s.secondary)
+      ≡ (if good then done_or_fails (asked_of r.profile trial (trailer_of g s Secondary)) (can_swap g s.secondary) else kinds.None)
+  after_trial trial true good = rw good refl
+  after_trial trial false good = rw good refl
+
+  tells : Tells r g s
+  unfolding confirmed
+  tells = record { next = next_is r g ok s rest; confirms = confirms }
+    where
+      confirms : may_confirm g s ≡ true → standing r g (if may_confirm g s then with_ok laws g ok s rest else s) ≡ confirmed_by (is_good (trailer_of g s Secondary).magic) (standing r g s)
+      confirms may =
+          let m : Content = with_ok laws g ok s rest in
+          let copied = set_of (trailer_of g s Primary).copy_done
+          (three_hold (is_good (trailer_of g s Primary).magic) (is_set (trailer_of g s Primary).copy_done) (is_blank (bytes_at s Primary (place g Primary field.ImageOk) g.unit)) may) in
+          let set : (trailer_of g m Primary).image_ok ≡ flags.Set =
+          reads_image_ok g m Primary 1 (replicate (g.unit - 1) 255) (written_field g s m Primary field.ImageOk (one_unit g 1) (changes laws g ok s rest)) in
+          let over : is_on_trial (trailer_of g m Primary) ≡ false = no_trial (trailer_of g m Primary) set in
+          let asked : SwapType → Type 0 = λ k. (plan (power_on r g m)).kind ≡ k in
+          let next : (plan (power_on r g m)).kind ≡ (if is_good (trailer_of g s Secondary).magic then (plan (power_on r g s)).kind else kinds.None) =
+          next_is r g ok m (rests_with_ok laws g ok s rest copied)
+          ∙ ap (λ b. done_or_fails (asked_of r.profile b (trailer_of g m Secondary)) (can_swap g s.secondary)) over
+          ∙ ap (λ q. done_or_fails (asked_of r.profile false q) (can_swap g s.secondary)) other_trailer
+          ∙ after_trial (is_on_trial (trailer_of g s Primary)) (is_good (trailer_of g s Secondary).magic) refl
+          ∙ ap (λ k. if is_good (trailer_of g s Secondary).magic then k else kinds.None) (sym (next_is r g ok s rest)) in
+          ap (λ (c : Bool). standing r g (if c then m else s)) may
+          ∙ same_names (id_of m.primary) (id_of s.primary) (is_on_trial (trailer_of g m Primary)) false (id_of s.secondary) (id_of s.secondary) (plan (power_on r g m)).kind
+          (if is_good (trailer_of g s Secondary).magic then (plan (power_on r g s)).kind else kinds.None) (kept laws g ok s rest).id over refl next
+
+pub next_law : ImageLaws → (r : Rules) → NextLaw r
+next_law laws r g s runs events m ok delivered lived =
+    let is = lives laws r g ok events (resting s runs) m (at_rest r g s runs (rests_delivered g s ok delivered)) lived in
+    tells laws r g ok m.rested is.rest
+
+-- ---- where images come from
+
+-- the test is passed by both images
+record Passes (K : Option Identity → Bool) (s : Content) : Type 0 where
+  primary : K (id_of s.primary) ≡ true
+  secondary : K (id_of s.secondary) ≡ true
+
+booted_passes : (K : Option Identity → Bool) (kind : SwapType) (x : Standing) → K x.primary ≡ true → K x.secondary ≡ true
+    → (K (booted_by kind x).primary ≡ true) × (K (booted_by kind x).secondary ≡ true)
+booted_passes K kinds.None x p q = (p, q)
+booted_passes K kinds.Fail x p q = (p, q)
+booted_passes K kinds.Panic x p q = (p, q)
+booted_passes K kinds.Test x p q = (q, p)
+booted_passes K kinds.Perm x p q = (q, p)
+booted_passes K kinds.Revert x p q = (q, p)
+
+turned_passes : (K : Option Identity → Bool) (r : Rules) (g : Geometry) (s u z : Content) → Passes K s → Turned r g s z ⊎ Forgets r g s u z → Passes K z
+turned_passes K r g s u z is (inl t) =
+    let both = booted_passes K (plan (power_on r g s)).kind (standing r g s) is.primary is.secondary in
+    record {
+      primary = ap (λ (x : Standing). K x.primary) t.names ∙ both.0;
+      secondary = ap (λ (x : Standing). K x.secondary) t.names ∙ both.1;
+    }
+turned_passes K r g s u z is (inr f) = record {
+  primary = ap (λ (x : Standing). K x.primary) f.names ∙ is.primary;
+  secondary = ap (λ (x : Standing). K x.secondary) f.names ∙ is.secondary;
+}
+
+module _ (laws : ImageLaws) (K : Option Identity → Bool) (r : Rules) (g : Geometry) (ok : IsLayout g) where
+  -- both images at rest pass it
+  leads_passes : (m : Moment) (e : Event) (n : Moment) → Reached r g m → Passes K m.rested → AllStored K (e ∷ []) → Leads r g m e n → Passes K n.rested
+  leads_passes m (cut c) n is pass stored to = let E : Moment → Type 0 = λ x. Passes K x.rested in subst E (sym to.2) pass
+  leads_passes m boot n is pass stored to =
+      let end = rest_law laws r g ok m.rested is.rest m.content is.cuts is.come in
+      let same : end.0 ≡ to.0 = same_content end.0 to.0 (sym end.1.end ∙ to.2) in
+      let F : Content → Type 0 = λ x. Passes K x in
+      let E : Moment → Type 0 = λ x. Passes K x.rested in
+      subst E (sym to.4) (subst F same (turned_passes K r g m.rested m.content end.0 pass end.2.turned))
+  leads_passes m (store bytes) n is pass stored to =
+      let E : Moment → Type 0 = λ x. Passes K x.rested in
+      let here = ap (λ (s : Content). K (id_of s.primary)) (is.running to.0) ∙ pass.primary in
+      subst E (sym to.2) (record { primary = here; secondary = stored.0 })
+  leads_passes m (mark bytes) n is pass stored to =
+      let E : Moment → Type 0 = λ x. Passes K x.rested in
+      let F : Content → Type 0 = λ x. Passes K x in
+      let at = subst F (sym (is.running to.0)) pass in
+      subst E (sym to.3) (record {
+        primary = ap K (kept_mark laws g ok m.content (runs_at_rest r g m is to.0) bytes to.2).id ∙ at.primary;
+        secondary = at.secondary;
+      })
+  leads_passes m confirm n is pass stored to =
+      let E : Moment → Type 0 = λ x. Passes K x.rested in
+      let F : Content → Type 0 = λ x. Passes K x in
+      let at = subst F (sym (is.running to.0)) pass in
+      let rest = runs_at_rest r g m is to.0 in
+      subst E (sym to.1) (record {
+        primary = ap K (confirmed_primary laws g ok m.content rest) ∙ at.primary;
+        secondary = ap (λ xs. K (id_of xs)) (confirmed_secondary laws g ok m.content rest) ∙ at.secondary;
+      })
+
+  first_of : (e : Event) (events : List Event) → AllStored K (e ∷ events) → AllStored K (e ∷ []) × AllStored K events
+  first_of (cut c) events stored = (tt, stored)
+  first_of boot events stored = (tt, stored)
+  first_of (store bytes) events stored = ((stored.0, tt), stored.1)
+  first_of confirm events stored = (tt, stored)
+  first_of (mark bytes) events stored = (tt, stored)
+
+  lives_passes : (events : List Event) (m n : Moment) → Reached r g m → Passes K m.rested → AllStored K events → Lives r g m events n → Passes K n.rested
+  lives_passes [] m n is pass stored same = let E : Moment → Type 0 = λ x. Passes K x.rested in subst E (sym same) pass
+  lives_passes (e ∷ events) m n is pass stored to =
+      let parts = first_of e events stored in
+      lives_passes events to.0 n (leads laws r g ok m e to.0 is to.1) (leads_passes m e to.0 is pass parts.0 to.1) parts.1 to.2
+
+pub only_law : ImageLaws → (r : Rules) → OnlyLaw r
+only_law laws r K g s z runs events m ok delivered lived p q stored left =
+    let began = at_rest r g s runs (rests_delivered g s ok delivered) in
+    let is = lives laws r g ok events (resting s runs) m began lived in
+    let pass = lives_passes laws K r g ok events (resting s runs) m began (record { primary = p; secondary = q }) stored lived in
+    let end = rest_law laws r g ok m.rested is.rest m.content is.cuts is.come in
+    let E : Content → Type 0 = λ x. K (id_of x.primary) ≡ true in
+    subst E (same_content end.0 z (sym end.1.end ∙ left)) (turned_passes K r g m.rested m.content end.0 pass end.2.turned).primary
+
+-- the boot leads on
+runs_of : (x : PowerOn) → option_map (λ o. o.result) (outcome_of x) ≡ Some results.Boot → starts_image x ≡ Some true
+runs_of x boots = go (outcome_of x) boots
+  where
+    go : (o : Option Report) → option_map (λ o. o.result) o ≡ Some results.Boot → option_map (λ o. is_boot o.result) o ≡ Some true
+    go None e = absurd (none e)
+      where
+        none : None ≡ Some results.Boot → ⊥
+        none e = cc
+    go (Some o) e = ap (option_map is_boot) e
+
+pub life_law : ImageLaws → (r : Rules) → LifeLaw r
+life_law laws r g s runs events m ok delivered lived =
+    let is = lives laws r g ok events (resting s runs) m (at_rest r g s runs (rests_delivered g s ok delivered)) lived in
+    let end = rest_law laws r g ok m.rested is.rest m.content is.cuts is.come in
+    (end.0, record { well = end.1; leads = (end.0, true, end.1.end, runs_of (power_on r g m.content) end.1.result, refl); turned = end.2.turned })

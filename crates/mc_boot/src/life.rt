@@ -1,0 +1,30 @@
+//! The law of a device's whole life.
+ghost use Rattle.mc_trailer.specs.declared.tables.Rules.{Rules};
+ghost use Rattle.mc_boot.specs.Life.{LifeLaw, NextLaw, OnlyLaw, StartsLaw, WearLaw, WorkLaw};
+
+use mc_image::{one_reading, same_front};
+
+/// The life law: no sequence of power cuts bricks a device, in its whole life.
+///
+/// Take any flash that a device can be delivered with, and any list of events from there on: power-on with a power cut before
+/// any operation of the boot; power-on with a boot that is left alone; and, while an image runs, that it leaves the secondary
+/// slot with any bytes whatever, and that it confirms itself. Then the next boot, left alone, is
+/// refused no operation, does not panic, and boots, and the images stand, whole, as the flash on which the device last rested
+/// asks for (`life`). What that is follows from the secondary slot and from whether the primary's image is on trial (`next`), and
+/// every image that ever runs was delivered, or left whole in the secondary by one that ran (`only`).
+///
+/// It holds by whole calls and unit by unit, and for both profiles. A revert unit by unit in the first profile can be forgotten
+/// where power is lost within the secondary's magic: then the image on trial stays.
+///
+/// Whatever a running image erases or writes in the secondary is covered (`work`), and so are the starts of two images (`starts`).
+pub fn life_law()
+    ensures life { (rules : Rules) → LifeLaw rules }
+    ensures next { (rules : Rules) → NextLaw rules }
+    ensures only { (rules : Rules) → OnlyLaw rules }
+    ensures work { WorkLaw }
+    ensures starts { StartsLaw }
+    ensures wear { WearLaw }
+{
+    one_reading();
+    same_front();
+}
