@@ -1,5 +1,5 @@
 -- What the words of an argument say.
-use Rattle.std.specs.Prelude.{◌≡◌, ◌≤◌, ℕ, Bool, true, false, List, Option, Some, None, unwrap_or, option_map, is_some, ◌&&◌, codes, Result, Err, IsOk}
+use Rattle.std.specs.Prelude.{◌≡◌, ◌≤◌, ℕ, Bool, true, false, List, Option, Some, None, unwrap_or, option_map, is_some, IfSome, ◌&&◌, codes, Result, Err, IsOk}
 use Rattle.clap.specs.Words.{first_value, one_text}
 use Rattle.clap.specs.declared.parser.matches.Found.{Found}
 use Rattle.mc_image.specs.VersionText.{Names}
@@ -8,15 +8,16 @@ use Rattle.mc_command.specs.Numbers.{TellsNumber, MayTellNumber, IsUnit}
 use Rattle.mc_command.specs.declared.numbers.NumberOption.TheVariants as numbers
 use Rattle.mc_flash.specs.Geometry.{Geometry}
 use Rattle.mc_flash.specs.declared.layout.LayoutError.{LayoutError}
-use Rattle.mc_start.specs.CursorText.{cursor_text}
+use Rattle.mc_start.specs.CursorText.{cursor_text, IsCursor}
 use Rattle.mc_campaign.specs.CursorText as campaigns
 use Rattle.mc_campaign.specs.declared.cursor.CampaignCursor.{CampaignCursor}
-use Rattle.mc_start.specs.Texts.{schedule_text}
+use Rattle.mc_start.specs.Texts.{schedule_text, IsSchedule}
 use Rattle.mc_boot.specs.declared.kind.Kind.{Kind}
 use Rattle.mc_boot.specs.declared.kind.Kind.TheVariants as kinds
 use Rattle.mc_flash.specs.Texts.{grain_text}
 use Rattle.mc_trailer.specs.declared.tables.Rules.{Rules}
 use Rattle.mc_trailer.specs.Texts.{profile_text}
+use Rattle.mc_command.specs.declared.options.ExploreOptions.{ExploreOptions}
 use Rattle.mc_command.specs.declared.options.FlashOptions.{FlashOptions}
 use Rattle.mc_command.specs.declared.options.RangeOptions.{RangeOptions}
 use Rattle.mc_command.specs.declared.options.Source.{Source}
@@ -110,6 +111,11 @@ pub record TellsFlash (found : Found) (o : FlashOptions) : Type 0 where
   pub layout : TellsLayout found o.layout
   pub rules : TellsRules found o.rules
 
+-- the arguments tell the most cuts and the most rows
+pub record TellsExtent (found : Found) (o : ExploreOptions) : Type 0 where
+  pub cuts : TellsNumber found numbers.Cuts o.cuts
+  pub limit : TellsNumber found numbers.Limit o.limit
+
 -- the text of an option is that of a schedule, or the option is left out
 abbrev pub MayTellSchedule : Found → List ℕ → Option (List ℕ) → Type 0
 MayTellSchedule found name schedule = first_value found name ≡ option_map schedule_text schedule
@@ -124,6 +130,12 @@ pub record TellsRange (found : Found) (o : RangeOptions) : Type 0 where
   pub after : MayTellSchedule found (codes "after") o.after
   pub until : MayTellSchedule found (codes "until") o.until
   pub one : tells_both found ≡ false
+
+-- the cursor and the schedules, where there are some, are such that have texts of their own
+pub record HasTexts (o : RangeOptions) : Type 0 where
+  pub cursor : IfSome o.cursor IsCursor
+  pub after : IfSome o.after IsSchedule
+  pub until : IfSome o.until IsSchedule
 
 -- the arguments tell after which campaign an exploration goes on, or none
 abbrev pub MayTellCampaign : Found → Option CampaignCursor → Type 0

@@ -1,11 +1,13 @@
 //! What the words of a command line say.
-ghost use Rattle.std.specs.Prelude.{◌≡◌, ◌≤◌, ℕ, codes, true, false, Some, None, Err, IfOk, IsOk, MatchResult, MatchOption};
+ghost use Rattle.std.specs.Prelude.{◌≡◌, ◌≤◌, ℕ, List, Option, codes, true, false, Some, None, Err, IfOk, IfSome, IsOk, MatchResult, MatchOption};
 ghost use Rattle.clap.specs.Matches.{found_of};
 ghost use Rattle.clap.specs.Words.{first_value};
 ghost use Rattle.mc_command.specs.Numbers.{TellsNumber, IsUnit};
 ghost use Rattle.mc_flash.specs.Geometry.{Geometry, refusal_of};
 ghost use Rattle.mc_command.specs.Arguments.{TellsCreate, TellsLayout, Judges, TellsSource, RefusesSource, is_source, kind_text};
-ghost use Rattle.mc_command.specs.Arguments.{TellsRules, TellsFlash, TellsRange, MayTellSchedule, MayTellCampaign, tells_both};
+ghost use Rattle.mc_command.specs.Arguments.{TellsRules, TellsFlash, TellsExtent, TellsRange, HasTexts, MayTellSchedule, MayTellCampaign, tells_both};
+ghost use Rattle.mc_start.specs.Texts.{IsSchedule};
+ghost use Rattle.mc_campaign.specs.CursorText.{IsCursor};
 
 use crate::numbers::NumberOption;
 use crate::refusal::Refusal;
@@ -205,6 +207,8 @@ pub struct ExploreOptions {
 /// `Argument` where they are missing, or out of their range.
 pub fn census_options(arguments: &ArgMatches<'_>) -> Result<u8, Refusal>
     ensures told { IfOk result (TellsNumber (found_of arguments.now) NumberOption.Cuts) }
+    ensures taken { (n : ℕ) → TellsNumber (found_of arguments.now) NumberOption.Cuts n
+        → IsOk result }
     ensures range { IfOk result (λ cuts. cuts ≤ 16) }
 {
     Ok(NumberOption::Cuts.read_required(arguments)? as u8)
@@ -216,8 +220,8 @@ pub fn census_options(arguments: &ArgMatches<'_>) -> Result<u8, Refusal>
 ///
 /// `Argument` where one is missing, or out of its range.
 pub fn explore_options(arguments: &ArgMatches<'_>) -> Result<ExploreOptions, Refusal>
-    ensures told { IfOk result (λ o. TellsNumber (found_of arguments.now) NumberOption.Cuts o.cuts
-        × TellsNumber (found_of arguments.now) NumberOption.Limit o.limit) }
+    ensures told { IfOk result (TellsExtent (found_of arguments.now)) }
+    ensures taken { (o : ExploreOptions) → TellsExtent (found_of arguments.now) o → IsOk result }
     ensures range { IfOk result (λ o. (o.cuts ≤ 16) × (1 ≤ o.limit)) }
 {
     Ok(ExploreOptions {
@@ -243,7 +247,9 @@ pub struct RangeOptions {
 ///
 /// `Schedule` where its text is no schedule's.
 fn schedule_option(arguments: &ArgMatches<'_>, name: &str) -> Result<Option<Schedule>, Refusal>
-    ensures { IfOk result (MayTellSchedule (found_of arguments.now) name.now) }
+    ensures told { IfOk result (MayTellSchedule (found_of arguments.now) name.now) }
+    ensures taken { (o : Option (List ℕ)) → IfSome o IsSchedule
+        → MayTellSchedule (found_of arguments.now) name.now o → IsOk result }
 {
     match arguments.get_str(name) {
         Some(text) => Ok(Some(Schedule::read(text)?)),
@@ -259,6 +265,8 @@ fn schedule_option(arguments: &ArgMatches<'_>, name: &str) -> Result<Option<Sche
 /// schedule's.
 pub fn range_options(arguments: &ArgMatches<'_>) -> Result<RangeOptions, Refusal>
     ensures told { IfOk result (TellsRange (found_of arguments.now)) }
+    ensures taken { (o : RangeOptions) → HasTexts o → TellsRange (found_of arguments.now) o
+        → IsOk result }
     ensures both { tells_both (found_of arguments.now) ≡ true → result
         ≡ Err Refusal.CursorOptions }
 {
@@ -283,7 +291,9 @@ pub fn range_options(arguments: &ArgMatches<'_>) -> Result<RangeOptions, Refusal
 ///
 /// `Cursor` where the text is no cursor's of campaigns.
 pub fn campaign_cursor(arguments: &ArgMatches<'_>) -> Result<Option<CampaignCursor>, Refusal>
-    ensures { IfOk result (MayTellCampaign (found_of arguments.now)) }
+    ensures told { IfOk result (MayTellCampaign (found_of arguments.now)) }
+    ensures taken { (o : Option CampaignCursor) → IfSome o IsCursor
+        → MayTellCampaign (found_of arguments.now) o → IsOk result }
 {
     match arguments.get_str("cursor") {
         Some(text) => Ok(Some(CampaignCursor::read(text)?)),

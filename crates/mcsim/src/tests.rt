@@ -8,6 +8,7 @@ mod faulty;
 mod hostile;
 mod layouts;
 mod pages;
+mod sixteen;
 mod support;
 mod texts;
 mod tracing;

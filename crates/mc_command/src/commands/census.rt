@@ -1,4 +1,11 @@
 //! `census`: what all schedules of power cuts come to, without listing them.
+ghost use Rattle.std.specs.Prelude.{◌≡◌, List, Err};
+ghost use Rattle.std.specs.Io.KnownBytes.{Appends};
+ghost use Rattle.mc_explore.specs.Census.{census_of};
+ghost use Rattle.mc_explore.specs.CensusText.{census_text};
+ghost use Rattle.mc_explore.specs.State.{Told};
+ghost use Rattle.mc_command.specs.Verdicts.{IsVerdict};
+
 use crate::options::{census_options, flash_options};
 use crate::refusal::Refusal;
 use crate::source::read_start;
@@ -50,9 +57,15 @@ pub fn run<F: Files, O: Write>(
 /// # Errors
 ///
 /// `Write` where the output cannot be written; `NotAllBoot`.
-fn print_census<O: Write>(census: &Census, all_boot: bool, out: &mut O) -> Result<(), Refusal> {
+fn print_census<O: Write>(census: &Census, all_boot: bool, out: &mut O) -> Result<(), Refusal>
+    ensures verdict { (rows : List Told) → census.now ≡ census_of rows
+        → IsVerdict all_boot rows result }
+    // The census is out, unless the write failed.
+    ensures written { (result ≡ Err Refusal.Write → ⊥)
+        → Appends (O.contents out.old) (O.contents out.new) (census_text census.now) }
+{
     write!(out, "{census}").map_err(|_| Refusal::Write)?;
-    if all_boot && census.first_not_boot.is_some() {
+    if all_boot && !census.all_boot() {
         return Err(Refusal::NotAllBoot);
     }
     Ok(())

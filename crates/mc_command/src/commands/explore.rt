@@ -1,5 +1,9 @@
 //! `explore` and `survey`: every schedule of power cuts, with what the boot after it does, and how many do what.
-ghost use Rattle.std.specs.Prelude.{◌≤◌, IfOk};
+ghost use Rattle.std.specs.Prelude.{◌≡◌, ◌≤◌, Err, IfOk};
+ghost use Rattle.std.specs.Io.KnownBytes.{Appends};
+ghost use Rattle.mc_explore.specs.Page.{Page};
+ghost use Rattle.mc_explore.specs.Survey.{tally_of, tally_text};
+ghost use Rattle.mc_command.specs.Verdicts.{IsVerdict};
 
 use super::write_in_blocks;
 use crate::options::{ExploreOptions, RangeOptions, explore_options, flash_options, range_options};
@@ -134,9 +138,15 @@ pub fn survey<F: Files, O: Write>(
 /// # Errors
 ///
 /// `Write` where the output cannot be written; `NotAllBoot`.
-fn print_tally<O: Write>(tally: &Tally, all_boot: bool, out: &mut O) -> Result<(), Refusal> {
+fn print_tally<O: Write>(tally: &Tally, all_boot: bool, out: &mut O) -> Result<(), Refusal>
+    ensures verdict { (page : Page) → tally.now ≡ tally_of page
+        → IsVerdict all_boot page.rows result }
+    // The tally is out, unless the write failed.
+    ensures written { (result ≡ Err Refusal.Write → ⊥)
+        → Appends (O.contents out.old) (O.contents out.new) (tally_text tally.now) }
+{
     write!(out, "{tally}").map_err(|_| Refusal::Write)?;
-    if all_boot && tally.boot != tally.rows {
+    if all_boot && !tally.all_boot() {
         return Err(Refusal::NotAllBoot);
     }
     Ok(())

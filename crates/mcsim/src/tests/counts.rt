@@ -48,6 +48,10 @@ $ survey WORKED --flash in --cuts 0 --limit 1000 < BEGUN,976=50000000,984=02,993
 rows 1; boot 0; none 0; panic 0; fault 1; most-ops 13; end
 $ survey WORKED --flash in --cuts 1 --limit 1000 < BEGUN,976=50000000,984=02,993=00
 rows 14; boot 0; none 0; panic 0; fault 14; most-ops 13; end
+$ survey WORKED --flash in --grain unit --cuts 1 < MIXED
+rows 116; boot 115; none 1; panic 0; fault 0; most-ops 115; end
+$ survey WORKED --flash in --grain unit --cuts 1 --all-boot < MIXED
+rows 116; boot 115; none 1; panic 0; fault 0; most-ops 115; end; ! mcsim: E74 NotAllBoot; exit 1
 ";
 
 #[test]
@@ -79,6 +83,10 @@ $ census WORKED --kind perm IMAGES --cuts 2
 schedules 247; boot 247; none 0; panic 0; fault 0; most-ops 19; first-not-boot none
 $ census WORKED --kind test IMAGES --grain unit --cuts 1
 schedules 110; boot 110; none 0; panic 0; fault 0; most-ops 109; first-not-boot none
+$ census WORKED --flash in --grain unit --cuts 1 < MIXED
+schedules 116; boot 115; none 1; panic 0; fault 0; most-ops 115; first-not-boot 4
+$ census WORKED --flash in --grain unit --cuts 1 --all-boot < MIXED
+schedules 116; boot 115; none 1; panic 0; fault 0; most-ops 115; first-not-boot 4; ! mcsim: E74 NotAllBoot; exit 1
 ";
 
 #[test]

@@ -135,7 +135,7 @@ plain 0x0010 32 4dcc5778bca9c831b86de779361dfbc68a9740b5fcc3297188767c3aa8cba2e4
 total 92";
 
 /// What stands for what in a session.
-fn words_in_full() -> [(&'static str, &'static str); 18] {
+fn words_in_full() -> [(&'static str, &'static str); 19] {
     [
         ("; ", "\n"),
         (
@@ -167,6 +167,7 @@ fn words_in_full() -> [(&'static str, &'static str); 18] {
             "9b07a99687c30f1c748c995c0d4df48a8af881b571e209fd613b03ba09e2b5b7",
         ),
         ("BEGUN", "1792:1008=MAGIC"),
+        ("MIXED", "1792:992=01,1008=MAGIC,1024=second"),
         (
             "UNSET",
             "magic=unset image-ok=unset copy-done=unset swap-info=0xff swap-size=4294967295",
