@@ -39,6 +39,11 @@ unfolding confirmed trailer_of
 confirmed_pieces grains.Call g s = refl
 confirmed_pieces grains.Unit g s = refl
 
+pub may_pieces : (c : Grain) (g : Geometry) (s : Content) → may_confirm (in_pieces c g) s ≡ may_confirm g s
+unfolding trailer_of
+may_pieces grains.Call g s = refl
+may_pieces grains.Unit g s = refl
+
 -- after a test: image-ok is written, and the swap stays
 pub record Confirmed (x : PowerOn) (n : ℕ) (m : Content) : Type 0 where
   pub data_ : Data x.geometry n x.content (3 * n) m
@@ -62,7 +67,7 @@ module _ (from : PowerOn) (size n : ℕ) (z : Content) (w : Swap from.geometry f
   all_three : (p : Trailer) (free : Bool) → p.magic ≡ magics.Good → p.copy_done ≡ flags.Set → free ≡ true → (is_good p.magic && is_set p.copy_done && free) ≡ true
   all_three p free good set is = rw good (rw set (rw is refl))
 
-  may : may_confirm from.geometry z ≡ true
+  pub may : may_confirm from.geometry z ≡ true
   may =
       all_three (trailer_of from.geometry z Primary) (is_blank (bytes_at z Primary (place from.geometry Primary field.ImageOk) from.geometry.unit))
       (reads_good from.geometry z Primary w.ok e.2.data_.sized (e.2.primary field.Magic))

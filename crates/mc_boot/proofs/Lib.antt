@@ -40,8 +40,8 @@ pub mod Readings
 pub mod Works
 pub mod Wearing
 pub mod DeliveredStarts
-pub mod Telling
-pub mod Turning
+pub mod NextBoots
+pub mod FromRest
 pub mod Cycles
 pub mod Reverting
 pub mod AtRest

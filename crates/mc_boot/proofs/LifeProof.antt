@@ -7,11 +7,11 @@ use Rattle.std.proofs.Math.Nat.{mul-le-mul_right}
 use Rattle.mc_boot.proofs.AtRest.{AtRest}
 use Rattle.mc_boot.proofs.FieldWrites.{place_behind_data}
 use Rattle.mc_boot.proofs.SameImages.{HasImage, ImageLaws, SameImage, has_same, same_image}
-use Rattle.mc_boot.proofs.Telling.{next_is}
-use Rattle.mc_boot.proofs.Turning.{done_rests, no_trial, rest_law, same_names}
+use Rattle.mc_boot.proofs.NextBoots.{next_is}
+use Rattle.mc_boot.proofs.FromRest.{done_rests, no_trial, rest_law, same_names}
 use Rattle.mc_boot.specs.Confirm.{confirmed, may_confirm}
 use Rattle.mc_boot.specs.Image.{image_size}
-use Rattle.mc_boot.specs.Life.{AreSecondary, Event, Forgets, AllStored, IsDelivered, Leads, LifeLaw, Lives, Moment, NextLaw, OnlyLaw, Standing, Tells, Turned, asked_of, booted_by, can_swap, confirmed_by, done_or_fails, is_boot, is_on_trial, resting, standing, starts_image, cut, boot, store, confirm, mark}
+use Rattle.mc_boot.specs.Life.{AreSecondary, Event, Forgets, AllStored, IsDelivered, Leads, LifeLaw, Lives, Moment, NextLaw, OnlyLaw, DeviceState, Predicts, Leaves, asked_of, booted_by, can_swap, confirmed_by, done_or_fails, is_boot, is_on_trial, resting, device_state, starts_image, cut, boot, store, confirm, mark}
 use Rattle.mc_boot.specs.Outcome.{Report, outcome_of}
 use Rattle.mc_boot.specs.PowerOn.{PowerOn, power_on}
 use Rattle.mc_boot.specs.declared.outcome.BootResult.TheVariants as results
@@ -217,7 +217,7 @@ module _ (laws : ImageLaws) (r : Rules) (g : Geometry) (ok : IsLayout g) where
   lives [] m n is same = let E : Moment → Type 0 = λ x. Reached r g x in subst E (sym same) is
   lives (e ∷ events) m n is to = lives events to.0 n (leads m e to.0 is to.1) to.2
 
--- ---- what it tells
+-- ---- what it predicts
 
 module _ (laws : ImageLaws) (r : Rules) (g : Geometry) (ok : IsLayout g) (s : Content) (rest : AtRest g s) where
   -- the trailer of the secondary is another
@@ -232,11 +232,11 @@ module _ (laws : ImageLaws) (r : Rules) (g : Geometry) (ok : IsLayout g) (s : Co
   after_trial trial true good = rw good refl
   after_trial trial false good = rw good refl
 
-  tells : Tells r g s
+  predicts : Predicts r g s
   unfolding confirmed
-  tells = record { next = next_is r g ok s rest; confirms = confirms }
+  predicts = record { next = next_is r g ok s rest; confirms = confirms }
     where
-      confirms : may_confirm g s ≡ true → standing r g (if may_confirm g s then with_ok laws g ok s rest else s) ≡ confirmed_by (is_good (trailer_of g s Secondary).magic) (standing r g s)
+      confirms : may_confirm g s ≡ true → device_state r g (if may_confirm g s then with_ok laws g ok s rest else s) ≡ confirmed_by (is_good (trailer_of g s Secondary).magic) (device_state r g s)
       confirms may =
           let m : Content = with_ok laws g ok s rest in
           let copied = set_of (trailer_of g s Primary).copy_done
@@ -251,14 +251,14 @@ module _ (laws : ImageLaws) (r : Rules) (g : Geometry) (ok : IsLayout g) (s : Co
           ∙ ap (λ q. done_or_fails (asked_of r.profile false q) (can_swap g s.secondary)) other_trailer
           ∙ after_trial (is_on_trial (trailer_of g s Primary)) (is_good (trailer_of g s Secondary).magic) refl
           ∙ ap (λ k. if is_good (trailer_of g s Secondary).magic then k else kinds.None) (sym (next_is r g ok s rest)) in
-          ap (λ (c : Bool). standing r g (if c then m else s)) may
+          ap (λ (c : Bool). device_state r g (if c then m else s)) may
           ∙ same_names (id_of m.primary) (id_of s.primary) (is_on_trial (trailer_of g m Primary)) false (id_of s.secondary) (id_of s.secondary) (plan (power_on r g m)).kind
           (if is_good (trailer_of g s Secondary).magic then (plan (power_on r g s)).kind else kinds.None) (kept laws g ok s rest).id over refl next
 
 pub next_law : ImageLaws → (r : Rules) → NextLaw r
 next_law laws r g s runs events m ok delivered lived =
     let is = lives laws r g ok events (resting s runs) m (at_rest r g s runs (rests_delivered g s ok delivered)) lived in
-    tells laws r g ok m.rested is.rest
+    predicts laws r g ok m.rested is.rest
 
 -- ---- where images come from
 
@@ -267,7 +267,7 @@ record Passes (K : Option Identity → Bool) (s : Content) : Type 0 where
   primary : K (id_of s.primary) ≡ true
   secondary : K (id_of s.secondary) ≡ true
 
-booted_passes : (K : Option Identity → Bool) (kind : SwapType) (x : Standing) → K x.primary ≡ true → K x.secondary ≡ true
+booted_passes : (K : Option Identity → Bool) (kind : SwapType) (x : DeviceState) → K x.primary ≡ true → K x.secondary ≡ true
     → (K (booted_by kind x).primary ≡ true) × (K (booted_by kind x).secondary ≡ true)
 booted_passes K kinds.None x p q = (p, q)
 booted_passes K kinds.Fail x p q = (p, q)
@@ -276,16 +276,16 @@ booted_passes K kinds.Test x p q = (q, p)
 booted_passes K kinds.Perm x p q = (q, p)
 booted_passes K kinds.Revert x p q = (q, p)
 
-turned_passes : (K : Option Identity → Bool) (r : Rules) (g : Geometry) (s u z : Content) → Passes K s → Turned r g s z ⊎ Forgets r g s u z → Passes K z
-turned_passes K r g s u z is (inl t) =
-    let both = booted_passes K (plan (power_on r g s)).kind (standing r g s) is.primary is.secondary in
+leaves_passes : (K : Option Identity → Bool) (r : Rules) (g : Geometry) (s u z : Content) → Passes K s → Leaves r g s z ⊎ Forgets r g s u z → Passes K z
+leaves_passes K r g s u z is (inl t) =
+    let both = booted_passes K (plan (power_on r g s)).kind (device_state r g s) is.primary is.secondary in
     record {
-      primary = ap (λ (x : Standing). K x.primary) t.names ∙ both.0;
-      secondary = ap (λ (x : Standing). K x.secondary) t.names ∙ both.1;
+      primary = ap (λ (x : DeviceState). K x.primary) t.names ∙ both.0;
+      secondary = ap (λ (x : DeviceState). K x.secondary) t.names ∙ both.1;
     }
-turned_passes K r g s u z is (inr f) = record {
-  primary = ap (λ (x : Standing). K x.primary) f.names ∙ is.primary;
-  secondary = ap (λ (x : Standing). K x.secondary) f.names ∙ is.secondary;
+leaves_passes K r g s u z is (inr f) = record {
+  primary = ap (λ (x : DeviceState). K x.primary) f.names ∙ is.primary;
+  secondary = ap (λ (x : DeviceState). K x.secondary) f.names ∙ is.secondary;
 }
 
 module _ (laws : ImageLaws) (K : Option Identity → Bool) (r : Rules) (g : Geometry) (ok : IsLayout g) where
@@ -297,7 +297,7 @@ module _ (laws : ImageLaws) (K : Option Identity → Bool) (r : Rules) (g : Geom
       let same : end.0 ≡ to.0 = same_content end.0 to.0 (sym end.1.end ∙ to.2) in
       let F : Content → Type 0 = λ x. Passes K x in
       let E : Moment → Type 0 = λ x. Passes K x.rested in
-      subst E (sym to.4) (subst F same (turned_passes K r g m.rested m.content end.0 pass end.2.turned))
+      subst E (sym to.4) (subst F same (leaves_passes K r g m.rested m.content end.0 pass end.2.leaves))
   leads_passes m (store bytes) n is pass stored to =
       let E : Moment → Type 0 = λ x. Passes K x.rested in
       let here = ap (λ (s : Content). K (id_of s.primary)) (is.running to.0) ∙ pass.primary in
@@ -340,7 +340,7 @@ only_law laws r K g s z runs events m ok delivered lived p q stored left =
     let pass = lives_passes laws K r g ok events (resting s runs) m began (record { primary = p; secondary = q }) stored lived in
     let end = rest_law laws r g ok m.rested is.rest m.content is.cuts is.come in
     let E : Content → Type 0 = λ x. K (id_of x.primary) ≡ true in
-    subst E (same_content end.0 z (sym end.1.end ∙ left)) (turned_passes K r g m.rested m.content end.0 pass end.2.turned).primary
+    subst E (same_content end.0 z (sym end.1.end ∙ left)) (leaves_passes K r g m.rested m.content end.0 pass end.2.leaves).primary
 
 -- the boot leads on
 runs_of : (x : PowerOn) → option_map (λ o. o.result) (outcome_of x) ≡ Some results.Boot → starts_image x ≡ Some true
@@ -357,4 +357,4 @@ pub life_law : ImageLaws → (r : Rules) → LifeLaw r
 life_law laws r g s runs events m ok delivered lived =
     let is = lives laws r g ok events (resting s runs) m (at_rest r g s runs (rests_delivered g s ok delivered)) lived in
     let end = rest_law laws r g ok m.rested is.rest m.content is.cuts is.come in
-    (end.0, record { well = end.1; leads = (end.0, true, end.1.end, runs_of (power_on r g m.content) end.1.result, refl); turned = end.2.turned })
+    (end.0, record { well = end.1; leads = (end.0, true, end.1.end, runs_of (power_on r g m.content) end.1.result, refl); leaves = end.2.leaves })

@@ -115,14 +115,14 @@ is_on_trial p = is_good p.magic && is_unset p.image_ok && is_set p.copy_done
 
 -- How a device rests, in names: the image that the primary begins with, and whether it is on trial; the image that the secondary
 -- begins with; and the type that the next boot will have.
-pub record Standing : Type 0 where
+pub record DeviceState : Type 0 where
   pub primary : Option Identity
   pub trial : Bool
   pub secondary : Option Identity
   pub next : SwapType
 
-abbrev pub standing : Rules → Geometry → Content → Standing
-standing r g s = record {
+abbrev pub device_state : Rules → Geometry → Content → DeviceState
+device_state r g s = record {
   primary = id_of s.primary;
   trial = is_on_trial (trailer_of g s Primary);
   secondary = id_of s.secondary;
@@ -130,12 +130,12 @@ standing r g s = record {
 }
 
 -- The images change places.
-abbrev pub exchanged : Standing → Bool → SwapType → Standing
+abbrev pub exchanged : DeviceState → Bool → SwapType → DeviceState
 exchanged x trial next = record { primary = x.secondary; trial = trial; secondary = x.primary; next = next }
 
 -- What a boot makes of it, however often it was cut: a test ends with the other image on trial, and a revert asked for; a swap that
 -- stays and a revert with the other image for good. The others leave all as it was.
-abbrev pub booted_by : SwapType → Standing → Standing
+abbrev pub booted_by : SwapType → DeviceState → DeviceState
 booted_by kinds.None x = x
 booted_by kinds.Fail x = x
 booted_by kinds.Panic x = x
@@ -143,11 +143,11 @@ booted_by kinds.Test x = exchanged x true kinds.Revert
 booted_by kinds.Perm x = exchanged x false kinds.None
 booted_by kinds.Revert x = exchanged x false kinds.None
 
-abbrev pub booted : Standing → Standing
+abbrev pub booted : DeviceState → DeviceState
 booted x = booted_by x.next x
 
 -- A revert that was forgotten: the images stay where they are, the primary's on trial, and the next boot does nothing.
-abbrev pub forgotten : Standing → Standing
+abbrev pub forgotten : DeviceState → DeviceState
 forgotten x = record { primary = x.primary; trial = x.trial; secondary = x.secondary; next = kinds.None }
 
 -- What a flash at rest asks a boot for: what the secondary asks for, if its magic is good; else that a trial is taken back.
@@ -166,7 +166,7 @@ done_or_fails kinds.None can = kinds.None
 done_or_fails kind can = if can then kind else kinds.Fail
 
 -- The image has confirmed itself. Only what the secondary asks for is still asked for.
-abbrev pub confirmed_by : Bool → Standing → Standing
+abbrev pub confirmed_by : Bool → DeviceState → DeviceState
 confirmed_by asked x = record { primary = x.primary; trial = false; secondary = x.secondary; next = if asked then x.next else kinds.None }
 
 -- ---- what holds
@@ -181,18 +181,18 @@ pub record EndsWell (x : PowerOn) (z : Content) : Type 0 where
 
 -- Byte for byte z is what a boot of s is to leave: as many sectors as the plan says are exchanged, and the trailers say that this was a
 -- test, or that it stays; or, where the plan has no operation, all is as it was.
-abbrev pub AreTurned : Rules → Geometry → SwapType → ℕ → Content → Content → Type 0
-AreTurned r g kinds.None n s z = z ≡ s
-AreTurned r g kinds.Fail n s z = z ≡ s
-AreTurned r g kinds.Panic n s z = ⊥
-AreTurned r g kinds.Test n s z = AreExchanged g n s z × IsTested (power_on r g z)
-AreTurned r g kinds.Perm n s z = AreExchanged g n s z × IsSettled (power_on r g z)
-AreTurned r g kinds.Revert n s z = AreExchanged g n s z × IsSettled (power_on r g z)
+abbrev pub LeavesBytes : Rules → Geometry → SwapType → ℕ → Content → Content → Type 0
+LeavesBytes r g kinds.None n s z = z ≡ s
+LeavesBytes r g kinds.Fail n s z = z ≡ s
+LeavesBytes r g kinds.Panic n s z = ⊥
+LeavesBytes r g kinds.Test n s z = AreExchanged g n s z × IsTested (power_on r g z) × (may_confirm g z ≡ true)
+LeavesBytes r g kinds.Perm n s z = AreExchanged g n s z × IsSettled (power_on r g z)
+LeavesBytes r g kinds.Revert n s z = AreExchanged g n s z × IsSettled (power_on r g z)
 
 -- z is what a boot of s is to leave, in bytes and in names.
-pub record Turned (r : Rules) (g : Geometry) (s z : Content) : Type 0 where
-  pub bytes : AreTurned r g (plan (power_on r g s)).kind (plan (power_on r g s)).sectors s z
-  pub names : standing r g z ≡ booted (standing r g s)
+pub record Leaves (r : Rules) (g : Geometry) (s z : Content) : Type 0 where
+  pub bytes : LeavesBytes r g (plan (power_on r g s)).kind (plan (power_on r g s)).sectors s z
+  pub names : device_state r g z ≡ booted (device_state r g s)
 
 -- Unless it was a revert, power was lost, and the rules are those that can forget one then: the boot that is left alone finds
 -- nothing to do.
@@ -201,14 +201,14 @@ pub record Forgets (r : Rules) (g : Geometry) (s u z : Content) : Type 0 where
   pub next : (plan (power_on r g s)).kind ≡ kinds.Revert
   pub idle : (plan (power_on r g u)).list ≡ []
   pub stays : z ≡ u
-  pub names : standing r g z ≡ forgotten (standing r g s)
+  pub names : device_state r g z ≡ forgotten (device_state r g s)
 
 -- The device lives: from where it has come to the next boot, if it is left alone, ends well, with a running image, and leaves
 -- what the flash on which the device last rested asks for.
 pub record LivesOn (r : Rules) (g : Geometry) (m : Moment) (z : Content) : Type 0 where
   pub well : EndsWell (power_on r g m.content) z
   pub leads : Leads r g m boot (resting z true)
-  pub turned : Turned r g m.rested z ⊎ Forgets r g m.rested m.content z
+  pub leaves : Leaves r g m.rested z ⊎ Forgets r g m.rested m.content z
 
 -- By these rules, for every layout, every flash that a device can be delivered with and every list of events: the device lives. A
 -- front of a list of events is a list of events, so that this says it of every boot of a life.
@@ -219,17 +219,17 @@ LifeLaw r =
     → (z : Content) × LivesOn r g m z
 
 -- What a flash at rest will do, by what is on trial and what stands in the secondary; and what a confirmation changes of it.
-pub record Tells (r : Rules) (g : Geometry) (s : Content) : Type 0 where
+pub record Predicts (r : Rules) (g : Geometry) (s : Content) : Type 0 where
   pub next : (plan (power_on r g s)).kind
       ≡ done_or_fails (asked_of r.profile (is_on_trial (trailer_of g s Primary)) (trailer_of g s Secondary)) (can_swap g s.secondary)
   pub confirms : may_confirm g s ≡ true
-      → standing r g (confirmed g s) ≡ confirmed_by (is_good (trailer_of g s Secondary).magic) (standing r g s)
+      → device_state r g (confirmed g s) ≡ confirmed_by (is_good (trailer_of g s Secondary).magic) (device_state r g s)
 
 abbrev pub NextLaw : Rules → Type 0
 NextLaw r =
     (g : Geometry) (s : Content) (runs : Bool) (events : List Event) (m : Moment)
     → IsLayout g → IsDelivered g s → Lives r g (resting s runs) events m
-    → Tells r g m.rested
+    → Predicts r g m.rested
 
 -- All that a running image leaves in the secondary.
 abbrev pub AllStored : (Option Identity → Bool) → List Event → Type 0

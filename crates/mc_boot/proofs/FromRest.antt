@@ -5,6 +5,7 @@ use Rattle.std.proofs.lemmas.Grind.{div_ceil_times}
 use Rattle.std.proofs.Math.Nat.{zero-mul, mul-le-mul_right}
 use Rattle.mc_boot.proofs.AtRest.{AtRest, Idles, Wants, rests_or_wants}
 use Rattle.mc_boot.proofs.Can.{slot_small}
+use Rattle.mc_boot.proofs.Confirming.{may, may_pieces}
 use Rattle.mc_boot.proofs.Cycles.{Steps, cycle, steps_by}
 use Rattle.mc_boot.proofs.Fronts.{front_at_start, front_inside, image_there}
 use Rattle.mc_boot.proofs.InPieces.{exchanged_pieces, pieces_again, plan_in_pieces, primary_pieces, primary_whole, secondary_pieces, secondary_whole, sized_whole, swap_pieces}
@@ -17,8 +18,9 @@ use Rattle.mc_boot.proofs.SameImages.{ImageLaws, SameImage, has_same, some_size}
 use Rattle.mc_boot.proofs.SectorData.{data_begin}
 use Rattle.mc_boot.proofs.StartBytes.{count_of}
 use Rattle.mc_boot.proofs.SwapEnds.{Crossed, crossed, exchanges, settled_end, settled_on, tested_end, tested_on}
+use Rattle.mc_boot.specs.Confirm.{may_confirm}
 use Rattle.mc_boot.specs.Course.{new_list}
-use Rattle.mc_boot.specs.Life.{AreTurned, EndsWell, Forgets, Standing, Turned, booted, booted_by, is_at_rest, is_on_trial, is_swap, standing}
+use Rattle.mc_boot.specs.Life.{LeavesBytes, EndsWell, Forgets, DeviceState, Leaves, booted, booted_by, is_at_rest, is_on_trial, is_swap, device_state}
 use Rattle.mc_boot.specs.Plan.{Plan, nothing, plan}
 use Rattle.mc_boot.specs.PowerOn.{power_on}
 use Rattle.mc_boot.specs.Restart.{AreExchanged, IsSettled}
@@ -43,13 +45,13 @@ use Rattle.mc_trailer.specs.declared.trailer.Magic.TheVariants as magics
 use Rattle.mc_trailer.specs.declared.trailer.Trailer.{Trailer}
 
 -- What a cycle leaves of s, where u is what the last boot begins with.
-pub record Turn (r : Rules) (g : Geometry) (s u z : Content) : Type 0 where
-  pub turned : Turned r g s z ⊎ Forgets r g s u z
+pub record RestsAgain (r : Rules) (g : Geometry) (s u z : Content) : Type 0 where
+  pub leaves : Leaves r g s z ⊎ Forgets r g s u z
   pub rest : AtRest g z
 
 -- ---- names
 
-abbrev pub named : Option Identity → Bool → Option Identity → SwapType → Standing
+abbrev pub named : Option Identity → Bool → Option Identity → SwapType → DeviceState
 named p trial q next = record { primary = p; trial = trial; secondary = q; next = next }
 
 pub same_names : (p x : Option Identity) (a b : Bool) (q y : Option Identity) (next then_ : SwapType) → p ≡ x → a ≡ b → q ≡ y → next ≡ then_ → named p a q next ≡ named x b y then_
@@ -137,19 +139,19 @@ module _ (laws : ImageLaws) (r : Rules) (g : Geometry) (ok : IsLayout g) (s : Co
   G = in_pieces r.grain g
 
   -- nothing to do
-  idle_turn : (i : Idles (power_on r g s)) (u z : Content) → z ≡ s → Turn r g s u z
-  idle_turn i u z same =
+  idle_rests : (i : Idles (power_on r g s)) (u z : Content) → z ≡ s → RestsAgain r g s u z
+  idle_rests i u z same =
       let kind : (plan (power_on r g s)).kind ≡ i.kind = ap (λ (p : Plan). p.kind) i.planned in
-      let E : Content → Type 0 = λ t. Turn r g s u t in
-      let F : SwapType → Type 0 = λ k. AreTurned r g k (plan (power_on r g s)).sectors s s in
-      let still : (k : SwapType) → (k ≡ kinds.None) ⊎ (k ≡ kinds.Fail) → F k × (booted_by k (standing r g s) ≡ standing r g s) = λ k either. at k either in
+      let E : Content → Type 0 = λ t. RestsAgain r g s u t in
+      let F : SwapType → Type 0 = λ k. LeavesBytes r g k (plan (power_on r g s)).sectors s s in
+      let still : (k : SwapType) → (k ≡ kinds.None) ⊎ (k ≡ kinds.Fail) → F k × (booted_by k (device_state r g s) ≡ device_state r g s) = λ k either. at k either in
       let here = still i.kind i.either in
       subst E (sym same) (record {
-        turned = inl (record { bytes = subst F (sym kind) here.0; names = sym (ap (λ k. booted_by k (standing r g s)) kind ∙ here.1) });
+        leaves = inl (record { bytes = subst F (sym kind) here.0; names = sym (ap (λ k. booted_by k (device_state r g s)) kind ∙ here.1) });
         rest = rest;
       })
     where
-      at : (k : SwapType) → (k ≡ kinds.None) ⊎ (k ≡ kinds.Fail) → AreTurned r g k (plan (power_on r g s)).sectors s s × (booted_by k (standing r g s) ≡ standing r g s)
+      at : (k : SwapType) → (k ≡ kinds.None) ⊎ (k ≡ kinds.Fail) → LeavesBytes r g k (plan (power_on r g s)).sectors s s × (booted_by k (device_state r g s) ≡ device_state r g s)
       at kinds.None either = (refl, refl)
       at kinds.Fail either = (refl, refl)
       at kinds.Test either = absurd (elim either [ inl e ↦ cc | inr e ↦ cc ])
@@ -157,10 +159,10 @@ module _ (laws : ImageLaws) (r : Rules) (g : Geometry) (ok : IsLayout g) (s : Co
       at kinds.Revert either = absurd (elim either [ inl e ↦ cc | inr e ↦ cc ])
       at kinds.Panic either = absurd (elim either [ inl e ↦ cc | inr e ↦ cc ])
 
-  idle_law : Idles (power_on r g s) → (u : Content) (cuts : List ℕ) → after (power_on r g s) cuts ≡ Some u → (z : Content) × EndsWell (power_on r g u) z × Turn r g s u z
+  idle_law : Idles (power_on r g s) → (u : Content) (cuts : List ℕ) → after (power_on r g s) cuts ≡ Some u → (z : Content) × EndsWell (power_on r g u) z × RestsAgain r g s u z
   idle_law i u cuts is =
       let end = cycle r g (λ t. t ≡ s) (λ t z. z ≡ s) steps (λ t z. valid z) cuts s u refl is in
-      (end.0, end.1, idle_turn i u end.0 end.2)
+      (end.0, end.1, idle_rests i u end.0 end.2)
     where
       calm : i.kind ≢ kinds.Panic
       calm panic = elim i.either [ inl e ↦ clash kinds.None (sym e ∙ panic) | inr e ↦ clash_fail (sym e ∙ panic) ]
@@ -190,8 +192,8 @@ module _ (laws : ImageLaws) (r : Rules) (g : Geometry) (ok : IsLayout g) (s : Co
     kind_is : (plan (power_on r g s)).kind ≡ kind
     kind_is = ap (λ (p : Plan). p.kind) wants.planned
 
-    booted_is : booted (standing r g s) ≡ booted_by kind (standing r g s)
-    booted_is = ap (λ k. booted_by k (standing r g s)) kind_is
+    booted_is : booted (device_state r g s) ≡ booted_by kind (device_state r g s)
+    booted_is = ap (λ k. booted_by k (device_state r g s)) kind_is
 
     module _ (b : Bool) (z : Content) (e : Ended G s (larger_size s) (count_of g s) b z) where
       held : Crossed s z
@@ -206,12 +208,12 @@ module _ (laws : ImageLaws) (r : Rules) (g : Geometry) (ok : IsLayout g) (s : Co
       absent : (trailer_of g z Secondary).magic ≡ magics.Unset
       absent = reads_absent g z Secondary ok sized (secondary_whole r.grain g z unasked e.2.secondary field.Magic)
 
-      made_turn : (u : Content) (k : SwapType) (trial : Bool) → (AreExchanged g (count_of g s) s z → AreTurned r g kind (count_of g s) s z)
-          → booted_by kind (standing r g s) ≡ named (id_of s.secondary) trial (id_of s.primary) k
-          → (plan (power_on r g z)).kind ≡ k → is_on_trial (trailer_of g z Primary) ≡ trial → (trailer_of g z Primary).copy_done ≡ flags.Set → Turn r g s u z
-      made_turn u k trial turns names next tried set = record {
-        turned = inl (record {
-          bytes = let E : Plan → Type 0 = λ p. AreTurned r g p.kind p.sectors s z in subst E (sym wants.planned) (turns moved);
+      made_rests : (u : Content) (k : SwapType) (trial : Bool) → (AreExchanged g (count_of g s) s z → LeavesBytes r g kind (count_of g s) s z)
+          → booted_by kind (device_state r g s) ≡ named (id_of s.secondary) trial (id_of s.primary) k
+          → (plan (power_on r g z)).kind ≡ k → is_on_trial (trailer_of g z Primary) ≡ trial → (trailer_of g z Primary).copy_done ≡ flags.Set → RestsAgain r g s u z
+      made_rests u k trial turns names next tried set = record {
+        leaves = inl (record {
+          bytes = let E : Plan → Type 0 = λ p. LeavesBytes r g p.kind p.sectors s z in subst E (sym wants.planned) (turns moved);
           names = same_names (id_of z.primary) (id_of s.secondary) (is_on_trial (trailer_of g z Primary)) trial (id_of z.secondary) (id_of s.primary)
               (plan (power_on r g z)).kind k held.primary.id tried held.secondary.id next
               ∙ sym names ∙ sym booted_is;
@@ -265,17 +267,17 @@ module _ (laws : ImageLaws) (r : Rules) (g : Geometry) (ok : IsLayout g) (s : Co
   two_hold false b is = absurd cc
 
   -- a test
-  test_law : Wants (power_on r g s) kinds.Test → (u : Content) (cuts : List ℕ) → after (power_on r g s) cuts ≡ Some u → (z : Content) × EndsWell (power_on r g u) z × Turn r g s u z
+  test_law : Wants (power_on r g s) kinds.Test → (u : Content) (cuts : List ℕ) → after (power_on r g s) cuts ≡ Some u → (z : Content) × EndsWell (power_on r g u) z × RestsAgain r g s u z
   test_law wants u cuts is =
       let p = trailer_of g s Primary in
       let q = trailer_of g s Secondary in
       let asks = two_hold (is_good q.magic) (is_unset q.image_ok) ((types_are_rows r.profile p q kinds.Test).0 wants.table) in
       let are = asked_from g s true (good_of q.magic asks.0) (unset_of q.image_ok asks.1) in
       let end = asked_cycle true kinds.Test wants are u cuts is in
-      (end.0, end.1, turn end.0 end.2)
+      (end.0, end.1, rests end.0 end.2)
     where
-      turn : (z : Content) → Ended G s (larger_size s) (count_of g s) true z → Turn r g s u z
-      turn z e =
+      rests : (z : Content) → Ended G s (larger_size s) (count_of g s) true z → RestsAgain r g s u z
+      rests z e =
           let size = larger_size s in
           let n = count_of g s in
           let first = primary_whole r.grain g z tested (tested_fields G s size n z e) in
@@ -284,25 +286,26 @@ module _ (laws : ImageLaws) (r : Rules) (g : Geometry) (ok : IsLayout g) (s : Co
           let unset = reads_image_ok g z Primary 255 [] (first field.ImageOk) in
           let set = reads_copy_done g z Primary 1 [] (first field.CopyDone) in
           let end = tested_on r g z (tested_end (power_on r G s) size n z (in_parts kinds.Test wants) e) in
-          made_turn kinds.Test wants true z e u kinds.Revert true (λ m. (m, end)) refl end.next (on_trial (trailer_of g z Primary) good unset set) set
+          let free : may_confirm g z ≡ true = sym (may_pieces r.grain g z) ∙ may (power_on r G s) size n z (in_parts kinds.Test wants) e in
+          made_rests kinds.Test wants true z e u kinds.Revert true (λ m. (m, end, free)) refl end.next (on_trial (trailer_of g z Primary) good unset set) set
 
   -- what a swap that stays leaves
-  stays_turn : (kind : SwapType) → (wants : Wants (power_on r g s) kind) → ((z : Content) → AreExchanged g (count_of g s) s z → IsSettled (power_on r g z) → AreTurned r g kind (count_of g s) s z)
-      → booted_by kind (standing r g s) ≡ named (id_of s.secondary) false (id_of s.primary) kinds.None
-      → (u z : Content) → Ended G s (larger_size s) (count_of g s) false z → Turn r g s u z
-  stays_turn kind wants turns names u z e =
+  stays_rests : (kind : SwapType) → (wants : Wants (power_on r g s) kind) → ((z : Content) → AreExchanged g (count_of g s) s z → IsSettled (power_on r g z) → LeavesBytes r g kind (count_of g s) s z)
+      → booted_by kind (device_state r g s) ≡ named (id_of s.secondary) false (id_of s.primary) kinds.None
+      → (u z : Content) → Ended G s (larger_size s) (count_of g s) false z → RestsAgain r g s u z
+  stays_rests kind wants turns names u z e =
       let settled = settled_on r g z (settled_end (power_on r G s) (larger_size s) (count_of g s) z (in_parts kind wants) e) in
-      made_turn kind wants false z e u kinds.None false (λ m. turns z m settled) names settled.next (no_trial (trailer_of g z Primary) settled.image_ok) settled.copy_done
+      made_rests kind wants false z e u kinds.None false (λ m. turns z m settled) names settled.next (no_trial (trailer_of g z Primary) settled.image_ok) settled.copy_done
 
   -- an upgrade that stays
-  perm_law : Wants (power_on r g s) kinds.Perm → (u : Content) (cuts : List ℕ) → after (power_on r g s) cuts ≡ Some u → (z : Content) × EndsWell (power_on r g u) z × Turn r g s u z
+  perm_law : Wants (power_on r g s) kinds.Perm → (u : Content) (cuts : List ℕ) → after (power_on r g s) cuts ≡ Some u → (z : Content) × EndsWell (power_on r g u) z × RestsAgain r g s u z
   perm_law wants u cuts is =
       let p = trailer_of g s Primary in
       let q = trailer_of g s Secondary in
       let asks = two_hold (is_good q.magic) (is_set q.image_ok) ((types_are_rows r.profile p q kinds.Perm).0 wants.table) in
       let are = asked_from g s false (good_of q.magic asks.0) (set_of q.image_ok asks.1) in
       let end = asked_cycle false kinds.Perm wants are u cuts is in
-      (end.0, end.1, stays_turn kinds.Perm wants (λ z m n. (m, n)) refl u end.0 end.2)
+      (end.0, end.1, stays_rests kinds.Perm wants (λ z m n. (m, n)) refl u end.0 end.2)
 
   -- a revert
   four_hold : (a b c d : Bool) → (a && b && c && d) ≡ true → (a ≡ true) × (b ≡ true) × (c ≡ true) × (d ≡ true)
@@ -332,8 +335,8 @@ module _ (laws : ImageLaws) (r : Rules) (g : Geometry) (ok : IsLayout g) (s : Co
     waits_secondary u is =
         image_there G s (larger_size s) (count_of g s) u Secondary Secondary pieces is.data_.sized (front_at_start G s (count_of g s) u Secondary pieces.ok pieces.some pieces.few is.data_)
 
-    lost_turn : (u z : Content) → is_on_trial (trailer_of g s Primary) ≡ true → LostAt u z → Turn r g s u z
-    lost_turn u z tried l =
+    lost_rests : (u z : Content) → is_on_trial (trailer_of g s Primary) ≡ true → LostAt u z → RestsAgain r g s u z
+    lost_rests u z tried l =
         let one = waits_primary u l.waiting in
         let two = waits_secondary u l.waiting in
         let planned : plan (power_on r g u) ≡ nothing kinds.None = sym (plan_in_pieces r g u) ∙ l.planned in
@@ -342,9 +345,9 @@ module _ (laws : ImageLaws) (r : Rules) (g : Geometry) (ok : IsLayout g) (s : Co
         let good = reads_good g u Primary ok here (first field.Magic) in
         let unset = reads_image_ok g u Primary 255 [] (first field.ImageOk) in
         let set = reads_copy_done g u Primary 1 [] (first field.CopyDone) in
-        let E : Content → Type 0 = λ t. Turn r g s u t in
+        let E : Content → Type 0 = λ t. RestsAgain r g s u t in
         subst E (sym l.stays) (record {
-          turned = inr (record {
+          leaves = inr (record {
             rules = l.rules;
             next = kind_is kinds.Revert wants;
             idle = ap (λ (p : Plan). p.list) planned;
@@ -355,7 +358,7 @@ module _ (laws : ImageLaws) (r : Rules) (g : Geometry) (ok : IsLayout g) (s : Co
           rest = rests_same laws g ok s rest u wants.valid here one two set;
         })
 
-    revert_law : (u : Content) (cuts : List ℕ) → after (power_on r g s) cuts ≡ Some u → (z : Content) × EndsWell (power_on r g u) z × Turn r g s u z
+    revert_law : (u : Content) (cuts : List ℕ) → after (power_on r g s) cuts ≡ Some u → (z : Content) × EndsWell (power_on r g u) z × RestsAgain r g s u z
     revert_law u cuts is =
         let p = trailer_of g s Primary in
         let q = trailer_of g s Secondary in
@@ -370,22 +373,22 @@ module _ (laws : ImageLaws) (r : Rules) (g : Geometry) (ok : IsLayout g) (s : Co
         let end = cycle r g Bearing Ending
         (λ t at. revert_steps r G s (larger_size s) (count_of g s) (pieces_again r.grain g) pieces (primary_pieces r.grain g s tested are) planned t at)
         valid cuts s u (inl (inr refl)) is in
-        (end.0, end.1, turn end.0 (on_trial p good unset set) end.2)
+        (end.0, end.1, rests end.0 (on_trial p good unset set) end.2)
       where
         valid : (t z : Content) → Ending t z → is_valid z.primary ≡ true
         valid t z (inl e) = (held kinds.Revert wants false z e).primary.valid
         valid t z (inr l) = ap (λ (x : Content). is_valid x.primary) l.stays ∙ (waits_primary t l.waiting).valid
 
-        turn : (z : Content) → is_on_trial (trailer_of g s Primary) ≡ true → Ending u z → Turn r g s u z
-        turn z tried (inl e) = stays_turn kinds.Revert wants (λ x m n. (m, n)) refl u z e
-        turn z tried (inr l) = lost_turn u z tried l
+        rests : (z : Content) → is_on_trial (trailer_of g s Primary) ≡ true → Ending u z → RestsAgain r g s u z
+        rests z tried (inl e) = stays_rests kinds.Revert wants (λ x m n. (m, n)) refl u z e
+        rests z tried (inr l) = lost_rests u z tried l
 
   -- whatever the flash asks for
-  pub rest_law : (u : Content) (cuts : List ℕ) → after (power_on r g s) cuts ≡ Some u → (z : Content) × EndsWell (power_on r g u) z × Turn r g s u z
+  pub rest_law : (u : Content) (cuts : List ℕ) → after (power_on r g s) cuts ≡ Some u → (z : Content) × EndsWell (power_on r g u) z × RestsAgain r g s u z
   rest_law u cuts is = go (rests_or_wants (power_on r g s) rest.rest)
     where
       go : Idles (power_on r g s) ⊎ (Wants (power_on r g s) kinds.Test ⊎ (Wants (power_on r g s) kinds.Perm ⊎ Wants (power_on r g s) kinds.Revert))
-          → (z : Content) × EndsWell (power_on r g u) z × Turn r g s u z
+          → (z : Content) × EndsWell (power_on r g u) z × RestsAgain r g s u z
       go (inl idle) = idle_law idle u cuts is
       go (inr (inl wants)) = test_law wants u cuts is
       go (inr (inr (inl wants))) = perm_law wants u cuts is
