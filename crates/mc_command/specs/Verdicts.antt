@@ -1,5 +1,5 @@
 -- How a survey and a census end.
-use Rattle.std.specs.Prelude.{◌≡◌, Bool, true, false, List, Result, Ok, Err}
+use Rattle.std.specs.Prelude.{◌≡◌, Bool, true, List, Result, Ok, Err}
 use Rattle.mc_explore.specs.State.{Told}
 use Rattle.mc_explore.specs.Survey.{AllBoot}
 use Rattle.mc_command.specs.declared.refusal.Refusal.{Refusal}

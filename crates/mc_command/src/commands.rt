@@ -1,4 +1,8 @@
 //! The commands, each with its files.
+ghost use Rattle.std.specs.Prelude.{IfOk};
+ghost use Rattle.std.specs.Io.Buffered.{writer_contents};
+ghost use Rattle.std.specs.Io.KnownBytes.{Keeps};
+
 pub mod campaign;
 pub mod census;
 pub mod create;
@@ -20,21 +24,26 @@ use std::io::{BufWriter, Write};
 /// How many bytes of a page go out at once.
 const PAGE_BUFFER: usize = 65_536;
 
-/// Writes a page, which goes out in blocks.
+/// What is written to this goes out in blocks. What is left of them at the end goes out by `finish`.
 ///
 /// # Errors
 ///
-/// `Memory`, `Write`, and what the page refuses.
-fn write_in_blocks<O: Write, P: FnOnce(&mut BufWriter<&mut O>) -> Result<(), ExploreError>>(
-    alloc: Global,
-    out: &mut O,
-    page: P,
-) -> Result<(), ExploreError>
-    requires { P.IsAlwaysCallable page }
+/// `Memory`.
+fn in_blocks<O: Write + Drop>(alloc: Global, out: O) -> Result<BufWriter<O>, ExploreError>
+    ensures { IfOk result (λ blocks. Keeps (O.contents out) (writer_contents O.contents blocks)) }
 {
-    let mut blocks = BufWriter::with_capacity(alloc, PAGE_BUFFER, out).map_err(
-        |_| ExploreError::Memory,
-    )?;
-    page(&mut blocks)?;
-    blocks.flush().map_err(|_| ExploreError::Write)
+    BufWriter::with_capacity(alloc, PAGE_BUFFER, out).map_err(|_| ExploreError::Memory)
+}
+
+/// Writes the last block, and gives back the writer that has all blocks.
+///
+/// # Errors
+///
+/// `Write`.
+fn finish<O: Write + Drop>(blocks: BufWriter<O>) -> Result<O, ExploreError>
+    ensures { IfOk result (λ out. Keeps (writer_contents O.contents blocks) (O.contents out)) }
+{
+    let mut out = blocks.into_inner().map_err(|_| ExploreError::Write)?;
+    out.flush().map_err(|_| ExploreError::Write)?;
+    Ok(out)
 }

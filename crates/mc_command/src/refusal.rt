@@ -50,7 +50,7 @@ pub enum Refusal {
     Trace(#[from] TraceError),
     /// The exploration ends early.
     #[error(transparent)]
-    Explore(#[from] ExploreError),
+    Explore(ExploreError),
     /// The flash refuses.
     #[error(transparent)]
     Flash(#[from] FlashError),
@@ -78,6 +78,16 @@ pub enum Refusal {
     /// There is no memory to read the command line.
     #[error("E26 Memory")]
     Memory,
+}
+
+impl From<ExploreError> for Refusal {
+    ghost use Rattle.mc_command.specs.declared.refusal.Refusal.TheVariants.{Explore};
+
+    ghost from_gives = { λ error refusal. refusal ≡ Explore error };
+
+    fn from(error: ExploreError) -> Self {
+        Refusal::Explore(error)
+    }
 }
 
 impl Refusal {

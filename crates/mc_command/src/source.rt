@@ -1,5 +1,6 @@
 //! The flash that a command starts from, read from its files.
-ghost use Rattle.std.specs.Prelude.{◌≡◌, IfOk};
+ghost use Rattle.std.specs.Prelude.{◌≡◌, Ok, IfOk};
+ghost use Rattle.mc_command.specs.Sources.{ComesOf, IsStartOf};
 
 use crate::options::{FlashOptions, Source};
 use crate::refusal::Refusal;
@@ -30,6 +31,39 @@ fn read_file<F: Files>(
     Ok(read_bounded(alloc, &mut file, limit)?)
 }
 
+/// The start of a source, of whose files this reads the bytes. The first image is read before the second.
+///
+/// # Errors
+///
+/// What is refused of a file, then `Start` with what is refused of the bytes.
+fn start_of<R: Fn(&str, u32) -> Result<Vec<u8>, Refusal>>(
+    alloc: Global,
+    options: &FlashOptions<'_>,
+    read: R,
+) -> Result<Start, Refusal>
+    requires { R.IsAlwaysCallable read }
+    // Of each file it is what was read of the path that is told for it.
+    ensures read { IfOk result (ComesOf (λ path limit bytes. R.post read path limit (Ok bytes))
+        options.now) }
+    ensures told { IfOk result (IsStartOf options.now) }
+{
+    let layout = &options.layout;
+    match &options.source {
+        Source::Flash(path) => {
+            let bytes = read(path, GREATEST_FLASH)?;
+            let start = Start::from_flash(alloc, layout, bytes.as_slice())?;
+            Ok(start.with_rules(options.rules))
+        }
+        Source::Images { kind, a, b } => {
+            let first = read(a, GREATEST_IMAGE)?;
+            let second = read(b, GREATEST_IMAGE)?;
+            let (a, b) = (first.as_slice(), second.as_slice());
+            let start = Start::from_images(alloc, layout, *kind, a, b)?;
+            Ok(start.with_rules(options.rules))
+        }
+    }
+}
+
 /// The start of a source, under the rules that are told. The first image is read before the second is opened.
 ///
 /// # Errors
@@ -40,20 +74,12 @@ pub fn read_start<F: Files>(
     alloc: Global,
     options: &FlashOptions<'_>,
 ) -> Result<Start, Refusal>
-    // The layout and the rules are the ones that are told, whatever the files hold.
-    ensures { IfOk result (λ s. (s.geometry ≡ options.now.layout) × (s.rules ≡ options.now.rules)) }
+    // It is of the layout, the kind and the rules that are told. What bytes the files hold is not known here.
+    ensures { IfOk result (IsStartOf options.now) }
 {
-    let layout = &options.layout;
-    let start = match &options.source {
-        Source::Flash(path) => {
-            let bytes = read_file(files, alloc, path, GREATEST_FLASH)?;
-            Start::from_flash(alloc, layout, bytes.as_slice())?
-        }
-        Source::Images { kind, a, b } => {
-            let first = read_file(files, alloc, a, GREATEST_IMAGE)?;
-            let second = read_file(files, alloc, b, GREATEST_IMAGE)?;
-            Start::from_images(alloc, layout, *kind, first.as_slice(), second.as_slice())?
-        }
-    };
-    Ok(start.with_rules(options.rules))
+    start_of(
+        alloc,
+        options,
+        |path, limit| read_file(files, alloc, path, limit),
+    )
 }

@@ -1,7 +1,9 @@
 //! `campaign`: every campaign of power cuts in two rounds, with what the boots that end its rounds do.
 ghost use Rattle.std.specs.Prelude.{◌≤◌, IfOk};
+ghost use Rattle.clap.specs.Matches.{found_of};
+ghost use Rattle.mc_command.specs.CampaignSessions.{TellsExploration, Explores, Prints};
 
-use super::write_in_blocks;
+use super::{finish, in_blocks};
 use crate::options::{ExploreOptions, campaign_cursor, explore_options, flash_options};
 use crate::refusal::Refusal;
 use crate::source::read_start;
@@ -34,7 +36,8 @@ fn read<F: Files>(
     alloc: Global,
     arguments: &ArgMatches<'_>,
 ) -> Result<Exploration, Refusal>
-    ensures { IfOk result (λ e. (e.extent.cuts ≤ 16) × (1 ≤ e.extent.limit)) }
+    ensures told { IfOk result (TellsExploration (found_of arguments.now)) }
+    ensures range { IfOk result (λ e. (e.extent.cuts ≤ 16) × (1 ≤ e.extent.limit)) }
 {
     let options = match flash_options(arguments) {
         Ok(options) => options,
@@ -56,6 +59,7 @@ impl Exploration {
     /// `Explore` where the cursor does not serve here, or an allocation failed.
     fn explorer(&self, alloc: Global) -> Result<CampaignExplorer<'_, JournalFlash>, Refusal>
         requires { self.now.extent.cuts ≤ 16 }
+        ensures { Explores self.now result }
     {
         let (start, cuts, confirms) = (&self.start, self.extent.cuts, self.confirms);
         match &self.cursor {
@@ -64,23 +68,22 @@ impl Exploration {
         }
     }
 
-    /// Prints the page.
+    /// Prints the page, and gives back the writer that has it.
     ///
     /// # Errors
     ///
     /// Those of `explorer`, and `Explore` where memory failed, or the output cannot be written.
-    fn print<O: Write>(&self, alloc: Global, out: &mut O) -> Result<(), Refusal>
+    fn print<O: Write + Drop>(&self, alloc: Global, out: O) -> Result<O, Refusal>
         requires cuts { self.now.extent.cuts ≤ 16 }
         requires limit { 1 ≤ self.now.extent.limit }
+        // It is said of the writer that is given back. Where that is a reference, no contract of a page says that it is still the
+        // one that was handed in, so `run` can't say it of `out`.
+        ensures { IfOk result (λ written. Prints self.now (O.contents out) (O.contents written)) }
     {
         let mut explorer = self.explorer(alloc)?;
-        let limit = self.extent.limit;
-        write_in_blocks(
-            alloc,
-            out,
-            |page| write_campaign_page(&mut explorer, limit, page),
-        )?;
-        Ok(())
+        let mut blocks = in_blocks(alloc, out)?;
+        write_campaign_page(&mut explorer, self.extent.limit, &mut blocks)?;
+        Ok(finish(blocks)?)
     }
 }
 
@@ -96,5 +99,6 @@ pub fn run<F: Files, O: Write>(
     arguments: &ArgMatches<'_>,
     out: &mut O,
 ) -> Result<(), Refusal> {
-    read(files, alloc, arguments)?.print(alloc, out)
+    read(files, alloc, arguments)?.print(alloc, out)?;
+    Ok(())
 }

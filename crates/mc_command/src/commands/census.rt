@@ -1,9 +1,11 @@
 //! `census`: what all schedules of power cuts come to, without listing them.
-ghost use Rattle.std.specs.Prelude.{◌≡◌, List, Err};
+ghost use Rattle.std.specs.Prelude.{◌≡◌, List, Err, IfOk};
 ghost use Rattle.std.specs.Io.KnownBytes.{Appends};
 ghost use Rattle.mc_explore.specs.Census.{census_of};
 ghost use Rattle.mc_explore.specs.CensusText.{census_text};
 ghost use Rattle.mc_explore.specs.State.{Told};
+ghost use Rattle.clap.specs.Matches.{found_of};
+ghost use Rattle.mc_command.specs.Sessions.{TellsCensus};
 ghost use Rattle.mc_command.specs.Verdicts.{IsVerdict};
 
 use crate::options::{census_options, flash_options};
@@ -21,11 +23,13 @@ use std::rt::Files;
 /// # Errors
 ///
 /// `Source`, `Layout` and the numbers of the words; what `read_start` refuses; `Explore` where memory failed.
-fn census_of<F: Files>(
+fn told_census<F: Files>(
     files: &F,
     alloc: Global,
     arguments: &ArgMatches<'_>,
-) -> Result<Census, Refusal> {
+) -> Result<Census, Refusal>
+    ensures { IfOk result (TellsCensus (found_of arguments.now)) }
+{
     let options = match flash_options(arguments) {
         Ok(options) => options,
         Err(refusal) => return Err(refusal),
@@ -40,7 +44,7 @@ fn census_of<F: Files>(
 ///
 /// # Errors
 ///
-/// Those of `census_of`; `Write` where the output cannot be written. With `--all-boot` also `NotAllBoot` where a schedule does not
+/// Those of `told_census`; `Write` where the output cannot be written. With `--all-boot` also `NotAllBoot` where a schedule does not
 /// end in a boot; the output is written then.
 pub fn run<F: Files, O: Write>(
     files: &F,
@@ -48,7 +52,7 @@ pub fn run<F: Files, O: Write>(
     arguments: &ArgMatches<'_>,
     out: &mut O,
 ) -> Result<(), Refusal> {
-    let census = census_of(files, alloc, arguments)?;
+    let census = told_census(files, alloc, arguments)?;
     print_census(&census, arguments.get_flag("all-boot"), out)
 }
 

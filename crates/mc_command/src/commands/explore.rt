@@ -3,9 +3,11 @@ ghost use Rattle.std.specs.Prelude.{◌≡◌, ◌≤◌, Err, IfOk};
 ghost use Rattle.std.specs.Io.KnownBytes.{Appends};
 ghost use Rattle.mc_explore.specs.Page.{Page};
 ghost use Rattle.mc_explore.specs.Survey.{tally_of, tally_text};
+ghost use Rattle.clap.specs.Matches.{found_of};
+ghost use Rattle.mc_command.specs.Sessions.{TellsExploration, Explores, TalliesUntil, PrintsUntil};
 ghost use Rattle.mc_command.specs.Verdicts.{IsVerdict};
 
-use super::write_in_blocks;
+use super::{finish, in_blocks};
 use crate::options::{ExploreOptions, RangeOptions, explore_options, flash_options, range_options};
 use crate::refusal::Refusal;
 use crate::source::read_start;
@@ -34,7 +36,8 @@ fn read<F: Files>(
     alloc: Global,
     arguments: &ArgMatches<'_>,
 ) -> Result<Exploration, Refusal>
-    ensures { IfOk result (λ e. (e.extent.cuts ≤ 16) × (1 ≤ e.extent.limit)) }
+    ensures told { IfOk result (TellsExploration (found_of arguments.now)) }
+    ensures range { IfOk result (λ e. (e.extent.cuts ≤ 16) × (1 ≤ e.extent.limit)) }
 {
     let options = match flash_options(arguments) {
         Ok(options) => options,
@@ -55,6 +58,7 @@ impl Exploration {
     /// `Explore` where the cursor or the schedule does not serve here, or an allocation failed.
     fn explorer(&self, alloc: Global) -> Result<Explorer<'_, JournalFlash>, Refusal>
         requires { self.now.extent.cuts ≤ 16 }
+        ensures { Explores self.now result }
     {
         let (start, cuts) = (&self.start, self.extent.cuts);
         if let Some(after) = &self.range.after {
@@ -66,23 +70,23 @@ impl Exploration {
         }
     }
 
-    /// Prints the page.
+    /// Prints the page, and gives back the writer that has it.
     ///
     /// # Errors
     ///
     /// Those of `explorer`, and `Explore` where memory failed, or the output cannot be written.
-    fn print<O: Write>(&self, alloc: Global, out: &mut O) -> Result<(), Refusal>
+    fn print<O: Write + Drop>(&self, alloc: Global, out: O) -> Result<O, Refusal>
         requires cuts { self.now.extent.cuts ≤ 16 }
         requires limit { 1 ≤ self.now.extent.limit }
+        // It is said of the writer that is given back. Where that is a reference, no contract of a page says that it is still the
+        // one that was handed in, so `run` can't say it of `out`.
+        ensures { IfOk result (λ written. PrintsUntil self.now (O.contents out) (O.contents written)) }
     {
         let mut explorer = self.explorer(alloc)?;
         let (until, limit) = (self.range.until, self.extent.limit);
-        write_in_blocks(
-            alloc,
-            out,
-            |page| write_page_until(&mut explorer, until, limit, page),
-        )?;
-        Ok(())
+        let mut blocks = in_blocks(alloc, out)?;
+        write_page_until(&mut explorer, until, limit, &mut blocks)?;
+        Ok(finish(blocks)?)
     }
 
     /// Counts the rows of the page.
@@ -93,6 +97,7 @@ impl Exploration {
     fn tally(&self, alloc: Global) -> Result<Tally, Refusal>
         requires cuts { self.now.extent.cuts ≤ 16 }
         requires limit { 1 ≤ self.now.extent.limit }
+        ensures { IfOk result (TalliesUntil self.now) }
     {
         let mut explorer = self.explorer(alloc)?;
         let (until, limit) = (self.range.until, self.extent.limit);
@@ -112,7 +117,8 @@ pub fn run<F: Files, O: Write>(
     arguments: &ArgMatches<'_>,
     out: &mut O,
 ) -> Result<(), Refusal> {
-    read(files, alloc, arguments)?.print(alloc, out)
+    read(files, alloc, arguments)?.print(alloc, out)?;
+    Ok(())
 }
 
 /// Prints how many rows that page would have, how many of them with each result, the greatest number of operations, and where

@@ -1,4 +1,10 @@
 //! A schedule of power cuts and the start that it begins at, as words tell them.
+ghost use Rattle.std.specs.Prelude.{◌≡◌, Some, IfOk, codes};
+ghost use Rattle.clap.specs.Matches.{found_of};
+ghost use Rattle.mc_start.specs.Texts.{schedule_text};
+ghost use Rattle.mc_command.specs.Arguments.{MayTellSchedule};
+ghost use Rattle.mc_command.specs.Sessions.{TellsStart};
+
 use crate::options::{flash_options, required};
 use crate::refusal::Refusal;
 use crate::source::read_start;
@@ -23,7 +29,11 @@ pub fn read_schedule<F: Files>(
     files: &F,
     alloc: Global,
     arguments: &ArgMatches<'_>,
-) -> Result<Scheduled, Refusal> {
+) -> Result<Scheduled, Refusal>
+    ensures start { IfOk result (λ t. TellsStart (found_of arguments.now) t.start) }
+    ensures schedule { IfOk result (λ t. MayTellSchedule (found_of arguments.now)
+        (codes "schedule") (Some t.schedule)) }
+{
     schedule_from(files, alloc, arguments, required(arguments, "schedule")?)
 }
 
@@ -37,7 +47,10 @@ pub fn schedule_from<F: Files>(
     alloc: Global,
     arguments: &ArgMatches<'_>,
     schedule: &str,
-) -> Result<Scheduled, Refusal> {
+) -> Result<Scheduled, Refusal>
+    ensures start { IfOk result (λ t. TellsStart (found_of arguments.now) t.start) }
+    ensures schedule { IfOk result (λ t. schedule.now ≡ schedule_text t.schedule) }
+{
     let options = match flash_options(arguments) {
         Ok(options) => options,
         Err(refusal) => return Err(refusal),

@@ -1,0 +1,11 @@
+use Rattle.std.proofs.Common.{rules}
+use Rattle.mc_command.proofs.commands.census.told_census.Goals as goal
+
+pub returns : goal.returns
+returns g c = record {
+  start = c.in_ok-start.start;
+  start_told = record { options = c.in-Ok.options; told = c.in-Ok.ensures.told; made = c.in_ok-start.ensures };
+  cuts = c.in_ok-cuts.cuts;
+  cuts_told = c.in_ok-cuts.ensures.told;
+  comes_to = search rules;
+}

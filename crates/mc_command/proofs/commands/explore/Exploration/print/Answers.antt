@@ -1,0 +1,12 @@
+use Rattle.mc_command.proofs.Blocks.{appended}
+use Rattle.mc_command.proofs.commands.explore.Exploration.print.Goals as goal
+
+pub returns : goal.returns
+returns g c =
+    let page = c.in_ok-write_page_until.ensures.page in
+    record {
+      explorer = c.in_ok-explorer.explorer;
+      begins = c.in_ok-explorer.ensures;
+      new = _;
+      out = record { page = page.page; taken = page.taken; out = appended _ _ _ _ _ c.in_ok-blocks.ensures page.out c.in_ok-finish.ensures };
+    }

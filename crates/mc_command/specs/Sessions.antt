@@ -1,0 +1,71 @@
+-- The starts and the explorations that the words of a command tell.
+use Rattle.std.specs.Prelude.{◌≡◌, ℕ, List, Option, Some, None, Result, Ok, Err}
+use Rattle.clap.specs.declared.parser.matches.Found.{Found}
+use Rattle.mc_boot.specs.PowerOn.{PowerOn}
+use Rattle.mc_explore.specs.Census.{IsCensus}
+use Rattle.mc_explore.specs.Resume.{Resumes}
+use Rattle.mc_explore.specs.State.{Explored, State, at_start}
+use Rattle.mc_explore.specs.Survey.{SurveysUntil}
+use Rattle.mc_explore.specs.Until.{ShownIsOut}
+use Rattle.mc_explore.specs.declared.census.Census.{Census}
+use Rattle.mc_explore.specs.declared.surveying.Tally.{Tally}
+use Rattle.mc_explore.specs.declared.error.ExploreError.{ExploreError}
+use Rattle.mc_explore.specs.declared.error.ExploreError.TheVariants as errors
+use Rattle.mc_start.specs.CursorText.{cursor_of}
+use Rattle.mc_start.specs.declared.cursor.Cursor.{Cursor}
+use Rattle.mc_start.specs.Start.{Started, begun}
+use Rattle.mc_command.specs.Arguments.{TellsExtent, TellsFlash, TellsRange}
+use Rattle.mc_command.specs.Numbers.{TellsNumber}
+use Rattle.mc_command.specs.Sources.{IsStartOf}
+use Rattle.mc_command.specs.declared.commands.explore.Exploration.{Exploration}
+use Rattle.mc_command.specs.declared.numbers.NumberOption.TheVariants as numbers
+use Rattle.mc_command.specs.declared.options.FlashOptions.{FlashOptions}
+use Rattle.mc_command.specs.declared.refusal.Refusal.{Refusal}
+use Rattle.mc_command.specs.declared.refusal.Refusal.TheVariants as refusals
+
+-- The arguments tell a source, and the start is of its files.
+pub record TellsStart (found : Found) (s : Started) : Type 0 where
+  pub options : FlashOptions
+  pub told : TellsFlash found options
+  pub made : IsStartOf options s
+
+-- The arguments tell an exploration: its start, how far it goes, and which rows it gives.
+pub record TellsExploration (found : Found) (e : Exploration) : Type 0 where
+  pub start : TellsStart found e.start
+  pub extent : TellsExtent found e.extent
+  pub range : TellsRange found e.range
+
+-- An explorer behind the schedule, behind that of the cursor, or at the start; or why there is none.
+abbrev pub Begins : PowerOn → ℕ → Option (List ℕ) → Option Cursor → Result Explored ExploreError → Type 0
+Begins start bound (Some last) cursor made = Resumes start bound (cursor_of start bound last) made
+Begins start bound None (Some cursor) made = Resumes start bound cursor made
+Begins start bound None None (Ok explorer) = explorer.state ≡ at_start start bound
+Begins start bound None None (Err e) = e ≡ errors.Memory
+
+-- The explorer that the words tell, or why the program has none.
+abbrev pub Explores : Exploration → Result Explored Refusal → Type 0
+Explores e (Ok explorer) = Begins (begun e.start) e.extent.cuts e.range.after e.range.cursor (Ok explorer)
+Explores e (Err (refusals.Explore error)) = Begins (begun e.start) e.extent.cuts e.range.after e.range.cursor (Err error)
+Explores e (Err _) = ⊥
+
+-- The tally of the rows that the words tell.
+pub record TalliesUntil (e : Exploration) (tally : Tally) : Type 0 where
+  pub explorer : Explored
+  pub begins : Begins (begun e.start) e.extent.cuts e.range.after e.range.cursor (Ok explorer)
+  pub new : State
+  pub counts : SurveysUntil e.range.until explorer.state new e.extent.limit tally
+
+-- The page of the rows that the words tell is out.
+pub record PrintsUntil (e : Exploration) (before after : Option (List ℕ)) : Type 0 where
+  pub explorer : Explored
+  pub begins : Begins (begun e.start) e.extent.cuts e.range.after e.range.cursor (Ok explorer)
+  pub new : State
+  pub out : ShownIsOut e.range.until explorer.state new e.extent.limit before after
+
+-- The census of the start and of the most cuts that the arguments tell.
+pub record TellsCensus (found : Found) (census : Census) : Type 0 where
+  pub start : Started
+  pub start_told : TellsStart found start
+  pub cuts : ℕ
+  pub cuts_told : TellsNumber found numbers.Cuts cuts
+  pub comes_to : IsCensus (begun start) cuts census
