@@ -1,5 +1,5 @@
 -- A device at rest: no swap is under way, and the secondary may hold anything. What its next boot is to do.
-use Rattle.std.specs.Prelude.{◌≡◌, ◌⊎◌, ℕ, ◌*◌, ◌≤◌, ◌==◌, ◌&&◌, ◌||◌, Bool, true, false, not, nat_lt, if◌then◌else◌, Option, refl}
+use Rattle.std.specs.Prelude.{◌≡◌, ◌≢◌, ◌⊎◌, [], ℕ, ◌*◌, ◌≤◌, ◌==◌, ◌&&◌, ◌||◌, Bool, true, false, not, nat_lt, if◌then◌else◌, Option, refl}
 use Rattle.std.specs.Int.{div_ceil}
 use Rattle.std.proofs.Common.{arith, sym, ap, ◌∙◌, inl, inr}
 use Rattle.std.proofs.lemmas.Bool.Decides.{nat_tests}
@@ -139,3 +139,28 @@ rests_or_wants x rest = go (is_resumed x.geometry x.content) refl
               (no_swap (is_good p.magic) (is_unset p.copy_done) (is_swap p.swap_info) (not (is_good q.magic)) rest on);
         })
     go false not_on = by (table_of x.rules.profile x.geometry x.content) not_on refl
+
+-- a type other than none and fail is that of a swap
+pub swap_sectors : (x : PowerOn) (kind : SwapType) → is_at_rest (trailer_of x.geometry x.content Primary) ≡ true → (plan x).kind ≡ kind → kind ≢ kinds.None → kind ≢ kinds.Fail
+    → ((plan x).sectors ≡ count_of x.geometry x.content) × ((plan x).sectors ≤ greatest_sectors x.geometry)
+swap_sectors x kind rest is some made = go (rests_or_wants x rest)
+  where
+    by : (k : SwapType) → Wants x k → ((plan x).sectors ≡ count_of x.geometry x.content) × ((plan x).sectors ≤ greatest_sectors x.geometry)
+    by k wants = let same = ap (λ (p : Plan). p.sectors) wants.planned in let few = wants.few in (same, omega (arith, same, few))
+
+    go : RestsOrWants x → ((plan x).sectors ≡ count_of x.geometry x.content) × ((plan x).sectors ≤ greatest_sectors x.geometry)
+    go (inl idle) =
+        let same : kind ≡ idle.kind = sym is ∙ ap (λ (p : Plan). p.kind) idle.planned in
+        absurd (elim idle.either [ inl e ↦ some (same ∙ e) | inr e ↦ made (same ∙ e) ])
+    go (inr (inl wants)) = by kinds.Test wants
+    go (inr (inr (inl wants))) = by kinds.Perm wants
+    go (inr (inr (inr wants))) = by kinds.Revert wants
+
+pub none_idle : (x : PowerOn) → is_at_rest (trailer_of x.geometry x.content Primary) ≡ true → (plan x).kind ≡ kinds.None → (plan x).list ≡ []
+none_idle x rest none = go (rests_or_wants x rest)
+  where
+    go : RestsOrWants x → (plan x).list ≡ []
+    go (inl idle) = ap (λ (p : Plan). p.list) idle.planned
+    go (inr (inl wants)) = let e : kinds.None ≡ kinds.Test = sym none ∙ ap (λ (p : Plan). p.kind) wants.planned in absurd cc
+    go (inr (inr (inl wants))) = let e : kinds.None ≡ kinds.Perm = sym none ∙ ap (λ (p : Plan). p.kind) wants.planned in absurd cc
+    go (inr (inr (inr wants))) = let e : kinds.None ≡ kinds.Revert = sym none ∙ ap (λ (p : Plan). p.kind) wants.planned in absurd cc

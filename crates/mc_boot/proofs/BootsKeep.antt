@@ -4,14 +4,12 @@ use Rattle.std.proofs.Common.{arith, sym, ap, subst, ◌∙◌, inl, inr}
 use Rattle.mc_boot.proofs.Exchange.{other_number}
 use Rattle.mc_boot.proofs.Fronts.{sees_start}
 use Rattle.mc_boot.proofs.Keeps.{Keeps}
-use Rattle.mc_boot.proofs.PhasePlans.{kind_asked, plan_asked, plan_under, plan_waiting, running, starting}
-use Rattle.mc_boot.proofs.Phases.{Asked, Ended, IsSwapOf, Phase, Swap, Under, Waiting}
-use Rattle.mc_boot.proofs.PreparationKeeps.{revert_keeps}
+use Rattle.mc_boot.proofs.PhasePlans.{kind_asked, plan_asked, plan_under, running, starting}
+use Rattle.mc_boot.proofs.Phases.{Asked, Ended, IsSwapOf, Phase, Swap, Under}
 use Rattle.mc_boot.proofs.SwapsKeep.{resumed_keeps, swap_keeps}
 use Rattle.mc_boot.proofs.TransfersKeep.{rest_keeps}
 use Rattle.mc_boot.specs.Course.{new_list}
 use Rattle.mc_boot.specs.Plan.{Plan, plan}
-use Rattle.mc_boot.specs.Restart.{forgets_reverts}
 use Rattle.mc_flash.specs.Content.{Content}
 use Rattle.mc_flash.specs.Geometry.{Geometry}
 use Rattle.mc_flash.specs.Pieces.{in_pieces}
@@ -40,18 +38,6 @@ by_plan R x size n b s p is of sectors keeps = record {
   keeps = let E : Plan → Type 0 = λ q. Keeps x.geometry (Phase R x.geometry x.content size n b) q.list s (Ended x.geometry x.content size n b) in subst E (sym is) keeps;
   planned = record { kind = p.kind; of = of; is = ap (λ (q : Plan). q.kind) is; sectors = ap (λ (q : Plan). q.sectors) is ∙ sectors };
 }
-
--- a boot from where a revert waits
-pub waiting_swaps : (x : PowerOn) (size n : ℕ) → in_pieces x.rules.grain x.geometry ≡ x.geometry → forgets_reverts x.rules.grain x.rules.profile ≡ false → Swap x.geometry x.content size n
-    → (s : Content)
-    → Waiting x.rules.grain x.geometry x.content n s → Swaps (Waiting x.rules.grain x.geometry x.content n) x size n false s
-waiting_swaps from size n whole keeps w s is =
-    let g = from.geometry in
-    let c = from.rules.grain in
-    let F : Geometry → Type 0 = λ x. Keeps g (Phase (Waiting c g from.content n) g from.content size n false) (new_list c x kinds.Revert size n) s (Ended g from.content size n false) in
-    by_plan (Waiting c g from.content n) from size n false s (starting c g kinds.Revert size n) (plan_waiting from size n s keeps w (sees_start g from.content size n s w is.data_) is) refl
-    refl
-    (subst F (sym whole) (revert_keeps g from.content size n w c s is))
 
 -- from where a swap is asked for
 asked_keeps : (R : Content → Type 0) (c : Grain) (g : Geometry) (start : Content) (size n : ℕ) (b : Bool) (s : Content) → Swap g start size n → Asked g start n b s

@@ -3,8 +3,7 @@ use Rattle.std.specs.Prelude.{◌≡◌, ◌≢◌, ℕ, true, List, [], ◌∷�
 use Rattle.std.proofs.Common.{sym, ap, subst, ◌∙◌}
 use Rattle.mc_boot.proofs.InPieces.{keeps_pieces, plan_in_pieces}
 use Rattle.mc_boot.proofs.Keeps.{Keeps, restart}
-use Rattle.mc_boot.proofs.RestartProof.{boots_so}
-use Rattle.mc_boot.proofs.WholeBoots.{ends}
+use Rattle.mc_boot.proofs.WholeBoots.{boots_so, ends}
 use Rattle.mc_boot.specs.Life.{EndsWell}
 use Rattle.mc_boot.specs.Plan.{Plan, plan}
 use Rattle.mc_boot.specs.PowerOn.{PowerOn, power_on}

@@ -98,7 +98,7 @@ module _ (laws : ImageLaws) (g : Geometry) (a b : List ℕ) (ok : IsLayout g) (a
   placed_delivered : IsDelivered g (placed g (image_bytes a) (image_bytes b))
   placed_delivered = from_image (placed g (image_bytes a) (image_bytes b)) (placed_holds g a b laws ok at_a at_b) a_bytes b_bytes absent
 
-  test_delivered : IsDelivered g (test_flash g (image_bytes a) (image_bytes b))
+  pub test_delivered : IsDelivered g (test_flash g (image_bytes a) (image_bytes b))
   unfolding trailer_of
   test_delivered = from_image (test_flash g (image_bytes a) (image_bytes b)) (test_holds g a b laws ok at_a at_b) a_bytes marked absent
 

@@ -12,12 +12,11 @@ use Rattle.mc_boot.proofs.InPieces.{exchanged_pieces, pieces_again, plan_in_piec
 use Rattle.mc_boot.proofs.PhasePlans.{starting}
 use Rattle.mc_boot.proofs.Phases.{Ended, IsSwapOf, Phase, Swap, Waiting, asked, asks, larger_size, tested, unasked}
 use Rattle.mc_boot.proofs.Readings.{asked_from, tested_from}
-use Rattle.mc_boot.proofs.RestartProof.{Nothing, asked_boots, tested_fields}
 use Rattle.mc_boot.proofs.Reverting.{Lost, MadeOrLost, Reverts, revert_steps}
 use Rattle.mc_boot.proofs.SameImages.{ImageLaws, SameImage, has_same, some_size}
 use Rattle.mc_boot.proofs.SectorData.{data_begin}
 use Rattle.mc_boot.proofs.StartBytes.{count_of}
-use Rattle.mc_boot.proofs.SwapEnds.{Crossed, crossed, exchanges, settled_end, settled_on, tested_end, tested_on}
+use Rattle.mc_boot.proofs.SwapEnds.{Crossed, Nothing, asked_boots, crossed, exchanges, settled_end, settled_on, tested_end, tested_fields, tested_on}
 use Rattle.mc_boot.specs.Confirm.{may_confirm}
 use Rattle.mc_boot.specs.Course.{new_list}
 use Rattle.mc_boot.specs.Life.{LeavesBytes, EndsWell, Forgets, DeviceState, Leaves, booted, booted_by, is_at_rest, is_on_trial, is_swap, device_state}

@@ -2,8 +2,7 @@
 use Rattle.std.specs.Prelude.{◌≡◌, ℕ, Bool, List, [], ◌∷◌, refl}
 use Rattle.std.proofs.Common.{sym, ◌∙◌}
 use Rattle.mc_boot.proofs.Keeps.{Keeps}
-use Rattle.mc_boot.proofs.Phases.{Asked, Swap, Waiting, asked, tested, unasked}
-use Rattle.mc_boot.proofs.PreparationKeeps.{quiet_blank}
+use Rattle.mc_boot.proofs.Phases.{Asked, Swap, asked}
 use Rattle.mc_boot.proofs.SectorData.{data_begin}
 use Rattle.mc_boot.specs.Plan.{plan, plan_with}
 use Rattle.mc_boot.specs.Restart.{AreExchanged}
@@ -18,7 +17,6 @@ use Rattle.mc_trailer.specs.Fields.{trailer_of}
 use Rattle.mc_trailer.specs.declared.places.Field.{Field}
 use Rattle.mc_trailer.specs.declared.tables.Profile.{Profile}
 use Rattle.mc_trailer.specs.declared.tables.Rules.{Rules}
-use Rattle.mc_trailer.specs.declared.places.Field.TheVariants as field
 use Rattle.mc_flash.specs.declared.flash.Grain.TheVariants as grains
 use Rattle.mc_flash.specs.declared.op.Slot.TheVariants.{Primary, Secondary}
 use Rattle.mc_flash.specs.declared.op.Op.TheVariants.{Erase, Program, Copy}
@@ -100,11 +98,3 @@ primary_whole grains.Unit g s v are = λ f i short within. are f i short within
 
 pub asked_pieces : (c : Grain) (g : Geometry) (start : Content) (n : ℕ) (b : Bool) → IsSized g start → FieldsAre g start Secondary (asked b) → Asked (in_pieces c g) start n b start
 asked_pieces c g start n b sized are = record { secondary = secondary_pieces c g start (asked b) are; data_ = data_begin (in_pieces c g) n start (sized_pieces c g start sized) }
-
-pub waiting_pieces : (c : Grain) (g : Geometry) (start : Content) (n : ℕ) → IsSized g start → FieldsAre g start Primary tested → FieldsAre g start Secondary unasked
-    → Waiting c (in_pieces c g) start n start
-waiting_pieces c g start n sized primary secondary = record {
-  primary = primary_pieces c g start tested primary;
-  quiet = quiet_blank c (in_pieces c g) start (secondary_pieces c g start unasked secondary field.Magic);
-  data_ = data_begin (in_pieces c g) n start (sized_pieces c g start sized);
-}

@@ -1,5 +1,5 @@
 -- The life law.
-use Rattle.std.specs.Prelude.{◌≡◌, ◌⊎◌, ℕ, ◌*◌, ◌≤◌, ◌&&◌, ◌-◌, Bool, true, false, if◌then◌else◌, List, [], ◌∷◌, ◌++◌, replicate, Option, Some, None, option_and_then, option_map, refl, length}
+use Rattle.std.specs.Prelude.{◌≡◌, ◌⊎◌, ℕ, ◌*◌, ◌<◌, ◌≤◌, slice_index, ◌&&◌, ◌-◌, Bool, true, false, if◌then◌else◌, List, [], ◌∷◌, ◌++◌, replicate, Option, Some, None, option_and_then, option_map, refl, length}
 use Rattle.std.specs.Int.{div_ceil}
 use Rattle.std.proofs.Common.{arith, sym, ap, subst, ◌∙◌, inl, inr}
 use Rattle.std.proofs.lemmas.Grind.{div_ceil_times}
@@ -43,7 +43,7 @@ use Rattle.mc_trailer.specs.declared.trailer.Flag.TheVariants as flags
 its_own : (xs : List ℕ) → IsBytes xs → is_valid xs ≡ true → HasImage xs
 its_own xs bytes valid = record { image = xs; bytes = bytes; valid = valid; same = record { valid = valid; size = refl; id = refl; front = refl } }
 
-rests_delivered : (g : Geometry) (s : Content) → IsLayout g → IsDelivered g s → AtRest g s
+pub rests_delivered : (g : Geometry) (s : Content) → IsLayout g → IsDelivered g s → AtRest g s
 rests_delivered g s ok is = record {
   sized = is.sized;
   primary = its_own s.primary is.primary is.valid;
@@ -126,14 +126,39 @@ module _ (laws : ImageLaws) (g : Geometry) (ok : IsLayout g) (s : Content) (rest
   rests_with_ok : (trailer_of g s Primary).copy_done ≡ flags.Set → AtRest g with_ok
   rests_with_ok set = rests_marked (one_unit g 1) (one_unit_fits g 1 field.ImageOk ok) set
 
+  -- where it writes
+  pub record Written (m : Content) : Type 0 where
+    pub rested : AtRest g m
+    pub image_ok : (trailer_of g m Primary).image_ok ≡ flags.Set
+    pub copy_done : (trailer_of g m Primary).copy_done ≡ flags.Set
+    pub primary : SameImage s.primary m.primary
+    pub before : (i : ℕ) → i < place g Primary field.ImageOk → slice_index m.primary i ≡ slice_index s.primary i
+    pub secondary : m.secondary ≡ s.secondary
+
+  written : may_confirm g s ≡ true → Written with_ok
+  written may = record {
+    rested = rests_with_ok copied;
+    image_ok = reads_image_ok g with_ok Primary 1 (replicate (g.unit - 1) 255) (written_field g s with_ok Primary field.ImageOk (one_unit g 1) changes);
+    copy_done = same_copy_done g s with_ok Primary (field_kept_beside g s with_ok Primary field.ImageOk field.CopyDone (one_unit g 1) ok changes (one_unit_fits g 1 field.ImageOk ok) (λ same. cc)) ∙ copied;
+    primary = kept;
+    before = changes.before;
+    secondary = refl;
+  }
+    where
+      copied : (trailer_of g s Primary).copy_done ≡ flags.Set
+      copied = set_of (trailer_of g s Primary).copy_done
+          (three_hold (is_good (trailer_of g s Primary).magic) (is_set (trailer_of g s Primary).copy_done) (is_blank (bytes_at s Primary (place g Primary field.ImageOk) g.unit)) may)
+
+  pub confirmed_written : may_confirm g s ≡ true → Written (confirmed g s)
+  unfolding confirmed
+  confirmed_written may = let E : Bool → Type 0 = λ c. Written (if c then with_ok else s) in subst E (sym may) (written may)
+
   rests_confirmed : AtRest g (confirmed g s)
   unfolding confirmed
   rests_confirmed = go (may_confirm g s) refl
     where
       go : (b : Bool) → may_confirm g s ≡ b → AtRest g (if b then with_ok else s)
-      go true may =
-          rests_with_ok (set_of (trailer_of g s Primary).copy_done
-          (three_hold (is_good (trailer_of g s Primary).magic) (is_set (trailer_of g s Primary).copy_done) (is_blank (bytes_at s Primary (place g Primary field.ImageOk) g.unit)) may))
+      go true may = (written may).rested
       go false may = rest
 
   -- the images stay
@@ -232,21 +257,17 @@ module _ (laws : ImageLaws) (r : Rules) (g : Geometry) (ok : IsLayout g) (s : Co
   after_trial trial true good = rw good refl
   after_trial trial false good = rw good refl
 
-  predicts : Predicts r g s
+  pub predicts : Predicts r g s
   unfolding confirmed
-  predicts = record { next = next_is r g ok s rest; confirms = confirms }
+  predicts = record { next = next_is r g ok s rest; confirms = confirms; marks = λ bytes set short. (kept_mark laws g ok s rest bytes short).id }
     where
       confirms : may_confirm g s ≡ true → device_state r g (if may_confirm g s then with_ok laws g ok s rest else s) ≡ confirmed_by (is_good (trailer_of g s Secondary).magic) (device_state r g s)
       confirms may =
           let m : Content = with_ok laws g ok s rest in
-          let copied = set_of (trailer_of g s Primary).copy_done
-          (three_hold (is_good (trailer_of g s Primary).magic) (is_set (trailer_of g s Primary).copy_done) (is_blank (bytes_at s Primary (place g Primary field.ImageOk) g.unit)) may) in
-          let set : (trailer_of g m Primary).image_ok ≡ flags.Set =
-          reads_image_ok g m Primary 1 (replicate (g.unit - 1) 255) (written_field g s m Primary field.ImageOk (one_unit g 1) (changes laws g ok s rest)) in
-          let over : is_on_trial (trailer_of g m Primary) ≡ false = no_trial (trailer_of g m Primary) set in
-          let asked : SwapType → Type 0 = λ k. (plan (power_on r g m)).kind ≡ k in
+          let there = written laws g ok s rest may in
+          let over : is_on_trial (trailer_of g m Primary) ≡ false = no_trial (trailer_of g m Primary) there.image_ok in
           let next : (plan (power_on r g m)).kind ≡ (if is_good (trailer_of g s Secondary).magic then (plan (power_on r g s)).kind else kinds.None) =
-          next_is r g ok m (rests_with_ok laws g ok s rest copied)
+          next_is r g ok m there.rested
           ∙ ap (λ b. done_or_fails (asked_of r.profile b (trailer_of g m Secondary)) (can_swap g s.secondary)) over
           ∙ ap (λ q. done_or_fails (asked_of r.profile false q) (can_swap g s.secondary)) other_trailer
           ∙ after_trial (is_on_trial (trailer_of g s Primary)) (is_good (trailer_of g s Secondary).magic) refl

@@ -97,7 +97,7 @@ not_below m n h = grind (arith, nat_tests)
 below : (m n : ℕ) → n < m → nat_lt n m ≡ true
 below m n h = grind (arith, nat_tests)
 
-both_true : (v f : Bool) → v ≡ true → f ≡ true → (v && f) ≡ true
+pub both_true : (v f : Bool) → v ≡ true → f ≡ true → (v && f) ≡ true
 both_true v f e h = rw e (rw h refl)
 
 -- the test of a plan is that the swap can be made

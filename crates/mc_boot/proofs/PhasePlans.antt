@@ -5,7 +5,7 @@ use Rattle.std.proofs.Common.{arith, sym, ap, ◌∙◌}
 use Rattle.std.proofs.lemmas.Bool.Decides.{nat_tests}
 use Rattle.mc_boot.proofs.EntryNumbers.{Entries, entries_last, entries_not}
 use Rattle.mc_boot.proofs.Exchange.{other_number}
-use Rattle.mc_boot.proofs.Phases.{Asked, IsSwapOf, Quiet, Swap, Under, Waiting, asked, larger_size}
+use Rattle.mc_boot.proofs.Phases.{Asked, IsSwapOf, Quiet, Swap, Under, asked, larger_size}
 use Rattle.mc_boot.proofs.Plans.{plan_new, plan_resumed, resumed_count}
 use Rattle.mc_boot.proofs.TransferFacts.{left_at}
 use Rattle.mc_boot.specs.Course.{new_list, resumed_list}
@@ -250,13 +250,3 @@ pub quiet_reverts : (c : Grain) (profile : Profile) (g : Geometry) (s : Content)
 quiet_reverts grains.Call profile g s keeps ok sized quiet = absent_reverts profile (trailer_of g s Secondary).magic (reads_absent g s Secondary ok sized quiet)
 quiet_reverts grains.Unit profiles.One g s keeps ok sized quiet = absurd cc
 quiet_reverts grains.Unit profiles.Two g s keeps ok sized quiet = ap not (reads_not_good g s Secondary quiet)
-
-pub plan_waiting : (x : PowerOn) (size n : ℕ) (s : Content) → forgets_reverts x.rules.grain x.rules.profile ≡ false → Swap x.geometry x.content size n → SeesImages s size
-    → Waiting x.rules.grain x.geometry x.content n s → plan (again x s) ≡ starting x.rules.grain x.geometry kinds.Revert size n
-plan_waiting x size n s keeps w sees is =
-    plan_tested (again x s) size n
-    (reads_good x.geometry s Primary w.ok is.data_.sized (is.primary field.Magic))
-    (reads_image_ok x.geometry s Primary 255 [] (is.primary field.ImageOk))
-    (reads_copy_done x.geometry s Primary 1 [] (is.primary field.CopyDone))
-    (quiet_reverts x.rules.grain x.rules.profile x.geometry s keeps w.ok is.data_.sized is.quiet)
-    sees w.count w.few

@@ -1,5 +1,5 @@
 -- The bytes of a trailer's fields, by what is read of them.
-use Rattle.std.specs.Prelude.{◌≡◌, ℕ, ◌+◌, ◌==◌, Bool, true, false, if◌then◌else◌, List, [], ◌∷◌, replicate, slice_index, bytes_eq, refl}
+use Rattle.std.specs.Prelude.{◌≡◌, ℕ, ◌+◌, ◌==◌, Bool, true, false, if◌then◌else◌, List, [], ◌∷◌, slice_index, bytes_eq, refl}
 use Rattle.std.proofs.Common.{arith, sym, ap, subst, ◌∙◌, inl, inr, add-zero}
 use Rattle.std.proofs.lemmas.Bool.{cases_eq}
 use Rattle.std.proofs.lemmas.List.Edits.{get_or-between}
@@ -7,13 +7,11 @@ use Rattle.std.proofs.lemmas.Slice.Eq.{bytes_eq-Decides}
 use Rattle.mc_boot.proofs.Exchange.{other_number}
 use Rattle.mc_boot.proofs.Phases.{asked, tested}
 use Rattle.mc_flash.specs.Blank.{is_blank}
-use Rattle.mc_flash.specs.Changes.{range_blank, sized_is}
-use Rattle.mc_flash.specs.Content.{Content, IsSized, byte, bytes_of}
-use Rattle.mc_flash.specs.Geometry.{Geometry, IsLayout}
+use Rattle.mc_flash.specs.Content.{Content, byte, bytes_of}
+use Rattle.mc_flash.specs.Geometry.{Geometry}
 use Rattle.mc_flash.specs.declared.op.Slot.{Slot}
 use Rattle.mc_flash.specs.declared.op.Slot.TheVariants.{Primary, Secondary}
-use Rattle.mc_trailer.specs.facts.Fields.{FieldIs, FieldsAre, blank_field}
-use Rattle.mc_trailer.specs.facts.Places.{field_ends}
+use Rattle.mc_trailer.specs.facts.Fields.{FieldIs, FieldsAre}
 use Rattle.mc_trailer.specs.Fields.{bytes_at, flag_of, magic_of, trailer_of}
 use Rattle.mc_trailer.specs.Places.{magic_bytes, place}
 use Rattle.mc_trailer.specs.declared.places.Field.{Field}
@@ -33,29 +31,11 @@ good_is xs is = go (bytes_eq xs magic_bytes) refl
     go true same = (bytes_eq-Decides xs magic_bytes).0 same
     go false other = absurd (none (is_blank xs) (ap (λ (c : Bool). if c then magics.Good else if is_blank xs then magics.Unset else magics.Bad) (sym other) ∙ is))
 
-absent_is : (xs : List ℕ) → magic_of xs ≡ magics.Unset → is_blank xs ≡ true
-absent_is xs is = go (bytes_eq xs magic_bytes) (is_blank xs) refl refl
-  where
-    go : (c d : Bool) → bytes_eq xs magic_bytes ≡ c → is_blank xs ≡ d → is_blank xs ≡ true
-    go c true same blank = blank
-    go true false same blank =
-        let e : magics.Good ≡ magics.Unset = ap (λ (c : Bool). if c then magics.Good else if is_blank xs then magics.Unset else magics.Bad) (sym same) ∙ is in absurd cc
-    go false false same blank =
-        let e : magics.Bad ≡ magics.Unset =
-        ap (λ (d : Bool). if d then magics.Unset else magics.Bad) (sym blank) ∙ ap (λ (c : Bool). if c then magics.Good else if is_blank xs then magics.Unset else magics.Bad) (sym same) ∙ is in
-        absurd cc
-
 pub good_bytes : (g : Geometry) (s : Content) (slot : Slot) → (trailer_of g s slot).magic ≡ magics.Good → FieldIs g s slot field.Magic magic_bytes
 unfolding trailer_of
 good_bytes g s slot is i short within =
     sym (get_or-between (bytes_of s slot) (place g slot field.Magic) (place g slot field.Magic + 16) i 0 (omega (arith, within)))
     ∙ ap (λ (l : List ℕ). slice_index l i) (good_is (bytes_at s slot (place g slot field.Magic) 16) is)
-
-pub absent_bytes : (g : Geometry) (s : Content) (slot : Slot) → IsLayout g → IsSized g s → (trailer_of g s slot).magic ≡ magics.Unset → FieldIs g s slot field.Magic (replicate 16 255)
-unfolding trailer_of
-absent_bytes g s slot ok sized is = blank_field g s slot field.Magic (λ i h.
-    range_blank (bytes_of s slot) (place g slot field.Magic) 16 i (omega (arith, field_ends g slot field.Magic ok, sized_is g s slot sized))
-    (absent_is (bytes_at s slot (place g slot field.Magic) 16) is) h)
 
 -- a flag
 pub set_is : (b : ℕ) → flag_of b ≡ flags.Set → b ≡ 1

@@ -1,66 +1,53 @@
--- The restart law.
-use Rattle.std.specs.Prelude.{◌≡◌, ◌≢◌, ℕ, ◌-◌, Bool, true, false, if◌then◌else◌, List, [], ◌++◌, length, replicate, Option, Some, option_map, refl}
-use Rattle.std.proofs.Common.{sym, ap, subst, ◌∙◌}
-use Rattle.mc_boot.proofs.BootsKeep.{phase_swaps, waiting_swaps}
-use Rattle.mc_boot.proofs.Fronts.{larger_end}
-use Rattle.mc_boot.proofs.InPieces.{asked_pieces, exchanged_pieces, pieces_again, primary_whole, secondary_whole, sized_whole, swap_pieces, waiting_pieces}
+-- The restart law: what the life law says of the flashes that two images start from.
+use Rattle.std.specs.Prelude.{◌≡◌, ◌≢◌, ◌⊎◌, ℕ, zero, suc, ◌*◌, ◌≤◌, ◌&&◌, Bool, true, false, if◌then◌else◌, List, [], ◌∷◌, take, Some, refl}
+use Rattle.std.proofs.Common.{arith, sym, ap, subst, ◌∙◌, inl, inr}
+use Rattle.std.proofs.lemmas.Grind.{div_ceil_times}
+use Rattle.mc_boot.proofs.AtRest.{AtRest, none_idle, swap_sectors}
+use Rattle.mc_boot.proofs.DeliveredStarts.{starts_law, test_delivered}
+use Rattle.mc_boot.proofs.FromRest.{rest_law}
 use Rattle.mc_boot.proofs.Keeps.{Keeps, restart}
-use Rattle.mc_boot.proofs.PhasePlans.{plan_none, swap_of}
-use Rattle.mc_boot.proofs.Phases.{Ended, Phase, Swap, Waiting, asked, asks, closed, larger_size, tested, unasked, waits}
-use Rattle.mc_boot.proofs.SameImages.{ImageLaws, SameImage, has_same, same_then}
-use Rattle.mc_boot.proofs.StartBytes.{Holding, count_of, primary_image, secondary_image, swap_held}
+use Rattle.mc_boot.proofs.LifeProof.{rests_delivered}
+use Rattle.mc_boot.proofs.NextBoots.{both_true, next_is}
+use Rattle.mc_boot.proofs.PhasePlans.{plan_none}
+use Rattle.mc_boot.proofs.Phases.{asked, larger_size}
+use Rattle.mc_boot.proofs.SameImages.{ImageLaws, SameImage, image_front}
+use Rattle.mc_boot.proofs.StartBytes.{Holding, count_of, primary_image, secondary_image}
 use Rattle.mc_boot.proofs.Starts.{perm_asked, perm_holds, placed_holds, placed_unasked, test_asked, test_holds}
-use Rattle.mc_boot.proofs.SwapEnds.{BootsSwap, crossed, exchanges, settled_end, settled_on, swap_ends, tested_end, tested_on}
-use Rattle.mc_boot.proofs.WholeBoots.{ends}
-use Rattle.mc_boot.specs.Outcome.{outcome_of, report, result_of}
+use Rattle.mc_boot.proofs.WholeBoots.{boots_so, ends}
+use Rattle.mc_boot.specs.Image.{image_size}
+use Rattle.mc_boot.specs.Life.{EndsWell, Forgets, IsDelivered, Leaves, LeavesBytes, asked_of, can_swap, done_or_fails, is_on_trial}
 use Rattle.mc_boot.specs.Plan.{Plan, nothing, plain, plan}
-use Rattle.mc_boot.specs.Restart.{AreExchanged, BeginsImage, EndsIn, Holds, IsSettled, IsSwapped, IsTested, RestartLaw, StartsExist, forgets_reverts}
-use Rattle.mc_boot.specs.facts.Run.{left_defined}
-use Rattle.mc_boot.specs.Runs.{after, is_faulted, left_by, ops_of}
+use Rattle.mc_boot.specs.PowerOn.{PowerOn, again, power_on}
+use Rattle.mc_boot.specs.Restart.{AreExchanged, BeginsImage, EndsIn, Holds, IsSwapped, IsTested, RestartLaw, StartsExist, forgets_reverts}
+use Rattle.mc_boot.specs.Runs.{after, left_by}
 use Rattle.mc_boot.specs.Start.{image_bytes, named, other, perm_flash, placed, start_flash, test_flash}
+use Rattle.mc_boot.specs.facts.Run.{left_defined}
 use Rattle.mc_boot.specs.declared.kind.Kind.{Kind}
 use Rattle.mc_boot.specs.declared.kind.Kind.TheVariants as starts
-use Rattle.mc_boot.specs.declared.outcome.BootResult.{BootResult}
 use Rattle.mc_flash.specs.Changes.{same_content}
 use Rattle.mc_flash.specs.Content.{Content}
-use Rattle.mc_flash.specs.Geometry.{Geometry, IsLayout}
-use Rattle.mc_flash.specs.Pieces.{in_pieces}
-use Rattle.mc_flash.specs.declared.flash.Grain.{Grain}
+use Rattle.mc_flash.specs.Geometry.{Geometry, IsLayout, fits}
 use Rattle.mc_flash.specs.declared.op.Op.{Op}
+use Rattle.mc_flash.specs.declared.op.Slot.TheVariants.{Primary, Secondary}
 use Rattle.mc_image.specs.Valid.{is_valid}
-use Rattle.mc_trailer.specs.facts.Fields.{FieldsAre, blank_fields, fields_front, reads_absent}
-use Rattle.mc_trailer.specs.Fields.{one_unit}
-use Rattle.mc_trailer.specs.declared.places.Field.{Field}
+use Rattle.mc_trailer.specs.facts.Fields.{FieldsAre, reads_absent, reads_good, reads_image_ok}
+use Rattle.mc_trailer.specs.Fields.{trailer_of}
+use Rattle.mc_trailer.specs.Tables.{is_good, is_set, is_unset, reverts_at}
+use Rattle.mc_trailer.specs.declared.places.Field.TheVariants as field
+use Rattle.mc_trailer.specs.declared.tables.Profile.{Profile}
+use Rattle.mc_trailer.specs.declared.tables.Profile.TheVariants as profiles
 use Rattle.mc_trailer.specs.declared.tables.Rules.{Rules}
 use Rattle.mc_trailer.specs.declared.tables.SwapType.{SwapType}
-use Rattle.mc_boot.specs.declared.outcome.BootResult.TheVariants as results
-use Rattle.mc_trailer.specs.declared.places.Field.TheVariants as field
 use Rattle.mc_trailer.specs.declared.tables.SwapType.TheVariants as kinds
-use Rattle.mc_flash.specs.declared.op.Slot.TheVariants.{Primary, Secondary}
-use Rattle.mc_boot.specs.PowerOn.{PowerOn, again, power_on}
+use Rattle.mc_trailer.specs.declared.trailer.Flag.{Flag}
+use Rattle.mc_trailer.specs.declared.trailer.Flag.TheVariants as flags
+use Rattle.mc_trailer.specs.declared.trailer.Magic.{Magic}
+use Rattle.mc_trailer.specs.declared.trailer.Magic.TheVariants as magics
+use Rattle.mc_trailer.specs.declared.trailer.Trailer.{Trailer}
 
 -- the same image, whole
 pub held_whole : (a xs : List ℕ) → SameImage a xs → Holds a xs
 held_whole a xs same = record { id = same.id; whole = same.front }
-
--- a boot that is not faulted and does not panic boots what it left, where that is valid
-calm_boots : (kind : SwapType) → kind ≢ kinds.Panic → result_of kind false true ≡ results.Boot
-calm_boots kinds.None calm = refl
-calm_boots kinds.Test calm = refl
-calm_boots kinds.Perm calm = refl
-calm_boots kinds.Revert calm = refl
-calm_boots kinds.Fail calm = refl
-calm_boots kinds.Panic calm = absurd (calm refl)
-
-pub boots_so : (x : PowerOn) (z : Content) → left_by x ≡ Some z → is_faulted x ≡ false → (plan x).kind ≢ kinds.Panic → is_valid z.primary ≡ true
-    → option_map (λ o. o.result) (outcome_of x) ≡ Some results.Boot
-unfolding outcome_of report
-boots_so from z end whole calm valid =
-    let kind : SwapType = (plan from).kind in
-    ap (λ (x : Option Content). option_map (λ o. o.result) (option_map (λ y. report from.rules from.geometry (plan from).kind (length (ops_of from)) (is_faulted from) y) x)) end
-    ∙ ap (λ (e : Bool). Some (result_of (plan from).kind e (is_valid z.primary))) whole
-    ∙ ap (λ (e : Bool). Some (result_of (plan from).kind false e)) valid
-    ∙ ap (λ (e : BootResult). Some e) (calm_boots (plan from).kind calm)
 
 -- no swap
 pub idle_at : (r : Rules) (g : Geometry) (a b : List ℕ) → ImageLaws → IsLayout g → BeginsImage g a → BeginsImage g b
@@ -103,218 +90,187 @@ module _ (from : PowerOn) (idle : (plan from).list ≡ []) where
       no_panic : kinds.None ≡ kinds.Panic → ⊥
       no_panic e = cc
 
-stays_idle : (r : Rules) (g : Geometry) (a b : List ℕ) (s u : Content) (cuts : List ℕ) → plan (power_on r g s) ≡ nothing kinds.None → SameImage a s.primary → SameImage b s.secondary
-    → after (power_on r g s) cuts ≡ Some u
-    → (z : Content) × EndsIn (power_on r g s) starts.None a b u z
-stays_idle r g a b s u cuts idle one two is =
-    let none : (plan (power_on r g s)).list ≡ [] = ap (λ (p : Plan). p.list) idle in
-    let E : Content → Type 0 = λ t. EndsIn (power_on r g s) starts.None a b t s in (
-      s,
-      subst E (sym (uncut (power_on r g s) none u cuts is))
-          (idle_ends (power_on r g s) none starts.None a b s (ap (λ (p : Plan). p.kind) idle) one.valid (held_whole a s.primary one) (held_whole b s.secondary two) none),
-    )
+-- ---- flashes that two images start from
 
--- the trailers after a test, and after a swap that stays
-abbrev AtEnd : Bool → Rules → Geometry → Content → Type 0
-AtEnd true r g z = IsTested (power_on r g z)
-AtEnd false r g z = IsSettled (power_on r g z)
+less_front : (m n : ℕ) (xs : List ℕ) → m ≤ n → take m (take n xs) ≡ take m xs
+less_front zero n xs less = refl
+less_front (suc m) zero xs less = absurd (omega (arith, less))
+less_front (suc m) (suc n) [] less = refl
+less_front (suc m) (suc n) (x ∷ xs) less = ap (λ (l : List ℕ). x ∷ l) (less_front m n xs (omega (arith, less)))
 
--- The swap of a start, after every list of cuts. x is what the secondary held at first, and y what the primary held.
-pub record Law (r : Rules) (g : Geometry) (b : Bool) (n : ℕ) (x y : List ℕ) (s u z : Content) : Type 0 where
-  pub end : left_by (power_on r g u) ≡ Some z
-  pub whole : is_faulted (power_on r g u) ≡ false
-  pub calm : (plan (power_on r g u)).kind ≢ kinds.Panic
-  pub primary : SameImage x z.primary
-  pub secondary : SameImage y z.secondary
-  pub sectors : (plan (power_on r g s)).sectors ≡ n
-  pub exchange : AreExchanged g n s z
-  pub trailer : AtEnd b r g z
+-- the image stands wherever so many bytes are the same
+same_in_front : (g : Geometry) (b ys zs : List ℕ) (m : ℕ) → ImageLaws → BeginsImage g b → SameImage b ys → image_size ys ≤ m → take m zs ≡ take m ys → SameImage b zs
+same_in_front g b ys zs m laws at_b same most is =
+    let less : image_size b ≤ m = let size = same.size in omega (arith, size, most) in
+    image_front b zs laws at_b.bytes at_b.valid (sym (less_front (image_size b) m zs less) ∙ ap (take (image_size b)) is ∙ less_front (image_size b) m ys less ∙ same.front)
 
--- the exchange by the plan of the start
-pub by_start : (r : Rules) (g : Geometry) (n : ℕ) (s z : Content) → (plan (power_on r g s)).sectors ≡ n → AreExchanged g n s z → AreExchanged g (plan (power_on r g s)).sectors s z
-by_start r g n s z count are = let E : ℕ → Type 0 = λ m. AreExchanged g m s z in subst E (sym count) are
-
-trailer_at_end : (r : Rules) (g : Geometry) (s : Content) (size n : ℕ) (b : Bool) (z : Content) → Swap (in_pieces r.grain g) s size n → Ended (in_pieces r.grain g) s size n b z → AtEnd b r g z
-trailer_at_end r g s size n true z w e = tested_on r g z (tested_end (power_on r (in_pieces r.grain g) s) size n z w e)
-trailer_at_end r g s size n false z w e = settled_on r g z (settled_end (power_on r (in_pieces r.grain g) s) size n z w e)
-
--- A swap of the images x and y that a start holds.
-module _ (R : Content → Type 0) (r : Rules) (g : Geometry) (b : Bool) (s : Content) (size n : ℕ) (w : Swap g s size n) (boots : BootsSwap R r g s size n b) where
-  law : (x y : List ℕ) (u : Content) (cuts : List ℕ) → Phase R (in_pieces r.grain g) s size n b s → SameImage x s.secondary → SameImage y s.primary → after (power_on r g s) cuts ≡ Some u
-      → (z : Content) × Law r g b n x y s u z
-  law x y u cuts begin at_x at_y is =
-      let end = swap_ends R r g s size n b boots cuts u begin is in
-      let made = end.1.ends.so in
-      let pieces = swap_pieces r.grain g s size n w in
-      let held = crossed (in_pieces r.grain g) s size n end.0 pieces made.2.data_ in (
-        end.0,
-        record {
-          end = end.1.ends.end;
-          whole = end.1.ends.whole;
-          calm = end.1.calm;
-          primary = same_then x s.secondary end.0.primary at_x held.primary;
-          secondary = same_then y s.primary end.0.secondary at_y held.secondary;
-          sectors = end.1.sectors;
-          exchange = exchanged_pieces r.grain g n s end.0 (exchanges (in_pieces r.grain g) s size n end.0 pieces made.2.data_);
-          trailer = trailer_at_end r g s size n b end.0 pieces made;
-        },
-      )
-
-pub ended : (r : Rules) (g : Geometry) (kind : Kind) (c : Bool) (n : ℕ) (a b : List ℕ) (s u z : Content) → named kind a b ≡ b → other kind a b ≡ a → Law r g c n b a s u z
-    → IsSwapped (power_on r g s) kind u z
-    → EndsIn (power_on r g s) kind a b u z
-ended r g kind c n a b s u z is_named is_other l swapped = record {
-  end = l.end;
-  whole = l.whole;
-  calm = l.calm;
-  boots = l.primary.valid;
-  result = boots_so (power_on r g u) z l.end l.whole l.calm l.primary.valid;
-  primary = let E : List ℕ → Type 0 = λ x. Holds x z.primary in subst E (sym is_named) (held_whole b z.primary l.primary);
-  secondary = let E : List ℕ → Type 0 = λ x. Holds x z.secondary in subst E (sym is_other) (held_whole a z.secondary l.secondary);
-  swapped = swapped;
-}
-
--- Nothing is before a test or an upgrade that was asked for.
-abbrev pub Nothing : Content → Type 0
-Nothing s = ⊥
-
-pub asked_boots : (r : Rules) (g : Geometry) (s : Content) (size n : ℕ) (b : Bool) → Swap g s size n → BootsSwap Nothing r g s size n b
-asked_boots r g s size n b w = phase_swaps Nothing (power_on r (in_pieces r.grain g) s) size n b (pieces_again r.grain g) (swap_pieces r.grain g s size n w) (λ t none. absurd none)
-
--- a revert: from what a test of the images exchanged leaves
-pub record Reverts (g : Geometry) (a b : List ℕ) (size n : ℕ) (s : Content) : Type 0 where
-  pub swap : Swap g s size n
-  pub tested_is : FieldsAre g s Primary tested
-  pub unasked_is : FieldsAre g s Secondary unasked
+-- At rest, with the images of a and b in the slots, and a boot of this type is next.
+pub record Begins (r : Rules) (g : Geometry) (kind : SwapType) (a b : List ℕ) (s : Content) : Type 0 where
+  pub rest : AtRest g s
+  pub next : (plan (power_on r g s)).kind ≡ kind
   pub primary : SameImage a s.primary
   pub secondary : SameImage b s.secondary
 
-pub tested_fields : (g : Geometry) (start : Content) (size n : ℕ) (z : Content) (e : Ended g start size n true z) → FieldsAre g z Primary tested
-tested_fields g start size n z e = fields_front g z Primary (closed g e.0 size) tested less e.2.primary
-  where
-    less : (f : Field) → (rest : List ℕ) × (closed g e.0 size f ≡ tested f ++ rest)
-    less field.Magic = ([], refl)
-    less field.ImageOk = (replicate 7 255, ap (λ (c : Bool). if c then blank_fields field.ImageOk else one_unit g 1) (swap_of true e.0 e.1))
-    less field.CopyDone = (replicate (g.unit - 1) 255, refl)
-    less field.SwapInfo = (_, refl)
-    less field.SwapSize = (_, refl)
-
-swapped_back : (c : Grain) (g : Geometry) (start : Content) (size n : ℕ) (z : Content) → Swap g start size n → (e : Ended (in_pieces c g) start size n true z) → Swap g z size n
-swapped_back c g start size n z w e =
-    let pieces = swap_pieces c g start size n w in
-    let held = crossed (in_pieces c g) start size n z pieces e.2.data_ in
-    record {
-      laws = w.laws;
-      ok = w.ok;
-      sized = sized_whole c g z e.2.data_.sized;
-      primary = has_same start.secondary z.primary w.secondary held.primary;
-      secondary = has_same start.primary z.secondary w.primary held.secondary;
-      larger = (larger_end (in_pieces c g) start size n z pieces e.2.data_).1;
-      count = w.count;
-      some = w.some;
-      few = w.few;
-      small = w.small;
-    }
-
--- What a test leaves after every list of cuts, from where it was asked for.
-pub record Tested (r : Rules) (g : Geometry) (a b : List ℕ) (s t z : Content) : Type 0 where
-  pub end : left_by (power_on r g t) ≡ Some z
-  pub swap : Swap g s (larger_size s) (count_of g s)
-  pub sectors : (plan (power_on r g s)).sectors ≡ count_of g s
-  pub made : Ended (in_pieces r.grain g) s (larger_size s) (count_of g s) true z
-  pub reverts : Reverts g a b (larger_size s) (count_of g s) z
-
-module _ (r : Rules) (g : Geometry) (a b : List ℕ) (s : Content) (size n : ℕ) (from : Reverts g a b size n s) where
-  pub revert_law : (u : Content) (cuts : List ℕ) → forgets_reverts r.grain r.profile ≡ false → after (power_on r g s) cuts ≡ Some u → (z : Content) × Law r g false n b a s u z
-  revert_law u cuts keeps is =
-      let R : Content → Type 0 = Waiting r.grain (in_pieces r.grain g) s n in
-      let x : PowerOn = power_on r (in_pieces r.grain g) s in
-      let again = pieces_again r.grain g in
-      let pieces = swap_pieces r.grain g s size n from.swap in
-      law R r g false s size n from.swap (phase_swaps R x size n false again pieces (waiting_swaps x size n again keeps pieces)) b a u cuts
-      (waits R (in_pieces r.grain g) s size n false s (waiting_pieces r.grain g s n from.swap.sized from.tested_is from.unasked_is)) from.secondary from.primary is
-
--- The start of two images, of every kind.
 module _ (laws : ImageLaws) (r : Rules) (g : Geometry) (a b : List ℕ) (ok : IsLayout g) (at_a : BeginsImage g a) (at_b : BeginsImage g b) where
-  asked_law : (e : Bool) (s u : Content) (cuts : List ℕ) → Holding g a b s → FieldsAre g s Secondary (asked e) → after (power_on r g s) cuts ≡ Some u
-      → (z : Content) × Law r g e (count_of g s) b a s u z
-  asked_law e s u cuts h are is =
-      let w = swap_held g a b s laws ok at_a at_b h in
-      law Nothing r g e s (larger_size s) (count_of g s) w (asked_boots r g s (larger_size s) (count_of g s) e w) b a u cuts
-      (asks Nothing (in_pieces r.grain g) s (larger_size s) (count_of g s) e s (asked_pieces r.grain g s (count_of g s) e h.sized are))
-      (secondary_image g a b s laws ok at_b h) (primary_image g a b s laws ok at_a h) is
-
-  -- A test of the images exchanged.
-  pub test_leaves : (s t : Content) (cuts : List ℕ) → Holding g b a s → FieldsAre g s Secondary (asked true) → after (power_on r g s) cuts ≡ Some t → (z : Content) × Tested r g a b s t z
-  test_leaves s t cuts h are is =
-      let size = larger_size s in
-      let n = count_of g s in
-      let w = swap_held g b a s laws ok at_b at_a h in
-      let end = swap_ends Nothing r g s size n true (asked_boots r g s size n true w) cuts t
-      (asks Nothing (in_pieces r.grain g) s size n true s (asked_pieces r.grain g s n true h.sized are)) is in
-      let made = end.1.ends.so in
-      let held = crossed (in_pieces r.grain g) s size n end.0 (swap_pieces r.grain g s size n w) made.2.data_ in (
-        end.0,
-        record {
-          end = end.1.ends.end;
-          swap = w;
-          sectors = end.1.sectors;
-          made = made;
-          reverts = record {
-            swap = swapped_back r.grain g s size n end.0 w made;
-            tested_is = primary_whole r.grain g end.0 tested (tested_fields (in_pieces r.grain g) s size n end.0 made);
-            unasked_is = secondary_whole r.grain g end.0 unasked made.2.secondary;
-            primary = same_then a s.secondary end.0.primary (secondary_image g b a s laws ok at_a h) held.primary;
-            secondary = same_then b s.primary end.0.secondary (primary_image g b a s laws ok at_b h) held.secondary;
-          };
-        },
+  -- the images, where the sectors of a swap were exchanged
+  pub crossed_images : (kind : SwapType) (s z : Content) → kind ≢ kinds.None → kind ≢ kinds.Fail → Begins r g kind a b s → AreExchanged g (plan (power_on r g s)).sectors s z
+      → SameImage b z.primary × SameImage a z.secondary
+  crossed_images kind s z some made begins are =
+      let count = (swap_sectors (power_on r g s) kind begins.rest.rest begins.next some made).0 in
+      let wide = ok.least_sector in
+      let most : larger_size s ≤ count_of g s * g.sector = (div_ceil_times (larger_size s) g.sector (omega (arith, wide))).0 in
+      let rows : (plan (power_on r g s)).sectors * g.sector ≡ count_of g s * g.sector = ap (λ n. n * g.sector) count in (
+        same_in_front g b s.secondary z.primary ((plan (power_on r g s)).sectors * g.sector) laws at_b begins.secondary (omega (arith, most, rows)) are.primary,
+        same_in_front g a s.primary z.secondary ((plan (power_on r g s)).sectors * g.sector) laws at_a begins.primary (omega (arith, most, rows)) are.secondary,
       )
 
   module _ (s u : Content) (cuts : List ℕ) (is : after (power_on r g s) cuts ≡ Some u) where
-    law_none : placed g (image_bytes a) (image_bytes b) ≡ s → (z : Content) × EndsIn (power_on r g s) starts.None a b u z
-    law_none start =
-        let h = placed_holds g a b laws ok at_a at_b in
-        let E : Content → Type 0 = λ t. (plan (power_on r g t) ≡ nothing kinds.None) × SameImage a t.primary × SameImage b t.secondary in
-        let there = subst E start (
-          idle_at r g a b laws ok at_a at_b,
-          primary_image g a b (placed g (image_bytes a) (image_bytes b)) laws ok at_a h,
-          secondary_image g a b (placed g (image_bytes a) (image_bytes b)) laws ok at_b h,
-        ) in
-        stays_idle r g a b s u cuts there.0 there.1 there.2 is
+    -- no operation
+    idle_law : Begins r g kinds.None a b s → (z : Content) × EndsIn (power_on r g s) starts.None a b u z
+    idle_law begins =
+        let none = none_idle (power_on r g s) begins.rest.rest begins.next in
+        let E : Content → Type 0 = λ t. EndsIn (power_on r g s) starts.None a b t s in (
+          s,
+          subst E (sym (uncut (power_on r g s) none u cuts is))
+              (idle_ends (power_on r g s) none starts.None a b s begins.next begins.primary.valid (held_whole a s.primary begins.primary) (held_whole b s.secondary begins.secondary) none),
+        )
 
-    law_test : test_flash g (image_bytes a) (image_bytes b) ≡ s → (z : Content) × EndsIn (power_on r g s) starts.Test a b u z
-    law_test start =
-        let E : Content → Type 0 = λ t. Holding g a b t × FieldsAre g t Secondary (asked true) in
-        let there = subst E start (test_holds g a b laws ok at_a at_b, test_asked g a b laws ok at_b) in
-        let end = asked_law true s u cuts there.0 there.1 is in
-        (end.0, ended r g starts.Test true (count_of g s) a b s u end.0 refl refl end.1 (by_start r g (count_of g s) s end.0 end.1.sectors end.1.exchange, end.1.trailer))
+    -- a swap
+    swap_law : (kind : Kind) (next : SwapType) → named kind a b ≡ b → other kind a b ≡ a → next ≢ kinds.None → next ≢ kinds.Fail
+        → ((z : Content) → LeavesBytes r g next (plan (power_on r g s)).sectors s z → AreExchanged g (plan (power_on r g s)).sectors s z × IsSwapped (power_on r g s) kind u z)
+        → (next ≡ kinds.Revert → forgets_reverts r.grain r.profile ≡ false) → Begins r g next a b s → (z : Content) × EndsIn (power_on r g s) kind a b u z
+    swap_law kind next is_named is_other some made done keeps begins =
+        let end = rest_law laws r g ok s begins.rest u cuts is in
+        (end.0, by end.0 end.1 end.2.leaves)
+      where
+        by : (z : Content) → EndsWell (power_on r g u) z → Leaves r g s z ⊎ Forgets r g s u z → EndsIn (power_on r g s) kind a b u z
+        by z well (inl l) =
+            let B : SwapType → Type 0 = λ k. LeavesBytes r g k (plan (power_on r g s)).sectors s z in
+            let bytes = done z (subst B begins.next l.bytes) in
+            let held = crossed_images next s z some made begins bytes.0 in
+            record {
+              end = well.end;
+              whole = well.whole;
+              calm = well.calm;
+              boots = well.valid;
+              result = well.result;
+              primary = let E : List ℕ → Type 0 = λ x. Holds x z.primary in subst E (sym is_named) (held_whole b z.primary held.0);
+              secondary = let E : List ℕ → Type 0 = λ x. Holds x z.secondary in subst E (sym is_other) (held_whole a z.secondary held.1);
+              swapped = bytes.1;
+            }
+        by z well (inr f) = let e : true ≡ false = sym f.rules ∙ keeps (sym begins.next ∙ f.next) in absurd cc
 
-    law_perm : perm_flash g (image_bytes a) (image_bytes b) ≡ s → (z : Content) × EndsIn (power_on r g s) starts.Perm a b u z
-    law_perm start =
-        let E : Content → Type 0 = λ t. Holding g a b t × FieldsAre g t Secondary (asked false) in
-        let there = subst E start (perm_holds g a b laws ok at_a at_b, perm_asked g a b laws ok at_b) in
-        let end = asked_law false s u cuts there.0 there.1 is in
-        (end.0, ended r g starts.Perm false (count_of g s) a b s u end.0 refl refl end.1 (by_start r g (count_of g s) s end.0 end.1.sectors end.1.exchange, end.1.trailer))
+    pub revert_law : (forgets_reverts r.grain r.profile ≡ false) → Begins r g kinds.Revert a b s → (z : Content) × EndsIn (power_on r g s) starts.Revert a b u z
+    revert_law keeps = swap_law starts.Revert kinds.Revert refl refl (λ e. cc) (λ e. cc) (λ z bytes. (bytes.0, bytes)) (λ _. keeps)
 
--- A revert: from what a test of the images exchanged leaves.
-law_revert : (laws : ImageLaws) (r : Rules) (g : Geometry) (a b : List ℕ) (s u : Content) (cuts : List ℕ) → IsLayout g → BeginsImage g a → BeginsImage g b
-    → forgets_reverts r.grain r.profile ≡ false → left_by (power_on plain g (test_flash g (image_bytes b) (image_bytes a))) ≡ Some s → after (power_on r g s) cuts ≡ Some u
-    → (z : Content) × EndsIn (power_on r g s) starts.Revert a b u z
-law_revert laws r g a b s u cuts ok at_a at_b keeps start is =
+  -- ---- the starts
+
+  -- what the secondary asks for
+  asked_next : (profile : Profile) (trial can e : Bool) (q : Trailer) → q.magic ≡ magics.Good → q.image_ok ≡ (if e then flags.Unset else flags.Set) → can ≡ true
+      → done_or_fails (asked_of profile trial q) can ≡ (if e then kinds.Test else kinds.Perm)
+  asked_next profile trial can true q good flag is = rw good (rw flag (rw is refl))
+  asked_next profile trial can false q good flag is = rw good (rw flag (rw is refl))
+
+  asked_flag : (e : Bool) (s : Content) → FieldsAre g s Secondary (asked e) → (trailer_of g s Secondary).image_ok ≡ (if e then flags.Unset else flags.Set)
+  asked_flag true s are = reads_image_ok g s Secondary 255 [] (are field.ImageOk)
+  asked_flag false s are = reads_image_ok g s Secondary 1 [] (are field.ImageOk)
+
+  pub begins_asked : (e : Bool) (s : Content) → IsDelivered g s → Holding g a b s → FieldsAre g s Secondary (asked e) → Begins r g (if e then kinds.Test else kinds.Perm) a b s
+  begins_asked e s delivered h are =
+      let two = secondary_image g a b s laws ok at_b h in
+      let rest = rests_delivered g s ok delivered in
+      record {
+        rest = rest;
+        next = next_is r g ok s rest
+            ∙ asked_next r.profile (is_on_trial (trailer_of g s Primary)) (can_swap g s.secondary) e (trailer_of g s Secondary)
+            (reads_good g s Secondary ok h.sized (are field.Magic)) (asked_flag e s are) (both_true (is_valid s.secondary) (fits g (image_size s.secondary)) two.valid (ap (fits g) two.size ∙ at_b.fitting));
+        primary = primary_image g a b s laws ok at_a h;
+        secondary = two;
+      }
+
+  pub begins_placed : (s : Content) → IsDelivered g s → placed g (image_bytes a) (image_bytes b) ≡ s → Begins r g kinds.None a b s
+  begins_placed s delivered start =
+      let h = placed_holds g a b laws ok at_a at_b in
+      let E : Content → Type 0 = λ t. IsDelivered g t → Begins r g kinds.None a b t in
+      subst E start (λ there. record {
+        rest = rests_delivered g (placed g (image_bytes a) (image_bytes b)) ok there;
+        next = ap (λ (p : Plan). p.kind) (idle_at r g a b laws ok at_a at_b);
+        primary = primary_image g a b (placed g (image_bytes a) (image_bytes b)) laws ok at_a h;
+        secondary = secondary_image g a b (placed g (image_bytes a) (image_bytes b)) laws ok at_b h;
+      }) delivered
+
+-- What the first profile takes back, each does.
+reverts_too : (profile : Profile) (trial can : Bool) (q : Trailer) → done_or_fails (asked_of profiles.One trial q) can ≡ kinds.Revert → done_or_fails (asked_of profile trial q) can ≡ kinds.Revert
+reverts_too profile trial can q is = by profile q.magic q.image_ok is
+  where
+    by : (profile : Profile) (m : Magic) (f : Flag)
+        → done_or_fails (if is_good m then (if is_unset f then kinds.Test else if is_set f then kinds.Perm else kinds.None) else if trial && reverts_at profiles.One m then kinds.Revert else kinds.None) can ≡ kinds.Revert
+        → done_or_fails (if is_good m then (if is_unset f then kinds.Test else if is_set f then kinds.Perm else kinds.None) else if trial && reverts_at profile m then kinds.Revert else kinds.None) can ≡ kinds.Revert
+    by profiles.One m f is = is
+    by profiles.Two magics.Good f is = is
+    by profiles.Two magics.Unset f is = is
+    by profiles.Two magics.Bad f is = absurd (never trial is)
+      where
+        never : (trial : Bool) → done_or_fails (if trial && false then kinds.Revert else kinds.None) can ≡ kinds.Revert → ⊥
+        never true e = cc
+        never false e = cc
+
+module _ (laws : ImageLaws) (r : Rules) (g : Geometry) (a b : List ℕ) (ok : IsLayout g) (at_a : BeginsImage g a) (at_b : BeginsImage g b) where
+  -- What a test of the exchanged images leaves, by whatever rules, waits to be taken back.
+  pub begins_revert : (s x : Content) → AtRest g x → Begins r g kinds.Test b a s → AreExchanged g (plan (power_on r g s)).sectors s x → IsTested (power_on r g x) → (p : Rules)
+      → ((plan (power_on r g x)).kind ≡ kinds.Revert → (plan (power_on p g x)).kind ≡ kinds.Revert) → Begins p g kinds.Revert a b x
+  begins_revert s x rest begins are tested p too =
+      let held = crossed_images laws r g b a ok at_b at_a kinds.Test s x (λ e. cc) (λ e. cc) begins are in
+      record { rest = rest; next = too tested.next; primary = held.0; secondary = held.1 }
+
+  by_any : (x : Content) → AtRest g x → (plan (power_on plain g x)).kind ≡ kinds.Revert → (plan (power_on r g x)).kind ≡ kinds.Revert
+  by_any x rest is =
+      next_is r g ok x rest
+      ∙ reverts_too r.profile (is_on_trial (trailer_of g x Primary)) (can_swap g x.secondary) (trailer_of g x Secondary) (sym (next_is plain g ok x rest) ∙ is)
+
+pub test_begins : ImageLaws → (r : Rules) (g : Geometry) (a b : List ℕ) (s : Content) → IsLayout g → BeginsImage g a → BeginsImage g b → IsDelivered g s → test_flash g (image_bytes a) (image_bytes b) ≡ s
+    → Begins r g kinds.Test a b s
+test_begins laws r g a b s ok at_a at_b delivered start =
+    let E : Content → Type 0 = λ t. IsDelivered g t → Begins r g kinds.Test a b t in
+    subst E start (λ there. begins_asked laws r g a b ok at_a at_b true (test_flash g (image_bytes a) (image_bytes b)) there (test_holds g a b laws ok at_a at_b) (test_asked g a b laws ok at_b)) delivered
+
+perm_begins : ImageLaws → (r : Rules) (g : Geometry) (a b : List ℕ) (s : Content) → IsLayout g → BeginsImage g a → BeginsImage g b → IsDelivered g s → perm_flash g (image_bytes a) (image_bytes b) ≡ s
+    → Begins r g kinds.Perm a b s
+perm_begins laws r g a b s ok at_a at_b delivered start =
+    let E : Content → Type 0 = λ t. IsDelivered g t → Begins r g kinds.Perm a b t in
+    subst E start (λ there. begins_asked laws r g a b ok at_a at_b false (perm_flash g (image_bytes a) (image_bytes b)) there (perm_holds g a b laws ok at_a at_b) (perm_asked g a b laws ok at_b)) delivered
+
+-- the start of a revert, which a test by the plain rules leaves
+revert_begins : ImageLaws → (r : Rules) (g : Geometry) (a b : List ℕ) (s : Content) → IsLayout g → BeginsImage g a → BeginsImage g b
+    → left_by (power_on plain g (test_flash g (image_bytes b) (image_bytes a))) ≡ Some s → Begins r g kinds.Revert a b s
+revert_begins laws r g a b s ok at_a at_b left =
     let from : Content = test_flash g (image_bytes b) (image_bytes a) in
-    let n = count_of g from in
-    let left = test_leaves laws plain g a b ok at_a at_b from from [] (test_holds g b a laws ok at_b at_a) (test_asked g b a laws ok at_a) refl in
-    let same : left.0 ≡ s = same_content left.0 s (sym left.1.end ∙ start) in
-    let E : Content → Type 0 = λ t. Reverts g a b (larger_size from) (count_of g from) t in
-    let end = revert_law r g a b s (larger_size from) n (subst E same left.1.reverts) u cuts keeps is in
-    (end.0, ended r g starts.Revert false n a b s u end.0 refl refl end.1 (by_start r g n s end.0 end.1.sectors end.1.exchange, end.1.trailer))
+    let begins = test_begins laws plain g b a from ok at_b at_a (test_delivered laws g b a ok at_b at_a) refl in
+    let end = rest_law laws plain g ok from begins.rest from [] refl in
+    let E : Content → Type 0 = λ t. Begins r g kinds.Revert a b t in
+    subst E (same_content end.0 s (sym end.1.end ∙ left)) (by from begins end.0 end.2.rest end.2.leaves)
+  where
+    by : (from : Content) → Begins plain g kinds.Test b a from → (z : Content) → AtRest g z → Leaves plain g from z ⊎ Forgets plain g from from z → Begins r g kinds.Revert a b z
+    by from begins z rest (inl l) =
+        let B : SwapType → Type 0 = λ k. LeavesBytes plain g k (plan (power_on plain g from)).sectors from z in
+        let bytes = subst B begins.next l.bytes in
+        begins_revert laws plain g a b ok at_a at_b from z rest begins bytes.0 bytes.1 r (by_any laws r g a b ok at_a at_b z rest)
+    by from begins z rest (inr f) = let e : kinds.Test ≡ kinds.Revert = sym begins.next ∙ f.next in absurd cc
 
 pub restart_law : ImageLaws → (r : Rules) → RestartLaw r
 unfolding start_flash
-restart_law laws r g starts.None a b s u cuts ok at_a at_b keeps start is = law_none laws r g a b ok at_a at_b s u cuts is (same_content (placed g (image_bytes a) (image_bytes b)) s start)
-restart_law laws r g starts.Test a b s u cuts ok at_a at_b keeps start is = law_test laws r g a b ok at_a at_b s u cuts is (same_content (test_flash g (image_bytes a) (image_bytes b)) s start)
-restart_law laws r g starts.Perm a b s u cuts ok at_a at_b keeps start is = law_perm laws r g a b ok at_a at_b s u cuts is (same_content (perm_flash g (image_bytes a) (image_bytes b)) s start)
-restart_law laws r g starts.Revert a b s u cuts ok at_a at_b keeps start is = law_revert laws r g a b s u cuts ok at_a at_b (keeps refl) start is
+restart_law laws r g starts.None a b s u cuts ok at_a at_b keeps start is =
+    let delivered = starts_law laws g starts.None a b s ok at_a at_b (λ e. cc) start in
+    idle_law laws r g a b ok at_a at_b s u cuts is (begins_placed laws r g a b ok at_a at_b s delivered (same_content (placed g (image_bytes a) (image_bytes b)) s start))
+restart_law laws r g starts.Test a b s u cuts ok at_a at_b keeps start is =
+    let delivered = starts_law laws g starts.Test a b s ok at_a at_b (λ e. cc) start in
+    swap_law laws r g a b ok at_a at_b s u cuts is starts.Test kinds.Test refl refl (λ e. cc) (λ e. cc) (λ z bytes. (bytes.0, (bytes.0, bytes.1))) (λ e. cc)
+    (test_begins laws r g a b s ok at_a at_b delivered (same_content (test_flash g (image_bytes a) (image_bytes b)) s start))
+restart_law laws r g starts.Perm a b s u cuts ok at_a at_b keeps start is =
+    let delivered = starts_law laws g starts.Perm a b s ok at_a at_b (λ e. cc) start in
+    swap_law laws r g a b ok at_a at_b s u cuts is starts.Perm kinds.Perm refl refl (λ e. cc) (λ e. cc) (λ z bytes. (bytes.0, bytes)) (λ e. cc)
+    (perm_begins laws r g a b s ok at_a at_b delivered (same_content (perm_flash g (image_bytes a) (image_bytes b)) s start))
+restart_law laws r g starts.Revert a b s u cuts ok at_a at_b keeps start is = revert_law laws r g a b ok at_a at_b s u cuts is (keeps refl) (revert_begins laws r g a b s ok at_a at_b start)
 
 pub starts_exist : StartsExist
 unfolding start_flash

@@ -1,34 +1,50 @@
 -- The second round.
-use Rattle.std.specs.Prelude.{◌≡◌, ℕ, ◌*◌, Bool, true, false, List, [], Some, refl}
-use Rattle.std.proofs.Common.{sym, ap, subst, ◌∙◌}
-use Rattle.mc_boot.proofs.Confirming.{Confirmed, confirmed_pieces, confirmed_stays, settled_stays, unconfirmed, unmarked_stays}
-use Rattle.mc_boot.proofs.InPieces.{exchanged_pieces, swap_pieces}
-use Rattle.mc_boot.proofs.Phases.{Swap, asked, larger_size}
-use Rattle.mc_boot.proofs.RestartProof.{Tested, by_start, ended, held_whole, idle_at, idle_ends, idle_leaves, restart_law, revert_law, test_leaves, uncut}
-use Rattle.mc_boot.proofs.SameImages.{ImageLaws, SameImage, same_then}
-use Rattle.mc_boot.proofs.SectorData.{Data}
-use Rattle.mc_boot.proofs.StartBytes.{Holding, count_of, primary_image, secondary_image}
-use Rattle.mc_boot.proofs.Starts.{placed_holds, placed_unasked, test_asked, test_holds}
-use Rattle.mc_boot.proofs.SwapEnds.{crossed, exchanges, settled_on}
-use Rattle.mc_boot.specs.Confirm.{confirmed, confirmed_if}
-use Rattle.mc_boot.specs.Plan.{Plan, nothing, plan}
-use Rattle.mc_boot.specs.Restart.{AreExchanged, BeginsImage, EndsIn, Holds, IsSettled, IsSwapped, forgets_reverts}
+use Rattle.std.specs.Prelude.{◌≡◌, ◌⊎◌, ℕ, ◌*◌, ◌≤◌, ◌&&◌, Bool, true, false, if◌then◌else◌, List, [], take, Some, refl}
+use Rattle.std.specs.Int.{div_ceil}
+use Rattle.std.proofs.Common.{arith, sym, ap, subst, ◌∙◌, inl, inr}
+use Rattle.std.proofs.Math.Nat.{mul-le-mul_right}
+use Rattle.mc_boot.proofs.AtRest.{AtRest, none_idle, swap_sectors}
+use Rattle.mc_boot.proofs.Confirming.{settled_stays, unconfirmed, unmarked_stays}
+use Rattle.mc_boot.proofs.DeliveredStarts.{starts_law}
+use Rattle.mc_boot.proofs.FieldWrites.{place_behind_data}
+use Rattle.mc_boot.proofs.FromRest.{rest_law}
+use Rattle.mc_boot.proofs.LifeProof.{Written, confirmed_written, predicts}
+use Rattle.mc_boot.proofs.Phases.{larger_size}
+use Rattle.mc_boot.proofs.RestartProof.{Begins, begins_placed, begins_revert, held_whole, idle_ends, idle_leaves, restart_law, revert_law, test_begins, uncut}
+use Rattle.mc_boot.proofs.SameImages.{ImageLaws, same_fronts, same_then}
+use Rattle.mc_boot.proofs.StartBytes.{count_of}
+use Rattle.mc_boot.proofs.Starts.{placed_holds, placed_unasked}
+use Rattle.mc_boot.specs.Confirm.{confirmed, confirmed_if, may_confirm}
+use Rattle.mc_boot.specs.Life.{DeviceState, Forgets, Leaves, LeavesBytes, asked_of, can_swap, done_or_fails, is_on_trial}
+use Rattle.mc_boot.specs.Plan.{plan}
+use Rattle.mc_boot.specs.PowerOn.{power_on}
+use Rattle.mc_boot.specs.Restart.{AreExchanged, BeginsImage, EndsIn, Holds, IsSettled, IsSwapped, IsTested, forgets_reverts}
 use Rattle.mc_boot.specs.Rounds.{AreBack, EndsAgain, IsIdle, RoundsLaw}
 use Rattle.mc_boot.specs.Runs.{after, left_by}
 use Rattle.mc_boot.specs.Start.{image_bytes, named, other, placed, start_flash, test_flash}
 use Rattle.mc_boot.specs.declared.kind.Kind.{Kind}
 use Rattle.mc_boot.specs.declared.kind.Kind.TheVariants as starts
-use Rattle.mc_flash.specs.Changes.{same_content}
+use Rattle.mc_flash.specs.Changes.{same_content, sized_is}
 use Rattle.mc_flash.specs.Content.{Content}
-use Rattle.mc_flash.specs.Geometry.{Geometry, IsLayout}
-use Rattle.mc_flash.specs.Pieces.{in_pieces}
-use Rattle.mc_image.specs.Valid.{is_valid}
-use Rattle.mc_trailer.specs.facts.Fields.{FieldsAre, reads_absent}
-use Rattle.mc_trailer.specs.declared.tables.Rules.{Rules}
-use Rattle.mc_trailer.specs.declared.places.Field.TheVariants as field
-use Rattle.mc_trailer.specs.declared.tables.SwapType.TheVariants as kinds
+use Rattle.mc_flash.specs.facts.Layouts.{data_end, image_is_data}
+use Rattle.mc_flash.specs.Geometry.{Geometry, IsLayout, greatest_sectors}
 use Rattle.mc_flash.specs.declared.op.Slot.TheVariants.{Primary, Secondary}
-use Rattle.mc_boot.specs.PowerOn.{power_on}
+use Rattle.mc_image.specs.Valid.{is_valid}
+use Rattle.mc_trailer.specs.facts.Fields.{reads_absent}
+use Rattle.mc_trailer.specs.facts.Places.{field_ends}
+use Rattle.mc_trailer.specs.Fields.{trailer_of}
+use Rattle.mc_trailer.specs.Places.{place}
+use Rattle.mc_trailer.specs.Tables.{is_good, is_set, is_unset, reverts_at}
+use Rattle.mc_trailer.specs.declared.places.Field.TheVariants as field
+use Rattle.mc_trailer.specs.declared.tables.Profile.{Profile}
+use Rattle.mc_trailer.specs.declared.tables.Rules.{Rules}
+use Rattle.mc_trailer.specs.declared.tables.SwapType.{SwapType}
+use Rattle.mc_trailer.specs.declared.tables.SwapType.TheVariants as kinds
+use Rattle.mc_trailer.specs.declared.trailer.Flag.{Flag}
+use Rattle.mc_trailer.specs.declared.trailer.Flag.TheVariants as flags
+use Rattle.mc_trailer.specs.declared.trailer.Magic.{Magic}
+use Rattle.mc_trailer.specs.declared.trailer.Magic.TheVariants as magics
+use Rattle.mc_trailer.specs.declared.trailer.Trailer.{Trailer}
 
 -- exchanged twice
 twice : (g : Geometry) (n : ℕ) (s x z : Content) → AreExchanged g n s x → AreExchanged g n x z → AreBack g n s z
@@ -58,107 +74,135 @@ module _ (r : Rules) (g : Geometry) (kind : Kind) (confirms : Bool) (a b : List 
       subst E (same_content y x (sym e.end ∙ left))
       (λ at. still_round r g kind confirms a b s y u second settled.idle settled.next stays at e.boots e.primary e.secondary swapped) occurs
 
+-- a flash that asks for a revert asks for nothing else
+no_request : (profile : Profile) (trial can : Bool) (q : Trailer) → done_or_fails (asked_of profile trial q) can ≡ kinds.Revert → is_good q.magic ≡ false
+no_request profile trial can q is = by q.magic q.image_ok can is
+  where
+    by : (m : Magic) (f : Flag) (can : Bool)
+        → done_or_fails (if is_good m then (if is_unset f then kinds.Test else if is_set f then kinds.Perm else kinds.None) else if trial && reverts_at profile m then kinds.Revert else kinds.None) can ≡ kinds.Revert
+        → is_good m ≡ false
+    by magics.Unset f can is = refl
+    by magics.Bad f can is = refl
+    by magics.Good flags.Unset true is = absurd cc
+    by magics.Good flags.Unset false is = absurd cc
+    by magics.Good flags.Set true is = absurd cc
+    by magics.Good flags.Set false is = absurd cc
+    by magics.Good flags.Bad can is = absurd cc
+
 module _ (laws : ImageLaws) (r : Rules) (g : Geometry) (a b : List ℕ) (ok : IsLayout g) (at_a : BeginsImage g a) (at_b : BeginsImage g b) where
   -- No swap: it stays as it was placed.
-  record IsPlaced (y : Content) : Type 0 where
-    none : plan (power_on r g y) ≡ nothing kinds.None
-    stays : confirmed g y ≡ y
-    first : SameImage a y.primary
-    second : SameImage b y.secondary
-
-  placed_is : IsPlaced (placed g (image_bytes a) (image_bytes b))
-  placed_is =
-      let h = placed_holds g a b laws ok at_a at_b in
-      let absent = reads_absent g (placed g (image_bytes a) (image_bytes b)) Primary ok h.sized (placed_unasked g a b Primary laws ok at_a at_b field.Magic) in
-      record {
-        none = idle_at r g a b laws ok at_a at_b;
-        stays = unmarked_stays g (placed g (image_bytes a) (image_bytes b)) absent;
-        first = primary_image g a b (placed g (image_bytes a) (image_bytes b)) laws ok at_a h;
-        second = secondary_image g a b (placed g (image_bytes a) (image_bytes b)) laws ok at_b h;
-      }
-
-  none_round : (confirms : Bool) (s t x u : Content) (first second : List ℕ) → IsPlaced s → after (power_on r g s) first ≡ Some t → left_by (power_on r g t) ≡ Some x
+  none_round : (confirms : Bool) (s t x u : Content) (first second : List ℕ) → Begins r g kinds.None a b s → confirmed g s ≡ s → after (power_on r g s) first ≡ Some t → left_by (power_on r g t) ≡ Some x
       → after (power_on r g (confirmed_if confirms g x)) second ≡ Some u → (z : Content) × EndsAgain (power_on r g s) starts.None confirms a b x u z
-  none_round confirms s t x u first second at_s is left occurs =
-      let idle = ap (λ (p : Plan). p.list) at_s.none in
+  none_round confirms s t x u first second begins stays is left occurs =
+      let idle = none_idle (power_on r g s) begins.rest.rest begins.next in
       let there : t ≡ s = uncut (power_on r g s) idle t first is in
       let same : x ≡ s = same_content x s (sym left ∙ ap (λ s. left_by (power_on r g s)) there ∙ idle_leaves (power_on r g s) idle) in
       let E : Content → Type 0 = λ y. after (power_on r g (confirmed_if confirms g y)) second ≡ Some u → (z : Content) × EndsAgain (power_on r g s) starts.None confirms a b y u z in
-      let kind = ap (λ (p : Plan). p.kind) at_s.none in
       subst E (sym same)
-      (λ at. still_round r g starts.None confirms a b s s u second idle kind at_s.stays at at_s.first.valid (held_whole a s.primary at_s.first) (held_whole b s.secondary at_s.second) idle)
+      (λ at. still_round r g starts.None confirms a b s s u second idle begins.next stays at begins.primary.valid (held_whole a s.primary begins.primary) (held_whole b s.secondary begins.secondary) idle)
       occurs
 
-  -- A test.
-  module _ (s : Content) (h : Holding g a b s) (are : FieldsAre g s Secondary (asked true)) where
-    module _ (t x : Content) (first : List ℕ) (is : after (power_on r g s) first ≡ Some t) (left : left_by (power_on r g t) ≡ Some x) where
-      round : Tested r g b a s t x
-      round =
-          let one = test_leaves laws r g b a ok at_b at_a s t first h are is in
-          let E : Content → Type 0 = λ y. Tested r g b a s t y in
-          subst E (same_content one.0 x (sym one.1.end ∙ left)) one.1
+  -- What a test leaves.
+  record Tested (s x : Content) : Type 0 where
+    rest : AtRest g x
+    exchange : AreExchanged g (plan (power_on r g s)).sectors s x
+    tested : IsTested (power_on r g x)
+    may : may_confirm g x ≡ true
 
-      pieces : Swap (in_pieces r.grain g) s (larger_size s) (count_of g s)
-      pieces = swap_pieces r.grain g s (larger_size s) (count_of g s) round.swap
+  module _ (s t x : Content) (first : List ℕ) (begins : Begins r g kinds.Test a b s) (is : after (power_on r g s) first ≡ Some t) (left : left_by (power_on r g t) ≡ Some x) where
+    round : Tested s x
+    round =
+        let end = rest_law laws r g ok s begins.rest t first is in
+        let E : Content → Type 0 = λ y. Tested s y in
+        subst E (same_content end.0 x (sym end.1.end ∙ left)) (by end.0 end.2.rest end.2.leaves)
+      where
+        by : (y : Content) → AtRest g y → Leaves r g s y ⊎ Forgets r g s t y → Tested s y
+        by y rest (inl l) =
+            let B : SwapType → Type 0 = λ k. LeavesBytes r g k (plan (power_on r g s)).sectors s y in
+            let bytes = subst B begins.next l.bytes in
+            record { rest = rest; exchange = bytes.0; tested = bytes.1; may = bytes.2 }
+        by y rest (inr f) = let e : kinds.Test ≡ kinds.Revert = sym begins.next ∙ f.next in absurd cc
 
-      crossing : (y : Content) → Data (in_pieces r.grain g) (count_of g s) s (3 * count_of g s) y → AreExchanged g (count_of g s) s y
-      crossing y data_ = exchanged_pieces r.grain g (count_of g s) s y (exchanges (in_pieces r.grain g) s (larger_size s) (count_of g s) y pieces data_)
+    again_begins : Begins r g kinds.Revert b a x
+    again_begins = begins_revert laws r g b a ok at_b at_a s x round.rest begins round.exchange round.tested r (λ e. e)
 
-      -- left alone it is taken back
-      left_round : (u : Content) (second : List ℕ) → forgets_reverts r.grain r.profile ≡ false → after (power_on r g x) second ≡ Some u → (z : Content)
-          × EndsAgain (power_on r g s) starts.Test false a b x u z
-      left_round u second keeps occurs =
-          let end = revert_law r g b a x (larger_size s) (count_of g s) round.reverts u second keeps occurs in
-          let back = by_start r g (count_of g s) x end.0 end.1.sectors end.1.exchange in
-          let E : ℕ → Type 0 = λ m. AreBack g m s end.0 in (
-            end.0,
-            (
-              ended r g starts.Revert false (count_of g s) b a x u end.0 refl refl end.1 (back, end.1.trailer),
-              subst E (sym round.sectors) (twice g (count_of g s) s x end.0 (crossing x round.made.2.data_) end.1.exchange),
-            ),
-          )
+    sectors : ((plan (power_on r g s)).sectors ≡ count_of g s) × ((plan (power_on r g s)).sectors ≤ greatest_sectors g)
+    sectors = swap_sectors (power_on r g s) kinds.Test begins.rest.rest begins.next (λ e. cc) (λ e. cc)
 
-      -- confirmed it stays
-      kept : Confirmed (power_on r (in_pieces r.grain g) s) (count_of g s) (confirmed g x)
-      kept =
-          let E : Content → Type 0 = λ m. Confirmed (power_on r (in_pieces r.grain g) s) (count_of g s) m in
-          subst E (confirmed_pieces r.grain g x) (confirmed_stays (power_on r (in_pieces r.grain g) s) (larger_size s) (count_of g s) x pieces round.made)
+    -- left alone it is taken back
+    left_round : (u : Content) (second : List ℕ) → forgets_reverts r.grain r.profile ≡ false → after (power_on r g x) second ≡ Some u → (z : Content)
+        × EndsAgain (power_on r g s) starts.Test false a b x u z
+    left_round u second keeps occurs =
+        let end = revert_law laws r g b a ok at_b at_a x u second occurs keeps again_begins in
+        let here = begins.primary.size in
+        let there = begins.secondary.size in
+        let now_ = again_begins.primary.size in
+        let below = again_begins.secondary.size in
+        let larger : larger_size x ≡ larger_size s = omega (arith, here, there, now_, below) in
+        let same : (plan (power_on r g x)).sectors ≡ (plan (power_on r g s)).sectors =
+        (swap_sectors (power_on r g x) kinds.Revert round.rest.rest round.tested.next (λ e. cc) (λ e. cc)).0 ∙ ap (λ n. div_ceil n g.sector) larger ∙ sym sectors.0 in
+        let E : ℕ → Type 0 = λ m. AreExchanged g m x end.0 in
+        (end.0, (end.1, twice g (plan (power_on r g s)).sectors s x end.0 round.exchange (subst E same end.1.swapped.0)))
 
-      kept_ends : EndsIn (power_on r g s) starts.Perm a b (confirmed g x) (confirmed g x)
-      kept_ends =
-          let settled = settled_on r g (confirmed g x) kept.settled in
-          let held = crossed (in_pieces r.grain g) s (larger_size s) (count_of g s) (confirmed g x) pieces kept.data_ in
-          let upper = same_then b s.secondary (confirmed g x).primary (secondary_image g a b s laws ok at_b h) held.primary in
-          let lower = same_then a s.primary (confirmed g x).secondary (primary_image g a b s laws ok at_a h) held.secondary in
-          let over = by_start r g (count_of g s) s (confirmed g x) round.sectors (crossing (confirmed g x) kept.data_) in
-          idle_ends (power_on r g (confirmed g x)) settled.idle starts.Perm a b s settled.next upper.valid
-          (held_whole b (confirmed g x).primary upper) (held_whole a (confirmed g x).secondary lower) (over, settled)
+    -- confirmed it stays
+    written_there : Written laws g ok x round.rest (confirmed g x)
+    written_there = confirmed_written laws g ok x round.rest round.may
 
-      confirmed_round : (u : Content) (second : List ℕ) → after (power_on r g (confirmed g x)) second ≡ Some u → (z : Content) × EndsAgain (power_on r g s) starts.Test true a b x u z
-      confirmed_round u second occurs =
-          let settled = settled_on r g (confirmed g x) kept.settled in
-          let there = uncut (power_on r g (confirmed g x)) settled.idle u second occurs in
-          let E : Content → Type 0 = λ y. EndsIn (power_on r g s) starts.Perm a b y (confirmed g x) in
-          (confirmed g x, (subst E (sym there) kept_ends, record { idle = settled.idle; uncut = there }))
+    settled : IsSettled (power_on r g (confirmed g x))
+    settled =
+        let tells = predicts laws r g ok x round.rest in
+        let asked_not = no_request r.profile (is_on_trial (trailer_of g x Primary)) (can_swap g x.secondary) (trailer_of g x Secondary) (sym tells.next ∙ round.tested.next) in
+        let next : (plan (power_on r g (confirmed g x))).kind ≡ kinds.None =
+        ap (λ (d : DeviceState). d.next) (tells.confirms round.may) ∙ ap (λ (c : Bool). if c then (plan (power_on r g x)).kind else kinds.None) asked_not in
+        record { image_ok = written_there.image_ok; copy_done = written_there.copy_done; next = next; idle = none_idle (power_on r g (confirmed g x)) written_there.rested.rest next }
 
-  -- For every kind and choice.
-  test_start : (s : Content) → test_flash g (image_bytes a) (image_bytes b) ≡ s → Holding g a b s × FieldsAre g s Secondary (asked true)
-  test_start s start =
-      let E : Content → Type 0 = λ t. Holding g a b t × FieldsAre g t Secondary (asked true) in
-      subst E start (test_holds g a b laws ok at_a at_b, test_asked g a b laws ok at_b)
+    crossing : AreExchanged g (plan (power_on r g s)).sectors s (confirmed g x)
+    crossing =
+        let behind : data_end g Primary ≤ place g Primary field.ImageOk = place_behind_data g Primary field.ImageOk ok in
+        let rows : greatest_sectors g * g.sector ≤ data_end g Primary = mul-le-mul_right g.sector (image_is_data g Primary (greatest_sectors g) (omega arith)) in
+        let few : (plan (power_on r g s)).sectors * g.sector ≤ greatest_sectors g * g.sector = mul-le-mul_right g.sector sectors.1 in
+        let ends = field_ends g Primary field.ImageOk ok in
+        let old = sized_is g x Primary round.rest.sized in
+        let new = sized_is g (confirmed g x) Primary written_there.rested.sized in
+        record {
+          primary = same_fronts x.primary (confirmed g x).primary ((plan (power_on r g s)).sectors * g.sector) (omega (arith, behind, rows, few, ends, old)) (omega (arith, behind, rows, few, ends, new))
+              (λ i h. written_there.before i (omega (arith, h, behind, rows, few))) ∙ round.exchange.primary;
+          secondary = ap (take ((plan (power_on r g s)).sectors * g.sector)) written_there.secondary ∙ round.exchange.secondary;
+        }
+
+    confirmed_round : (u : Content) (second : List ℕ) → after (power_on r g (confirmed g x)) second ≡ Some u → (z : Content) × EndsAgain (power_on r g s) starts.Test true a b x u z
+    confirmed_round u second occurs =
+        let there = uncut (power_on r g (confirmed g x)) settled.idle u second occurs in
+        let upper = same_then b x.primary (confirmed g x).primary again_begins.primary written_there.primary in
+        let E : Content → Type 0 = λ y. EndsIn (power_on r g s) starts.Perm a b y (confirmed g x) in
+        let H : List ℕ → Type 0 = λ l. Holds a l in
+        let lower : Holds a (confirmed g x).secondary = subst H (sym written_there.secondary) (held_whole a x.secondary again_begins.secondary) in (
+          confirmed g x,
+          (
+            subst E (sym there) (idle_ends (power_on r g (confirmed g x)) settled.idle starts.Perm a b s settled.next upper.valid (held_whole b (confirmed g x).primary upper) lower (crossing, settled)),
+            record { idle = settled.idle; uncut = there },
+          ),
+        )
+
+  absent_stays : confirmed g (placed g (image_bytes a) (image_bytes b)) ≡ placed g (image_bytes a) (image_bytes b)
+  absent_stays = unmarked_stays g (placed g (image_bytes a) (image_bytes b))
+      (reads_absent g (placed g (image_bytes a) (image_bytes b)) Primary ok (placed_holds g a b laws ok at_a at_b).sized (placed_unasked g a b Primary laws ok at_a at_b field.Magic))
 
 pub rounds_law : ImageLaws → (r : Rules) → RoundsLaw r
 unfolding start_flash
 rounds_law laws r g starts.None confirms a b s t x u first second ok at_a at_b keeps start is left occurs =
-    let placed_there : placed g (image_bytes a) (image_bytes b) ≡ s = same_content (placed g (image_bytes a) (image_bytes b)) s start in
-    let at_s = subst (IsPlaced laws r g a b ok at_a at_b) placed_there (placed_is laws r g a b ok at_a at_b) in
-    none_round laws r g a b ok at_a at_b confirms s t x u first second at_s is left occurs
+    let there : placed g (image_bytes a) (image_bytes b) ≡ s = same_content (placed g (image_bytes a) (image_bytes b)) s start in
+    let begins = begins_placed laws r g a b ok at_a at_b s (starts_law laws g starts.None a b s ok at_a at_b (λ e. cc) start) there in
+    let E : Content → Type 0 = λ y. confirmed g y ≡ y in
+    none_round laws r g a b ok at_a at_b confirms s t x u first second begins (subst E there (absent_stays laws r g a b ok at_a at_b)) is left occurs
 rounds_law laws r g starts.Test false a b s t x u first second ok at_a at_b keeps start is left occurs =
-    let from = test_start laws r g a b ok at_a at_b s (same_content (test_flash g (image_bytes a) (image_bytes b)) s start) in
-    left_round laws r g a b ok at_a at_b s from.0 from.1 t x first is left u second (keeps refl) occurs
+    let delivered = starts_law laws g starts.Test a b s ok at_a at_b (λ e. cc) start in
+    let begins = test_begins laws r g a b s ok at_a at_b delivered (same_content (test_flash g (image_bytes a) (image_bytes b)) s start) in
+    left_round laws r g a b ok at_a at_b s t x first begins is left u second (keeps refl) occurs
 rounds_law laws r g starts.Test true a b s t x u first second ok at_a at_b keeps start is left occurs =
-    let from = test_start laws r g a b ok at_a at_b s (same_content (test_flash g (image_bytes a) (image_bytes b)) s start) in
-    confirmed_round laws r g a b ok at_a at_b s from.0 from.1 t x first is left u second occurs
+    let delivered = starts_law laws g starts.Test a b s ok at_a at_b (λ e. cc) start in
+    let begins = test_begins laws r g a b s ok at_a at_b delivered (same_content (test_flash g (image_bytes a) (image_bytes b)) s start) in
+    confirmed_round laws r g a b ok at_a at_b s t x first begins is left u second occurs
 rounds_law laws r g starts.Perm confirms a b s t x u first second ok at_a at_b keeps start is left occurs =
     let e = restart_law laws r g starts.Perm a b s t first ok at_a at_b (λ same. absurd cc) start is in
     stays_round r g starts.Perm confirms a b s second t x u e.0 ok e.1 e.1.swapped.1 e.1.swapped left occurs

@@ -1,68 +1,37 @@
 -- What a swap leaves, after every list of cuts.
-use Rattle.std.specs.Prelude.{◌≡◌, ◌≢◌, ℕ, ◌-◌, ◌*◌, Bool, true, false, List, replicate, Some}
-use Rattle.std.proofs.Common.{sym, ap, subst, ◌∙◌}
-use Rattle.mc_boot.proofs.BootsKeep.{Swaps}
+use Rattle.std.specs.Prelude.{◌≡◌, ℕ, ◌-◌, ◌*◌, Bool, true, false, if◌then◌else◌, List, [], ◌++◌, replicate, refl}
+use Rattle.std.proofs.Common.{sym, ap, ◌∙◌}
+use Rattle.mc_boot.proofs.BootsKeep.{Swaps, phase_swaps}
 use Rattle.mc_boot.proofs.Fronts.{front_at_end, front_lists, image_there, sees_end}
-use Rattle.mc_boot.proofs.InPieces.{keeps_pieces, plan_in_pieces, trailer_pieces}
-use Rattle.mc_boot.proofs.Keeps.{Keeps, restart}
+use Rattle.mc_boot.proofs.InPieces.{pieces_again, plan_in_pieces, swap_pieces, trailer_pieces}
 use Rattle.mc_boot.proofs.PhasePlans.{absent_reverts, image_ok_is, plan_settled, plan_tested, swap_of}
-use Rattle.mc_boot.proofs.Phases.{Ended, IsSwapOf, Phase, Swap}
+use Rattle.mc_boot.proofs.Phases.{Ended, Phase, Swap, closed, tested}
 use Rattle.mc_boot.proofs.SameImages.{SameImage}
 use Rattle.mc_boot.proofs.SectorData.{Data}
-use Rattle.mc_boot.proofs.WholeBoots.{Ends, ends}
-use Rattle.mc_boot.specs.Plan.{Plan, plan}
+use Rattle.mc_boot.specs.Plan.{Plan}
+use Rattle.mc_boot.specs.PowerOn.{PowerOn, again, power_on}
 use Rattle.mc_boot.specs.Restart.{AreExchanged, IsSettled, IsTested}
-use Rattle.mc_boot.specs.Runs.{after}
 use Rattle.mc_flash.specs.Content.{Content}
 use Rattle.mc_flash.specs.Geometry.{Geometry}
 use Rattle.mc_flash.specs.Pieces.{in_pieces}
-use Rattle.mc_trailer.specs.facts.Fields.{reads_absent, reads_copy_done, reads_good}
-use Rattle.mc_trailer.specs.Fields.{trailer_of}
-use Rattle.mc_trailer.specs.declared.tables.Rules.{Rules}
-use Rattle.mc_trailer.specs.declared.tables.SwapType.{SwapType}
-use Rattle.mc_trailer.specs.declared.trailer.Trailer.{Trailer}
-use Rattle.mc_trailer.specs.declared.places.Field.TheVariants as field
-use Rattle.mc_trailer.specs.declared.tables.SwapType.TheVariants as kinds
 use Rattle.mc_flash.specs.declared.op.Slot.TheVariants.{Primary, Secondary}
-use Rattle.mc_boot.specs.PowerOn.{PowerOn, again, power_on}
+use Rattle.mc_trailer.specs.facts.Fields.{FieldsAre, blank_fields, fields_front, reads_absent, reads_copy_done, reads_good}
+use Rattle.mc_trailer.specs.Fields.{one_unit, trailer_of}
+use Rattle.mc_trailer.specs.declared.places.Field.{Field}
+use Rattle.mc_trailer.specs.declared.places.Field.TheVariants as field
+use Rattle.mc_trailer.specs.declared.tables.Rules.{Rules}
+use Rattle.mc_trailer.specs.declared.trailer.Trailer.{Trailer}
 
 -- Each boot by the rules, on any layout: the phases are of the layout in pieces.
 abbrev pub BootsSwap : (Content → Type 0) → Rules → Geometry → Content → ℕ → ℕ → Bool → Type 0
 BootsSwap R r g start size n b = (s : Content) → Phase R (in_pieces r.grain g) start size n b s → Swaps R (power_on r (in_pieces r.grain g) start) size n b s
 
-no_panic : (b : Bool) (kind : SwapType) → IsSwapOf b kind → kind ≢ kinds.Panic
-no_panic b kind of same = let E : SwapType → Type 0 = λ k. IsSwapOf b k in subst E same of
+-- Nothing is before a test or an upgrade that was asked for.
+abbrev pub Nothing : Content → Type 0
+Nothing s = ⊥
 
--- after every list of cuts the boot ends the swap
-pub record SwapEnds (r : Rules) (g : Geometry) (start : Content) (size n : ℕ) (b : Bool) (u z : Content) : Type 0 where
-  pub ends : Ends r g (Ended (in_pieces r.grain g) start size n b) u z
-  pub calm : (plan (power_on r g u)).kind ≢ kinds.Panic
-  pub sectors : (plan (power_on r g start)).sectors ≡ n
-
-module _ (R : Content → Type 0) (r : Rules) (g : Geometry) (start : Content) (size n : ℕ) (b : Bool) (boots : BootsSwap R r g start size n b) where
-  abbrev Bears : Content → Type 0
-  Bears = Phase R (in_pieces r.grain g) start size n b
-
-  abbrev End : Content → Type 0
-  End = Ended (in_pieces r.grain g) start size n b
-
-  keeps_on : (s : Content) → Bears s → Keeps g Bears (plan (power_on r g s)).list s End
-  keeps_on s is =
-      keeps_pieces r.grain g Bears End (plan (power_on r g s)).list s
-      (let E : Plan → Type 0 = λ q. Keeps (in_pieces r.grain g) Bears q.list s End in subst E (plan_in_pieces r g s) (boots s is).keeps)
-
-  pub swap_ends : (cuts : List ℕ) (u : Content) → Bears start → after (power_on r g start) cuts ≡ Some u → (z : Content) × SwapEnds r g start size n b u z
-  swap_ends cuts u begin is =
-      let at_u = restart r g Bears End keeps_on cuts start u begin is in
-      let end = ends r g Bears End u (keeps_on u at_u) in
-      let planned = (boots u at_u).planned in (
-        end.0,
-        record {
-          ends = end.1;
-          calm = λ same. no_panic b planned.kind planned.of (sym planned.is ∙ ap (λ (q : Plan). q.kind) (plan_in_pieces r g u) ∙ same);
-          sectors = ap (λ (q : Plan). q.sectors) (sym (plan_in_pieces r g start)) ∙ (boots start begin).planned.sectors;
-        },
-      )
+pub asked_boots : (r : Rules) (g : Geometry) (s : Content) (size n : ℕ) (b : Bool) → Swap g s size n → BootsSwap Nothing r g s size n b
+asked_boots r g s size n b w = phase_swaps Nothing (power_on r (in_pieces r.grain g) s) size n b (pieces_again r.grain g) (swap_pieces r.grain g s size n w) (λ t none. absurd none)
 
 -- the images at the end
 pub record Crossed (start z : Content) : Type 0 where
@@ -81,6 +50,17 @@ exchanges g start size n z w data_ = record {
   primary = front_lists g start n z Primary Secondary w.ok w.few w.sized data_.sized (front_at_end g start n z Primary w.ok w.few data_);
   secondary = front_lists g start n z Secondary Primary w.ok w.few w.sized data_.sized (front_at_end g start n z Secondary w.ok w.few data_);
 }
+
+-- the fields of a finished test
+pub tested_fields : (g : Geometry) (start : Content) (size n : ℕ) (z : Content) (e : Ended g start size n true z) → FieldsAre g z Primary tested
+tested_fields g start size n z e = fields_front g z Primary (closed g e.0 size) tested less e.2.primary
+  where
+    less : (f : Field) → (rest : List ℕ) × (closed g e.0 size f ≡ tested f ++ rest)
+    less field.Magic = ([], refl)
+    less field.ImageOk = (replicate 7 255, ap (λ (c : Bool). if c then blank_fields field.ImageOk else one_unit g 1) (swap_of true e.0 e.1))
+    less field.CopyDone = (replicate (g.unit - 1) 255, refl)
+    less field.SwapInfo = (_, refl)
+    less field.SwapSize = (_, refl)
 
 -- the trailers at the end
 pub tested_end : (x : PowerOn) (size n : ℕ) (z : Content) → Swap x.geometry x.content size n → (e : Ended x.geometry x.content size n true z) → IsTested (again x z)

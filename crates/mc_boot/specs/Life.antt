@@ -218,12 +218,15 @@ LifeLaw r =
     → IsLayout g → IsDelivered g s → Lives r g (resting s runs) events m
     → (z : Content) × LivesOn r g m z
 
--- What a flash at rest will do, by what is on trial and what stands in the secondary; and what a confirmation changes of it.
+-- What a flash at rest will do, by what is on trial and what stands in the secondary; what a confirmation changes of its state; and
+-- that one that is torn leaves the image where it is.
 pub record Predicts (r : Rules) (g : Geometry) (s : Content) : Type 0 where
   pub next : (plan (power_on r g s)).kind
       ≡ done_or_fails (asked_of r.profile (is_on_trial (trailer_of g s Primary)) (trailer_of g s Secondary)) (can_swap g s.secondary)
   pub confirms : may_confirm g s ≡ true
       → device_state r g (confirmed g s) ≡ confirmed_by (is_good (trailer_of g s Secondary).magic) (device_state r g s)
+  pub marks : (bytes : List ℕ) → is_set (trailer_of g s Primary).copy_done ≡ true → length bytes ≤ room field.ImageOk
+      → id_of (put s.primary (place g Primary field.ImageOk) bytes) ≡ id_of s.primary
 
 abbrev pub NextLaw : Rules → Type 0
 NextLaw r =
