@@ -110,7 +110,8 @@ module _ (laws : ImageLaws) (g : Geometry) (a b : List ℕ) (ok : IsLayout g) (a
       let magic = place_inside g Secondary field.Magic ok in
       let len = length-put (filled g Secondary (image_bytes b)) magic_bytes (place g Secondary field.Magic) (omega (arith, magic, full)) in
       from_image (perm_flash g (image_bytes a) (image_bytes b)) h a_bytes
-      (put_bytes (put (filled g Secondary (image_bytes b)) (place g Secondary field.Magic) magic_bytes) (1 ∷ []) (place g Secondary field.ImageOk) (omega (arith, inside, len, full)) marked (small_each (1 ∷ []) refl))
+      (put_bytes (put (filled g Secondary (image_bytes b)) (place g Secondary field.Magic) magic_bytes) (1 ∷ []) (place g Secondary field.ImageOk)
+      (omega (arith, inside, len, full)) marked (small_each (1 ∷ []) refl))
       absent
 
 pub starts_law : ImageLaws → StartsLaw

@@ -1,5 +1,6 @@
 -- The life law.
-use Rattle.std.specs.Prelude.{◌≡◌, ◌⊎◌, ℕ, ◌*◌, ◌<◌, ◌≤◌, slice_index, ◌&&◌, ◌-◌, Bool, true, false, if◌then◌else◌, List, [], ◌∷◌, ◌++◌, replicate, Option, Some, None, option_and_then, option_map, refl, length}
+use Rattle.std.specs.Prelude.{◌≡◌, ◌⊎◌, ℕ, ◌*◌, ◌<◌, ◌≤◌, slice_index, ◌&&◌, ◌-◌, Bool, true, false, if◌then◌else◌, List, [], ◌∷◌, ◌++◌, replicate, Option, Some, None, option_and_then}
+use Rattle.std.specs.Prelude.{option_map, refl, length}
 use Rattle.std.specs.Int.{div_ceil}
 use Rattle.std.proofs.Common.{arith, sym, ap, subst, ◌∙◌, inl, inr}
 use Rattle.std.proofs.lemmas.Grind.{div_ceil_times}
@@ -11,7 +12,8 @@ use Rattle.mc_boot.proofs.NextBoots.{next_is}
 use Rattle.mc_boot.proofs.FromRest.{done_rests, no_trial, rest_law, same_names}
 use Rattle.mc_boot.specs.Confirm.{confirmed, may_confirm}
 use Rattle.mc_boot.specs.Image.{image_size}
-use Rattle.mc_boot.specs.Life.{AreSecondary, Event, Forgets, AllStored, IsDelivered, Leads, LifeLaw, Lives, Moment, NextLaw, OnlyLaw, DeviceState, Predicts, Leaves, asked_of, booted_by, can_swap, confirmed_by, done_or_fails, is_boot, is_on_trial, resting, device_state, starts_image, cut, boot, store, confirm, mark}
+use Rattle.mc_boot.specs.Life.{AreSecondary, Event, Forgets, AllStored, IsDelivered, Leads, LifeLaw, Lives, Moment, NextLaw, OnlyLaw, DeviceState, Predicts, Leaves, asked_of, booted_by}
+use Rattle.mc_boot.specs.Life.{can_swap, confirmed_by, done_or_fails, is_boot, is_on_trial, resting, device_state, starts_image, cut, boot, store, confirm, mark}
 use Rattle.mc_boot.specs.Outcome.{Report, outcome_of}
 use Rattle.mc_boot.specs.PowerOn.{PowerOn, power_on}
 use Rattle.mc_boot.specs.declared.outcome.BootResult.TheVariants as results
@@ -139,7 +141,8 @@ module _ (laws : ImageLaws) (g : Geometry) (ok : IsLayout g) (s : Content) (rest
   written may = record {
     rested = rests_with_ok copied;
     image_ok = reads_image_ok g with_ok Primary 1 (replicate (g.unit - 1) 255) (written_field g s with_ok Primary field.ImageOk (one_unit g 1) changes);
-    copy_done = same_copy_done g s with_ok Primary (field_kept_beside g s with_ok Primary field.ImageOk field.CopyDone (one_unit g 1) ok changes (one_unit_fits g 1 field.ImageOk ok) (λ same. cc)) ∙ copied;
+    copy_done = same_copy_done g s with_ok Primary
+        (field_kept_beside g s with_ok Primary field.ImageOk field.CopyDone (one_unit g 1) ok changes (one_unit_fits g 1 field.ImageOk ok) (λ same. cc)) ∙ copied;
     primary = kept;
     before = changes.before;
     secondary = refl;

@@ -183,7 +183,8 @@ module _ (laws : ImageLaws) (r : Rules) (g : Geometry) (a b : List ℕ) (ok : Is
         rest = rest;
         next = next_is r g ok s rest
             ∙ asked_next r.profile (is_on_trial (trailer_of g s Primary)) (can_swap g s.secondary) e (trailer_of g s Secondary)
-            (reads_good g s Secondary ok h.sized (are field.Magic)) (asked_flag e s are) (both_true (is_valid s.secondary) (fits g (image_size s.secondary)) two.valid (ap (fits g) two.size ∙ at_b.fitting));
+            (reads_good g s Secondary ok h.sized (are field.Magic)) (asked_flag e s are)
+            (both_true (is_valid s.secondary) (fits g (image_size s.secondary)) two.valid (ap (fits g) two.size ∙ at_b.fitting));
         primary = primary_image g a b s laws ok at_a h;
         secondary = two;
       }
@@ -199,13 +200,17 @@ module _ (laws : ImageLaws) (r : Rules) (g : Geometry) (a b : List ℕ) (ok : Is
         secondary = secondary_image g a b (placed g (image_bytes a) (image_bytes b)) laws ok at_b h;
       }) delivered
 
+-- what is asked for, by the two fields that say so
+abbrev pub asked_at : Profile → Bool → Magic → Flag → SwapType
+asked_at profile trial m f =
+    if is_good m then (if is_unset f then kinds.Test else if is_set f then kinds.Perm else kinds.None) else if trial && reverts_at profile m then kinds.Revert else kinds.None
+
 -- What the first profile takes back, each does.
-reverts_too : (profile : Profile) (trial can : Bool) (q : Trailer) → done_or_fails (asked_of profiles.One trial q) can ≡ kinds.Revert → done_or_fails (asked_of profile trial q) can ≡ kinds.Revert
+reverts_too : (profile : Profile) (trial can : Bool) (q : Trailer) → done_or_fails (asked_of profiles.One trial q) can ≡ kinds.Revert
+    → done_or_fails (asked_of profile trial q) can ≡ kinds.Revert
 reverts_too profile trial can q is = by profile q.magic q.image_ok is
   where
-    by : (profile : Profile) (m : Magic) (f : Flag)
-        → done_or_fails (if is_good m then (if is_unset f then kinds.Test else if is_set f then kinds.Perm else kinds.None) else if trial && reverts_at profiles.One m then kinds.Revert else kinds.None) can ≡ kinds.Revert
-        → done_or_fails (if is_good m then (if is_unset f then kinds.Test else if is_set f then kinds.Perm else kinds.None) else if trial && reverts_at profile m then kinds.Revert else kinds.None) can ≡ kinds.Revert
+    by : (profile : Profile) (m : Magic) (f : Flag) → done_or_fails (asked_at profiles.One trial m f) can ≡ kinds.Revert → done_or_fails (asked_at profile trial m f) can ≡ kinds.Revert
     by profiles.One m f is = is
     by profiles.Two magics.Good f is = is
     by profiles.Two magics.Unset f is = is
@@ -228,17 +233,19 @@ module _ (laws : ImageLaws) (r : Rules) (g : Geometry) (a b : List ℕ) (ok : Is
       next_is r g ok x rest
       ∙ reverts_too r.profile (is_on_trial (trailer_of g x Primary)) (can_swap g x.secondary) (trailer_of g x Secondary) (sym (next_is plain g ok x rest) ∙ is)
 
-pub test_begins : ImageLaws → (r : Rules) (g : Geometry) (a b : List ℕ) (s : Content) → IsLayout g → BeginsImage g a → BeginsImage g b → IsDelivered g s → test_flash g (image_bytes a) (image_bytes b) ≡ s
-    → Begins r g kinds.Test a b s
-test_begins laws r g a b s ok at_a at_b delivered start =
-    let E : Content → Type 0 = λ t. IsDelivered g t → Begins r g kinds.Test a b t in
-    subst E start (λ there. begins_asked laws r g a b ok at_a at_b true (test_flash g (image_bytes a) (image_bytes b)) there (test_holds g a b laws ok at_a at_b) (test_asked g a b laws ok at_b)) delivered
+-- the starts of a test and of an upgrade
+module _ (laws : ImageLaws) (r : Rules) (g : Geometry) (a b : List ℕ) (s : Content) (ok : IsLayout g) (at_a : BeginsImage g a) (at_b : BeginsImage g b) (is : IsDelivered g s) where
+  pub test_begins : test_flash g (image_bytes a) (image_bytes b) ≡ s → Begins r g kinds.Test a b s
+  test_begins start =
+      let E : Content → Type 0 = λ t. Holding g a b t × FieldsAre g t Secondary (asked true) in
+      let from = subst E start (test_holds g a b laws ok at_a at_b, test_asked g a b laws ok at_b) in
+      begins_asked laws r g a b ok at_a at_b true s is from.0 from.1
 
-perm_begins : ImageLaws → (r : Rules) (g : Geometry) (a b : List ℕ) (s : Content) → IsLayout g → BeginsImage g a → BeginsImage g b → IsDelivered g s → perm_flash g (image_bytes a) (image_bytes b) ≡ s
-    → Begins r g kinds.Perm a b s
-perm_begins laws r g a b s ok at_a at_b delivered start =
-    let E : Content → Type 0 = λ t. IsDelivered g t → Begins r g kinds.Perm a b t in
-    subst E start (λ there. begins_asked laws r g a b ok at_a at_b false (perm_flash g (image_bytes a) (image_bytes b)) there (perm_holds g a b laws ok at_a at_b) (perm_asked g a b laws ok at_b)) delivered
+  perm_begins : perm_flash g (image_bytes a) (image_bytes b) ≡ s → Begins r g kinds.Perm a b s
+  perm_begins start =
+      let E : Content → Type 0 = λ t. Holding g a b t × FieldsAre g t Secondary (asked false) in
+      let from = subst E start (perm_holds g a b laws ok at_a at_b, perm_asked g a b laws ok at_b) in
+      begins_asked laws r g a b ok at_a at_b false s is from.0 from.1
 
 -- the start of a revert, which a test by the plain rules leaves
 revert_begins : ImageLaws → (r : Rules) (g : Geometry) (a b : List ℕ) (s : Content) → IsLayout g → BeginsImage g a → BeginsImage g b

@@ -10,7 +10,7 @@ use Rattle.mc_boot.proofs.FieldWrites.{place_behind_data}
 use Rattle.mc_boot.proofs.FromRest.{rest_law}
 use Rattle.mc_boot.proofs.LifeProof.{Written, confirmed_written, predicts}
 use Rattle.mc_boot.proofs.Phases.{larger_size}
-use Rattle.mc_boot.proofs.RestartProof.{Begins, begins_placed, begins_revert, held_whole, idle_ends, idle_leaves, restart_law, revert_law, test_begins, uncut}
+use Rattle.mc_boot.proofs.RestartProof.{Begins, asked_at, begins_placed, begins_revert, held_whole, idle_ends, idle_leaves, restart_law, revert_law, test_begins, uncut}
 use Rattle.mc_boot.proofs.SameImages.{ImageLaws, same_fronts, same_then}
 use Rattle.mc_boot.proofs.StartBytes.{count_of}
 use Rattle.mc_boot.proofs.Starts.{placed_holds, placed_unasked}
@@ -78,9 +78,7 @@ module _ (r : Rules) (g : Geometry) (kind : Kind) (confirms : Bool) (a b : List 
 no_request : (profile : Profile) (trial can : Bool) (q : Trailer) → done_or_fails (asked_of profile trial q) can ≡ kinds.Revert → is_good q.magic ≡ false
 no_request profile trial can q is = by q.magic q.image_ok can is
   where
-    by : (m : Magic) (f : Flag) (can : Bool)
-        → done_or_fails (if is_good m then (if is_unset f then kinds.Test else if is_set f then kinds.Perm else kinds.None) else if trial && reverts_at profile m then kinds.Revert else kinds.None) can ≡ kinds.Revert
-        → is_good m ≡ false
+    by : (m : Magic) (f : Flag) (can : Bool) → done_or_fails (asked_at profile trial m f) can ≡ kinds.Revert → is_good m ≡ false
     by magics.Unset f can is = refl
     by magics.Bad f can is = refl
     by magics.Good flags.Unset true is = absurd cc
@@ -91,7 +89,8 @@ no_request profile trial can q is = by q.magic q.image_ok can is
 
 module _ (laws : ImageLaws) (r : Rules) (g : Geometry) (a b : List ℕ) (ok : IsLayout g) (at_a : BeginsImage g a) (at_b : BeginsImage g b) where
   -- No swap: it stays as it was placed.
-  none_round : (confirms : Bool) (s t x u : Content) (first second : List ℕ) → Begins r g kinds.None a b s → confirmed g s ≡ s → after (power_on r g s) first ≡ Some t → left_by (power_on r g t) ≡ Some x
+  none_round : (confirms : Bool) (s t x u : Content) (first second : List ℕ) → Begins r g kinds.None a b s → confirmed g s ≡ s → after (power_on r g s) first ≡ Some t
+      → left_by (power_on r g t) ≡ Some x
       → after (power_on r g (confirmed_if confirms g x)) second ≡ Some u → (z : Content) × EndsAgain (power_on r g s) starts.None confirms a b x u z
   none_round confirms s t x u first second begins stays is left occurs =
       let idle = none_idle (power_on r g s) begins.rest.rest begins.next in
@@ -99,7 +98,8 @@ module _ (laws : ImageLaws) (r : Rules) (g : Geometry) (a b : List ℕ) (ok : Is
       let same : x ≡ s = same_content x s (sym left ∙ ap (λ s. left_by (power_on r g s)) there ∙ idle_leaves (power_on r g s) idle) in
       let E : Content → Type 0 = λ y. after (power_on r g (confirmed_if confirms g y)) second ≡ Some u → (z : Content) × EndsAgain (power_on r g s) starts.None confirms a b y u z in
       subst E (sym same)
-      (λ at. still_round r g starts.None confirms a b s s u second idle begins.next stays at begins.primary.valid (held_whole a s.primary begins.primary) (held_whole b s.secondary begins.secondary) idle)
+      (λ at. still_round r g starts.None confirms a b s s u second idle begins.next stays at begins.primary.valid (held_whole a s.primary begins.primary)
+      (held_whole b s.secondary begins.secondary) idle)
       occurs
 
   -- What a test leaves.
@@ -165,7 +165,8 @@ module _ (laws : ImageLaws) (r : Rules) (g : Geometry) (a b : List ℕ) (ok : Is
         let old = sized_is g x Primary round.rest.sized in
         let new = sized_is g (confirmed g x) Primary written_there.rested.sized in
         record {
-          primary = same_fronts x.primary (confirmed g x).primary ((plan (power_on r g s)).sectors * g.sector) (omega (arith, behind, rows, few, ends, old)) (omega (arith, behind, rows, few, ends, new))
+          primary = same_fronts x.primary (confirmed g x).primary ((plan (power_on r g s)).sectors * g.sector) (omega (arith, behind, rows, few, ends, old))
+              (omega (arith, behind, rows, few, ends, new))
               (λ i h. written_there.before i (omega (arith, h, behind, rows, few))) ∙ round.exchange.primary;
           secondary = ap (take ((plan (power_on r g s)).sectors * g.sector)) written_there.secondary ∙ round.exchange.secondary;
         }
@@ -179,7 +180,8 @@ module _ (laws : ImageLaws) (r : Rules) (g : Geometry) (a b : List ℕ) (ok : Is
         let lower : Holds a (confirmed g x).secondary = subst H (sym written_there.secondary) (held_whole a x.secondary again_begins.secondary) in (
           confirmed g x,
           (
-            subst E (sym there) (idle_ends (power_on r g (confirmed g x)) settled.idle starts.Perm a b s settled.next upper.valid (held_whole b (confirmed g x).primary upper) lower (crossing, settled)),
+            subst E (sym there) (idle_ends (power_on r g (confirmed g x)) settled.idle starts.Perm a b s settled.next upper.valid
+                (held_whole b (confirmed g x).primary upper) lower (crossing, settled)),
             record { idle = settled.idle; uncut = there },
           ),
         )

@@ -1,5 +1,6 @@
 -- No power-on erases a sector more than twice.
-use Rattle.std.specs.Prelude.{◌≡◌, ◌≢◌, ◌⊎◌, ℕ, zero, suc, ◌+◌, ◌-◌, ◌*◌, ◌/◌, ◌<◌, ◌≤◌, ◌==◌, ◌||◌, not, nat_lt, Bool, true, false, if◌then◌else◌, List, [], ◌∷◌, ◌++◌, length, take, drop, map, flat_map, Option, Some, None, is_none, refl}
+use Rattle.std.specs.Prelude.{◌≡◌, ◌≢◌, ◌⊎◌, ℕ, zero, suc, ◌+◌, ◌-◌, ◌*◌, ◌/◌, ◌<◌, ◌≤◌, ◌==◌, ◌||◌, not, nat_lt, Bool, true, false, if◌then◌else◌, List, [], ◌∷◌, ◌++◌, length, take}
+use Rattle.std.specs.Prelude.{drop, map, flat_map, Option, Some, None, is_none, refl}
 use Rattle.std.specs.Int.{div_ceil}
 use Rattle.std.specs.List.{range_with_len}
 use Rattle.std.proofs.Common.{arith, ap, inl, inr}
@@ -361,7 +362,8 @@ happen_less : (o : Slot) (k : ℕ) (g : Geometry) (ops : List Op) (s : Content) 
 happen_less o k g [] s = omega arith
 happen_less o k g (op ∷ ops) s = go (λ t. happen_less o k g ops t) (apply g op s)
   where
-    go : ((t : Content) → all_erases o k (happening g ops t) ≤ all_erases o k ops) → (t : Option Content) → all_erases o k (first_then op (λ t. happening g ops t) t) ≤ erases o k op + all_erases o k ops
+    go : ((t : Content) → all_erases o k (happening g ops t) ≤ all_erases o k ops) → (t : Option Content)
+        → all_erases o k (first_then op (λ t. happening g ops t) t) ≤ erases o k op + all_erases o k ops
     go later None = omega arith
     go later (Some t) = omega (arith, later t)
 

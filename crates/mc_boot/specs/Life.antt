@@ -1,5 +1,7 @@
 -- A device's whole life: boots, power cuts at any of their operations, and what the running image does to the flash, in any
--- number and any order. What a boot then ends in is said of the flash on which the device last rested.
+-- number and any order. What a boot then ends in is said of the flash on which the device last rested. docs/LIFE.md tells this in
+-- words, with the automaton as a table. That a test is taken back unless its image has set image-ok is from MCUboot's design document
+-- ("swap types", "image trailer"); what else may happen to the flash, and when, is this project's own choice.
 use Rattle.std.specs.Prelude.{◌≡◌, ◌≢◌, ◌⊎◌, ℕ, ◌==◌, Bool, true, false, not, ◌&&◌, ◌||◌, if◌then◌else◌, List, [], ◌∷◌, length, Option, Some, option_map, ◌+◌, ◌≤◌, take}
 use Rattle.mc_flash.specs.Content.{Content, IsSized, put, size_of, with_bytes}
 use Rattle.mc_flash.specs.Apply.{CanTry, apply}
@@ -34,10 +36,11 @@ use Rattle.mc_boot.specs.declared.outcome.BootResult.TheVariants as results
 
 -- ---- what a device is like
 
--- The trailer of no swap under way: a boot that finds it in the primary goes on with none, whatever the secondary holds.
+-- The numbers of the types of a swap, as swap-info has them: test, perm and revert (docs/FORMAT.md, "Trailers").
 abbrev pub is_swap : ℕ → Bool
 is_swap info = info == 2 || info == 3 || info == 4
 
+-- The trailer of no swap under way: a boot that finds it in the primary goes on with none, whatever the secondary holds.
 abbrev pub is_at_rest : Trailer → Bool
 is_at_rest p = not (is_good p.magic && is_unset p.copy_done && is_swap p.swap_info)
 
@@ -53,14 +56,14 @@ pub record IsDelivered (g : Geometry) (s : Content) : Type 0 where
 
 -- ---- what can happen
 
--- Bytes that may stand in the secondary.
+-- Bytes that a running image may leave in the secondary: any, as many as it has.
 pub record AreSecondary (g : Geometry) (bytes : List ℕ) : Type 0 where
   pub sized : length bytes ≡ size_of g Secondary
   pub numbers : IsBytes bytes
 
--- The power comes on and is lost after so many operations of the boot; it comes on and the boot is left alone; the running image
--- leaves the secondary with these bytes, by erases and writes of any kind and number, whole or not; it confirms itself; a confirmation
--- that is torn leaves these bytes at its image-ok.
+-- What can happen to a device (docs/LIFE.md, "What it says"). The power comes on and is lost after so many operations of the boot; it
+-- comes on and the boot is left alone; the running image leaves the secondary with these bytes, by erases and writes of any kind and
+-- number, whole or not; it confirms itself; a confirmation that is torn leaves these bytes at the primary's image-ok.
 pub data Event : Type 0 where
   cut : (count : ℕ) → Event
   boot : Event
@@ -113,8 +116,8 @@ Lives r g m (e ∷ events) n = (k : Moment) × Leads r g m e k × Lives r g k ev
 abbrev pub is_on_trial : Trailer → Bool
 is_on_trial p = is_good p.magic && is_unset p.image_ok && is_set p.copy_done
 
--- How a device rests, in names: the image that the primary begins with, and whether it is on trial; the image that the secondary
--- begins with; and the type that the next boot will have.
+-- The state of a device at rest, by names (docs/LIFE.md, "The automaton"): the image that the primary begins with, and whether it is on
+-- trial; the image that the secondary begins with; and the type that the next boot will have.
 pub record DeviceState : Type 0 where
   pub primary : Option Identity
   pub trial : Bool
@@ -150,7 +153,8 @@ booted x = booted_by x.next x
 abbrev pub forgotten : DeviceState → DeviceState
 forgotten x = record { primary = x.primary; trial = x.trial; secondary = x.secondary; next = kinds.None }
 
--- What a flash at rest asks a boot for: what the secondary asks for, if its magic is good; else that a trial is taken back.
+-- What a flash at rest asks a boot for: what the secondary asks for, if its magic is good; else that a trial is taken back. These are
+-- the rows of the swap table (docs/FORMAT.md, "Swap tables") in the words of the automaton.
 abbrev pub asked_of : Profile → Bool → Trailer → SwapType
 asked_of profile trial q =
     if is_good q.magic then (if is_unset q.image_ok then kinds.Test else if is_set q.image_ok then kinds.Perm else kinds.None)
