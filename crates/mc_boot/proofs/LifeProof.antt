@@ -9,7 +9,7 @@ use Rattle.mc_boot.proofs.AtRest.{AtRest}
 use Rattle.mc_boot.proofs.FieldWrites.{place_behind_data}
 use Rattle.mc_boot.proofs.SameImages.{HasImage, ImageLaws, SameImage, has_same, same_image}
 use Rattle.mc_boot.proofs.NextBoots.{next_is}
-use Rattle.mc_boot.proofs.FromRest.{done_rests, no_trial, rest_law, same_names}
+use Rattle.mc_boot.proofs.FromRest.{done_rests, no_trial, rest_law, same_names, set_of}
 use Rattle.mc_boot.specs.Confirm.{confirmed, may_confirm}
 use Rattle.mc_boot.specs.Image.{image_size}
 use Rattle.mc_boot.specs.Life.{AreSecondary, Event, Forgets, AllStored, IsDelivered, Leads, LifeLaw, Lives, Moment, NextLaw, OnlyLaw, DeviceState, Predicts, Leaves, asked_of, booted_by}
@@ -71,14 +71,7 @@ rests_stored g s bytes rest are = record {
 
 -- when it confirms itself
 three_hold : (a b c : Bool) → (a && b && c) ≡ true → b ≡ true
-three_hold true true c is = refl
-three_hold true false c is = absurd cc
-three_hold false b c is = absurd cc
-
-set_of : (f : Flag) → is_set f ≡ true → f ≡ flags.Set
-set_of flags.Set is = refl
-set_of flags.Unset is = absurd cc
-set_of flags.Bad is = absurd cc
+three_hold a b c is = grind (arith, is)
 
 module _ (laws : ImageLaws) (g : Geometry) (ok : IsLayout g) (s : Content) (rest : AtRest g s) where
   -- the image ends before the trailer
