@@ -52,16 +52,10 @@ RestsOrWants x = Idles x ⊎ (Wants x kinds.Test ⊎ (Wants x kinds.Perm ⊎ Wan
 
 -- a boot that would go on finds no type
 pub no_swap : (a b c d : Bool) → not (a && b && c) ≡ true → (a && b && d) ≡ true → c ≡ false
-no_swap true true true d rest on = absurd cc
-no_swap true true false d rest on = refl
-no_swap true false c d rest on = absurd cc
-no_swap false b c d rest on = absurd cc
+no_swap a b c d rest on = grind (arith, rest, on)
 
 no_type : (a b c : Bool) (p q r z : Plan) → (a || b || c) ≡ false → (if a then p else if b then q else if c then r else z) ≡ z
-no_type true b c p q r z none = absurd cc
-no_type false true c p q r z none = absurd cc
-no_type false false true p q r z none = absurd cc
-no_type false false false p q r z none = refl
+no_type a b c p q r z none = grind (arith, none)
 
 pub resumed_none : (c : Grain) (g : Geometry) (p : Trailer) (highest : Option ℕ) → is_swap p.swap_info ≡ false → resumed_plan c g p highest ≡ nothing kinds.None
 resumed_none c g p highest none =
@@ -83,8 +77,7 @@ fails : (c : Grain) (g : Geometry) (images : Images) (kind : SwapType) → (not 
 fails c g images kind is = rw is refl
 
 or_parts : (a b : Bool) → (not a || b) ≡ false → (a ≡ true) × (b ≡ false)
-or_parts true b is = (refl, is)
-or_parts false b is = absurd cc
+or_parts a b is = grind (arith, is)
 
 at_most : (m n : ℕ) → nat_lt n m ≡ false → m ≤ n
 at_most m n is = grind (arith, nat_tests)

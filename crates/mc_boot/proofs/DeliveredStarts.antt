@@ -30,8 +30,7 @@ use Rattle.mc_trailer.specs.declared.trailer.Trailer.{Trailer}
 
 -- bytes, by a test of each
 both_parts : (a b : Bool) → (a && b) ≡ true → (a ≡ true) × (b ≡ true)
-both_parts true b is = (refl, is)
-both_parts false b is = absurd cc
+both_parts a b is = grind (arith, is)
 
 small_each : (xs : List ℕ) → list_all (λ b. nat_lt b 256) xs ≡ true → IsBytes xs
 small_each [] all i = let none : slice_index [] i ≡ 0 = get_or_past [] i 0 (omega arith) in omega (arith, none)

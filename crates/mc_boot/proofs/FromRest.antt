@@ -58,22 +58,29 @@ same_names p x a b q y next then_ e f h i = cc
 
 -- ---- trailers
 
-not_under : (a c : Bool) → not (a && false && c) ≡ true
-not_under true c = refl
-not_under false c = refl
-
 pub done_rests : (p : Trailer) → p.copy_done ≡ flags.Set → is_at_rest p ≡ true
-done_rests p set = rw set (not_under (is_good p.magic) (is_swap p.swap_info))
+done_rests p set = rw set (grind arith)
 
 on_trial : (p : Trailer) → p.magic ≡ magics.Good → p.image_ok ≡ flags.Unset → p.copy_done ≡ flags.Set → is_on_trial p ≡ true
 on_trial p good unset set = rw good (rw unset (rw set refl))
 
 pub no_trial : (p : Trailer) → p.image_ok ≡ flags.Set → is_on_trial p ≡ false
-no_trial p set = rw set (second (is_good p.magic))
-  where
-    second : (a : Bool) → (a && false && is_set p.copy_done) ≡ false
-    second true = refl
-    second false = refl
+no_trial p set = rw set (grind arith)
+
+good_of : (m : Magic) → is_good m ≡ true → m ≡ magics.Good
+good_of magics.Good is = refl
+good_of magics.Unset is = absurd cc
+good_of magics.Bad is = absurd cc
+
+pub set_of : (f : Flag) → is_set f ≡ true → f ≡ flags.Set
+set_of flags.Set is = refl
+set_of flags.Unset is = absurd cc
+set_of flags.Bad is = absurd cc
+
+unset_of : (f : Flag) → is_unset f ≡ true → f ≡ flags.Unset
+unset_of flags.Unset is = refl
+unset_of flags.Set is = absurd cc
+unset_of flags.Bad is = absurd cc
 
 -- ---- a swap that is wanted
 
@@ -138,25 +145,18 @@ module _ (laws : ImageLaws) (r : Rules) (g : Geometry) (ok : IsLayout g) (s : Co
   G = in_pieces r.grain g
 
   -- nothing to do
+  abbrev Still : SwapType → Type 0
+  Still k = LeavesBytes r g k (plan (power_on r g s)).sectors s s × (device_state r g s ≡ booted_by k (device_state r g s))
+
   idle_rests : (i : Idles (power_on r g s)) (u z : Content) → z ≡ s → RestsAgain r g s u z
   idle_rests i u z same =
-      let kind : (plan (power_on r g s)).kind ≡ i.kind = ap (λ (p : Plan). p.kind) i.planned in
+      let here = subst Still (sym (ap (λ (p : Plan). p.kind) i.planned)) (at i.kind i.either) in
       let E : Content → Type 0 = λ t. RestsAgain r g s u t in
-      let F : SwapType → Type 0 = λ k. LeavesBytes r g k (plan (power_on r g s)).sectors s s in
-      let still : (k : SwapType) → (k ≡ kinds.None) ⊎ (k ≡ kinds.Fail) → F k × (booted_by k (device_state r g s) ≡ device_state r g s) = λ k either. at k either in
-      let here = still i.kind i.either in
-      subst E (sym same) (record {
-        leaves = inl (record { bytes = subst F (sym kind) here.0; names = sym (ap (λ k. booted_by k (device_state r g s)) kind ∙ here.1) });
-        rest = rest;
-      })
+      subst E (sym same) (record { leaves = inl (record { bytes = here.0; names = here.1 }); rest = rest })
     where
-      at : (k : SwapType) → (k ≡ kinds.None) ⊎ (k ≡ kinds.Fail) → LeavesBytes r g k (plan (power_on r g s)).sectors s s × (booted_by k (device_state r g s) ≡ device_state r g s)
-      at kinds.None either = (refl, refl)
-      at kinds.Fail either = (refl, refl)
-      at kinds.Test either = absurd (elim either [ inl e ↦ cc | inr e ↦ cc ])
-      at kinds.Perm either = absurd (elim either [ inl e ↦ cc | inr e ↦ cc ])
-      at kinds.Revert either = absurd (elim either [ inl e ↦ cc | inr e ↦ cc ])
-      at kinds.Panic either = absurd (elim either [ inl e ↦ cc | inr e ↦ cc ])
+      at : (k : SwapType) → (k ≡ kinds.None) ⊎ (k ≡ kinds.Fail) → Still k
+      at k (inl e) = subst Still (sym e) (refl, refl)
+      at k (inr e) = subst Still (sym e) (refl, refl)
 
   idle_law : Idles (power_on r g s) → (u : Content) (cuts : List ℕ) → after (power_on r g s) cuts ≡ Some u → (z : Content) × EndsWell (power_on r g u) z × RestsAgain r g s u z
   idle_law i u cuts is =
@@ -246,24 +246,8 @@ module _ (laws : ImageLaws) (r : Rules) (g : Geometry) (ok : IsLayout g) (s : Co
         data_ = data_begin G (count_of g s) s (in_parts kind wants).sized;
       })
 
-  good_of : (m : Magic) → is_good m ≡ true → m ≡ magics.Good
-  good_of magics.Good is = refl
-  good_of magics.Unset is = absurd cc
-  good_of magics.Bad is = absurd cc
-
-  set_of : (f : Flag) → is_set f ≡ true → f ≡ flags.Set
-  set_of flags.Set is = refl
-  set_of flags.Unset is = absurd cc
-  set_of flags.Bad is = absurd cc
-
-  unset_of : (f : Flag) → is_unset f ≡ true → f ≡ flags.Unset
-  unset_of flags.Unset is = refl
-  unset_of flags.Set is = absurd cc
-  unset_of flags.Bad is = absurd cc
-
   two_hold : (a b : Bool) → (a && b) ≡ true → (a ≡ true) × (b ≡ true)
-  two_hold true b is = (refl, is)
-  two_hold false b is = absurd cc
+  two_hold a b is = grind (arith, is)
 
   -- a test
   test_law : Wants (power_on r g s) kinds.Test → (u : Content) (cuts : List ℕ) → after (power_on r g s) cuts ≡ Some u → (z : Content) × EndsWell (power_on r g u) z × RestsAgain r g s u z
@@ -308,10 +292,7 @@ module _ (laws : ImageLaws) (r : Rules) (g : Geometry) (ok : IsLayout g) (s : Co
 
   -- a revert
   four_hold : (a b c d : Bool) → (a && b && c && d) ≡ true → (a ≡ true) × (b ≡ true) × (c ≡ true) × (d ≡ true)
-  four_hold true true true d is = (refl, refl, refl, is)
-  four_hold true true false d is = absurd cc
-  four_hold true false c d is = absurd cc
-  four_hold false b c d is = absurd cc
+  four_hold a b c d is = grind (arith, is)
 
   module _ (wants : Wants (power_on r g s) kinds.Revert) where
     pieces : Swap G s (larger_size s) (count_of g s)

@@ -9,7 +9,7 @@ use Rattle.mc_boot.proofs.AtRest.{AtRest}
 use Rattle.mc_boot.proofs.FieldWrites.{place_behind_data}
 use Rattle.mc_boot.proofs.SameImages.{HasImage, ImageLaws, SameImage, has_same, same_image}
 use Rattle.mc_boot.proofs.NextBoots.{next_is}
-use Rattle.mc_boot.proofs.FromRest.{done_rests, no_trial, rest_law, same_names}
+use Rattle.mc_boot.proofs.FromRest.{done_rests, no_trial, rest_law, same_names, set_of}
 use Rattle.mc_boot.specs.Confirm.{confirmed, may_confirm}
 use Rattle.mc_boot.specs.Image.{image_size}
 use Rattle.mc_boot.specs.Life.{AreSecondary, Event, Forgets, AllStored, IsDelivered, Leads, LifeLaw, Lives, Moment, NextLaw, OnlyLaw, DeviceState, Predicts, Leaves, asked_of, booted_by}
@@ -71,14 +71,7 @@ rests_stored g s bytes rest are = record {
 
 -- when it confirms itself
 three_hold : (a b c : Bool) → (a && b && c) ≡ true → b ≡ true
-three_hold true true c is = refl
-three_hold true false c is = absurd cc
-three_hold false b c is = absurd cc
-
-set_of : (f : Flag) → is_set f ≡ true → f ≡ flags.Set
-set_of flags.Set is = refl
-set_of flags.Unset is = absurd cc
-set_of flags.Bad is = absurd cc
+three_hold a b c is = grind (arith, is)
 
 module _ (laws : ImageLaws) (g : Geometry) (ok : IsLayout g) (s : Content) (rest : AtRest g s) where
   -- the image ends before the trailer
@@ -212,13 +205,12 @@ at_rest : (r : Rules) (g : Geometry) (s : Content) (runs : Bool) → AtRest g s 
 at_rest r g s runs rest = record { rest = rest; cuts = []; come = refl; running = λ _. refl }
 
 runs_at_rest : (r : Rules) (g : Geometry) (m : Moment) → Reached r g m → m.runs ≡ true → AtRest g m.content
-runs_at_rest r g m is runs = let E : Content → Type 0 = λ s. AtRest g s in subst E (sym (is.running runs)) is.rest
+runs_at_rest r g m is runs = rw (is.running runs) is.rest
 
 module _ (laws : ImageLaws) (r : Rules) (g : Geometry) (ok : IsLayout g) where
   leads : (m : Moment) (e : Event) (n : Moment) → Reached r g m → Leads r g m e n → Reached r g n
   leads m (cut c) n is to =
-      let E : Moment → Type 0 = λ x. Reached r g x in
-      subst E (sym to.2) (record {
+      rw to.2 (record {
         rest = is.rest;
         cuts = is.cuts ++ c ∷ [];
         come = cut_more r g is.cuts c m.rested m.content to.0 is.come to.1;
@@ -228,21 +220,17 @@ module _ (laws : ImageLaws) (r : Rules) (g : Geometry) (ok : IsLayout g) where
       let end = rest_law laws r g ok m.rested is.rest m.content is.cuts is.come in
       let same : end.0 ≡ to.0 = same_content end.0 to.0 (sym end.1.end ∙ to.2) in
       let F : Content → Type 0 = λ x. AtRest g x in
-      let E : Moment → Type 0 = λ x. Reached r g x in
-      subst E (sym to.4) (at_rest r g to.0 to.1 (subst F same end.2.rest))
+      rw to.4 (at_rest r g to.0 to.1 (subst F same end.2.rest))
   leads m (store bytes) n is to =
-      let E : Moment → Type 0 = λ x. Reached r g x in
-      subst E (sym to.2) (at_rest r g (with_bytes m.content Secondary bytes) true (rests_stored g m.content bytes (runs_at_rest r g m is to.0) to.1))
+      rw to.2 (at_rest r g (with_bytes m.content Secondary bytes) true (rests_stored g m.content bytes (runs_at_rest r g m is to.0) to.1))
   leads m (mark bytes) n is to =
-      let E : Moment → Type 0 = λ x. Reached r g x in
-      subst E (sym to.3) (at_rest r g (with_bytes m.content Primary (put m.content.primary (place g Primary field.ImageOk) bytes)) true
+      rw to.3 (at_rest r g (with_bytes m.content Primary (put m.content.primary (place g Primary field.ImageOk) bytes)) true
       (rests_marked laws g ok m.content (runs_at_rest r g m is to.0) bytes to.2 (set_of (trailer_of g m.content Primary).copy_done to.1)))
   leads m confirm n is to =
-      let E : Moment → Type 0 = λ x. Reached r g x in
-      subst E (sym to.1) (at_rest r g (confirmed g m.content) true (rests_confirmed laws g ok m.content (runs_at_rest r g m is to.0)))
+      rw to.1 (at_rest r g (confirmed g m.content) true (rests_confirmed laws g ok m.content (runs_at_rest r g m is to.0)))
 
   lives : (events : List Event) (m n : Moment) → Reached r g m → Lives r g m events n → Reached r g n
-  lives [] m n is same = let E : Moment → Type 0 = λ x. Reached r g x in subst E (sym same) is
+  lives [] m n is same = rw same is
   lives (e ∷ events) m n is to = lives events to.0 n (leads m e to.0 is to.1) to.2
 
 -- ---- what it predicts
@@ -315,31 +303,27 @@ leaves_passes K r g s u z is (inr f) = record {
 module _ (laws : ImageLaws) (K : Option Identity → Bool) (r : Rules) (g : Geometry) (ok : IsLayout g) where
   -- both images at rest pass it
   leads_passes : (m : Moment) (e : Event) (n : Moment) → Reached r g m → Passes K m.rested → AllStored K (e ∷ []) → Leads r g m e n → Passes K n.rested
-  leads_passes m (cut c) n is pass stored to = let E : Moment → Type 0 = λ x. Passes K x.rested in subst E (sym to.2) pass
+  leads_passes m (cut c) n is pass stored to = rw to.2 pass
   leads_passes m boot n is pass stored to =
       let end = rest_law laws r g ok m.rested is.rest m.content is.cuts is.come in
       let same : end.0 ≡ to.0 = same_content end.0 to.0 (sym end.1.end ∙ to.2) in
       let F : Content → Type 0 = λ x. Passes K x in
-      let E : Moment → Type 0 = λ x. Passes K x.rested in
-      subst E (sym to.4) (subst F same (leaves_passes K r g m.rested m.content end.0 pass end.2.leaves))
+      rw to.4 (subst F same (leaves_passes K r g m.rested m.content end.0 pass end.2.leaves))
   leads_passes m (store bytes) n is pass stored to =
-      let E : Moment → Type 0 = λ x. Passes K x.rested in
       let here = ap (λ (s : Content). K (id_of s.primary)) (is.running to.0) ∙ pass.primary in
-      subst E (sym to.2) (record { primary = here; secondary = stored.0 })
+      rw to.2 (record { primary = here; secondary = stored.0 })
   leads_passes m (mark bytes) n is pass stored to =
-      let E : Moment → Type 0 = λ x. Passes K x.rested in
       let F : Content → Type 0 = λ x. Passes K x in
       let at = subst F (sym (is.running to.0)) pass in
-      subst E (sym to.3) (record {
+      rw to.3 (record {
         primary = ap K (kept_mark laws g ok m.content (runs_at_rest r g m is to.0) bytes to.2).id ∙ at.primary;
         secondary = at.secondary;
       })
   leads_passes m confirm n is pass stored to =
-      let E : Moment → Type 0 = λ x. Passes K x.rested in
       let F : Content → Type 0 = λ x. Passes K x in
       let at = subst F (sym (is.running to.0)) pass in
       let rest = runs_at_rest r g m is to.0 in
-      subst E (sym to.1) (record {
+      rw to.1 (record {
         primary = ap K (confirmed_primary laws g ok m.content rest) ∙ at.primary;
         secondary = ap (λ xs. K (id_of xs)) (confirmed_secondary laws g ok m.content rest) ∙ at.secondary;
       })
@@ -352,7 +336,7 @@ module _ (laws : ImageLaws) (K : Option Identity → Bool) (r : Rules) (g : Geom
   first_of (mark bytes) events stored = (tt, stored)
 
   lives_passes : (events : List Event) (m n : Moment) → Reached r g m → Passes K m.rested → AllStored K events → Lives r g m events n → Passes K n.rested
-  lives_passes [] m n is pass stored same = let E : Moment → Type 0 = λ x. Passes K x.rested in subst E (sym same) pass
+  lives_passes [] m n is pass stored same = rw same pass
   lives_passes (e ∷ events) m n is pass stored to =
       let parts = first_of e events stored in
       lives_passes events to.0 n (leads laws r g ok m e to.0 is to.1) (leads_passes m e to.0 is pass parts.0 to.1) parts.1 to.2

@@ -42,23 +42,10 @@ no_revert_at profiles.Two magics.Good is = refl
 no_revert_at profile magics.Unset is = absurd cc
 no_revert_at profile magics.Bad is = absurd cc
 
-no_second : (a c d : Bool) → (a && false && c && d) ≡ false
-no_second true c d = refl
-no_second false c d = refl
-
 rows : (gq uq sq gp rv up cp : Bool) → (gq ≡ true → rv ≡ false)
     → (if gq && uq then kinds.Test else if gq && sq then kinds.Perm else if gp && rv && up && cp then kinds.Revert else kinds.None)
     ≡ (if gq then (if uq then kinds.Test else if sq then kinds.Perm else kinds.None) else if (gp && up && cp) && rv then kinds.Revert else kinds.None)
-rows true true sq gp rv up cp apart = refl
-rows true false true gp rv up cp apart = refl
-rows true false false gp rv up cp apart = rw (apart refl) (rw (no_second gp up cp) refl)
-rows false uq sq false rv up cp apart = refl
-rows false uq sq true true true true apart = refl
-rows false uq sq true true true false apart = refl
-rows false uq sq true true false cp apart = refl
-rows false uq sq true false true true apart = refl
-rows false uq sq true false true false apart = refl
-rows false uq sq true false false cp apart = refl
+rows gq uq sq gp rv up cp apart = grind (arith, apart)
 
 pub table_asks : (profile : Profile) (p q : Trailer) → swap_type profile p q ≡ asked_of profile (is_on_trial p) q
 table_asks profile p q =
@@ -131,12 +118,7 @@ module _ (g : Geometry) (ok : IsLayout g) (s : Content) (rest : AtRest g s) wher
 -- ---- the next boot
 
 asked_none : (profile : Profile) (p q : Trailer) → is_good q.magic ≡ false → is_set p.copy_done ≡ false → asked_of profile (is_on_trial p) q ≡ kinds.None
-asked_none profile p q good set = rw good (rw set (none (is_good p.magic) (is_unset p.image_ok)))
-  where
-    none : (a b : Bool) → (if (a && b && false) && reverts_at profile q.magic then kinds.Revert else kinds.None) ≡ kinds.None
-    none true true = refl
-    none true false = refl
-    none false b = refl
+asked_none profile p q good set = grind (arith, good, set)
 
 not_set : (f : Flag) → is_unset f ≡ true → is_set f ≡ false
 not_set flags.Unset is = refl
@@ -144,10 +126,7 @@ not_set flags.Set is = absurd cc
 not_set flags.Bad is = absurd cc
 
 on_parts : (a b c : Bool) → (a && b && not c) ≡ true → (b ≡ true) × (c ≡ false)
-on_parts true true false is = (refl, refl)
-on_parts true true true is = absurd cc
-on_parts true false c is = absurd cc
-on_parts false b c is = absurd cc
+on_parts a b c is = grind (arith, is)
 
 module _ (r : Rules) (g : Geometry) (ok : IsLayout g) (s : Content) (rest : AtRest g s) where
   swap_kind : (kind : SwapType) → (new_swap r.grain g (images_of s) kind).kind ≡ (if can_swap g s.secondary then kind else kinds.Fail)

@@ -1,7 +1,7 @@
 -- The bytes of a trailer's fields, by what is read of them.
 use Rattle.std.specs.Prelude.{◌≡◌, ℕ, ◌+◌, ◌==◌, Bool, true, false, if◌then◌else◌, List, [], ◌∷◌, slice_index, bytes_eq, refl}
 use Rattle.std.proofs.Common.{arith, sym, ap, subst, ◌∙◌, inl, inr, add-zero}
-use Rattle.std.proofs.lemmas.Bool.{cases_eq}
+use Rattle.std.proofs.lemmas.Bool.Decides.{nat_tests}
 use Rattle.std.proofs.lemmas.List.Edits.{get_or-between}
 use Rattle.std.proofs.lemmas.Slice.Eq.{bytes_eq-Decides}
 use Rattle.mc_boot.proofs.Exchange.{other_number}
@@ -20,16 +20,13 @@ use Rattle.mc_trailer.specs.declared.trailer.Flag.TheVariants as flags
 use Rattle.mc_trailer.specs.declared.trailer.Magic.TheVariants as magics
 
 -- a magic
-good_is : (xs : List ℕ) → magic_of xs ≡ magics.Good → xs ≡ magic_bytes
-good_is xs is = go (bytes_eq xs magic_bytes) refl
-  where
-    none : (d : Bool) → (if d then magics.Unset else magics.Bad) ≡ magics.Good → ⊥
-    none true e = cc
-    none false e = cc
+good_only : (c d : Bool) → (if c then magics.Good else if d then magics.Unset else magics.Bad) ≡ magics.Good → c ≡ true
+good_only true d is = refl
+good_only false true is = absurd cc
+good_only false false is = absurd cc
 
-    go : (c : Bool) → bytes_eq xs magic_bytes ≡ c → xs ≡ magic_bytes
-    go true same = (bytes_eq-Decides xs magic_bytes).0 same
-    go false other = absurd (none (is_blank xs) (ap (λ (c : Bool). if c then magics.Good else if is_blank xs then magics.Unset else magics.Bad) (sym other) ∙ is))
+good_is : (xs : List ℕ) → magic_of xs ≡ magics.Good → xs ≡ magic_bytes
+good_is xs is = (bytes_eq-Decides xs magic_bytes).0 (good_only (bytes_eq xs magic_bytes) (is_blank xs) is)
 
 pub good_bytes : (g : Geometry) (s : Content) (slot : Slot) → (trailer_of g s slot).magic ≡ magics.Good → FieldIs g s slot field.Magic magic_bytes
 unfolding trailer_of
@@ -39,24 +36,10 @@ good_bytes g s slot is i short within =
 
 -- a flag
 pub set_is : (b : ℕ) → flag_of b ≡ flags.Set → b ≡ 1
-set_is b set = elim (cases_eq b 1) [
-  | inl one ↦ one
-  | inr no_one ↦ absurd (neither (b == 255) (ap (λ (c : Bool). if c then flags.Set else if b == 255 then flags.Unset else flags.Bad) (sym (other_number b 1 no_one)) ∙ set))
-]
-  where
-    neither : (c : Bool) → (if c then flags.Unset else flags.Bad) ≡ flags.Set → ⊥
-    neither true e = cc
-    neither false e = cc
+set_is b set = grind (arith, nat_tests, set)
 
 pub unset_is : (b : ℕ) → flag_of b ≡ flags.Unset → b ≡ 255
-unset_is b unset = elim (cases_eq b 255) [
-  | inl free ↦ free
-  | inr no_free ↦ absurd (neither (b == 1) (ap (λ (c : Bool). if b == 1 then flags.Set else if c then flags.Unset else flags.Bad) (sym (other_number b 255 no_free)) ∙ unset))
-]
-  where
-    neither : (c : Bool) → (if c then flags.Set else flags.Bad) ≡ flags.Unset → ⊥
-    neither true e = cc
-    neither false e = cc
+unset_is b unset = grind (arith, nat_tests, unset)
 
 one_byte : (g : Geometry) (s : Content) (slot : Slot) (f : Field) (value : ℕ) → byte s slot (place g slot f) ≡ value → FieldIs g s slot f (value ∷ [])
 one_byte g s slot f value is i short within =

@@ -214,11 +214,7 @@ reverts_too profile trial can q is = by profile q.magic q.image_ok is
     by profiles.One m f is = is
     by profiles.Two magics.Good f is = is
     by profiles.Two magics.Unset f is = is
-    by profiles.Two magics.Bad f is = absurd (never trial is)
-      where
-        never : (trial : Bool) → done_or_fails (if trial && false then kinds.Revert else kinds.None) can ≡ kinds.Revert → ⊥
-        never true e = cc
-        never false e = cc
+    by profiles.Two magics.Bad f is = grind (arith, is)
 
 module _ (laws : ImageLaws) (r : Rules) (g : Geometry) (a b : List ℕ) (ok : IsLayout g) (at_a : BeginsImage g a) (at_b : BeginsImage g b) where
   -- What a test of the exchanged images leaves, by whatever rules, waits to be taken back.

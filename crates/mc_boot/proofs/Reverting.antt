@@ -86,11 +86,7 @@ quiet_not_good grains.Unit g t ok sized quiet = reads_not_good g t Secondary qui
 -- nothing is asked for, at a magic that is neither good nor one that the profile reverts at
 none_when_lost : (profile : Profile) (p q : Trailer) → is_good q.magic ≡ false → reverts_at profile q.magic ≡ false
     → (asks_test p q ≡ false) × (asks_perm p q ≡ false) × (asks_revert profile p q ≡ false)
-none_when_lost profile p q bad kept = (rw bad refl, rw bad refl, second (is_good p.magic) (reverts_at profile q.magic) (is_unset p.image_ok) (is_set p.copy_done) kept)
-  where
-    second : (a b c d : Bool) → b ≡ false → (a && b && c && d) ≡ false
-    second true b c d is = rw is refl
-    second false b c d is = refl
+none_when_lost profile p q bad kept = (grind (arith, bad), grind (arith, bad), grind (arith, kept))
 
 -- From s, where the primary's image is on trial and the plan is a revert. The layout is in pieces.
 module _ (r : Rules) (g : Geometry) (s : Content) (size n : ℕ) (whole : in_pieces r.grain g ≡ g) (w : Swap g s size n) where

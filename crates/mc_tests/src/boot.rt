@@ -5,6 +5,7 @@ ghost use Rattle.mc_boot.specs.Boot.{IsBootOf};
 
 mod cuts;
 mod joins;
+mod lives;
 
 use crate::common::{flash_of, same, same_at};
 use mc_boot::{Boot, BootResult, Outcome, Rejoin, confirm};
