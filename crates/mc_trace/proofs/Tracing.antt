@@ -148,7 +148,8 @@ module _ (r rules : Rules) (g place : Geometry) (same_rules : rules ≡ r) (same
   pub room_left : (boots : ℕ) (limits : Limits) → n + 1 ≤ boots → IsWithin (limits_for r.grain g boots) limits → LeaveRoom old (most_of rules place) (room_of limits)
   room_left boots limits few within =
       let l = limits_are r.grain g boots limits within in
-      let entries : n * most_operations r.grain g + most_operations r.grain g ≤ boots * most_operations r.grain g = rw (← more (most_operations r.grain g)) (mul-le-mul_right (most_operations r.grain g) few) in
+      let most = most_operations r.grain g in
+      let entries : n * most + most ≤ boots * most = rw (← more most) (mul-le-mul_right most few) in
       let saved : n * most_saved g + most_saved g ≤ boots * most_saved g = rw (← more (most_saved g)) (mul-le-mul_right (most_saved g) few) in
       subst (λ (c : Counts). LeaveRoom old c (room_of limits)) (sym most_here) (record {
         entries = omega (arith, counts.entries, entries, l.for_entries);

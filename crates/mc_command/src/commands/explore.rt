@@ -80,7 +80,8 @@ impl Exploration {
         requires limit { 1 ≤ self.now.extent.limit }
         // It is said of the writer that is given back. Where that is a reference, no contract of a page says that it is still the
         // one that was handed in, so `run` can't say it of `out`.
-        ensures { IfOk result (λ written. PrintsUntil self.now (O.contents out) (O.contents written)) }
+        ensures { IfOk result
+            (λ written. PrintsUntil self.now (O.contents out) (O.contents written)) }
     {
         let mut explorer = self.explorer(alloc)?;
         let (until, limit) = (self.range.until, self.extent.limit);
