@@ -1,5 +1,5 @@
 -- What power-on after power-on leaves of a device at rest, however often the boots are cut.
-use Rattle.std.specs.Prelude.{◌≡◌, ◌≢◌, ◌⊎◌, ℕ, zero, suc, ◌*◌, ◌<◌, ◌≤◌, ◌&&◌, Bool, true, false, not, List, [], Option, Some, refl}
+use Rattle.std.specs.Prelude.{◌≡◌, ◌≢◌, ◌⊎◌, ℕ, zero, suc, ◌*◌, ◌<◌, ◌≤◌, ◌&&◌, Bool, true, false, List, [], Option, Some, refl}
 use Rattle.std.proofs.Common.{arith, sym, ap, subst, ◌∙◌, inl, inr}
 use Rattle.std.proofs.lemmas.Grind.{div_ceil_times}
 use Rattle.std.proofs.Math.Nat.{zero-mul, mul-le-mul_right}
@@ -19,7 +19,7 @@ use Rattle.mc_boot.proofs.StartBytes.{count_of}
 use Rattle.mc_boot.proofs.SwapEnds.{Crossed, Nothing, asked_boots, crossed, exchanges, settled_end, settled_on, tested_end, tested_fields, tested_on}
 use Rattle.mc_boot.specs.Confirm.{may_confirm}
 use Rattle.mc_boot.specs.Course.{new_list}
-use Rattle.mc_boot.specs.Life.{LeavesBytes, EndsWell, Forgets, DeviceState, Leaves, booted, booted_by, is_at_rest, is_on_trial, is_swap, device_state}
+use Rattle.mc_boot.specs.Life.{LeavesBytes, EndsWell, Forgets, DeviceState, Leaves, booted, booted_by, is_at_rest, is_on_trial, device_state}
 use Rattle.mc_boot.specs.Plan.{Plan, nothing, plan}
 use Rattle.mc_boot.specs.PowerOn.{power_on}
 use Rattle.mc_boot.specs.Restart.{AreExchanged, IsSettled}

@@ -36,7 +36,6 @@ use Rattle.mc_trailer.specs.Places.{place, room}
 use Rattle.mc_trailer.specs.Tables.{is_good, is_set}
 use Rattle.mc_trailer.specs.declared.places.Field.TheVariants as field
 use Rattle.mc_trailer.specs.declared.tables.Rules.{Rules}
-use Rattle.mc_trailer.specs.declared.trailer.Flag.{Flag}
 use Rattle.mc_trailer.specs.declared.trailer.Flag.TheVariants as flags
 
 -- ---- rest
