@@ -1,7 +1,7 @@
 -- The starts of two images are flashes that a device can be delivered with.
-use Rattle.std.specs.Prelude.{◌≡◌, ℕ, zero, suc, ◌-◌, ◌≤◌, ◌&&◌, nat_lt, Bool, true, false, List, [], ◌∷◌, ◌++◌, length, replicate, take, slice_index, refl}
+use Rattle.std.specs.Prelude.{◌≡◌, ℕ, zero, suc, ◌-◌, ◌≤◌, ◌&&◌, nat_lt, Bool, true, List, [], ◌∷◌, ◌++◌, length, replicate, take, slice_index, refl}
 use Rattle.std.specs.List.{list_all}
-use Rattle.std.proofs.Common.{arith, ap, subst, ◌∙◌, inl, inr}
+use Rattle.std.proofs.Common.{arith, sym, ap, ◌∙◌, inl, inr}
 use Rattle.std.proofs.lemmas.Bool.{cases_lt, ltb-true}
 use Rattle.std.proofs.lemmas.List.{get_or-append_right, get_or_append_left, get_or_past}
 use Rattle.mc_boot.proofs.SameImages.{ImageLaws}
@@ -116,12 +116,9 @@ module _ (laws : ImageLaws) (g : Geometry) (a b : List ℕ) (ok : IsLayout g) (a
 pub starts_law : ImageLaws → StartsLaw
 unfolding start_flash
 starts_law laws g starts.None a b s ok at_a at_b no_revert start =
-    let E : Content → Type 0 = λ x. IsDelivered g x in
-    subst E (same_content (placed g (image_bytes a) (image_bytes b)) s start) (placed_delivered laws g a b ok at_a at_b)
+    rw (sym (same_content (placed g (image_bytes a) (image_bytes b)) s start)) (placed_delivered laws g a b ok at_a at_b)
 starts_law laws g starts.Test a b s ok at_a at_b no_revert start =
-    let E : Content → Type 0 = λ x. IsDelivered g x in
-    subst E (same_content (test_flash g (image_bytes a) (image_bytes b)) s start) (test_delivered laws g a b ok at_a at_b)
+    rw (sym (same_content (test_flash g (image_bytes a) (image_bytes b)) s start)) (test_delivered laws g a b ok at_a at_b)
 starts_law laws g starts.Perm a b s ok at_a at_b no_revert start =
-    let E : Content → Type 0 = λ x. IsDelivered g x in
-    subst E (same_content (perm_flash g (image_bytes a) (image_bytes b)) s start) (perm_delivered laws g a b ok at_a at_b)
+    rw (sym (same_content (perm_flash g (image_bytes a) (image_bytes b)) s start)) (perm_delivered laws g a b ok at_a at_b)
 starts_law laws g starts.Revert a b s ok at_a at_b no_revert start = absurd (no_revert refl)

@@ -1,5 +1,5 @@
 -- What power-on after power-on leaves of a device at rest, however often the boots are cut.
-use Rattle.std.specs.Prelude.{◌≡◌, ◌≢◌, ◌⊎◌, ℕ, zero, suc, ◌*◌, ◌<◌, ◌≤◌, ◌&&◌, Bool, true, false, not, List, [], Option, Some, refl}
+use Rattle.std.specs.Prelude.{◌≡◌, ◌≢◌, ◌⊎◌, ℕ, zero, suc, ◌*◌, ◌<◌, ◌≤◌, ◌&&◌, Bool, true, false, List, [], Option, Some, refl}
 use Rattle.std.proofs.Common.{arith, sym, ap, subst, ◌∙◌, inl, inr}
 use Rattle.std.proofs.lemmas.Grind.{div_ceil_times}
 use Rattle.std.proofs.Math.Nat.{zero-mul, mul-le-mul_right}
@@ -19,7 +19,7 @@ use Rattle.mc_boot.proofs.StartBytes.{count_of}
 use Rattle.mc_boot.proofs.SwapEnds.{Crossed, Nothing, asked_boots, crossed, exchanges, settled_end, settled_on, tested_end, tested_fields, tested_on}
 use Rattle.mc_boot.specs.Confirm.{may_confirm}
 use Rattle.mc_boot.specs.Course.{new_list}
-use Rattle.mc_boot.specs.Life.{LeavesBytes, EndsWell, Forgets, DeviceState, Leaves, booted, booted_by, is_at_rest, is_on_trial, is_swap, device_state}
+use Rattle.mc_boot.specs.Life.{LeavesBytes, EndsWell, Forgets, DeviceState, Leaves, booted, booted_by, is_at_rest, is_on_trial, device_state}
 use Rattle.mc_boot.specs.Plan.{Plan, nothing, plan}
 use Rattle.mc_boot.specs.PowerOn.{power_on}
 use Rattle.mc_boot.specs.Restart.{AreExchanged, IsSettled}
@@ -151,12 +151,11 @@ module _ (laws : ImageLaws) (r : Rules) (g : Geometry) (ok : IsLayout g) (s : Co
   idle_rests : (i : Idles (power_on r g s)) (u z : Content) → z ≡ s → RestsAgain r g s u z
   idle_rests i u z same =
       let here = subst Still (sym (ap (λ (p : Plan). p.kind) i.planned)) (at i.kind i.either) in
-      let E : Content → Type 0 = λ t. RestsAgain r g s u t in
-      subst E (sym same) (record { leaves = inl (record { bytes = here.0; names = here.1 }); rest = rest })
+      rw same (record { leaves = inl (record { bytes = here.0; names = here.1 }); rest = rest })
     where
       at : (k : SwapType) → (k ≡ kinds.None) ⊎ (k ≡ kinds.Fail) → Still k
-      at k (inl e) = subst Still (sym e) (refl, refl)
-      at k (inr e) = subst Still (sym e) (refl, refl)
+      at k (inl e) = rw e (refl, refl)
+      at k (inr e) = rw e (refl, refl)
 
   idle_law : Idles (power_on r g s) → (u : Content) (cuts : List ℕ) → after (power_on r g s) cuts ≡ Some u → (z : Content) × EndsWell (power_on r g u) z × RestsAgain r g s u z
   idle_law i u cuts is =
@@ -173,9 +172,7 @@ module _ (laws : ImageLaws) (r : Rules) (g : Geometry) (ok : IsLayout g) (s : Co
           clash_fail e = cc
 
       steps : (t : Content) → t ≡ s → Steps (power_on r G t) (λ t. t ≡ s) (λ t. t ≡ s)
-      steps t same =
-          let E : Content → Type 0 = λ x. Steps (power_on r G x) (λ t. t ≡ s) (λ t. t ≡ s) in
-          subst E (sym same) (steps_by (power_on r G s) (λ t. t ≡ s) (λ t. t ≡ s) (nothing i.kind) (plan_in_pieces r g s ∙ i.planned) calm refl)
+      steps t same = rw same (steps_by (power_on r G s) (λ t. t ≡ s) (λ t. t ≡ s) (nothing i.kind) (plan_in_pieces r g s ∙ i.planned) calm refl)
 
       valid : (z : Content) → z ≡ s → is_valid z.primary ≡ true
       valid z same = ap (λ (t : Content). is_valid t.primary) same ∙ rest.primary.same.valid
@@ -325,8 +322,7 @@ module _ (laws : ImageLaws) (r : Rules) (g : Geometry) (ok : IsLayout g) (s : Co
         let good = reads_good g u Primary ok here (first field.Magic) in
         let unset = reads_image_ok g u Primary 255 [] (first field.ImageOk) in
         let set = reads_copy_done g u Primary 1 [] (first field.CopyDone) in
-        let E : Content → Type 0 = λ t. RestsAgain r g s u t in
-        subst E (sym l.stays) (record {
+        rw l.stays (record {
           leaves = inr (record {
             rules = l.rules;
             next = kind_is kinds.Revert wants;

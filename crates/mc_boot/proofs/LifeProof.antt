@@ -36,7 +36,6 @@ use Rattle.mc_trailer.specs.Places.{place, room}
 use Rattle.mc_trailer.specs.Tables.{is_good, is_set}
 use Rattle.mc_trailer.specs.declared.places.Field.TheVariants as field
 use Rattle.mc_trailer.specs.declared.tables.Rules.{Rules}
-use Rattle.mc_trailer.specs.declared.trailer.Flag.{Flag}
 use Rattle.mc_trailer.specs.declared.trailer.Flag.TheVariants as flags
 
 -- ---- rest
@@ -347,8 +346,7 @@ only_law laws r K g s z runs events m ok delivered lived p q stored left =
     let is = lives laws r g ok events (resting s runs) m began lived in
     let pass = lives_passes laws K r g ok events (resting s runs) m began (record { primary = p; secondary = q }) stored lived in
     let end = rest_law laws r g ok m.rested is.rest m.content is.cuts is.come in
-    let E : Content → Type 0 = λ x. K (id_of x.primary) ≡ true in
-    subst E (same_content end.0 z (sym end.1.end ∙ left)) (leaves_passes K r g m.rested m.content end.0 pass end.2.leaves).primary
+    rw (sym (same_content end.0 z (sym end.1.end ∙ left))) (leaves_passes K r g m.rested m.content end.0 pass end.2.leaves).primary
 
 -- the boot leads on
 runs_of : (x : PowerOn) → option_map (λ o. o.result) (outcome_of x) ≡ Some results.Boot → starts_image x ≡ Some true

@@ -1,10 +1,9 @@
 -- The bytes of a trailer's fields, by what is read of them.
-use Rattle.std.specs.Prelude.{◌≡◌, ℕ, ◌+◌, ◌==◌, Bool, true, false, if◌then◌else◌, List, [], ◌∷◌, slice_index, bytes_eq, refl}
-use Rattle.std.proofs.Common.{arith, sym, ap, subst, ◌∙◌, inl, inr, add-zero}
+use Rattle.std.specs.Prelude.{◌≡◌, ℕ, ◌+◌, Bool, true, false, if◌then◌else◌, List, [], ◌∷◌, slice_index, bytes_eq, refl}
+use Rattle.std.proofs.Common.{arith, sym, ap, subst, ◌∙◌, add-zero}
 use Rattle.std.proofs.lemmas.Bool.Decides.{nat_tests}
 use Rattle.std.proofs.lemmas.List.Edits.{get_or-between}
 use Rattle.std.proofs.lemmas.Slice.Eq.{bytes_eq-Decides}
-use Rattle.mc_boot.proofs.Exchange.{other_number}
 use Rattle.mc_boot.proofs.Phases.{asked, tested}
 use Rattle.mc_flash.specs.Blank.{is_blank}
 use Rattle.mc_flash.specs.Content.{Content, byte, bytes_of}

@@ -128,10 +128,9 @@ module _ (laws : ImageLaws) (r : Rules) (g : Geometry) (a b : List ℕ) (ok : Is
     -- no operation
     idle_law : Begins r g kinds.None a b s → (z : Content) × EndsIn (power_on r g s) starts.None a b u z
     idle_law begins =
-        let none = none_idle (power_on r g s) begins.rest.rest begins.next in
-        let E : Content → Type 0 = λ t. EndsIn (power_on r g s) starts.None a b t s in (
+        let none = none_idle (power_on r g s) begins.rest.rest begins.next in (
           s,
-          subst E (sym (uncut (power_on r g s) none u cuts is))
+          rw (uncut (power_on r g s) none u cuts is)
               (idle_ends (power_on r g s) none starts.None a b s begins.next begins.primary.valid (held_whole a s.primary begins.primary) (held_whole b s.secondary begins.secondary) none),
         )
 
@@ -154,8 +153,8 @@ module _ (laws : ImageLaws) (r : Rules) (g : Geometry) (a b : List ℕ) (ok : Is
               calm = well.calm;
               boots = well.valid;
               result = well.result;
-              primary = let E : List ℕ → Type 0 = λ x. Holds x z.primary in subst E (sym is_named) (held_whole b z.primary held.0);
-              secondary = let E : List ℕ → Type 0 = λ x. Holds x z.secondary in subst E (sym is_other) (held_whole a z.secondary held.1);
+              primary = rw is_named (held_whole b z.primary held.0);
+              secondary = rw is_other (held_whole a z.secondary held.1);
               swapped = bytes.1;
             }
         by z well (inr f) = let e : true ≡ false = sym f.rules ∙ keeps (sym begins.next ∙ f.next) in absurd cc

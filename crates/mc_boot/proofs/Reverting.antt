@@ -1,5 +1,5 @@
 -- A revert of whatever the secondary holds, by every rule; some rules can forget it.
-use Rattle.std.specs.Prelude.{◌≡◌, ◌≢◌, ◌⊎◌, ℕ, zero, suc, ◌+◌, ◌-◌, ◌*◌, ◌<◌, ◌≤◌, ◌&&◌, Bool, true, false, List, [], ◌++◌, map, length, replicate, Some, refl}
+use Rattle.std.specs.Prelude.{◌≡◌, ◌≢◌, ◌⊎◌, ℕ, zero, suc, ◌+◌, ◌-◌, ◌*◌, ◌<◌, ◌≤◌, Bool, true, false, List, [], ◌++◌, map, length, replicate, Some, refl}
 use Rattle.std.specs.List.{range_with_len}
 use Rattle.std.proofs.Common.{arith, sym, ap, subst, ◌∙◌, inl, inr}
 use Rattle.std.proofs.lemmas.Bool.{cases_lt}
@@ -37,7 +37,7 @@ use Rattle.mc_trailer.specs.facts.Places.{place_inside}
 use Rattle.mc_trailer.specs.facts.Tables.{types_are_rows}
 use Rattle.mc_trailer.specs.Fields.{trailer_of}
 use Rattle.mc_trailer.specs.Places.{place}
-use Rattle.mc_trailer.specs.Tables.{asks_perm, asks_revert, asks_test, is_good, is_set, is_unset, reverts_at}
+use Rattle.mc_trailer.specs.Tables.{asks_perm, asks_revert, asks_test, is_good, reverts_at}
 use Rattle.mc_trailer.specs.declared.places.Field.TheVariants as field
 use Rattle.mc_trailer.specs.declared.tables.Profile.{Profile}
 use Rattle.mc_trailer.specs.declared.tables.Rules.{Rules}
@@ -49,7 +49,7 @@ again_same : (s t u : Content) (slot : Slot) (at : ℕ) (new : List ℕ) → Cha
 again_same s t u slot at new one two o i = by (which_slot o slot)
   where
     inside : (k : ℕ) → k < length new → at + k ≡ i → byte u slot i ≡ byte t slot i
-    inside k short is = let E : ℕ → Type 0 = λ j. byte u slot j ≡ byte t slot j in subst E is (two.inside k short ∙ sym (one.inside k short))
+    inside k short is = rw (sym is) (two.inside k short ∙ sym (one.inside k short))
 
     here : byte u slot i ≡ byte t slot i
     here = elim (cases_lt i at) [
@@ -61,7 +61,7 @@ again_same s t u slot at new one two o i = by (which_slot o slot)
     ]
 
     by : (o ≡ slot) ⊎ (o ≢ slot) → byte u o i ≡ byte t o i
-    by (inl same) = let E : Slot → Type 0 = λ x. byte u x i ≡ byte t x i in subst E (sym same) here
+    by (inl same) = rw same here
     by (inr other) = two.other o i other
 
 pub erased_again : (s t u : Content) (slot : Slot) (at : ℕ) (new : List ℕ) → Changed s t slot at new → Changed t u slot at new → u ≡ t
@@ -191,7 +191,7 @@ module _ (r : Rules) (g : Geometry) (s : Content) (size n : ℕ) (whole : in_pie
 
     pub revert_steps : (t : Content) → Reverts t → Steps (power_on r g t) Reverts (MadeOrLost t)
     revert_steps t (inl (inl is)) = waiting_steps t is
-    revert_steps t (inl (inr is)) = let E : Content → Type 0 = λ x. Steps (power_on r g x) Reverts (MadeOrLost x) in subst E (sym is) start_steps
+    revert_steps t (inl (inr is)) = rw is start_steps
     revert_steps t (inr (inl is)) =
         let swaps = asked_swaps Waits (power_on r g s) size n false whole w t is in
         record {

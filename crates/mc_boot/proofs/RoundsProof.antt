@@ -1,5 +1,5 @@
 -- The second round.
-use Rattle.std.specs.Prelude.{◌≡◌, ◌⊎◌, ℕ, ◌*◌, ◌≤◌, ◌&&◌, Bool, true, false, if◌then◌else◌, List, [], take, Some, refl}
+use Rattle.std.specs.Prelude.{◌≡◌, ◌⊎◌, ℕ, ◌*◌, ◌≤◌, Bool, true, false, if◌then◌else◌, List, [], take, Some, refl}
 use Rattle.std.specs.Int.{div_ceil}
 use Rattle.std.proofs.Common.{arith, sym, ap, subst, ◌∙◌, inl, inr}
 use Rattle.std.proofs.Math.Nat.{mul-le-mul_right}
@@ -34,7 +34,7 @@ use Rattle.mc_trailer.specs.facts.Fields.{reads_absent}
 use Rattle.mc_trailer.specs.facts.Places.{field_ends}
 use Rattle.mc_trailer.specs.Fields.{trailer_of}
 use Rattle.mc_trailer.specs.Places.{place}
-use Rattle.mc_trailer.specs.Tables.{is_good, is_set, is_unset, reverts_at}
+use Rattle.mc_trailer.specs.Tables.{is_good}
 use Rattle.mc_trailer.specs.declared.places.Field.TheVariants as field
 use Rattle.mc_trailer.specs.declared.tables.Profile.{Profile}
 use Rattle.mc_trailer.specs.declared.tables.Rules.{Rules}
