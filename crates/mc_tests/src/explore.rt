@@ -6,6 +6,7 @@ mod counts;
 mod larger;
 mod pages;
 mod pictures;
+mod sixteen;
 mod sizes;
 mod starts;
 mod tearing;

@@ -10,7 +10,7 @@ use std::test::Fail;
 const PAYLOAD: usize = 253 * 4096 - 72;
 
 /// The start of so large images, the first of which holds 1 and the second 2.
-fn large(alloc: Global, kind: Kind) -> Result<Start, Fail> {
+pub fn large(alloc: Global, kind: Kind) -> Result<Start, Fail> {
     let layout = Layout::new(4096, 8, 256, 512, 256, 255)?;
     let first = image_of(alloc, vec![in alloc; 1u8; PAYLOAD]?.as_slice())?;
     let second = image_of(alloc, vec![in alloc; 2u8; PAYLOAD]?.as_slice())?;

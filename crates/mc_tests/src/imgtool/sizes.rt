@@ -3,6 +3,7 @@ ghost use Rattle.std.specs.Prelude.{◌≡◌, true};
 
 use super::{Engine, WORKED, is_told};
 use crate::common::{same, same_at};
+use mc_image::Version;
 use mc_imgtool::{CreateOptions, create, read_bounded};
 use std::alloc::Global;
 use std::io;
@@ -142,6 +143,37 @@ fn judges_and_refuses(rt: &impl Abort, alloc: Global, image: &mut Vec<u8>) -> Re
 #[test]
 fn the_largest_image_is_judged_and_a_larger_one_refused(rt: HostRuntime) -> Result<(), Fail> {
     judges_and_refuses(&rt, rt.alloc(), &mut created(rt.alloc(), MOST - 72, None)?)
+}
+
+/// The longest line that there can be, of the largest image with the largest version.
+const LONGEST_LINE: &str =
+    "good 255.255.65535+4294967295 16777216 a2752af8abfe2ced31677702985769392525b1a92aae0d4859ef0854db49ac85\n";
+
+/// That image.
+fn longest(alloc: Global) -> Result<Vec<u8>, Fail> {
+    let version = Version {
+        major: u8::MAX,
+        minor: u8::MAX,
+        revision: u16::MAX,
+        build: u32::MAX,
+    };
+    let options = CreateOptions { version, ..WORKED };
+    let mut out = Vec::with_capacity(alloc, 2 * MOST)?;
+    create(alloc, &options, &mut Zeros { left: MOST - 72 }, &mut out)?;
+    Ok(out)
+}
+
+#[test]
+fn the_longest_line_is_written(rt: HostRuntime) -> Result<(), Fail> {
+    let image = longest(rt.alloc())?;
+    let at = (&MOST, Engine::Verify);
+    is_told(
+        &rt,
+        rt.alloc(),
+        at,
+        image.as_slice(),
+        LONGEST_LINE.as_bytes(),
+    )
 }
 
 #[test]
