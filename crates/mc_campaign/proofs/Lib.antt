@@ -1,4 +1,5 @@
 mod Reading
+mod Room
 mod Ways
 mod Steps
 mod Replays
@@ -6,8 +7,6 @@ mod Restarts
 mod Placing
 mod Telling
 mod Loaded
-mod InRounds
-mod Followed
-mod Gone
+mod Along
 mod Resumed
 mod Cursors

@@ -16,7 +16,6 @@ use Rattle.mc_boot.specs.Confirm.{one_write}
 use Rattle.mc_boot.specs.PowerOn.{PowerOn}
 use Rattle.mc_explore.specs.Once.{once}
 use Rattle.mc_start.specs.facts.Room.{limits_are}
-use Rattle.mc_campaign.specs.Places.{Places, no_places, pairs_of}
 use Rattle.mc_campaign.specs.Twice.{twice_kind}
 use Rattle.mc_campaign.specs.View.{IsLoaded, IsSound}
 use Rattle.mc_campaign.specs.declared.rounds.Twice.{Twice}
@@ -89,13 +88,13 @@ loaded counted start confirms primary secondary bound many f b w l is content of
     }
 
 -- An explorer at its start.
-pub started : (counted : Bool) (start : PowerOn) (confirms : Bool) (bound : ℕ) (last : Places) (w : Walked Twice) → IsLoaded counted start confirms bound w → last ≡ no_places → bound ≤ 16
+pub started : (counted : Bool) (start : PowerOn) (confirms : Bool) (bound : ℕ) (last : List (ℕ × ℕ)) (w : Walked Twice) → IsLoaded counted start confirms bound w → last ≡ [] → bound ≤ 16
     → IsSound counted start confirms bound (record { walk = w; phase = phases.Fresh }) last
 started counted start confirms bound last w l none few = λ _. (
   record { start_is = l.start_is; choice_is = l.choice_is; bound_is = l.bound_is; few = few; counted_is = l.counted_is },
   record {
     path = [];
-    path_is = record { member = (omega arith, tt); pairs_are = ap pairs_of (sym none) };
+    path_is = record { member = (omega arith, tt); cuts_are = sym none };
     stands = refl;
   },
 )

@@ -1,6 +1,6 @@
 -- An explorer of campaigns behind a cursor.
 use Rattle.std.specs.Prelude.{◌≡◌, ◌≤◌, ℕ, Bool, true, false, refl}
-use Rattle.std.proofs.Common.{sym, ap, subst, ◌∙◌}
+use Rattle.std.proofs.Common.{sym, ap, subst, ◌∙◌, List}
 use Rattle.mc_tree.specs.Paths.{After}
 use Rattle.mc_flash.specs.Geometry.{IsLayout}
 use Rattle.mc_flash.specs.Usage.{Limits}
@@ -9,7 +9,6 @@ use Rattle.mc_walk.specs.Walks.{Walked, Begins, origin_of}
 use Rattle.mc_walk.specs.declared.tour.Phase.TheVariants as phases
 use Rattle.mc_boot.specs.PowerOn.{PowerOn, power_on}
 use Rattle.mc_campaign.specs.Campaigns.{IsMember}
-use Rattle.mc_campaign.specs.Places.{Places}
 use Rattle.mc_campaign.specs.Resume.{behind}
 use Rattle.mc_campaign.specs.Twice.{twice_kind}
 use Rattle.mc_campaign.specs.View.{FollowsCampaign, IsCalm, IsLoaded, IsSound, begun_of, state_of}
@@ -18,7 +17,7 @@ use Rattle.mc_campaign.specs.declared.rounds.Twice.{Twice}
 use Rattle.mc_campaign.specs.facts.Paths.{member_of}
 use Rattle.mc_campaign.proofs.Telling.{path_there, same_begun, same_state}
 
-module _ (counted : Bool) (start : PowerOn) (confirms : Bool) (bound n : ℕ) (last : Places) (zero_walk one two : Walked Twice) (told : Both)
+module _ (counted : Bool) (start : PowerOn) (confirms : Bool) (bound n : ℕ) (last : List (ℕ × ℕ)) (zero_walk one two : Walked Twice) (told : Both)
     (l : IsLoaded counted start confirms bound zero_walk)
     (b : Begins (twice_kind zero_walk.branches.once.rules zero_walk.branches.once.layout zero_walk.branches.confirms) zero_walk told one) (spent : Spent n zero_walk.seen one.seen) where
   one_start : begun_of one ≡ start

@@ -22,9 +22,8 @@ use Rattle.mc_walk.specs.declared.tour.Phase.TheVariants as phases
 use Rattle.mc_explore.specs.Boots.{boots}
 use Rattle.mc_explore.specs.Once.{IsTold}
 use Rattle.mc_boot.specs.PowerOn.{PowerOn, power_on}
-use Rattle.mc_campaign.specs.Boots.{IsPathOf, pairs_along, rounds, second_start}
+use Rattle.mc_campaign.specs.Boots.{IsPathOf, cuts_along, rounds, second_start}
 use Rattle.mc_campaign.specs.Campaigns.{IsMember, Precedes}
-use Rattle.mc_campaign.specs.Places.{Places, placed}
 use Rattle.mc_campaign.specs.Replay.{AreReplayed}
 use Rattle.mc_campaign.specs.State as states
 use Rattle.mc_campaign.specs.State.{Finds, moved_to}
@@ -34,8 +33,8 @@ use Rattle.mc_campaign.specs.declared.rounds.Both.{Both}
 use Rattle.mc_campaign.specs.declared.rounds.OnWay.{OnWay}
 use Rattle.mc_campaign.specs.declared.rounds.Twice.{Twice}
 use Rattle.mc_campaign.specs.declared.row.CampaignRow.{CampaignRow}
-use Rattle.mc_campaign.specs.facts.Paths.{are_replayed, campaign_along, campaign_of, first_allowed, member_of, path_of, same_order}
-use Rattle.mc_campaign.specs.facts.Pairs.{placed_pairs}
+use Rattle.mc_campaign.specs.facts.Paths.{are_replayed, first_allowed, listed_along, member_of, path_of, same_order}
+use Rattle.mc_campaign.specs.Cuts.{in_round}
 
 -- The kind of tree that a walk goes through.
 abbrev pub kind_of : Twice → Kind (Place Content) OnWay Both
@@ -44,21 +43,21 @@ kind_of b = twice_kind b.once.rules b.once.layout b.confirms
 -- ---- the campaigns in their order
 
 module _ (r : Rules) (g : Geometry) (confirms : Bool) (s : Content) (bound : ℕ) where
-  module _ (path : List ℕ) (c : Places) (p : IsPathOf (power_on r g s) confirms bound path c) where
-    past_there : (phase : Phase) (l : List ℕ) (d : Places) → IsPathOf (power_on r g s) confirms bound l d → IsPastIn Precedes (position_of phase c) d → paths.IsPast (position_of phase path) l
+  module _ (path : List ℕ) (c : List (ℕ × ℕ)) (p : IsPathOf (power_on r g s) confirms bound path c) where
+    past_there : (phase : Phase) (l : List ℕ) (d : List (ℕ × ℕ)) → IsPathOf (power_on r g s) confirms bound l d → IsPastIn Precedes (position_of phase c) d → paths.IsPast (position_of phase path) l
     past_there phases.Fresh l d q past = tt
     past_there phases.Going l d q past = (same_order r g confirms s bound path l c d p q).0 past
     past_there phases.Done l d q past = (same_order r g confirms s bound path l c d p q).0 past
     past_there phases.Broken l d q past = absurd past
 
-    past_here : (phase : Phase) (l : List ℕ) (d : Places) → IsPathOf (power_on r g s) confirms bound l d → paths.IsPast (position_of phase path) l → IsPastIn Precedes (position_of phase c) d
+    past_here : (phase : Phase) (l : List ℕ) (d : List (ℕ × ℕ)) → IsPathOf (power_on r g s) confirms bound l d → paths.IsPast (position_of phase path) l → IsPastIn Precedes (position_of phase c) d
     past_here phases.Fresh l d q past = tt
     past_here phases.Going l d q past = (same_order r g confirms s bound path l c d p q).1 past
     past_here phases.Done l d q past = (same_order r g confirms s bound path l c d p q).1 past
     past_here phases.Broken l d q past = absurd past
 
     -- The next path is that of the next campaign.
-    pub next_campaign : (phase : Phase) (l : List ℕ) (d : Places) → IsPathOf (power_on r g s) confirms bound l d
+    pub next_campaign : (phase : Phase) (l : List ℕ) (d : List (ℕ × ℕ)) → IsPathOf (power_on r g s) confirms bound l d
         → paths.IsNext (tree.IsMember (rounds r g confirms) (first s) bound) (position_of phase path) l → IsNextIn Precedes (IsMember (power_on r g s) confirms bound) (position_of phase c) d
     next_campaign phase l d q n = record {
       listed = member_of r g confirms s bound d l q;
@@ -80,24 +79,25 @@ module _ (r : Rules) (g : Geometry) (confirms : Bool) (s : Content) (bound : ℕ
   ended (first s) = (refl, refl)
   ended (second began s) = (refl, refl)
 
-  pub outcomes_told : (path : List ℕ) (c : Places) (told : Both) → IsPathOf (power_on r g s) confirms bound path c → AreTold r g confirms (landed (rounds r g confirms) (first s) path) told
+  pub outcomes_told : (path : List ℕ) (c : List (ℕ × ℕ)) (told : Both) → IsPathOf (power_on r g s) confirms bound path c → AreTold r g confirms (landed (rounds r g confirms) (first s) path) told
       → (z : Content) × AreReplayed (power_on r g s) confirms c (shown told.first.outcome) (shown told.second.outcome) z
   outcomes_told path c told p t =
-      let along = campaign_along r g confirms s bound path p.member in
-      let same : along.0 ≡ c = sym (placed_pairs along.0) ∙ ap placed (sym along.2.pairs_are ∙ p.pairs_are) ∙ placed_pairs c in
-      subst (λ d. (z : Content) × AreReplayed (power_on r g s) confirms d (shown told.first.outcome) (shown told.second.outcome) z) same
-      (here along.0 along.1 (subst (λ l. AreTold r g confirms (landed (rounds r g confirms) (first s) l) told) along.3 t))
+      let along = listed_along r g confirms s bound path p.member in
+      subst (λ d. (z : Content) × AreReplayed (power_on r g s) confirms d (shown told.first.outcome) (shown told.second.outcome) z) p.cuts_are
+      (here (cuts_along r g confirms s path) along.0 (subst (λ l. AreTold r g confirms (landed (rounds r g confirms) (first s) l) told) along.1 t))
     where
-      here : (d : Places) → IsMember (power_on r g s) confirms bound d
-          → AreTold r g confirms (landed (rounds r g confirms) (first s) (in_both (boots r g) (second_start r g confirms) s d.first d.second)) told
+      here : (d : List (ℕ × ℕ)) → IsMember (power_on r g s) confirms bound d
+          → AreTold r g confirms (landed (rounds r g confirms) (first s) (in_both (boots r g) (second_start r g confirms) s (in_round 1 d) (in_round 2 d))) told
           → (z : Content) × AreReplayed (power_on r g s) confirms d (shown told.first.outcome) (shown told.second.outcome) z
       here d m at =
+          let l = in_round 1 d in
+          let later = in_round 2 d in
           let one = first_allowed r g confirms s d m.1 in
-          let u : Content = landed (boots r g) s d.first in
-          let v : Content = landed (boots r g) (second_start r g confirms u) d.second in
-          let end : Place Content = landed (rounds r g confirms) (first s) (in_both (boots r g) (second_start r g confirms) s d.first d.second) in
-          let at_u : began_at end ≡ u = (ended end).0 ∙ both_first (boots r g) (second_start r g confirms) s d.first d.second one in
-          let at_v : later_from r g confirms end ≡ v = (ended end).1 ∙ both_second (boots r g) (second_start r g confirms) s d.first d.second one in
+          let u : Content = landed (boots r g) s l in
+          let v : Content = landed (boots r g) (second_start r g confirms u) later in
+          let end : Place Content = landed (rounds r g confirms) (first s) (in_both (boots r g) (second_start r g confirms) s l later) in
+          let at_u : began_at end ≡ u = (ended end).0 ∙ both_first (boots r g) (second_start r g confirms) s l later one in
+          let at_v : later_from r g confirms end ≡ v = (ended end).1 ∙ both_second (boots r g) (second_start r g confirms) s l later one in
           let first_told = subst (λ x. IsTold (power_on r g x) told.first) at_u at.first_is in
           let second_told = subst (λ x. IsTold (power_on r g x) told.second) at_v at.second_is in
           are_replayed r g confirms s d m.1 (shown told.first.outcome) (shown told.second.outcome) first_told.outcome_is second_told.outcome_is
@@ -109,7 +109,7 @@ same_begun old new s =
     ap (λ (b : Twice). record { geometry = b.once.layout; rules = b.once.rules; content = origin_of new.seen }) s.branches
     ∙ ap (λ (c : Content). record { geometry = old.branches.once.layout; rules = old.branches.once.rules; content = c }) s.origin
 
-pub same_state : (old new : Walked Twice) (position : Position Places) → IsSame old new → new.seen.usage.failed ≡ old.seen.usage.failed → state_of new position ≡ state_of old position
+pub same_state : (old new : Walked Twice) (position : Position (List (ℕ × ℕ))) → IsSame old new → new.seen.usage.failed ≡ old.seen.usage.failed → state_of new position ≡ state_of old position
 same_state old new position s calm =
     ap (λ (b : PowerOn). record { start = b; confirms = new.branches.confirms; bound = new.bound; position = position; failed = new.seen.usage.failed }) (same_begun old new s)
     ∙ ap (λ (b : Twice). record { start = begun_of old; confirms = b.confirms; bound = new.bound; position = position; failed = new.seen.usage.failed }) s.branches
@@ -117,37 +117,37 @@ same_state old new position s calm =
     ∙ ap (λ (f : Bool). record { start = begun_of old; confirms = old.branches.confirms; bound = old.bound; position = position; failed = f }) calm
 
 -- A path is that of the same campaign.
-abbrev pub IsPathFor : Walked Twice → List ℕ → Places → Type 0
+abbrev pub IsPathFor : Walked Twice → List ℕ → List (ℕ × ℕ) → Type 0
 IsPathFor w path c = IsPathOf (power_on w.branches.once.rules w.branches.once.layout (origin_of w.seen)) w.branches.confirms w.bound path c
 
-pub path_there : (old new : Walked Twice) (path : List ℕ) (c : Places) → IsSame old new → IsPathFor old path c → IsPathFor new path c
+pub path_there : (old new : Walked Twice) (path : List ℕ) (c : List (ℕ × ℕ)) → IsSame old new → IsPathFor old path c → IsPathFor new path c
 path_there old new path c s p =
     let at_branches = subst (λ (b : Twice). IsPathOf (power_on b.once.rules b.once.layout (origin_of old.seen)) b.confirms old.bound path c) (sym s.branches) p in
     let at_start = subst (λ x. IsPathOf (power_on new.branches.once.rules new.branches.once.layout x) new.branches.confirms old.bound path c) (sym s.origin) at_branches in
     subst (λ n. IsPathOf (power_on new.branches.once.rules new.branches.once.layout (origin_of new.seen)) new.branches.confirms n path c) (sym s.bound) at_start
 
 pub pairs_there : (old new : Walked Twice) (path : List ℕ) → IsSame old new
-    → pairs_along new.branches.once.rules new.branches.once.layout new.branches.confirms (origin_of new.seen) path
-    ≡ pairs_along old.branches.once.rules old.branches.once.layout old.branches.confirms (origin_of old.seen) path
+    → cuts_along new.branches.once.rules new.branches.once.layout new.branches.confirms (origin_of new.seen) path
+    ≡ cuts_along old.branches.once.rules old.branches.once.layout old.branches.confirms (origin_of old.seen) path
 pairs_there old new path s =
-    ap (λ (b : Twice). pairs_along b.once.rules b.once.layout b.confirms (origin_of new.seen) path) s.branches
-    ∙ ap (λ x. pairs_along old.branches.once.rules old.branches.once.layout old.branches.confirms x path) s.origin
+    ap (λ (b : Twice). cuts_along b.once.rules b.once.layout b.confirms (origin_of new.seen) path) s.branches
+    ∙ ap (λ x. cuts_along old.branches.once.rules old.branches.once.layout old.branches.confirms x path) s.origin
 
 -- ---- what a visit finds
 
 -- A tour of a sound explorer came behind its last row and went to the next node, or there is none; and what it counts then.
-pub record Visited (counted : Bool) (start : PowerOn) (confirms : Bool) (bound : ℕ) (old new : Toured Twice) (last : Places) (went : Bool) : Type 0 where
+pub record Visited (counted : Bool) (start : PowerOn) (confirms : Bool) (bound : ℕ) (old new : Toured Twice) (last : List (ℕ × ℕ)) (went : Bool) : Type 0 where
   pub works : old.phase ≢ phases.Broken
   pub sound : IsSound counted start confirms bound old last
   pub visits : Visits (kind_of old.walk.branches) old (position_of old.phase (sound works).1.path) went new
   pub limits : new.walk.seen.usage.limits ≡ old.walk.seen.usage.limits
   pub failed : new.walk.seen.usage.failed ≡ old.walk.seen.usage.failed
 
-module _ (counted : Bool) (start : PowerOn) (confirms : Bool) (bound : ℕ) (old new : Toured Twice) (last : Places) where
+module _ (counted : Bool) (start : PowerOn) (confirms : Bool) (bound : ℕ) (old new : Toured Twice) (last : List (ℕ × ℕ)) where
   abbrev w : Walked Twice
   w = old.walk
 
-  abbrev here : Position Places
+  abbrev here : Position (List (ℕ × ℕ))
   here = position_of old.phase last
 
   ours_there : (went : Bool) → Visited counted start confirms bound old new last went → IsSame old.walk new.walk → IsOurs counted start confirms bound new.walk
@@ -167,10 +167,10 @@ module _ (counted : Bool) (start : PowerOn) (confirms : Bool) (bound : ℕ) (old
     behind = (v.sound v.works).1
 
     abbrev cuts : List (ℕ × ℕ)
-    cuts = pairs_along w.branches.once.rules w.branches.once.layout w.branches.confirms (origin_of w.seen) new.walk.path
+    cuts = cuts_along w.branches.once.rules w.branches.once.layout w.branches.confirms (origin_of w.seen) new.walk.path
 
-    path_is : IsPathFor w new.walk.path (placed cuts)
-    path_is = campaign_of w.branches.once.rules w.branches.once.layout w.branches.confirms (origin_of w.seen) w.bound new.walk.path v.visits.0.listed
+    path_is : IsPathFor w new.walk.path cuts
+    path_is = record { member = v.visits.0.listed; cuts_are = refl }
 
     pub stands_next : new.walk.stands ≡ true
     stands_next = v.visits.3
@@ -179,8 +179,8 @@ module _ (counted : Bool) (start : PowerOn) (confirms : Bool) (bound : ℕ) (old
     few_next = let ours = (v.sound v.works).0 in omega (arith, v.visits.0.listed.0, ours.few, ours.bound_is)
 
     -- The campaign of the path to which it went.
-    pub campaign_is : (l : Places) → (let b = new.walk.branches in l ≡ placed (pairs_along b.once.rules b.once.layout b.confirms (begun_of new.walk).content new.walk.path)) → l ≡ placed cuts
-    campaign_is l is = is ∙ ap placed (pairs_there old.walk new.walk new.walk.path v.visits.1)
+    pub campaign_is : (l : List (ℕ × ℕ)) → (let b = new.walk.branches in l ≡ cuts_along b.once.rules b.once.layout b.confirms (begun_of new.walk).content new.walk.path) → l ≡ cuts
+    campaign_is l is = is ∙ pairs_there old.walk new.walk new.walk.path v.visits.1
 
     told_next : (told : Both) → IsThere (kind_of new.walk.branches) new.walk told
         → AreTold w.branches.once.rules w.branches.once.layout w.branches.confirms
@@ -191,25 +191,25 @@ module _ (counted : Bool) (start : PowerOn) (confirms : Bool) (bound : ℕ) (old
         (landed (rounds w.branches.once.rules w.branches.once.layout w.branches.confirms) (first x) new.walk.path) told in
         subst Q v.visits.1.origin (subst P v.visits.1.branches there.told_is)
 
-    pub finds_row : (told : Both) → IsThere (kind_of new.walk.branches) new.walk told → (row : CampaignRow) → row.campaign ≡ placed cuts → row.first ≡ told.first.outcome
+    pub finds_row : (told : Both) → IsThere (kind_of new.walk.branches) new.walk told → (row : CampaignRow) → row.campaign ≡ cuts → row.first ≡ told.first.outcome
         → row.second ≡ told.second.outcome → Finds (state_of w here) (Some row)
     finds_row told there row is one two =
         let r = w.branches.once.rules in
         let g = w.branches.once.layout in
         let k = w.branches.confirms in
-        let outcomes = outcomes_told r g k (origin_of w.seen) w.bound new.walk.path (placed cuts) told path_is (told_next told there) in
-        let P : Places → Type 0 = λ d. (z : Content) × AreReplayed (power_on r g (origin_of w.seen)) k d (shown told.first.outcome) (shown told.second.outcome) z in
+        let outcomes = outcomes_told r g k (origin_of w.seen) w.bound new.walk.path cuts told path_is (told_next told there) in
+        let P : List (ℕ × ℕ) → Type 0 = λ d. (z : Content) × AreReplayed (power_on r g (origin_of w.seen)) k d (shown told.first.outcome) (shown told.second.outcome) z in
         let Q : Outcome → Type 0 = λ o. (z : Content) × AreReplayed (power_on r g (origin_of w.seen)) k row.campaign (shown o) (shown told.second.outcome) z in
         let R : Outcome → Type 0 = λ o. (z : Content) × AreReplayed (power_on r g (origin_of w.seen)) k row.campaign (shown row.first) (shown o) z in (
           subst (IsNextIn Precedes (IsMember (power_on r g (origin_of w.seen)) k w.bound) here) (sym is)
-              (next_campaign r g k (origin_of w.seen) w.bound behind.path last behind.path_is old.phase new.walk.path (placed cuts) path_is v.visits.0),
+              (next_campaign r g k (origin_of w.seen) w.bound behind.path last behind.path_is old.phase new.walk.path cuts path_is v.visits.0),
           subst R (sym two) (subst Q (sym one) (subst P (sym is) outcomes)),
         )
 
-    pub moved_on : (l : Places) → state_of new.walk (position_of new.phase l) ≡ moved_to (state_of w here) l
+    pub moved_on : (l : List (ℕ × ℕ)) → state_of new.walk (position_of new.phase l) ≡ moved_to (state_of w here) l
     moved_on l = ap (λ p. state_of new.walk (position_of p l)) v.visits.2 ∙ same_state w new.walk (After l) v.visits.1 v.failed
 
-    pub sound_on : (l : Places) → l ≡ placed cuts → IsSound counted start confirms bound new l
+    pub sound_on : (l : List (ℕ × ℕ)) → l ≡ cuts → IsSound counted start confirms bound new l
     sound_on l is = λ _. (
       ours_there true v v.visits.1,
       record {

@@ -1,11 +1,10 @@
 -- Where to go on with an exploration of campaigns, and the first reason why a cursor does not serve.
-use Rattle.std.specs.Prelude.{◌≡◌, ◌≢◌, ◌⊎◌, ℕ, Bool}
+use Rattle.std.specs.Prelude.{◌≡◌, ◌≢◌, ◌⊎◌, ℕ, Bool, List}
 use Rattle.mc_start.specs.Start.{start_digest}
 use Rattle.mc_boot.specs.PowerOn.{PowerOn}
 use Rattle.mc_explore.specs.declared.error.ExploreError.{ExploreError}
 use Rattle.mc_explore.specs.declared.error.ExploreError.TheVariants as errors
 use Rattle.mc_campaign.specs.Campaigns.{IsMember}
-use Rattle.mc_campaign.specs.Places.{Places}
 use Rattle.mc_campaign.specs.declared.cursor.CampaignCursor.{CampaignCursor}
 
 -- The cursor names this start, its rules, this choice and this bound.
@@ -16,7 +15,7 @@ pub record Names (start : PowerOn) (confirms : Bool) (bound : ℕ) (c : Campaign
   pub bound_is : c.bound ≡ bound
 
 -- The cursor that goes on behind a campaign.
-abbrev pub cursor_of : PowerOn → Bool → ℕ → Places → CampaignCursor
+abbrev pub cursor_of : PowerOn → Bool → ℕ → List (ℕ × ℕ) → CampaignCursor
 cursor_of start confirms bound c =
     record { rules = start.rules; confirms = confirms; digest = start_digest start; bound = bound; campaign = c }
 

@@ -1,4 +1,4 @@
-pub mod Places
+pub mod Cuts
 pub mod Texts
 pub mod Rounds
 pub mod Campaigns

@@ -1,12 +1,11 @@
 -- What an explorer of campaigns goes through, where it has come to, and the row that comes next.
-use Rattle.std.specs.Prelude.{ℕ, Bool, false, Option, Some, None}
+use Rattle.std.specs.Prelude.{ℕ, Bool, false, Option, Some, None, List}
 use Rattle.mc_tree.specs.Paths.{Position, AtStart, After, Lost, IsNextIn, IsOverIn}
 use Rattle.mc_flash.specs.Content.{Content}
 use Rattle.mc_flash.specs.Usage.{Usage}
 use Rattle.mc_boot.specs.Outcome.{Report, shown}
 use Rattle.mc_boot.specs.PowerOn.{PowerOn}
 use Rattle.mc_campaign.specs.Campaigns.{IsMember, Precedes}
-use Rattle.mc_campaign.specs.Places.{Places}
 use Rattle.mc_campaign.specs.Replay.{AreReplayed}
 use Rattle.mc_campaign.specs.declared.row.CampaignRow.{CampaignRow}
 
@@ -16,15 +15,15 @@ pub record State : Type 0 where
   pub start : PowerOn
   pub confirms : Bool
   pub bound : ℕ
-  pub position : Position Places
+  pub position : Position (List (ℕ × ℕ))
   pub failed : Bool
 
 -- One of the campaigns to go through.
-abbrev pub IsListed : State → Places → Type 0
+abbrev pub IsListed : State → List (ℕ × ℕ) → Type 0
 IsListed state c = IsMember state.start state.confirms state.bound c
 
 -- The first campaign past the position.
-abbrev pub IsNext : State → Places → Type 0
+abbrev pub IsNext : State → List (ℕ × ℕ) → Type 0
 IsNext state c = IsNextIn Precedes (IsListed state) state.position c
 
 -- No campaign is past the position.
@@ -33,7 +32,7 @@ IsOver state = IsOverIn Precedes (IsListed state) state.position
 
 -- A row as callers see it.
 pub record Told : Type 0 where
-  pub campaign : Places
+  pub campaign : List (ℕ × ℕ)
   pub first : Report
   pub second : Report
 
@@ -46,7 +45,7 @@ HasOutcomes start confirms row =
     (z : Content) × AreReplayed start confirms row.campaign row.first row.second z
 
 -- The state after the row of a campaign.
-abbrev pub moved_to : State → Places → State
+abbrev pub moved_to : State → List (ℕ × ℕ) → State
 moved_to state c =
     record { start = state.start; confirms = state.confirms; bound = state.bound; position = After c; failed = state.failed }
 

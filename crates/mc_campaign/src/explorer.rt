@@ -1,14 +1,13 @@
 //! Goes through the campaigns of power cuts, one after another.
-ghost use Rattle.std.specs.Prelude.{◌≡◌, ◌+◌, ◌≤◌, true, length, IfOk, IfErr, IfSome, ◌⊎◌};
+ghost use Rattle.std.specs.Prelude.{◌≡◌, ◌+◌, ◌≤◌, true, length, IfOk, IfErr, IfSome, ◌⊎◌, List, ℕ};
 ghost use Rattle.mc_tree.specs.Paths.{After};
 ghost use Rattle.mc_tree.specs.Tree.{labelled};
 ghost use Rattle.mc_walk.specs.Walks.{root_of};
 ghost use Rattle.mc_flash.specs.Usage.{limits_for};
 ghost use Rattle.mc_start.specs.Start.{begun};
-ghost use Rattle.mc_campaign.specs.Boots.{pairs_along};
+ghost use Rattle.mc_campaign.specs.Boots.{cuts_along};
 ghost use Rattle.mc_campaign.specs.Cursor.{cursor_of};
 ghost use Rattle.mc_campaign.specs.Explores.{Explores, row_cost};
-ghost use Rattle.mc_campaign.specs.Places.{Places, placed};
 ghost use Rattle.mc_campaign.specs.Restarts.{RowRestarts};
 ghost use Rattle.mc_campaign.specs.Resume.{Resumes};
 ghost use Rattle.mc_campaign.specs.State.{Finds, at_start, state_after, told};
@@ -62,14 +61,13 @@ impl<'a, F: Flash> Model for CampaignExplorer<'a, F> {
 fn campaign_at<F: Flash>(walk: &Walk<F, Twice>) -> Campaign
     requires stands { walk.now.stands ≡ true }
     requires few { length walk.now.path ≤ 16 }
-    ensures { result ≡ placed (pairs_along walk.now.branches.once.rules
-        walk.now.branches.once.layout walk.now.branches.confirms
-        (begun_of walk.now).content walk.now.path) }
+    ensures { result ≡ cuts_along walk.now.branches.once.rules walk.now.branches.once.layout
+        walk.now.branches.confirms (begun_of walk.now).content walk.now.path }
 {
     let mut campaign = Campaign::new();
     let mut step = 0;
     'cuts: while let Some((round, place)) = walk.label(step) {
-        campaign.place(round, place);
+        campaign.push(round, place);
         step += 1;
     }
     campaign
@@ -192,7 +190,7 @@ impl<'a, F: Flash + Drop> CampaignExplorer<'a, F> {
 
     // Where to go on behind the last row. Only here the start is hashed, where no cursor told its digest.
     fn cursor(&self) -> CampaignCursor
-        ensures { (last : Places) → self.now.state.position ≡ After last → result ≡ cursor_of
+        ensures { (last : List (ℕ × ℕ)) → self.now.state.position ≡ After last → result ≡ cursor_of
             self.now.state.start self.now.state.confirms self.now.state.bound last }
     {
         let start = self.start;
@@ -220,7 +218,7 @@ impl<'a, F: Flash + Drop> RowSource for CampaignExplorer<'a, F> {
 
     ghost State = { states.State };
 
-    ghost Key = { Places };
+    ghost Key = { List (ℕ × ℕ) };
 
     ghost Shown = { states.Told };
 

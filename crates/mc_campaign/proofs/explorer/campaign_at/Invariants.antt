@@ -1,13 +1,12 @@
 use Rattle.std.proofs.Common.{◌≡◌, ◌-◌, length, take}
-use Rattle.mc_campaign.specs.Boots.{pairs_along}
-use Rattle.mc_campaign.specs.Places.{placed}
+use Rattle.mc_campaign.specs.Boots.{cuts_along}
 use Rattle.mc_campaign.specs.View.{begun_of}
 use Rattle.mc_campaign.proofs.explorer.campaign_at.Given as goal
 
 abbrev pub invariant-cuts : goal.invariant-cuts
 invariant-cuts g l =
     let b = l.walk.branches in
-    l.campaign ≡ placed (take l.step (pairs_along b.once.rules b.once.layout b.confirms (begun_of l.walk).content l.walk.path))
+    l.campaign ≡ take l.step (cuts_along b.once.rules b.once.layout b.confirms (begun_of l.walk).content l.walk.path)
 
 abbrev pub decreases-cuts : goal.decreases-cuts
 decreases-cuts g l = length l.walk.path - l.step

@@ -3,8 +3,7 @@ use Rattle.mc_flash.specs.Seen.{Seen}
 use Rattle.mc_walk.specs.Tours.{Visits, position_of}
 use Rattle.mc_walk.specs.Walks.{Walked, IsThere}
 use Rattle.mc_start.specs.Start.{begun}
-use Rattle.mc_campaign.specs.Boots.{pairs_along}
-use Rattle.mc_campaign.specs.Places.{placed}
+use Rattle.mc_campaign.specs.Boots.{cuts_along}
 use Rattle.mc_campaign.specs.Restarts.{RowRestarts}
 use Rattle.mc_campaign.specs.State.{Explored, Finds, IsOver, moved_to, told}
 use Rattle.mc_campaign.specs.View.{begun_of, state_of}
@@ -51,11 +50,11 @@ told-told-requires g c =
 abbrev IsThat : (g : Over) (c : After-told-told g) → Type 0
 IsThat g c =
     let w = c.visit.new.self.walk in
-    c.campaign_at-campaign.result ≡ placed (pairs_along w.branches.once.rules w.branches.once.layout w.branches.confirms (begun_of w).content w.path)
+    c.campaign_at-campaign.result ≡ cuts_along w.branches.once.rules w.branches.once.layout w.branches.confirms (begun_of w).content w.path
 
 that : (g : Over) (c : After-told-told g) → IsThat g c
 that g c =
-    let P : Walked Twice → Type 0 = λ w. c.campaign_at-campaign.result ≡ placed (pairs_along w.branches.once.rules w.branches.once.layout w.branches.confirms (begun_of w).content w.path) in
+    let P : Walked Twice → Type 0 = λ w. c.campaign_at-campaign.result ≡ cuts_along w.branches.once.rules w.branches.once.layout w.branches.confirms (begun_of w).content w.path in
     subst P c.walk-walk.ensures c.campaign_at-campaign.ensures
 
 there : (g : Over) (c : After-told-told g) → IsThere (kind_of c.visit.new.self.walk.branches) c.visit.new.self.walk c.told-told.result.now
