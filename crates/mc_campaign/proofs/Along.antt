@@ -21,13 +21,14 @@ use Rattle.mc_explore.specs.facts.Telling.{width_is}
 use Rattle.mc_campaign.specs.Boots.{cuts_along, rounds, second_start}
 use Rattle.mc_campaign.specs.Campaigns.{IsMember}
 use Rattle.mc_campaign.specs.Twice.{AreTold}
-use Rattle.mc_campaign.specs.View.{FollowsCampaign, HasChildOf, IsCalm, IsPathIn, begun_of}
+use Rattle.mc_campaign.specs.View.{FollowsCampaign, HasChildOf, IsPathIn, begun_of}
+use Rattle.mc_explore.specs.subjects.Follow.{IsCalm}
 use Rattle.mc_campaign.specs.declared.campaign.Round.TheVariants as rounds_of
 use Rattle.mc_campaign.specs.declared.rounds.Both.{Both}
 use Rattle.mc_campaign.specs.declared.rounds.Twice.{Twice}
 use Rattle.mc_campaign.specs.facts.Paths.{path_of}
 use Rattle.mc_campaign.proofs.Steps.{few_ops}
-use Rattle.mc_campaign.proofs.Telling.{kind_of}
+use Rattle.mc_campaign.proofs.Outcomes.{kind_of}
 
 -- ---- labels along a path
 

@@ -5,8 +5,7 @@ mod Steps
 mod Replays
 mod Restarts
 mod Placing
-mod Telling
+mod Outcomes
 mod Loaded
 mod Along
-mod Resumed
 mod Cursors

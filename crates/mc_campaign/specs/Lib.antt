@@ -10,7 +10,7 @@ pub mod State
 pub mod Restarts
 pub mod RowText
 pub mod CursorText
-pub mod Explores
+pub mod Bounds
 pub mod Resume
 pub mod View
 pub mod Rest

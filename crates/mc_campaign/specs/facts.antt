@@ -3,3 +3,4 @@ pub mod Cuts
 pub mod Room
 pub mod Paths
 pub mod Listed
+pub mod Keys

@@ -5,7 +5,8 @@ ghost use Rattle.mc_flash.specs.Content.{Content};
 ghost use Rattle.mc_flash.specs.Geometry.{Geometry, IsLayout};
 ghost use Rattle.mc_trailer.specs.declared.tables.Rules.{Rules};
 ghost use Rattle.mc_campaign.specs.Twice.{AreTold};
-ghost use Rattle.mc_campaign.specs.View.{FollowsCampaign, HasChildOf, IsCalm};
+ghost use Rattle.mc_campaign.specs.View.{FollowsCampaign, HasChildOf};
+ghost use Rattle.mc_explore.specs.subjects.Follow.{IsCalm};
 
 use crate::campaign::{Campaign, Round};
 use crate::rounds::{Both, Twice};

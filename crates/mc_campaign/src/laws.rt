@@ -47,6 +47,6 @@ pub fn campaign_pages_join_up()
     // After a full page an explorer is where one begins that goes on from its cursor.
     ensures resumed { (state : State) (rows : List Told) (limit : ℕ) → state.failed ≡ false
         → 0 < limit → length (take limit rows) ≡ limit → state_past state limit rows
-        ≡ behind state.start state.confirms state.bound
+        ≡ behind state.start state.choice state.bound
         (last_campaign [] (take limit rows)) }
 {}

@@ -17,3 +17,5 @@ mod Continued
 pub mod LastRows
 pub mod Rowing
 mod Verdicts
+mod Visiting
+mod Beginning

@@ -24,4 +24,6 @@ pub mod Table
 pub mod Resume
 pub mod Restarts
 pub mod Chain
+pub mod Subject
+pub mod subjects
 pub mod facts

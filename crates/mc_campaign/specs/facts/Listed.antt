@@ -14,6 +14,7 @@ use Rattle.mc_boot.specs.Runs.{left_by}
 use Rattle.mc_explore.specs.Boots.{boots}
 use Rattle.mc_explore.specs.Listing.{IsLawful}
 use Rattle.mc_explore.specs.Replay.{IsReplayed}
+use Rattle.mc_explore.specs.subjects.Rows.{are_lawful, rows_of}
 use Rattle.mc_boot.specs.PowerOn.{PowerOn, again}
 use Rattle.mc_campaign.specs.Boots.{cuts_along, rounds, second_start}
 use Rattle.mc_campaign.specs.Campaigns.{CanOccur, Precedes}
@@ -88,25 +89,17 @@ module _ (start : PowerOn) (confirms : Bool) where
       record {
         in_order = λ l m i j before.
             (same_order r g confirms s bound l m (along l) (along m) (record { member = i; cuts_are = refl }) (record { member = j; cuts_are = refl })).1 before;
-        is_row = λ l i. let m = (listed_along r g confirms s bound l i).0 in record { listed = m; outcomes = has_outcomes (along l) m.1 };
+        is_row = λ l i. let m = (listed_along r g confirms s bound l i).0 in record { listed = m; outcome = has_outcomes (along l) m.1 };
         only = λ row is.
             let p = path_of r g confirms s bound row.campaign is.listed in
             let m = (listed_along r g confirms s bound p.0 p.1.member).0 in
-            (p.0, p.1.member, same_row row (row_of (along p.0)) is.outcomes (has_outcomes (along p.0) m.1) (sym p.1.cuts_are));
+            (p.0, p.1.member, same_row row (row_of (along p.0)) is.outcome (has_outcomes (along p.0) m.1) (sym p.1.cuts_are));
       }
 
-some_rest : (state : State) → (rows : List Told) × IsRest state rows
+pub some_rest : (state : State) → (rows : List Told) × IsRest state rows
 some_rest state =
-    existence.some_rest Precedes pairs_in_order (λ row. row.campaign) (IsRow state.start state.confirms state.bound) (rounds state.start.rules state.start.geometry state.confirms)
-    (first state.start.content) state.bound _ (are_rows state.start state.confirms state.bound) state.position
+    existence.some_rest Precedes pairs_in_order (λ row. row.campaign) (IsRow state.start state.choice state.bound) (rounds state.start.rules state.start.geometry state.choice)
+    (first state.start.content) state.bound _ (are_rows state.start state.choice state.bound) state.position
 
-pub campaigns_are_lawful : IsLawful campaigns
-campaigns_are_lawful = record {
-  order = pairs_in_order;
-  some_rest = some_rest;
-  position_is = λ state k. refl;
-  rows_stay = λ state k row is. is;
-  rows_stayed = λ state k row is. is;
-  cursor_stays = λ state k m. refl;
-  moved_again = λ state k m. refl;
-}
+pub campaigns_are_lawful : IsLawful (rows_of campaigns)
+campaigns_are_lawful = are_lawful campaigns pairs_in_order some_rest

@@ -1,0 +1,97 @@
+-- A walk that was loaded for a start goes along the path of a key.
+use Rattle.std.specs.Prelude.{◌≡◌, ◌≤◌, ℕ, Bool, true, false, List, [], refl}
+use Rattle.std.proofs.Common.{arith, sym, ap, subst, ◌∙◌}
+use Rattle.mc_tree.specs.Tree as tree
+use Rattle.mc_tree.specs.Paths.{After, Lost}
+use Rattle.mc_flash.specs.Content.{Content}
+use Rattle.mc_flash.specs.Geometry.{IsLayout}
+use Rattle.mc_flash.specs.Usage.{Limits}
+use Rattle.mc_flash.specs.Spends.{Spent}
+use Rattle.mc_walk.specs.Kind.{Kind}
+use Rattle.mc_walk.specs.Walks.{Walked, Begins, origin_of}
+use Rattle.mc_walk.specs.Tours.{Toured, position_of}
+use Rattle.mc_walk.specs.declared.tour.Phase.TheVariants as phases
+use Rattle.mc_start.specs.Start.{start_digest}
+use Rattle.mc_boot.specs.PowerOn.{PowerOn}
+use Rattle.mc_explore.specs.subjects.Follow.{FollowsKey, IsCalm}
+use Rattle.mc_explore.specs.subjects.Loads.{IsLoaded}
+use Rattle.mc_explore.specs.subjects.Keys.{AreKeys}
+use Rattle.mc_explore.specs.subjects.State.{State, behind}
+use Rattle.mc_explore.specs.Subject.{Subject}
+use Rattle.mc_explore.specs.subjects.View.{IsSound, begun_of, state_of}
+use Rattle.mc_explore.proofs.Visiting.{carried, same_begun, same_key, same_state}
+
+module _ {B C K R U N A T : Type 0} (x : Subject C K R U) (kind : B → Kind N A T) (begins : B → Content → PowerOn) (choice : B → C) (key_of : B → Content → List ℕ → K)
+    (keys : (b : B) (c : Content) → AreKeys x (kind b).tree ((kind b).root c) (begins b c) (choice b) (key_of b c)) where
+  pub started : (counted : Bool) (start : PowerOn) (chosen : C) (bound : ℕ) (w : Walked B) (last : K) → IsLoaded kind begins choice counted start chosen bound w → last ≡ x.no_key → bound ≤ 16
+      → IsSound kind begins choice key_of counted start chosen bound (record { walk = w; phase = phases.Fresh }) last
+  started counted start chosen bound w last l none few = λ _. (
+    record { start_is = l.start_is; choice_is = l.choice_is; bound_is = l.bound_is; few = few; counted_is = l.counted_is },
+    record { path = []; listed = (omega arith, tt); key_is = (keys w.branches (origin_of w.seen)).none ∙ sym none; stands = refl },
+  )
+
+  module _ (counted : Bool) (start : PowerOn) (chosen : C) (bound n : ℕ) (zero_walk one two : Walked B) (told : T) (k : K) (l : IsLoaded kind begins choice counted start chosen bound zero_walk)
+      (b : Begins (kind zero_walk.branches) zero_walk told one) (spent : Spent n zero_walk.seen one.seen) where
+    one_start : begun_of begins one ≡ start
+    one_start = same_begun x kind begins choice key_of keys zero_walk one b.same ∙ l.start_is
+
+    one_choice : choice one.branches ≡ chosen
+    one_choice = ap choice b.same.branches ∙ l.choice_is
+
+    one_bound : one.bound ≡ bound
+    one_bound = b.same.bound ∙ l.bound_is
+
+    pub valid_there : IsLayout (begun_of begins one).geometry
+    valid_there = subst (λ (s : PowerOn). IsLayout s.geometry) (sym one_start) l.valid
+
+    listed_there : x.IsListed (begun_of begins one) (choice one.branches) one.bound k ≡ x.IsListed start chosen bound k
+    listed_there = cc (one_start, one_choice, one_bound)
+
+    pub not_listed : (went : Bool) → went ≡ false → FollowsKey x kind begins choice key_of one k went two → x.IsListed start chosen bound k → ⊥
+    not_listed true is f m = absurd cc
+    not_listed false is f m = f (subst (λ (S : Type 0). S) (sym listed_there) m)
+
+    module _ (went : Bool) (is : went ≡ true) (f : FollowsKey x kind begins choice key_of one k went two) (calm : IsCalm one.seen two.seen) (few : bound ≤ 16) where
+      there : (w : Bool) → w ≡ true → FollowsKey x kind begins choice key_of one k w two → FollowsKey x kind begins choice key_of one k true two
+      there true e y = y
+      there false e y = absurd cc
+
+      pub listed : x.IsListed start chosen bound k
+      listed =
+          let y = there went is f in
+          subst (λ (S : Type 0). S) listed_there
+          (subst (x.IsListed (begun_of begins one) (choice one.branches) one.bound) y.1 ((keys one.branches (origin_of one.seen)).listed one.bound two.path y.0))
+
+      pub behind_it : state_of begins choice two (After k) ≡ behind start chosen bound k
+      behind_it =
+          let y = there went is f in
+          let calm_there : one.seen.usage.failed ≡ false = spent.failed ∙ l.calm in
+          let at_one : state_of begins choice one (After k) ≡ behind start chosen bound k = cc (one_start, one_choice, one_bound, calm_there) in
+          same_state x kind begins choice key_of keys one two y.2 (After k) calm.failed ∙ at_one
+
+      pub resumed : IsSound kind begins choice key_of counted start chosen bound (record { walk = two; phase = phases.Going }) k
+      resumed = λ _.
+          let y = there went is f in (
+            record {
+              start_is = same_begun x kind begins choice key_of keys one two y.2 ∙ one_start;
+              choice_is = ap choice y.2.branches ∙ one_choice;
+              bound_is = y.2.bound ∙ one_bound;
+              few = few;
+              counted_is = ap (λ (z : Limits). z.counted) (calm.limits ∙ spent.limits) ∙ l.counted_is;
+            },
+            record {
+              path = two.path;
+              listed = carried x kind begins choice key_of keys one two y.2 (λ b n c. tree.IsMember (kind b).tree ((kind b).root c) n two.path) y.0;
+              key_is = same_key x kind begins choice key_of keys one two y.2 two.path ∙ y.1;
+              stands = refl;
+            },
+          )
+
+-- The start of an explorer behind a key is the one that its state tells.
+pub same_digest : {B C K N A T : Type 0} (kind : B → Kind N A T) (begins : B → Content → PowerOn) (choice : B → C) (key_of : B → Content → List ℕ → K)
+    (counted : Bool) (start : PowerOn) (chosen : C) (bound : ℕ) (t : Toured B) (last : K) (told : PowerOn) (c : C) (many : ℕ) (k : K) (d : List ℕ)
+    → IsSound kind begins choice key_of counted start chosen bound t last → state_of begins choice t.walk (position_of t.phase last) ≡ behind told c many k → d ≡ start_digest told
+    → d ≡ start_digest start
+same_digest {B} {C} {K} kind begins choice key_of counted start chosen bound t last told c many k d sound is at =
+    let ours = (sound (λ broken. let q : Lost ≡ After k = ap (λ p. position_of p last) (sym broken) ∙ ap (λ (s : State C K). s.position) is in absurd cc)).0 in
+    at ∙ ap start_digest (sym (ap (λ (s : State C K). s.start) is) ∙ ours.start_is)

@@ -1,0 +1,8 @@
+-- The exploration of a subject, of whatever kind.
+pub mod State
+pub mod Rows
+pub mod Keys
+pub mod View
+pub mod Loads
+pub mod Follow
+pub mod Resume
