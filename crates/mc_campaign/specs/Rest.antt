@@ -23,6 +23,7 @@ campaigns = record {
   HasOutcome = HasOutcomes;
   Restarts = RowRestarts;
   most_for_row = most_for_row;
+  IsCheap = λ r g bound applied. Unit {0};
   cursor = cursor_of;
   cursor_text = cursor_text;
 }

@@ -9,9 +9,10 @@ use crate::following;
 use crate::rounds::Twice;
 use crate::row::CampaignRow;
 use mc_boot::restart_law;
-use mc_explore::{Fields, Labels, Line, Once, Start, Subject, TreeExplorer};
+use mc_explore::{Fields, Labels, Line, Once, RowsAhead, Schedule, Start, Subject, TreeExplorer};
 use mc_flash::{Flash, FlashError};
 use mc_walk::Walk;
+use std::alloc::{AllocError, Global};
 
 /// Goes through all campaigns of at most so many cuts that can occur, in their order, each with the outcomes of both rounds, over
 /// one flash, which it loads for three boots more than there are cuts. Its choice is whether the image confirms itself between
@@ -58,6 +59,11 @@ impl Subject for Twice {
 
     type Until = ();
 
+    // Each row is told by the flash.
+    type Kept = ();
+
+    type Ahead = ();
+
     ghost subject = { campaigns };
 
     ghost begins = { λ t c. begins t.once c };
@@ -71,6 +77,10 @@ impl Subject for Twice {
     ghost fields = { fields_of };
 
     ghost until_of = { λ _. None };
+
+    ghost holds = { λ _ _ _. Unit {0} };
+
+    ghost is_ahead = { λ _ _ _ _ _ _. ⊥ };
 
     ghost MORE = { 3 };
 
@@ -103,7 +113,9 @@ impl Subject for Twice {
         Ok(went)
     }
 
-    fn row<F: Flash>(walk: &Walk<F, Twice>) -> CampaignRow {
+    fn row<F: Flash>(walk: &Walk<F, Twice>, path: &Schedule) -> CampaignRow {
+        // The path has no more steps than a schedule has cuts.
+        let _cuts = path.cuts();
         let campaign = campaign_at(walk);
         let told = walk.told();
         CampaignRow {
@@ -111,6 +123,22 @@ impl Subject for Twice {
             first: told.first.outcome,
             second: told.second.outcome,
         }
+    }
+
+    fn kept(_alloc: Global, _start: &Start, _bound: u8) -> Result<(), AllocError> {
+        Ok(())
+    }
+
+    fn arrive<F: Flash>(
+        _kept: &mut (),
+        _walk: &Walk<F, Twice>,
+        _path: &Schedule,
+    ) -> Option<RowsAhead<()>> {
+        None
+    }
+
+    fn row_ahead(_kept: &(), _path: &Schedule, _rows: &RowsAhead<()>) -> CampaignRow {
+        unreachable!()
     }
 
     fn key(row: &CampaignRow) -> Campaign {

@@ -2,7 +2,6 @@ mod Bytes
 mod TornPages
 mod Onwards
 mod Loaded
-mod Moving
 mod Going
 mod Restarts
 mod PageRows
@@ -18,4 +17,5 @@ pub mod LastRows
 pub mod Rowing
 mod Verdicts
 mod Visiting
+mod Along
 mod Beginning

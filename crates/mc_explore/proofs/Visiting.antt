@@ -1,15 +1,14 @@
 -- The row that a tour comes to is the one of the next key.
 use Rattle.std.specs.Prelude.{◌≡◌, ◌≢◌, ◌≤◌, ℕ, Bool, true, false, List, [], refl}
-use Rattle.std.proofs.Common.{arith, sym, ap, subst, ◌∙◌}
+use Rattle.std.proofs.Common.{arith, sym, ap, subst, ◌∙◌, None, Option, Some}
 use Rattle.mc_tree.specs.Tree as tree
 use Rattle.mc_tree.specs.Paths as paths
 use Rattle.mc_tree.specs.Paths.{After, IsNextIn, IsOverIn, IsPastIn, Position}
 use Rattle.mc_flash.specs.Content.{Content}
 use Rattle.mc_flash.specs.Usage.{Limits}
 use Rattle.mc_walk.specs.Kind.{Kind}
-use Rattle.mc_walk.specs.Tours.{StandsAt, Toured, Visits, position_of}
+use Rattle.mc_walk.specs.Tours.{position_of}
 use Rattle.mc_walk.specs.Walks.{Walked, IsPath, IsSame, origin_of}
-use Rattle.mc_walk.specs.facts.Same.{over_there}
 use Rattle.mc_walk.specs.declared.tour.Phase.{Phase}
 use Rattle.mc_walk.specs.declared.tour.Phase.TheVariants as phases
 use Rattle.mc_boot.specs.PowerOn.{PowerOn}
@@ -17,7 +16,9 @@ use Rattle.mc_explore.specs.subjects.Keys.{AreKeys}
 use Rattle.mc_explore.specs.subjects.State as states
 use Rattle.mc_explore.specs.subjects.State.{Finds, moved_to}
 use Rattle.mc_explore.specs.Subject.{Subject}
-use Rattle.mc_explore.specs.subjects.View.{IsOurs, IsSound, StandsBehind, begun_of, state_of}
+use Rattle.mc_explore.specs.subjects.Rowing.{FindsRow}
+use Rattle.mc_explore.specs.subjects.Rows.{IsRowAt}
+use Rattle.mc_explore.specs.subjects.View.{IsBehind, IsOurs, IsSound, Rowed, begun_of, state_of}
 
 module _ {B C K R U N A T : Type 0} (x : Subject C K R U) (kind : B → Kind N A T) (begins : B → Content → PowerOn) (choice : B → C) (key_of : B → Content → List ℕ → K)
     (keys : (b : B) (c : Content) → AreKeys x (kind b).tree ((kind b).root c) (begins b c) (choice b) (key_of b c)) where
@@ -69,114 +70,98 @@ module _ {B C K R U N A T : Type 0} (x : Subject C K R U) (kind : B → Kind N A
     pub same_state : (position : Position K) → new.seen.usage.failed ≡ old.seen.usage.failed → state_of begins choice new position ≡ state_of begins choice old position
     same_state position calm = cc (s.branches, s.origin, s.bound, calm)
 
-  -- ---- what a visit finds
+    pub ours_there : (counted : Bool) (start : PowerOn) (chosen : C) (bound : ℕ) → IsOurs begins choice counted start chosen bound old → new.seen.usage.limits ≡ old.seen.usage.limits
+        → IsOurs begins choice counted start chosen bound new
+    ours_there counted start chosen bound ours limits = record {
+      start_is = same_begun ∙ ours.start_is;
+      choice_is = ap choice s.branches ∙ ours.choice_is;
+      bound_is = s.bound ∙ ours.bound_is;
+      few = ours.few;
+      counted_is = ap (λ (y : Limits). y.counted) limits ∙ ours.counted_is;
+    }
 
-  -- A tour of a sound explorer came behind its last row and went to the next node, or there is none; and what it counts then.
-  pub record Visited (counted : Bool) (start : PowerOn) (chosen : C) (bound : ℕ) (old new : Toured B) (last : K) (went : Bool) : Type 0 where
+    -- A row that a walk tells of its path is one of where it began.
+    pub row_back : (path : List ℕ) (row : R) → IsRowAt x begins choice key_of new.branches (origin_of new.seen) path row → IsRowAt x begins choice key_of old.branches (origin_of old.seen) path row
+    row_back path row at =
+        subst (λ c. IsRowAt x begins choice key_of old.branches c path row) s.origin (subst (λ b. IsRowAt x begins choice key_of b (origin_of new.seen) path row) s.branches at)
+
+  -- ---- what is found
+
+  -- The rows of a sound explorer found the next one, or there is none; and what they count then.
+  pub record Found (counted : Bool) (start : PowerOn) (chosen : C) (bound : ℕ) (old new : Rowed B) (last : K) (found : Option R) : Type 0 where
     pub works : old.phase ≢ phases.Broken
     pub sound : IsSound kind begins choice key_of counted start chosen bound old last
-    pub visits : Visits (kind old.walk.branches) old (position_of old.phase (sound works).1.path) went new
+    pub finds : FindsRow x kind begins choice key_of old found new
     pub limits : new.walk.seen.usage.limits ≡ old.walk.seen.usage.limits
     pub failed : new.walk.seen.usage.failed ≡ old.walk.seen.usage.failed
 
-  module _ (counted : Bool) (start : PowerOn) (chosen : C) (bound : ℕ) (old new : Toured B) (last : K) where
+  module _ (counted : Bool) (start : PowerOn) (chosen : C) (bound : ℕ) (old new : Rowed B) (last : K) where
     abbrev w : Walked B
     w = old.walk
 
     abbrev here : Position K
     here = position_of old.phase last
 
-    ours_there : (went : Bool) → Visited counted start chosen bound old new last went → IsSame old.walk new.walk → IsOurs kind begins choice key_of counted start chosen bound new.walk
-    ours_there went v same =
-        let ours = (v.sound v.works).0 in
-        record {
-          start_is = same_begun old.walk new.walk same ∙ ours.start_is;
-          choice_is = ap choice same.branches ∙ ours.choice_is;
-          bound_is = same.bound ∙ ours.bound_is;
-          few = ours.few;
-          counted_is = ap (λ (y : Limits). y.counted) v.limits ∙ ours.counted_is;
-        }
+    -- The next row.
+    module _ (row : R) (f : Found counted start chosen bound old new last (Some row)) where
+      behind : IsBehind kind key_of old last
+      behind = (f.sound f.works).1
 
-    -- The next row, of that key.
-    module _ (v : Visited counted start chosen bound old new last true) where
-      abbrev behind : StandsBehind kind begins choice key_of old last
-      behind = (v.sound v.works).1
+      pub next_there : states.Finds x (state_of begins choice w here) (Some row)
+      next_there =
+          let n = next_key w.branches (origin_of w.seen) w.bound old.last behind.listed old.phase new.last f.finds.0 in
+          let P : K → Type 0 = λ z. IsNextIn x.Before (x.IsListed (begins w.branches (origin_of w.seen)) (choice w.branches) w.bound) (position_of old.phase z) (x.key row) in
+          let Q : K → Type 0 =
+          λ z. IsNextIn x.Before (x.IsListed (begins w.branches (origin_of w.seen)) (choice w.branches) w.bound) (position_of old.phase (key_of w.branches (origin_of w.seen) old.last)) z in
+          (subst P behind.key_is (subst Q (sym f.finds.1.0) n), f.finds.1.1)
 
-      pub stands_next : new.walk.stands ≡ true
-      stands_next = v.visits.3
-
-      pub few_next : new.walk.bound ≤ 16
-      few_next = let ours = ours_there true v v.visits.1 in omega (arith, ours.few, ours.bound_is)
-
-      pub listed_next : IsPath (kind new.walk.branches) new.walk new.walk.path
-      listed_next = carried old.walk new.walk v.visits.1 (λ b n c. tree.IsMember (kind b).tree ((kind b).root c) n new.walk.path) v.visits.0.listed
-
-      module _ (k : K) (is : k ≡ key_of new.walk.branches (origin_of new.walk.seen) new.walk.path) where
-        key_is : k ≡ key_of w.branches (origin_of w.seen) new.walk.path
-        key_is = is ∙ same_key old.walk new.walk v.visits.1 new.walk.path
-
-        pub next_there : IsNextIn x.Before (x.IsListed (begins w.branches (origin_of w.seen)) (choice w.branches) w.bound) here k
-        next_there =
-            let n = next_key w.branches (origin_of w.seen) w.bound behind.path behind.listed old.phase new.walk.path v.visits.0 in
-            let P : K → Type 0 = λ z. IsNextIn x.Before (x.IsListed (begins w.branches (origin_of w.seen)) (choice w.branches) w.bound) (position_of old.phase z) k in
-            let Q : K → Type 0 =
-            λ z. IsNextIn x.Before (x.IsListed (begins w.branches (origin_of w.seen)) (choice w.branches) w.bound) (position_of old.phase (key_of w.branches (origin_of w.seen) behind.path)) z in
-            subst P behind.key_is (subst Q (sym key_is) n)
-
-        pub moved_on : state_of begins choice new.walk (position_of new.phase k) ≡ moved_to (state_of begins choice w here) k
-        moved_on = ap (λ p. state_of begins choice new.walk (position_of p k)) v.visits.2 ∙ same_state w new.walk v.visits.1 (After k) v.failed
+      module _ (k : K) (is : k ≡ x.key row) where
+        pub moved_on : state_of begins choice new.walk (position_of new.phase k) ≡ moved_to (state_of begins choice w here) (x.key row)
+        moved_on =
+            ap (λ p. state_of begins choice new.walk (position_of p k)) f.finds.3 ∙ same_state w new.walk f.finds.2 (After k) f.failed
+            ∙ ap (λ z. moved_to (state_of begins choice w here) z) is
 
         pub sound_on : IsSound kind begins choice key_of counted start chosen bound new k
         sound_on = λ _. (
-          ours_there true v v.visits.1,
+          ours_there w new.walk f.finds.2 counted start chosen bound (f.sound f.works).0 f.limits,
           record {
-            path = new.walk.path;
-            listed = listed_next;
-            key_is = sym is;
-            stands = subst (λ p. StandsAt (kind new.walk.branches) (record { walk = new.walk; phase = p }) (position_of p new.walk.path)) (sym v.visits.2) refl;
+            listed = carried w new.walk f.finds.2 (λ b n c. tree.IsMember (kind b).tree ((kind b).root c) n new.last) f.finds.0.listed;
+            key_is = same_key w new.walk f.finds.2 new.last ∙ sym (is ∙ f.finds.1.0);
           },
         )
 
-      pub outcome_there : (row : R) → x.HasOutcome (begins new.walk.branches (origin_of new.walk.seen)) (choice new.walk.branches) row
-          → x.HasOutcome (begins w.branches (origin_of w.seen)) (choice w.branches) row
-      outcome_there row o =
-          subst (λ c. x.HasOutcome (begins w.branches c) (choice w.branches) row) v.visits.1.origin
-          (subst (λ b. x.HasOutcome (begins b (origin_of new.walk.seen)) (choice b) row) v.visits.1.branches o)
-
     -- Or there is none.
-    module _ (v : Visited counted start chosen bound old new last false) where
-      abbrev before : StandsBehind kind begins choice key_of old last
-      before = (v.sound v.works).1
+    module _ (f : Found counted start chosen bound old new last None) where
+      before : IsBehind kind key_of old last
+      before = (f.sound f.works).1
 
       pub finds_none : states.IsOver x (state_of begins choice w here)
       finds_none =
-          let over = over_key w.branches (origin_of w.seen) w.bound before.path before.listed old.phase v.visits.0 in
+          let over = over_key w.branches (origin_of w.seen) w.bound old.last before.listed old.phase f.finds.0 in
           subst (λ z. IsOverIn x.Before (x.IsListed (begins w.branches (origin_of w.seen)) (choice w.branches) w.bound) (position_of old.phase z)) before.key_is over
 
-      stays_there : {L : Type 0} (z : L) → position_of phases.Done z ≡ position_of old.phase z
-      stays_there z = by old.phase refl
+      stays_there : position_of phases.Done last ≡ position_of old.phase last
+      stays_there = by old.phase refl
         where
-          by : (p : Phase) → old.phase ≡ p → After z ≡ position_of p z
+          by : (p : Phase) → old.phase ≡ p → After last ≡ position_of p last
           by phases.Fresh is =
-              let over = subst (λ q. paths.IsOver (IsPath (kind w.branches) w) (position_of q before.path)) is v.visits.0 in
+              let over = subst (λ q. paths.IsOver (IsPath (kind w.branches) w) (position_of q old.last)) is f.finds.0 in
               absurd (over [] (omega arith, tt) tt)
           by phases.Going is = refl
           by phases.Done is = refl
-          by phases.Broken is = absurd (v.works is)
+          by phases.Broken is = absurd (f.works is)
 
       pub stays_so : state_of begins choice new.walk (position_of new.phase last) ≡ state_of begins choice w here
       stays_so =
-          ap (λ p. state_of begins choice new.walk (position_of p last)) v.visits.3 ∙ ap (state_of begins choice new.walk) (stays_there last)
-          ∙ same_state w new.walk v.visits.2 here v.failed
+          ap (λ p. state_of begins choice new.walk (position_of p last)) f.finds.3 ∙ ap (state_of begins choice new.walk) stays_there
+          ∙ same_state w new.walk f.finds.2 here f.failed
 
       pub sound_over : IsSound kind begins choice key_of counted start chosen bound new last
       sound_over = λ _. (
-        ours_there false v v.visits.2,
+        ours_there w new.walk f.finds.2 counted start chosen bound (f.sound f.works).0 f.limits,
         record {
-          path = before.path;
-          listed = carried old.walk new.walk v.visits.2 (λ b n c. tree.IsMember (kind b).tree ((kind b).root c) n before.path) before.listed;
-          key_is = same_key old.walk new.walk v.visits.2 before.path ∙ before.key_is;
-          stands = subst (λ p. StandsAt (kind new.walk.branches) (record { walk = new.walk; phase = p }) (position_of p before.path)) (sym v.visits.3)
-              (subst (paths.IsOver (IsPath (kind new.walk.branches) new.walk)) (sym (stays_there before.path)) (over_there kind w new.walk _ v.visits.2 v.visits.0));
+          listed = subst (IsPath (kind new.walk.branches) new.walk) (sym f.finds.4)
+              (carried w new.walk f.finds.2 (λ b n c. tree.IsMember (kind b).tree ((kind b).root c) n old.last) before.listed);
+          key_is = same_key w new.walk f.finds.2 new.last ∙ ap (key_of w.branches (origin_of w.seen)) f.finds.4 ∙ before.key_is;
         },
       )

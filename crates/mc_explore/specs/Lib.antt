@@ -8,7 +8,6 @@ pub mod Rest
 pub mod RowText
 pub mod Once
 pub mod LastCuts
-pub mod Rowing
 pub mod View
 pub mod Want
 pub mod Explores

@@ -16,8 +16,9 @@ pub record Subject (C K R U : Type 0) : Type 1 where
   -- the row tells the outcomes of its key, and what the restart theorem says of that
   pub HasOutcome : PowerOn → C → R → Type 0
   pub Restarts : PowerOn → C → R → Type 0
-  -- the most operations for a row
+  -- the most operations for a row, and how many an explorer of so many cuts may have taken on the way to a key
   pub most_for_row : Rules → Geometry → ℕ
+  pub IsCheap : Rules → Geometry → ℕ → ℕ → Type 0
   -- where to go on behind a key, with so many cuts at most, and its text
   pub cursor : PowerOn → C → ℕ → K → U
   pub cursor_text : U → List ℕ

@@ -3,6 +3,8 @@ pub mod State
 pub mod Rows
 pub mod Keys
 pub mod View
+pub mod Ahead
+pub mod Rowing
 pub mod Loads
 pub mod Follow
 pub mod Resume

@@ -1,9 +1,11 @@
 //! What is explored.
+use crate::ahead::RowsAhead;
 use crate::labels::Labels;
 use mc_flash::{Flash, FlashError};
-use mc_start::{Line, Start};
+use mc_start::{Line, Schedule, Start};
 use mc_trailer::Rules;
 use mc_walk::{Branches, Walk};
+use std::alloc::{AllocError, Global};
 
 /// What a cursor says: where to go on, of a start (told by its digest) under some rules and a choice, with so many cuts at most.
 #[derive(Clone, Copy)]
@@ -17,7 +19,8 @@ pub struct Fields<C, K> {
 
 /// A kind of tree whose paths are gone through as rows, each found by a key.
 pub trait Subject: Branches<Known = Start> {
-    ghost use Rattle.std.specs.Prelude.{◌≡◌, ◌≢◌, ◌↔◌, ℕ, ◌+◌, ◌<◌, ◌≤◌, Bool, List, [], length, ◌++◌, Option, true, false, IfOk, IfErr, OnOk};
+    ghost use Rattle.std.specs.Prelude.{◌≡◌, ◌≢◌, ◌↔◌, ℕ, ◌+◌, ◌<◌, ◌≤◌, Bool, ◌^◌, List, [], ◌∷◌, length, ◌++◌, Option, true, false, IfOk, IfErr, IfSome, OnOk};
+    ghost use Rattle.mc_tree.specs.Tree.{Allowed};
     ghost use Rattle.mc_tree.specs.facts.Precedence.{IsOrder};
     ghost use Rattle.mc_flash.specs.Content.{Content};
     ghost use Rattle.mc_flash.specs.Geometry.{IsLayout};
@@ -29,10 +32,11 @@ pub trait Subject: Branches<Known = Start> {
     ghost use Rattle.mc_explore.specs.Pages.{IsBefore};
     ghost use Rattle.mc_explore.specs.Subject as subjects;
     ghost use Rattle.mc_explore.specs.declared.subject.Fields.{Fields as FieldsOf};
-    ghost use Rattle.mc_explore.specs.subjects.Follow.{FollowsKey, IsCalm};
+    ghost use Rattle.mc_explore.specs.subjects.Follow.{FollowsKey, IsCalm, IsCheapFor};
     ghost use Rattle.mc_explore.specs.subjects.Keys.{AreKeys};
     ghost use Rattle.mc_explore.specs.subjects.Loads.{LoadsFor};
-    ghost use Rattle.mc_explore.specs.subjects.Rows.{rows_of};
+    ghost use Rattle.mc_explore.specs.subjects.Rowing.{AreFresh};
+    ghost use Rattle.mc_explore.specs.subjects.Rows.{IsRowAt, rows_of};
     ghost use Rattle.mc_explore.specs.subjects.State.{State};
 
     ghost Shown: { Type 0 };
@@ -52,6 +56,12 @@ pub trait Subject: Branches<Known = Start> {
     /// What the rows of a page must come before, if anything.
     type Until;
 
+    /// What is kept of nodes for the rows that are told without the flash.
+    type Kept: Drop;
+
+    /// By what the rows of the children of a node are told without the flash.
+    type Ahead: Copy;
+
     ghost subject: { subjects.Subject Self.Choice Self.Key Shown Self.Cursor };
 
     ghost begins: { Self → Content → PowerOn };
@@ -65,6 +75,10 @@ pub trait Subject: Branches<Known = Start> {
     ghost fields: { Self.Cursor → FieldsOf Self.Choice Self.Key };
 
     ghost until_of: { Self.Until → Option Self.Key };
+
+    ghost holds: { Self → Content → Self.Kept → Type 0 };
+
+    ghost is_ahead: { Self → Content → Self.Kept → List ℕ → Self.Ahead → ℕ → Type 0 };
 
     ghost MORE: { ℕ };
 
@@ -101,17 +115,60 @@ pub trait Subject: Branches<Known = Start> {
         ensures follows { IfOk result (λ went. FollowsKey subject Self.kind begins choice key_of
             walk.old key.now went walk.new) }
         ensures calm { OnOk result (IsCalm walk.old.seen walk.new.seen) }
+        ensures cheap { IfOk result (λ went. went ≡ true → walk.old.seen.usage.applied
+            ≤ (Self.kind walk.old.branches).all.entries → IsCheapFor subject begins walk.old
+            walk.new.seen.usage.applied) }
         ensures err { IfErr result (λ e. e ≡ FlashError.Memory) };
 
     /// The row of the path at whose end a walk stands.
-    fn row<F: Flash>(walk: &Walk<F, Self>) -> Self::Row
+    fn row<F: Flash>(walk: &Walk<F, Self>, path: &Schedule) -> Self::Row
         requires stands { walk.now.stands ≡ true }
-        requires few { walk.now.bound ≤ 16 }
+        requires path { path.now ≡ walk.now.path }
         requires listed { IsPath (Self.kind walk.now.branches) walk.now walk.now.path }
         ensures key { subject.key (shown result) ≡ key_of walk.now.branches
             (origin_of walk.now.seen) walk.now.path }
         ensures outcome { subject.HasOutcome (begins walk.now.branches (origin_of walk.now.seen))
             (choice walk.now.branches) (shown result) };
+
+    /// Nothing yet, with room for what is kept of an exploration of at most so many cuts.
+    ///
+    /// # Errors
+    ///
+    /// Where an allocation failed.
+    fn kept(alloc: Global, start: &Start, bound: u8) -> Result<Self::Kept, AllocError>
+        ensures { IfOk result (λ kept. (b : Self) (c : Content) → holds b c kept) };
+
+    /// Keeps what is told where a walk came to, and says which rows behind that path are told without the flash.
+    fn arrive<F: Flash>(
+        kept: &mut Self::Kept,
+        walk: &Walk<F, Self>,
+        path: &Schedule,
+    ) -> Option<RowsAhead<Self::Ahead>>
+        requires stands { walk.now.stands ≡ true }
+        requires path { path.now ≡ walk.now.path }
+        requires listed { IsPath (Self.kind walk.now.branches) walk.now walk.now.path }
+        ensures kept { holds walk.now.branches (origin_of walk.now.seen) kept.old
+            → holds walk.now.branches (origin_of walk.now.seen) kept.new }
+        ensures ahead { IfSome result (AreFresh Self.kind holds is_ahead walk.now kept.new
+            path.now) };
+
+    /// The next row of those.
+    fn row_ahead(
+        kept: &Self::Kept,
+        path: &Schedule,
+        rows: &RowsAhead<Self::Ahead>,
+    ) -> Self::Row
+        requires short { length path.now < 16 }
+        requires some { rows.now.next < rows.now.count }
+        requires small { rows.now.count ≤ 2 ^ 31 }
+        requires told { (b : Self) × (c : Content)
+            × is_ahead b c kept.now path.now rows.now.ahead rows.now.count }
+        ensures { (b : Self) (c : Content) → holds b c kept.now
+            → is_ahead b c kept.now path.now rows.now.ahead rows.now.count
+            → Allowed (Self.kind b).tree ((Self.kind b).root c)
+            (path.now ++ rows.now.next ∷ [])
+            → IsRowAt subject begins choice key_of b c (path.now ++ rows.now.next ∷ [])
+            (shown result) };
 
     /// The key of a row.
     fn key(row: &Self::Row) -> Self::Key

@@ -9,12 +9,12 @@ ghost use Rattle.mc_explore.specs.subjects.State.{Explores, Finds, GoesOnBehind,
 use crate::error::ExploreError;
 use crate::labels::Labels;
 use crate::output::write_text;
+use crate::rows::Rows;
 use crate::source::RowSource;
 use crate::subject::{Fields, Subject};
 use crate::tree_loading::{ask, load};
 use mc_flash::Flash;
 use mc_start::{Line, Start};
-use mc_walk::Tour;
 use std::alloc::Global;
 use std::io::Write;
 use std::marker::Model;
@@ -27,7 +27,7 @@ pub struct TreeExplorer<'a, F: Flash, X: Subject> {
     digest: Option<[u8; 32]>,
     choice: X::Choice,
     bound: u8,
-    tour: Tour<F, X>,
+    rows: Rows<F, X>,
     // The key of the last row.
     last: X::Key,
     labels: Labels,
@@ -42,10 +42,10 @@ impl<'a, F: Flash, X: Subject> Model for TreeExplorer<'a, F, X> {
 
     ghost Value = { Explored X.Choice X.Key };
 
-    ghost view = { λ e. explored X.begins X.choice e.tour.walk (position_of e.tour.phase e.last) };
+    ghost view = { λ e. explored X.begins X.choice e.rows.walk (position_of e.rows.phase e.last) };
 
     ghost invariant = { λ e. IsSound X.kind X.begins X.choice X.key_of F.counted
-        (begun e.start.now) e.choice e.bound e.tour e.last × IsDigestOf (begun e.start.now) e.digest };
+        (begun e.start.now) e.choice e.bound e.rows e.last × IsDigestOf (begun e.start.now) e.digest };
 }
 
 impl<'a, F: Flash + Drop, X: Subject> TreeExplorer<'a, F, X> {
@@ -71,12 +71,13 @@ impl<'a, F: Flash + Drop, X: Subject> TreeExplorer<'a, F, X> {
         ensures err { IfErr result (λ e. e ≡ ExploreError.Memory) }
     {
         let walk = load(alloc, start, bound, choice)?;
+        let kept = X::kept(alloc, start, bound)?;
         Ok(TreeExplorer {
             start,
             digest: None,
             choice,
             bound,
-            tour: Tour::fresh(walk),
+            rows: Rows::fresh(walk, kept),
             last: X::none(),
             labels: Labels::of(start),
         })
@@ -96,6 +97,8 @@ impl<'a, F: Flash + Drop, X: Subject> TreeExplorer<'a, F, X> {
     ) -> Result<TreeExplorer<'a, F, X>, ExploreError>
         requires { bound ≤ 16 }
         ensures resumes { GoesOnBehind X.subject (begun start.now) choice bound key.now result }
+        ensures cheap { IfOk result (λ explorer. X.subject.IsCheap start.now.rules
+            start.now.geometry bound explorer.usage.applied) }
         ensures exact { IfOk result (λ explorer. F.counted ≡ true → explorer.usage.limits
             ≡ limits_for start.now.rules.grain start.now.geometry (bound + X.MORE)) }
     {
@@ -104,12 +107,13 @@ impl<'a, F: Flash + Drop, X: Subject> TreeExplorer<'a, F, X> {
         if !X::follow(&mut walk, key, start)? {
             return Err(ExploreError::CannotOccur);
         }
+        let kept = X::kept(alloc, start, bound)?;
         Ok(TreeExplorer {
             start,
             digest: None,
             choice,
             bound,
-            tour: Tour::behind(walk),
+            rows: Rows::behind(walk, kept),
             last: *key,
             labels: Labels::of(start),
         })
@@ -132,6 +136,8 @@ impl<'a, F: Flash + Drop, X: Subject> TreeExplorer<'a, F, X> {
         requires { bound ≤ 16 }
         ensures resumes { Resumes X.subject (begun start.now) choice bound (X.fields cursor.now)
             result }
+        ensures cheap { IfOk result (λ explorer. X.subject.IsCheap start.now.rules
+            start.now.geometry bound explorer.usage.applied) }
         ensures exact { IfOk result (λ explorer. F.counted ≡ true → explorer.usage.limits
             ≡ limits_for start.now.rules.grain start.now.geometry (bound + X.MORE)) }
     {
@@ -184,10 +190,10 @@ impl<'a, F: Flash + Drop, X: Subject> TreeExplorer<'a, F, X> {
         ensures err { IfErr result (λ e. (e ≡ ExploreError.Memory) ⊎ (e ≡ ExploreError.Failed)) }
     {
         X::restarts();
-        if !self.tour.visit(self.start)? {
+        let found = self.rows.next(self.start)?;
+        let Some(row) = found else {
             return Ok(None);
-        }
-        let row = X::row(self.tour.walk());
+        };
         self.last = X::key(&row);
         Ok(Some(row))
     }
@@ -198,7 +204,7 @@ impl<'a, F: Flash + Drop, X: Subject> TreeExplorer<'a, F, X> {
         ensures usage { (F.seen result.now).usage ≡ self.now.usage }
         ensures marked { length (F.seen result.now).checkpoints ≡ self.now.marked }
     {
-        self.tour.walk().flash()
+        self.rows.flash()
     }
 }
 
@@ -270,6 +276,6 @@ impl<'a, F: Flash + Drop, X: Subject> RowSource for TreeExplorer<'a, F, X> {
     }
 
     fn give_up(&mut self) {
-        self.tour.give_up();
+        self.rows.give_up();
     }
 }

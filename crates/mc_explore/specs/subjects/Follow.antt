@@ -19,3 +19,7 @@ FollowsKey x kind begins choice key_of old k false new = x.IsListed (begun_of be
 pub record IsCalm (old new : Seen) : Type 0 where
   pub limits : new.usage.limits ≡ old.usage.limits
   pub failed : new.usage.failed ≡ old.usage.failed
+
+-- An explorer of so many cuts takes no more than its subject says on the way to a key.
+abbrev pub IsCheapFor : {B C K R U : Type 0} → Subject C K R U → (B → Content → PowerOn) → Walked B → ℕ → Type 0
+IsCheapFor x begins old applied = x.IsCheap (begun_of begins old).rules (begun_of begins old).geometry old.bound applied

@@ -1,10 +1,15 @@
 -- The rows of a subject, as they are listed.
-use Rattle.std.specs.Prelude.{ℕ, List, refl}
+use Rattle.std.specs.Prelude.{◌≡◌, ℕ, List, refl}
 use Rattle.mc_tree.specs.facts.Precedence.{IsOrder}
 use Rattle.mc_boot.specs.PowerOn.{PowerOn}
+use Rattle.mc_flash.specs.Content.{Content}
 use Rattle.mc_explore.specs.Listing.{Listing, IsLawful, IsRest}
 use Rattle.mc_explore.specs.Subject.{Subject}
 use Rattle.mc_explore.specs.subjects.State.{State, moved_to}
+
+-- A row is that of a path, with its outcomes.
+abbrev pub IsRowAt : {B C K R U : Type 0} → Subject C K R U → (B → Content → PowerOn) → (B → C) → (B → Content → List ℕ → K) → B → Content → List ℕ → R → Type 0
+IsRowAt x begins choice key_of b c path row = (x.key row ≡ key_of b c path) × x.HasOutcome (begins b c) (choice b) row
 
 module _ {C K R U : Type 0} (x : Subject C K R U) where
   -- A row of the whole list: one of the keys to go through, with its outcomes.

@@ -1,4 +1,4 @@
-use Rattle.std.proofs.Common.{List, ℕ, arith, refl, sym, subst}
+use Rattle.std.proofs.Common.{List, ℕ, arith, length, ap, refl, sym, subst, ◌∙◌}
 use Rattle.mc_boot.specs.Outcome.{shown}
 use Rattle.mc_boot.specs.PowerOn.{power_on}
 use Rattle.mc_flash.specs.Content.{Content}
@@ -9,7 +9,7 @@ use Rattle.mc_campaign.proofs.Outcomes.{outcomes_told}
 use Rattle.mc_campaign.proofs.exploring.TwiceSubject.row.Goals as goal
 
 pub campaign_at-campaign-requires-clause-few : goal.campaign_at-campaign-requires-clause-few
-campaign_at-campaign-requires-clause-few g c = omega (arith, c.requires.listed.0, c.requires.few)
+campaign_at-campaign-requires-clause-few g c = omega (arith, c.cuts-cuts.ensures.few, ap (λ (l : List ℕ). length l) (c.cuts-cuts.ensures.value ∙ c.requires.path))
 
 pub returns-clause-outcome : goal.returns-clause-outcome
 returns-clause-outcome g c =
