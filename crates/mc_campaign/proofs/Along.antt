@@ -114,7 +114,8 @@ module _ (c : List (ℕ × ℕ)) (old : Walked Twice) where
         let member = path_back kind_of old mid new.path a.same d.1 in
         let at = (is_child i (subst (IsPathIn old) d.0 member)).1 is in
         record {
-          cuts_are = ap cuts d.0 ∙ labelled-push tree name (first (origin_of old.seen)) mid.path i ∙ ap (λ z. z ++ named i ∷ []) a.cuts_are ∙ ap (λ z. take n c ++ z ∷ []) at ∙ sym (take_more c n (0, 0) inside);
+          cuts_are = ap cuts d.0 ∙ labelled-push tree name (first (origin_of old.seen)) mid.path i ∙ ap (λ z. z ++ named i ∷ []) a.cuts_are ∙ ap (λ z. take n c ++ z ∷ []) at
+              ∙ sym (take_more c n (0, 0) inside);
           member = member;
           same = record { branches = d.2.branches ∙ a.same.branches; bound = d.2.bound ∙ a.same.bound; origin = d.2.origin ∙ a.same.origin };
           stands = d.3;
@@ -225,7 +226,8 @@ module _ (r : Rules) (g : Geometry) (confirms : Bool) (valid : IsLayout g) (told
           )
         ])
       where
-        there : (n : Option ℕ) → SomeIff n (told.first.outcome.ops + cut.1 < 2 ^ 32) (told.first.outcome.ops + cut.1) → (i : ℕ) → n ≡ Some i → (told.first.outcome.ops + cut.1 < 2 ^ 32) × (told.first.outcome.ops + cut.1 ≡ i)
+        there : (n : Option ℕ) → SomeIff n (told.first.outcome.ops + cut.1 < 2 ^ 32) (told.first.outcome.ops + cut.1) → (i : ℕ) → n ≡ Some i
+            → (told.first.outcome.ops + cut.1 < 2 ^ 32) × (told.first.outcome.ops + cut.1 ≡ i)
         there None s i e = absurd cc
         there (Some x) s i e = (s.0, omega (arith, s.1, same_some x i e))
 

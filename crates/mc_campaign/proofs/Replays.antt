@@ -56,7 +56,8 @@ module _ (start : PowerOn) (confirms : Bool) (c : List (ℕ × ℕ)) (r : Rules)
             middle = middle;
             first = first_round;
             later = later;
-            second = moved (λ a b x y l. CannotOccurAt (power_on a b (record { primary = x; secondary = y })) l later) r start.rules g start.geometry p' m.primary q' m.secondary later_cuts (in_round 2 c)
+            second = moved (λ a b x y l. CannotOccurAt (power_on a b (record { primary = x; secondary = y })) l later) r start.rules g start.geometry p' m.primary q' m.secondary later_cuts
+                (in_round 2 c)
                 rules layout
                 (p'_is ∙ ap (λ (x : Content). x.primary) begins) (q'_is ∙ ap (λ (x : Content). x.secondary) begins) later_are here;
             place_is = ap (λ n. length cuts + n) at_place ∙ ap (λ (l : List ℕ). length l + later) cuts_are;

@@ -97,7 +97,8 @@ impl Campaign {
     pub fn read(text: &str) -> Result<Campaign, CampaignError>
         ensures exact { ReadsCampaign text.now result }
         // The text of each campaign is read as that campaign.
-        ensures only { (c : List (ℕ × ℕ)) → IsCampaign c → text.now ≡ campaign_text c → result ≡ Ok c }
+        ensures only { (c : List (ℕ × ℕ)) → IsCampaign c → text.now ≡ campaign_text c
+            → result ≡ Ok c }
         ensures valid { IfOk result IsCampaign }
     {
         let mut campaign = Campaign::new();

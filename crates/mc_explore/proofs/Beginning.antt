@@ -1,5 +1,5 @@
 -- A walk that was loaded for a start goes along the path of a key.
-use Rattle.std.specs.Prelude.{◌≡◌, ◌≤◌, ℕ, Bool, true, false, List, [], refl}
+use Rattle.std.specs.Prelude.{◌≡◌, ◌≤◌, ℕ, Bool, true, false, List, []}
 use Rattle.std.proofs.Common.{arith, sym, ap, subst, ◌∙◌}
 use Rattle.mc_tree.specs.Tree as tree
 use Rattle.mc_tree.specs.Paths.{After, Lost}

@@ -5,8 +5,6 @@ use Rattle.std.proofs.Math.Nat.{mul-le-mul_right}
 use Rattle.std.proofs.lemmas.List.{length-take-le, take_all}
 use Rattle.mc_tree.specs.Tree as tree
 use Rattle.mc_tree.specs.Tree.{Allowed, landed}
-use Rattle.mc_tree.specs.Paths.{After, Lost}
-use Rattle.mc_tree.specs.facts.Order.{allowed_front}
 use Rattle.mc_flash.specs.Content.{Content}
 use Rattle.mc_flash.specs.Geometry.{Geometry, IsLayout}
 use Rattle.mc_flash.specs.Usage.{Limits, most_operations}
@@ -25,16 +23,14 @@ use Rattle.mc_boot.specs.Runs.{after, ops_of}
 use Rattle.mc_explore.specs.Boots.{at_cut, boots}
 use Rattle.mc_explore.specs.Once.{IsTold, most_of, once}
 use Rattle.mc_explore.specs.Replay.{CannotOccurAt, IsReplayed}
-use Rattle.mc_explore.specs.Schedules.{IsMember, CanOccur}
+use Rattle.mc_explore.specs.Schedules.{CanOccur}
 use Rattle.mc_boot.specs.PowerOn.{PowerOn, again, power_on}
-use Rattle.mc_walk.specs.Tours.{position_of}
-use Rattle.mc_walk.specs.declared.tour.Phase.TheVariants as phases
 use Rattle.mc_explore.specs.View.{Followed, IsLoaded}
 use Rattle.mc_explore.specs.Once.{begun_of}
 use Rattle.mc_explore.specs.declared.once.Once.{Once}
 use Rattle.mc_explore.specs.declared.once.Told.{Told}
 use Rattle.mc_explore.proofs.Onwards.{ComesOn}
-use Rattle.mc_explore.specs.facts.Occurring.{allowed_after, occurs_allowed, member_of, path_of}
+use Rattle.mc_explore.specs.facts.Occurring.{allowed_after, occurs_allowed}
 
 same_begun : (old new : Walked Once) → IsSame old new → begun_of new ≡ begun_of old
 same_begun old new s = cc (s.branches, s.origin)

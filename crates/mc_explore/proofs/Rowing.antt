@@ -1,5 +1,5 @@
 -- The next row, by how a tour stands with the last one.
-use Rattle.std.specs.Prelude.{◌≡◌, ◌≢◌, ℕ, zero, suc, ◌+◌, ◌<◌, ◌≤◌, ◌^◌, Bool, true, false, is_some, List, [], ◌∷◌, ◌++◌, length, Option, Some, None, IfSome, refl}
+use Rattle.std.specs.Prelude.{◌≡◌, ◌≢◌, ℕ, zero, suc, ◌+◌, ◌<◌, ◌≤◌, Bool, true, false, is_some, List, [], ◌∷◌, ◌++◌, length, Option, Some, None, IfSome, refl}
 use Rattle.std.proofs.Common.{arith, sym, ap, subst, ◌∙◌, add-one, length-append}
 use Rattle.mc_flash.specs.Content.{Content}
 use Rattle.mc_tree.specs.Tree.{landed}
@@ -7,7 +7,7 @@ use Rattle.mc_tree.specs.Paths.{Position, After, IsNext, IsOver}
 use Rattle.mc_tree.specs.facts.Order.{allowed-push, next_after, next_below}
 use Rattle.mc_walk.specs.Kind.{Kind}
 use Rattle.mc_walk.specs.Tours.{Toured, Visits, position_of}
-use Rattle.mc_walk.specs.Walks.{IsPath, IsSame, Walked, origin_of, root_of}
+use Rattle.mc_walk.specs.Walks.{IsPath, Walked, origin_of, root_of}
 use Rattle.mc_walk.specs.declared.tour.Phase.{Phase}
 use Rattle.mc_walk.specs.declared.tour.Phase.TheVariants.{Fresh, Going, Done, Broken}
 use Rattle.mc_walk.specs.facts.Same.{over_there, path_back, same_back}

@@ -1,5 +1,5 @@
 -- The row that a tour comes to is the one of the next key.
-use Rattle.std.specs.Prelude.{◌≡◌, ◌≢◌, ◌≤◌, ℕ, Bool, true, false, List, [], refl}
+use Rattle.std.specs.Prelude.{◌≡◌, ◌≢◌, ℕ, Bool, List, [], refl}
 use Rattle.std.proofs.Common.{arith, sym, ap, subst, ◌∙◌, None, Option, Some}
 use Rattle.mc_tree.specs.Tree as tree
 use Rattle.mc_tree.specs.Paths as paths
@@ -25,13 +25,15 @@ module _ {B C K R U N A T : Type 0} (x : Subject C K R U) (kind : B → Kind N A
   -- ---- the keys in their order
 
   module _ (b : B) (c : Content) (bound : ℕ) (path : List ℕ) (m : tree.IsMember (kind b).tree ((kind b).root c) bound path) where
-    past_there : (p : Phase) (l : List ℕ) → tree.IsMember (kind b).tree ((kind b).root c) bound l → IsPastIn x.Before (position_of p (key_of b c path)) (key_of b c l) → paths.IsPast (position_of p path) l
+    past_there : (p : Phase) (l : List ℕ) → tree.IsMember (kind b).tree ((kind b).root c) bound l → IsPastIn x.Before (position_of p (key_of b c path)) (key_of b c l)
+        → paths.IsPast (position_of p path) l
     past_there phases.Fresh l n past = tt
     past_there phases.Going l n past = ((keys b c).order bound path l m n).0 past
     past_there phases.Done l n past = ((keys b c).order bound path l m n).0 past
     past_there phases.Broken l n past = absurd past
 
-    past_here : (p : Phase) (l : List ℕ) → tree.IsMember (kind b).tree ((kind b).root c) bound l → paths.IsPast (position_of p path) l → IsPastIn x.Before (position_of p (key_of b c path)) (key_of b c l)
+    past_here : (p : Phase) (l : List ℕ) → tree.IsMember (kind b).tree ((kind b).root c) bound l → paths.IsPast (position_of p path) l
+        → IsPastIn x.Before (position_of p (key_of b c path)) (key_of b c l)
     past_here phases.Fresh l n past = tt
     past_here phases.Going l n past = ((keys b c).order bound path l m n).1 past
     past_here phases.Done l n past = ((keys b c).order bound path l m n).1 past

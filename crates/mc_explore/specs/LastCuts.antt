@@ -1,5 +1,5 @@
 -- The schedules of the most cuts: the outcomes behind their last cuts are found among those at the cuts of another boot.
-use Rattle.std.specs.Prelude.{◌≡◌, ℕ, zero, suc, ◌≤◌, ◌^◌, List, [], ◌∷◌, ◌++◌, length, slice_get, Option, Some, None}
+use Rattle.std.specs.Prelude.{◌≡◌, ℕ, ◌≤◌, ◌^◌, List, [], ◌∷◌, ◌++◌, length, slice_get, Some}
 use Rattle.mc_boot.specs.Outcome.{outcome_of, shown}
 use Rattle.mc_boot.specs.Rejoin.{IsRejoined}
 use Rattle.mc_boot.specs.Runs.{ops_of}

@@ -1,5 +1,5 @@
 -- Schedules, as what is explored, and their rows, as they are listed.
-use Rattle.std.specs.Prelude.{◌≡◌, ℕ, ◌+◌, ◌*◌, ◌≤◌, List, [], Option, Some, None, option_map}
+use Rattle.std.specs.Prelude.{ℕ, ◌+◌, ◌*◌, ◌≤◌, List, [], Option, option_map}
 use Rattle.mc_boot.specs.PowerOn.{PowerOn}
 use Rattle.mc_flash.specs.Usage.{most_operations}
 use Rattle.mc_start.specs.CursorText.{cursor_of, cursor_text}

@@ -1,5 +1,5 @@
 -- What an explorer of schedules goes through, where it has come to, and its rows.
-use Rattle.std.specs.Prelude.{◌≡◌, ℕ, List, Option, Some, option_and_then, option_map}
+use Rattle.std.specs.Prelude.{◌≡◌, ℕ, List, Option, Some, option_and_then}
 use Rattle.mc_boot.specs.Outcome.{Report, shown, outcome_of}
 use Rattle.mc_boot.specs.PowerOn.{PowerOn, again}
 use Rattle.mc_boot.specs.Runs.{after}

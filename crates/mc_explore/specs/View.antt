@@ -1,5 +1,5 @@
 -- Walks from a start.
-use Rattle.std.specs.Prelude.{◌≡◌, ◌≢◌, ℕ, ◌+◌, ◌*◌, ◌≤◌, Bool, true, false, List, length, Option, IfSome}
+use Rattle.std.specs.Prelude.{◌≡◌, ℕ, ◌+◌, ◌*◌, ◌≤◌, Bool, true, false, List, Option, IfSome}
 use Rattle.mc_tree.specs.Tree as tree
 use Rattle.mc_flash.specs.Geometry.{IsLayout}
 use Rattle.mc_flash.specs.Usage.{most_operations}

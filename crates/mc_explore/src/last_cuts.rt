@@ -56,11 +56,7 @@ impl AtCuts {
 
     /// The last cuts behind the path of a walk, where its boot goes on with the one that was cut, and all outcomes at the cuts of
     /// that one are there.
-    pub fn behind<F: Flash>(
-        &self,
-        walk: &Walk<F, Once>,
-        path: &[u32],
-    ) -> Option<RowsAhead<Rejoin>>
+    pub fn behind<F: Flash>(&self, walk: &Walk<F, Once>, path: &[u32]) -> Option<RowsAhead<Rejoin>>
         requires stands { walk.now.stands ≡ true }
         requires path { path.now ≡ walk.now.path }
         ensures cuts { IfSome result (λ rows. AreLastCuts (begun_of walk.now) self.now.of path.now

@@ -59,7 +59,8 @@ impl Subject for Once {
 
     ghost holds = { λ o c kept. AreAtCuts (begins o c) kept.of kept.outcomes.items };
 
-    ghost is_ahead = { λ o c kept path rejoin count. AreLastCuts (begins o c) kept.of path kept.outcomes.items rejoin count };
+    ghost is_ahead = { λ o c kept path rejoin count. AreLastCuts (begins o c) kept.of path
+        kept.outcomes.items rejoin count };
 
     ghost MORE = { 1 };
 

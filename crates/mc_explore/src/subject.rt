@@ -153,11 +153,7 @@ pub trait Subject: Branches<Known = Start> {
             path.now) };
 
     /// The next row of those.
-    fn row_ahead(
-        kept: &Self::Kept,
-        path: &Schedule,
-        rows: &RowsAhead<Self::Ahead>,
-    ) -> Self::Row
+    fn row_ahead(kept: &Self::Kept, path: &Schedule, rows: &RowsAhead<Self::Ahead>) -> Self::Row
         requires short { length path.now < 16 }
         requires some { rows.now.next < rows.now.count }
         requires small { rows.now.count ≤ 2 ^ 31 }

@@ -45,7 +45,8 @@ impl<'a, F: Flash, X: Subject> Model for TreeExplorer<'a, F, X> {
     ghost view = { λ e. explored X.begins X.choice e.rows.walk (position_of e.rows.phase e.last) };
 
     ghost invariant = { λ e. IsSound X.kind X.begins X.choice X.key_of F.counted
-        (begun e.start.now) e.choice e.bound e.rows e.last × IsDigestOf (begun e.start.now) e.digest };
+        (begun e.start.now) e.choice e.bound e.rows e.last
+        × IsDigestOf (begun e.start.now) e.digest };
 }
 
 impl<'a, F: Flash + Drop, X: Subject> TreeExplorer<'a, F, X> {

@@ -1,11 +1,11 @@
 -- How the rows of an exploration are seen, and the row that comes next.
-use Rattle.std.specs.Prelude.{◌≡◌, ◌≢◌, ℕ, ◌+◌, ◌<◌, ◌≤◌, Bool, true, false, List, length, Option, Some, None, IfSome, Result, Ok, Err}
+use Rattle.std.specs.Prelude.{◌≡◌, ◌≢◌, ℕ, ◌≤◌, Bool, true, false, List, Option, Some, None, IfSome, Result, Ok, Err}
 use Rattle.mc_boot.specs.PowerOn.{PowerOn}
 use Rattle.mc_flash.specs.Content.{Content}
 use Rattle.mc_flash.specs.Spends.{RanOut, Spent}
 use Rattle.mc_tree.specs.Paths.{Position, After, IsNext, IsOver}
 use Rattle.mc_walk.specs.Kind.{Kind}
-use Rattle.mc_walk.specs.Tours.{Toured, StandsAt, StandsBehind, position_of}
+use Rattle.mc_walk.specs.Tours.{Toured, StandsAt, StandsBehind}
 use Rattle.mc_walk.specs.Walks.{Walked, IsPath, IsSame, child_cost, origin_of}
 use Rattle.mc_walk.specs.declared.tour.Phase.{Phase}
 use Rattle.mc_walk.specs.declared.tour.Phase.TheVariants.{Fresh, Going, Done, Broken}

@@ -39,7 +39,8 @@ push-requires-clause-order g c =
     let a = (goal.at.push-requires-clause-order g c).In-Some in
     let w = c.args.walk.now in
     let front = ordered_front 1 (take (c.cuts.step + 1) (all g a)) (drop (c.cuts.step + 1) (all g a))
-    (subst IsInOrder (sym (take-append-drop (c.cuts.step + 1) (all g a))) (along_ordered (boots w.branches.once.rules w.branches.once.layout) (second_start w.branches.once.rules w.branches.once.layout w.branches.confirms) (first (begun_of w).content) w.path)) in
+    (subst IsInOrder (sym (take-append-drop (c.cuts.step + 1) (all g a))) (along_ordered (boots w.branches.once.rules w.branches.once.layout) (second_start w.branches.once.rules
+    w.branches.once.layout w.branches.confirms) (first (begun_of w).content) w.path)) in
     subst IsInOrder (more g a ∙ ap (λ z. z ++ (c.in-Some.round, c.in-Some.place) ∷ []) (sym c.cuts.invariant)) front
 
 pub overflow_add-step : goal.overflow_add-step

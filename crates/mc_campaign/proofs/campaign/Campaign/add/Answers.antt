@@ -25,7 +25,8 @@ push-requires-clause-order c =
 pub returns-clause-added : goal.returns-clause-added
 returns-clause-added c =
     let cut : ℕ × ℕ = (c.in_ok-round.round, c.in_ok-round.place) in
-    let order = ordered_push 1 c.args.self.now cut (subst IsInOrder c.self.view_is c.self.invariant.3) (omega (arith, c.if-round-last_round.false, c.last_round.ensures)) c.in_ok-round.ensures.1.round in
+    let order = ordered_push 1 c.args.self.now cut (subst IsInOrder c.self.view_is c.self.invariant.3) (omega (arith, c.if-round-last_round.false, c.last_round.ensures))
+    c.in_ok-round.ensures.1.round in
     let few = len_again c.self.inside.cuts c.self.inside.len c.self.invariant.1 c.self.invariant.0 in
     record {
       item = cut;

@@ -1,4 +1,4 @@
-use Rattle.std.proofs.Common.{◌≡◌, ◌+◌, ◌∷◌, ◌++◌, [], Bool, true, false, Option, Some, None, option_map, IfSome, List, ℕ, refl, sym, ap, subst, ◌∙◌}
+use Rattle.std.proofs.Common.{◌≡◌, ◌+◌, Bool, true, false, Option, Some, List, ℕ, refl, sym, ap, subst, ◌∙◌}
 use Rattle.mc_walk.specs.Tours.{Visits, position_of}
 use Rattle.mc_walk.specs.Walks.{IsPath, Walked, origin_of}
 use Rattle.mc_explore.specs.declared.ahead.RowsAhead.{RowsAhead}
@@ -6,7 +6,7 @@ use Rattle.mc_explore.specs.subjects.Ahead.{last_of, with_last}
 use Rattle.mc_explore.specs.subjects.Rowing.{FindsRow, IsRowing}
 use Rattle.mc_explore.specs.subjects.Rows.{IsRowAt}
 use Rattle.mc_explore.specs.subjects.View.{Rowed}
-use Rattle.mc_explore.proofs.Rowing.{HasArrived, ahead_there, few_next, going_there, last_next, last_there, listed_there, next_ahead, path_next, rowing_next, rowing_over, short_there, stands_for, stands_next, step, told_one}
+use Rattle.mc_explore.proofs.Rowing.{HasArrived, ahead_there, few_next, going_there, last_next, last_there, listed_there, next_ahead, path_next, rowing_next, rowing_over, stands_for, stands_next, step}
 use Rattle.mc_explore.proofs.Visiting.{row_back}
 use Rattle.mc_explore.proofs.rows.Rows.next.Given.{Over}
 use Rattle.mc_explore.proofs.rows.Rows.next.Goals as goal
@@ -35,11 +35,13 @@ returns-in-Some-clause-finds g c =
     let going = going_there g.X.Branches.kind g.X.Subject.holds g.X.Subject.is_ahead s.tour s.kept s.path x i lt in
     let listed = subst (IsPath (g.X.Branches.kind w.branches) w) last next.listed in
     let row = c.row_ahead-row.ensures w.branches (origin_of w.seen) holds behind.are listed.1 in
-    let at = subst (λ l. IsRowAt g.X.Subject.subject g.X.Subject.begins g.X.Subject.choice g.X.Subject.key_of w.branches (origin_of w.seen) l (g.X.Subject.shown c.row_ahead-row.result)) (sym last) row in
+    let at = subst (λ l. IsRowAt g.X.Subject.subject g.X.Subject.begins g.X.Subject.choice g.X.Subject.key_of w.branches (origin_of w.seen) l (g.X.Subject.shown c.row_ahead-row.result))
+    (sym last) row in
     let new : Rowed g.row.X.Denot = record { walk = w; phase = s.tour.phase; last = with_last s.path (x.next + 1) } in
     let is : record { walk = w; phase = s.tour.phase; last = with_last s.path x.next } ≡ c.args.self.now =
     ap (λ (o : Option (RowsAhead g.row.X-Ahead.Denot)). record { walk = w; phase = s.tour.phase; last = last_of s.path o }) (sym c.in-Some.ensures.0) ∙ c.self.view_is in
-    subst (λ (z : Rowed g.row.X.Denot). FindsRow g.X.Subject.subject g.X.Branches.kind g.X.Subject.begins g.X.Subject.choice g.X.Subject.key_of z (Some (g.X.Subject.shown c.row_ahead-row.result)) new) is
+    subst (λ (z : Rowed g.row.X.Denot). FindsRow g.X.Subject.subject g.X.Branches.kind g.X.Subject.begins g.X.Subject.choice g.X.Subject.key_of z (Some (g.X.Subject.shown
+    c.row_ahead-row.result)) new) is
     (next, at, record { branches = refl; bound = refl; origin = refl }, going)
 
 -- ---- the next node
@@ -49,7 +51,8 @@ visited : (g : Over) (c : In_ok-go_on g) (went : Bool) → c.in_ok-go_on.field-0
 visited g c went is =
     let s = c.self.inside in
     let here = position_of s.tour.phase (last_of s.path s.ahead) in
-    let at = stands_for g.X.Branches.kind g.X.Subject.holds g.X.Subject.is_ahead s.tour s.kept s.path s.ahead c.self.invariant c.in_default.ensures c.in_ok-go_on.ensures.costs.0 c.is_some.result c.is_some.ensures in
+    let at = stands_for g.X.Branches.kind g.X.Subject.holds g.X.Subject.is_ahead s.tour s.kept s.path s.ahead c.self.invariant c.in_default.ensures c.in_ok-go_on.ensures.costs.0
+    c.is_some.result c.is_some.ensures in
     subst (λ b. Visits (g.X.Branches.kind s.tour.walk.branches) s.tour here b c.go_on.new.tour) is (c.in_ok-go_on.ensures.visits here at)
 
 stands : (g : Over) (c : In_ok-go_on g) → c.in_ok-go_on.field-0 ≡ true → c.go_on.new.tour.walk.stands ≡ true

@@ -21,7 +21,8 @@ found g c row is =
     record {
       works = e.costs.0;
       sound = c.self.invariant.0;
-      finds = subst (λ o. FindsRow g.X.Subject.subject g.X.Branches.kind g.X.Subject.begins g.X.Subject.choice g.X.Subject.key_of c.self.inside.rows (option_map g.X.Subject.shown o) c.next.new.self) is e.finds;
+      finds = subst (λ o. FindsRow g.X.Subject.subject g.X.Branches.kind g.X.Subject.begins g.X.Subject.choice g.X.Subject.key_of c.self.inside.rows (option_map g.X.Subject.shown o)
+          c.next.new.self) is e.finds;
       limits = e.costs.1.limits;
       failed = e.costs.1.failed;
     }
