@@ -5,7 +5,6 @@ use Rattle.mc_output.specs.facts.Parting.{Lacks}
 use Rattle.mc_trailer.specs.declared.tables.Rules.{Rules}
 use Rattle.mc_start.specs.declared.cursor_fields.StartField.{StartField}
 use Rattle.mc_campaign.specs.CursorText.{choice_text}
-use Rattle.mc_campaign.specs.Places.{Places}
 use Rattle.mc_campaign.specs.declared.cursor.CampaignCursor.{CampaignCursor}
 
 -- What follows the first word.
@@ -27,11 +26,11 @@ abbrev pub field_of : CampaignCursor → StartField
 field_of c = record { digest = c.digest; bound = c.bound }
 
 -- A cursor that was read is the one of its fields.
-pub cursor_is : (told : Rules) (confirms : Bool) (start : StartField) (campaign : Places) (c : CampaignCursor)
+pub cursor_is : (told : Rules) (confirms : Bool) (start : StartField) (campaign : List (ℕ × ℕ)) (c : CampaignCursor)
     → told ≡ c.rules → confirms ≡ c.confirms → start ≡ field_of c → campaign ≡ c.campaign
     → record { rules = told; confirms = confirms; digest = start.digest; bound = start.bound; campaign = campaign } ≡ c
 cursor_is told confirms start campaign c a b d e =
     ap (λ (x : Rules). record { rules = x; confirms = confirms; digest = start.digest; bound = start.bound; campaign = campaign }) a
     ∙ ap (λ (x : Bool). record { rules = c.rules; confirms = x; digest = start.digest; bound = start.bound; campaign = campaign }) b
     ∙ ap (λ (x : StartField). record { rules = c.rules; confirms = c.confirms; digest = x.digest; bound = x.bound; campaign = campaign }) d
-    ∙ ap (λ (x : Places). record { rules = c.rules; confirms = c.confirms; digest = c.digest; bound = c.bound; campaign = x }) e
+    ∙ ap (λ (x : List (ℕ × ℕ)). record { rules = c.rules; confirms = c.confirms; digest = c.digest; bound = c.bound; campaign = x }) e

@@ -1,13 +1,11 @@
 mod Reading
+mod Room
 mod Ways
 mod Steps
 mod Replays
 mod Restarts
 mod Placing
-mod Telling
+mod Outcomes
 mod Loaded
-mod InRounds
-mod Followed
-mod Gone
-mod Resumed
+mod Along
 mod Cursors

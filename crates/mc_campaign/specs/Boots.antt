@@ -9,7 +9,6 @@ use Rattle.mc_trailer.specs.declared.tables.Rules.{Rules}
 use Rattle.mc_boot.specs.Confirm.{confirmed_if}
 use Rattle.mc_boot.specs.Runs.{left_by}
 use Rattle.mc_explore.specs.Boots.{boots, content_or}
-use Rattle.mc_campaign.specs.Places.{Places, pairs_of}
 use Rattle.mc_boot.specs.PowerOn.{PowerOn, power_on}
 
 -- Where the second round begins if the uncut boot from s ends the first.
@@ -22,10 +21,10 @@ abbrev pub rounds : Rules → Geometry → Bool → Tree (Place Content)
 rounds r g confirms = twice (boots r g) (second_start r g confirms)
 
 -- The cuts along a path, each with its round.
-abbrev pub pairs_along : Rules → Geometry → Bool → Content → List ℕ → List (ℕ × ℕ)
-pairs_along r g confirms s path = labels (boots r g) (second_start r g confirms) (first s) path
+abbrev pub cuts_along : Rules → Geometry → Bool → Content → List ℕ → List (ℕ × ℕ)
+cuts_along r g confirms s path = labels (boots r g) (second_start r g confirms) (first s) path
 
 -- A path of at most so many steps, and the campaign of the cuts along it.
-pub record IsPathOf (x : PowerOn) (confirms : Bool) (bound : ℕ) (path : List ℕ) (c : Places) : Type 0 where
+pub record IsPathOf (x : PowerOn) (confirms : Bool) (bound : ℕ) (path : List ℕ) (c : List (ℕ × ℕ)) : Type 0 where
   pub member : tree.IsMember (rounds x.rules x.geometry confirms) (first x.content) bound path
-  pub pairs_are : pairs_along x.rules x.geometry confirms x.content path ≡ pairs_of c
+  pub cuts_are : cuts_along x.rules x.geometry confirms x.content path ≡ c

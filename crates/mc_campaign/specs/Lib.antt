@@ -1,4 +1,4 @@
-pub mod Places
+pub mod Cuts
 pub mod Texts
 pub mod Rounds
 pub mod Campaigns
@@ -10,7 +10,7 @@ pub mod State
 pub mod Restarts
 pub mod RowText
 pub mod CursorText
-pub mod Explores
+pub mod Bounds
 pub mod Resume
 pub mod View
 pub mod Rest

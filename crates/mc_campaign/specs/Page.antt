@@ -1,28 +1,28 @@
 -- Pages of campaigns, made as those of schedules.
-use Rattle.std.specs.Prelude.{ℕ, Bool, List, Option}
+use Rattle.std.specs.Prelude.{ℕ, Bool, List, Option, []}
 use Rattle.mc_tree.specs.Chain as chains
 use Rattle.mc_explore.specs.Pages as pages
+use Rattle.mc_explore.specs.subjects.Rows.{rows_of}
 use Rattle.mc_campaign.specs.Campaigns.{Precedes}
-use Rattle.mc_campaign.specs.Places.{Places, no_places}
 use Rattle.mc_campaign.specs.Rest.{IsRow, campaigns}
 use Rattle.mc_campaign.specs.State.{State, Told}
 
 -- The page of the rows to come is out, or a beginning of it.
 abbrev pub PageIsOut : State → State → ℕ → Option (List ℕ) → Option (List ℕ) → Type 0
-PageIsOut = pages.PageIsOut campaigns
+PageIsOut = pages.PageIsOut (rows_of campaigns)
 
 abbrev pub PageBegan : State → ℕ → Option (List ℕ) → Option (List ℕ) → Type 0
-PageBegan = pages.PageBegan campaigns
+PageBegan = pages.PageBegan (rows_of campaigns)
 
 -- Where an explorer is after the first so many of the rows to come.
 abbrev pub state_past : State → ℕ → List Told → State
-state_past = pages.state_past campaigns
+state_past = pages.state_past (rows_of campaigns)
 
 -- The campaign of the last row, which a full page's cursor names.
-abbrev pub last_campaign : Places → List Told → Places
+abbrev pub last_campaign : List (ℕ × ℕ) → List Told → List (ℕ × ℕ)
 last_campaign = chains.last_key (λ row. row.campaign)
 
 -- The rows of the pages of a chain, joined, each page continued from the cursor of the one before it.
 abbrev pub Chain : State → List ℕ → Bool → List Told → Type 0
 Chain state limits ended rows =
-    chains.Chain Precedes (λ row. row.campaign) no_places (IsRow state.start state.confirms state.bound) state.position limits ended rows
+    chains.Chain Precedes (λ row. row.campaign) [] (IsRow state.start state.choice state.bound) state.position limits ended rows

@@ -1,34 +1,37 @@
--- The rows of campaigns, as they are listed.
-use Rattle.std.specs.Prelude.{ℕ, Bool, List}
-use Rattle.mc_explore.specs.Listing as listings
-use Rattle.mc_explore.specs.Listing.{Listing}
+-- Campaigns, as what is explored, and their rows, as they are listed.
+use Rattle.std.specs.Prelude.{ℕ, Bool, List, []}
 use Rattle.mc_boot.specs.PowerOn.{PowerOn}
+use Rattle.mc_explore.specs.Listing as listings
+use Rattle.mc_explore.specs.Subject.{Subject}
+use Rattle.mc_explore.specs.subjects.Rows as rows
 use Rattle.mc_campaign.specs.Campaigns.{IsMember, Precedes}
 use Rattle.mc_campaign.specs.Cursor.{cursor_of}
 use Rattle.mc_campaign.specs.CursorText.{cursor_text}
-use Rattle.mc_campaign.specs.Places.{Places, no_places}
+use Rattle.mc_campaign.specs.Bounds.{most_for_row}
+use Rattle.mc_campaign.specs.Restarts.{RowRestarts}
 use Rattle.mc_campaign.specs.RowText.{row_text}
-use Rattle.mc_campaign.specs.State.{State, Told, HasOutcomes, moved_to}
+use Rattle.mc_campaign.specs.State.{State, Told, HasOutcomes}
 use Rattle.mc_campaign.specs.declared.cursor.CampaignCursor.{CampaignCursor}
 
--- A row of the whole list: one of the campaigns to go through, with its outcomes.
-pub record IsRow (start : PowerOn) (confirms : Bool) (bound : ℕ) (row : Told) : Type 0 where
-  pub listed : IsMember start confirms bound row.campaign
-  pub outcomes : HasOutcomes start confirms row
-
-abbrev pub campaigns : Listing State Places Told CampaignCursor
+abbrev pub campaigns : Subject Bool (List (ℕ × ℕ)) Told CampaignCursor
 campaigns = record {
-  IsRow = λ state. IsRow state.start state.confirms state.bound;
-  key = λ row. row.campaign;
+  IsListed = IsMember;
   Before = Precedes;
+  key = λ row. row.campaign;
   row_text = row_text;
-  position = λ state. state.position;
-  moved_to = moved_to;
-  cursor = λ state. cursor_of state.start state.confirms state.bound;
+  no_key = [];
+  HasOutcome = HasOutcomes;
+  Restarts = RowRestarts;
+  most_for_row = most_for_row;
+  IsCheap = λ r g bound applied. Unit {0};
+  cursor = cursor_of;
   cursor_text = cursor_text;
-  no_key = no_places;
 }
+
+-- A row of the whole list: one of the campaigns to go through, with its outcomes.
+abbrev pub IsRow : PowerOn → Bool → ℕ → Told → Type 0
+IsRow = rows.IsRow campaigns
 
 -- The rows past the position, each of them and no others, in their order.
 abbrev pub IsRest : State → List Told → Type 0
-IsRest = listings.IsRest campaigns
+IsRest = listings.IsRest (rows.rows_of campaigns)

@@ -15,8 +15,8 @@ use Rattle.mc_boot.specs.declared.kind.Kind.TheVariants as starts
 use Rattle.mc_boot.specs.declared.outcome.BootResult.TheVariants as results
 use Rattle.mc_explore.specs.Replay.{IsSwapOutcome}
 use Rattle.mc_boot.specs.PowerOn.{PowerOn, again}
-use Rattle.mc_campaign.specs.Places.{Places}
 use Rattle.mc_campaign.specs.State.{Told}
+use Rattle.mc_campaign.specs.Cuts.{in_round}
 
 -- What stands of a start after both rounds. A test that was left alone is taken back: it is as if no swap had been asked for.
 abbrev pub lasting : Kind → Bool → Kind
@@ -37,20 +37,20 @@ pub record IsLastOutcome (kind : Kind) (confirms : Bool) (a b cuts : List ℕ) (
 
 -- The first round leaves x, as the restart theorem says of its cuts; the second begins there, where the image has confirmed itself
 -- or not, and leaves z, as the theorem says of a second round. What is told of both is so.
-pub record BothEnd (start : PowerOn) (kind : Kind) (confirms : Bool) (a b : List ℕ) (c : Places) (one two : Report) (z : Content) : Type 0 where
+pub record BothEnd (start : PowerOn) (kind : Kind) (confirms : Bool) (a b : List ℕ) (c : List (ℕ × ℕ)) (one two : Report) (z : Content) : Type 0 where
   pub t : Content
   pub x : Content
   pub u : Content
-  pub first_cut : after start c.first ≡ Some t
+  pub first_cut : after start (in_round 1 c) ≡ Some t
   pub first_ends : EndsIn start kind a b t x
-  pub first_told : IsSwapOutcome kind a b c.first one
-  pub second_cut : after (again start (confirmed_if confirms start.geometry x)) c.second ≡ Some u
+  pub first_told : IsSwapOutcome kind a b (in_round 1 c) one
+  pub second_cut : after (again start (confirmed_if confirms start.geometry x)) (in_round 2 c) ≡ Some u
   pub second_ends : EndsAgain start kind confirms a b x u z
-  pub second_told : IsLastOutcome kind confirms a b c.second two
+  pub second_told : IsLastOutcome kind confirms a b (in_round 2 c) two
 
 -- From the start of two valid images that fit, under rules that do not forget a revert that one of the rounds makes, both rounds
 -- of the campaign end so.
-abbrev pub Restarts : PowerOn → Bool → Places → Report → Report → Content → Type 0
+abbrev pub Restarts : PowerOn → Bool → List (ℕ × ℕ) → Report → Report → Content → Type 0
 Restarts start confirms c one two z =
     (kind : Kind) (a b : List ℕ) → BeginsImage start.geometry a → BeginsImage start.geometry b
     → (has_revert kind confirms ≡ true → forgets_reverts start.rules.grain start.rules.profile ≡ false)

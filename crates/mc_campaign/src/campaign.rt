@@ -1,8 +1,9 @@
 //! Campaigns of power cuts.
-ghost use Rattle.std.specs.Prelude.{◌≡◌, ◌⊎◌, ℕ, List, ◌+◌, ◌*◌, ◌<◌, ◌≤◌, ◌^◌, [], ◌∷◌, ◌++◌, length, decimal, Some, None, Ok, IfOk, IfSome, OnOk, OnErr, MatchResult};
-ghost use Rattle.mc_campaign.specs.Places.{Places, no_places, pairs_of, placed};
-ghost use Rattle.mc_campaign.specs.Texts.{campaign_text, cut_text, FitsCut, IsAdded, IsCampaign, ReadsCampaign};
-ghost use Rattle.mc_campaign.specs.Rounds.{cuts_text, number_of, places_in};
+ghost use Rattle.std.specs.Prelude.{◌≡◌, ℕ, List, ◌+◌, ◌*◌, ◌<◌, ◌≤◌, ◌^◌, [], ◌∷◌, ◌++◌, length, decimal, Some, Ok, IfOk, OnOk, OnErr, MatchResult};
+ghost use Rattle.mc_campaign.specs.Cuts.{IsInOrder, in_round};
+ghost use Rattle.mc_campaign.specs.Rounds.{number_of};
+ghost use Rattle.mc_campaign.specs.Texts.{campaign_text, cut_text, FitsCut, IsAdded, IsCampaign, IsCut, ReadsCampaign};
+ghost use Rattle.mc_campaign.specs.facts.Cuts.{last_round};
 
 use mc_explore::{Line, MOST_CUTS, MOST_LINE, Schedule};
 use std::fmt;
@@ -21,25 +22,29 @@ pub enum Round {
     Second,
 }
 
-/// At most 16 power cuts in two rounds. A round is power-on with its cuts and one whole boot; the second starts from the flash
-/// that the first leaves. It takes no memory.
+/// At most 16 power cuts in two rounds, each with its round, none of the first behind one of the second. A round is power-on with
+/// its cuts and one whole boot; the second starts from the flash that the first leaves. It takes no memory.
 #[derive(Clone, Copy, Debug)]
 pub struct Campaign {
-    first: Schedule,
-    second: Schedule,
+    cuts: [(u8, u32); MOST_CUTS],
+    len: usize,
 }
 
 impl Model for Campaign {
-    ghost use Rattle.std.specs.Prelude.{◌+◌, ◌≤◌, length};
-    ghost use Rattle.mc_campaign.specs.Places.{Places};
+    ghost use Rattle.std.specs.Prelude.{◌≡◌, ℕ, ◌≤◌, List, ◌++◌, length, take, drop};
+    ghost use Rattle.mc_campaign.specs.Cuts.{IsInOrder};
+    ghost use Rattle.mc_campaign.specs.facts.Room.{blanks_after, len_again, room_again};
 
-    ghost Value = { Places };
+    ghost Value = { List (ℕ × ℕ) };
 
-    ghost view = { λ c. record { first = c.first; second = c.second } };
+    ghost view = { λ c. take c.len c.cuts };
 
-    ghost invariant = { λ c. length c.first + length c.second ≤ 16 };
+    ghost invariant = { λ c. (c.len ≤ 16) × (length c.cuts ≡ 16)
+        × (drop c.len c.cuts ≡ blanks_after c.len) × IsInOrder (take c.len c.cuts) };
 
-    ghost inverse = { λ p. record { first = p.first; second = p.second } };
+    ghost inverse = { λ l. record { cuts = l ++ blanks_after (length l); len = length l } };
+
+    ghost inverse_ok = { λ c h i. record { cuts = room_again c.cuts c.len h.1 h.0 h.2 i; len = len_again c.cuts c.len h.1 h.0 i } };
 }
 
 impl Round {
@@ -52,38 +57,21 @@ impl Round {
             Round::Second => 2,
         }
     }
-
-    // That number as text.
-    fn digit(self) -> &'static str
-        ensures text { result.now ≡ decimal (number_of self) }
-        ensures length { length result.now ≡ 1 }
-    {
-        match self {
-            Round::First => "1",
-            Round::Second => "2",
-        }
-    }
 }
 
-// The round of a number.
-fn round_of(number: u32) -> Option<Round>
-    ensures known { IfSome result (λ round. number ≡ number_of round) }
-    ensures all { result ≡ None → (round : Round) → number ≡ number_of round → ⊥ }
+// The number of a round as text.
+fn digit_of(round: u8) -> &'static str
+    requires { (1 ≤ round) × (round ≤ 2) }
+    ensures text { result.now ≡ decimal round }
+    ensures length { length result.now ≡ 1 }
 {
-    match number {
-        1 => Some(Round::First),
-        2 => Some(Round::Second),
-        _ => None,
-    }
+    if round == 1 { "1" } else { "2" }
 }
 
-// The round and the place of a cut that a text tells: two numbers with a point between them, as a schedule of two cuts is
-// written.
-fn cut_of(text: &str) -> Result<(Round, u32), CampaignError>
-    ensures { MatchResult result
-        (λ cut. (text.now ≡ cut_text (number_of cut.0, cut.1)) × (cut.1 < 2 ^ 32))
-        (λ _. (round : Round) (place : ℕ) → place < 2 ^ 32
-        → text.now ≡ cut_text (number_of round, place) → ⊥) }
+// The cut that a text tells, by its round and its place: two numbers with a point between them, as a schedule of two cuts is written.
+fn cut_of(text: &str) -> Result<(u8, u32), CampaignError>
+    ensures { MatchResult result (λ cut. (text.now ≡ cut_text cut) × IsCut cut)
+        (λ _. (cut : ℕ × ℕ) → IsCut cut → text.now ≡ cut_text cut → ⊥) }
 {
     let Ok(pair) = Schedule::read(text) else {
         return Err(CampaignError);
@@ -91,10 +79,11 @@ fn cut_of(text: &str) -> Result<(Round, u32), CampaignError>
     let [number, place] = pair.cuts() else {
         return Err(CampaignError);
     };
-    let Some(round) = round_of(*number) else {
-        return Err(CampaignError);
-    };
-    Ok((round, *place))
+    match *number {
+        1 => Ok((1, *place)),
+        2 => Ok((2, *place)),
+        _ => Err(CampaignError),
+    }
 }
 
 impl Campaign {
@@ -108,7 +97,8 @@ impl Campaign {
     pub fn read(text: &str) -> Result<Campaign, CampaignError>
         ensures exact { ReadsCampaign text.now result }
         // The text of each campaign is read as that campaign.
-        ensures only { (c : Places) → IsCampaign c → text.now ≡ campaign_text c → result ≡ Ok c }
+        ensures only { (c : List (ℕ × ℕ)) → IsCampaign c → text.now ≡ campaign_text c
+            → result ≡ Ok c }
         ensures valid { IfOk result IsCampaign }
     {
         let mut campaign = Campaign::new();
@@ -127,89 +117,92 @@ impl Campaign {
     // Adds the cut that a text writes, where there is room for one and none of a later round stands before it.
     fn add(&mut self, text: &str) -> Result<(), CampaignError>
         ensures added { OnOk result (IsAdded self.old text.now self.new) }
-        ensures refused { OnErr result ((cut : ℕ × ℕ) → FitsCut (pairs_of self.old) cut
+        ensures refused { OnErr result ((cut : ℕ × ℕ) → FitsCut self.old cut
             → text.now ≡ cut_text cut → ⊥) }
     {
         let (round, place) = cut_of(text)?;
-        if self.len() == MOST_CUTS {
+        if self.len == MOST_CUTS {
             return Err(CampaignError);
         }
-        match round {
-            Round::First => {
-                if !self.second.cuts().is_empty() {
-                    return Err(CampaignError);
-                }
-                self.first.push(place);
-            }
-            Round::Second => self.second.push(place),
+        if round < self.last_round() {
+            return Err(CampaignError);
         }
+        self.push(round, place);
         Ok(())
+    }
+
+    // The round of its last cut, and the first where it has none.
+    fn last_round(&self) -> u8
+        ensures { result ≡ last_round 1 self.now }
+    {
+        match self.len {
+            0 => 1,
+            len => self.cuts[len - 1].0,
+        }
     }
 
     /// The campaign of no cut.
     pub fn new() -> Campaign
-        ensures { result ≡ no_places }
+        ensures { result ≡ [] }
     {
         Campaign {
-            first: Schedule::new(),
-            second: Schedule::new(),
+            cuts: [(0, 0); MOST_CUTS],
+            len: 0,
         }
     }
 
-    // Adds a cut at the end of its round.
-    pub(crate) fn place(&mut self, round: u8, place: u32)
-        requires room { length (pairs_of self.old) < 16 }
-        requires round { (round ≡ 1) ⊎ (round ≡ 2) }
-        ensures { (cuts : List (ℕ × ℕ)) → self.old ≡ placed cuts → self.new
-            ≡ placed (cuts ++ (round, place) ∷ []) }
+    // Adds a cut at the end.
+    pub(crate) fn push(&mut self, round: u8, place: u32)
+        requires room { length self.old < 16 }
+        requires order { IsInOrder (self.old ++ (round, place) ∷ []) }
+        ensures { self.new ≡ self.old ++ (round, place) ∷ [] }
     {
-        if round == 1 {
-            self.first.push(place);
-        } else {
-            self.second.push(place);
-        }
+        self.cuts[self.len] = (round, place);
+        self.len += 1;
     }
 
     /// How many cuts it has, in both rounds.
     pub fn len(&self) -> usize
-        ensures value { result ≡ length (pairs_of self.now) }
+        ensures value { result ≡ length self.now }
         ensures few { result ≤ 16 }
     {
-        self.first.cuts().len() + self.second.cuts().len()
+        self.len
+    }
+
+    /// The cuts, each with the number of its round, in their order.
+    pub fn cuts(&self) -> &[(u8, u32)]
+        ensures value { result.now ≡ self.now }
+        ensures few { length result.now ≤ 16 }
+        ensures order { IsInOrder result.now }
+    {
+        &self.cuts[..self.len]
     }
 
     /// The places of the cuts of a round, in their order.
-    pub fn cuts(&self, round: Round) -> &[u32]
-        ensures { result.now ≡ places_in round self.now }
+    pub fn places(&self, round: Round) -> Schedule
+        ensures { result ≡ in_round (number_of round) self.now }
     {
-        match round {
-            Round::First => self.first.cuts(),
-            Round::Second => self.second.cuts(),
+        let of = round.number();
+        let mut places = Schedule::new();
+        for (number, place) in self.cuts() {
+            if *number == of {
+                places.push(*place);
+            }
         }
+        places
     }
 }
 
 // Adds a cut to a line: its round, a point and its place.
-fn put_cut(line: &mut Line, round: Round, place: u32)
-    requires { length line.old + 12 ≤ MOST_LINE }
-    ensures text { line.new ≡ line.old ++ cut_text (number_of round, place) }
+fn put_cut(line: &mut Line, cut: (u8, u32))
+    requires room { length line.old + 12 ≤ MOST_LINE }
+    requires round { (1 ≤ cut.0) × (cut.0 ≤ 2) }
+    ensures text { line.new ≡ line.old ++ cut_text cut }
     ensures length { length line.new ≤ length line.old + 12 }
 {
-    line.put(round.digit());
+    line.put(digit_of(cut.0));
     line.put(".");
-    line.put_number(place);
-}
-
-// Adds cuts of a round to a line, each behind a comma.
-fn put_cuts(line: &mut Line, round: Round, places: &[u32])
-    requires { length line.old + 13 * length places.now ≤ MOST_LINE }
-    ensures text { line.new ≡ line.old ++ cuts_text (number_of round) places.now }
-    ensures length { length line.new ≤ length line.old + 13 * length places.now }
-{
-    for place in places {
-        line.put(",");
-        put_cut(line, round, *place);
-    }
+    line.put_number(cut.1);
 }
 
 impl Campaign {
@@ -219,18 +212,15 @@ impl Campaign {
         ensures text { line.new ≡ line.old ++ campaign_text self.now }
         ensures length { length line.new ≤ length line.old + 208 }
     {
-        if let Some((first, rest)) = self.first.cuts().split_first() {
-            put_cut(line, Round::First, *first);
-            put_cuts(line, Round::First, rest);
-            put_cuts(line, Round::Second, self.second.cuts());
-            return;
-        }
-        let Some((first, rest)) = self.second.cuts().split_first() else {
+        let Some((first, rest)) = self.cuts().split_first() else {
             line.put("-");
             return;
         };
-        put_cut(line, Round::Second, *first);
-        put_cuts(line, Round::Second, rest);
+        put_cut(line, *first);
+        for cut in rest {
+            line.put(",");
+            put_cut(line, *cut);
+        }
     }
 }
 

@@ -1,38 +1,40 @@
 //! A walk along the path of a campaign.
-ghost use Rattle.std.specs.Prelude.{◌≡◌, [], true, IfOk, IfErr, OnOk};
-ghost use Rattle.mc_flash.specs.Geometry.{IsLayout};
-ghost use Rattle.mc_campaign.specs.View.{FollowsCampaign, FollowsLater, IsCalm};
+ghost use Rattle.std.specs.Prelude.{◌≡◌, ℕ, Bool, [], true, IfOk, IfErr, OnOk};
+ghost use Rattle.mc_tree.specs.Twice.{Place};
+ghost use Rattle.mc_flash.specs.Content.{Content};
+ghost use Rattle.mc_flash.specs.Geometry.{Geometry, IsLayout};
+ghost use Rattle.mc_trailer.specs.declared.tables.Rules.{Rules};
+ghost use Rattle.mc_campaign.specs.Twice.{AreTold};
+ghost use Rattle.mc_campaign.specs.View.{FollowsCampaign, HasChildOf};
+ghost use Rattle.mc_explore.specs.subjects.Follow.{IsCalm};
 
 use crate::campaign::{Campaign, Round};
-use crate::rounds::Twice;
+use crate::rounds::{Both, Twice};
 use mc_explore::Start;
 use mc_flash::{Flash, FlashError};
 use mc_walk::Walk;
 
-// Goes on along cuts of the second round from where the first round ends, whose boot makes so many operations uncut.
-fn follow_later<F: Flash>(
-    walk: &mut Walk<F, Twice>,
-    ops: u32,
-    cuts: &[u32],
-    start: &Start,
-) -> Result<bool, FlashError>
-    requires { walk.old.stands ≡ true }
-    ensures follows { IfOk result (λ went. FollowsLater walk.old ops cuts.now went walk.new) }
-    ensures calm { OnOk result (IsCalm walk.old.seen walk.new.seen) }
-    ensures err { IfErr result (λ e. e ≡ FlashError.Memory) }
+// The number of the child of a place at that cut, if it has one: the children in the second round stand behind those in the first.
+fn child_of(told: &Both, cut: (u8, u32)) -> Option<u32>
+    ensures { (r : Rules) (g : Geometry) (confirms : Bool) (p : Place Content) → IsLayout g
+        → AreTold r g confirms p told.now → HasChildOf r g confirms p cut result }
 {
-    let Some((first, rest)) = cuts.split_first() else {
-        return Ok(true);
-    };
-    // The children in the second round stand behind those in the first.
-    let Some(number) = ops.checked_add(*first) else {
-        return Ok(false);
-    };
-    if !walk.go_down(number, start)? {
-        return Ok(false);
+    match told.round {
+        Round::First => {
+            if cut.0 == 2 {
+                return told.first.outcome.ops.checked_add(cut.1);
+            }
+            if cut.0 != 1 {
+                return None;
+            }
+            if cut.1 < told.first.outcome.ops {
+                Some(cut.1)
+            } else {
+                None
+            }
+        }
+        Round::Second => { if cut.0 == 2 { Some(cut.1) } else { None } }
     }
-    let went = walk.follow(rest, start)?;
-    Ok(went)
 }
 
 /// Goes from the root along the cuts of a campaign, if it is one of those to go through.
@@ -52,15 +54,13 @@ pub(crate) fn follow<F: Flash>(
     ensures calm { OnOk result (IsCalm walk.old.seen walk.new.seen) }
     ensures err { IfErr result (λ e. e ≡ FlashError.Memory) }
 {
-    if !walk.follow(campaign.cuts(Round::First), start)? {
-        return Ok(false);
-    }
-    let told = *walk.told();
-    match told.round {
-        Round::First => {
-            let ops = told.first.outcome.ops;
-            follow_later(walk, ops, campaign.cuts(Round::Second), start)
+    for cut in campaign.cuts() {
+        let Some(number) = child_of(walk.told(), *cut) else {
+            return Ok(false);
+        };
+        if !walk.go_down(number, start)? {
+            return Ok(false);
         }
-        Round::Second => Ok(false),
     }
+    Ok(true)
 }

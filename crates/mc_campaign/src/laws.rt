@@ -1,11 +1,10 @@
 //! The laws of campaigns, as the contracts of functions that do nothing.
-ghost use Rattle.std.specs.Prelude.{◌≡◌, ◌<◌, ◌↔◌, ℕ, Bool, false, List, ◌∷◌, ◌++◌, length, take, All};
+ghost use Rattle.std.specs.Prelude.{◌≡◌, ◌<◌, ◌↔◌, ℕ, Bool, false, List, ◌∷◌, ◌++◌, length, take, All, []};
 ghost use Rattle.mc_tree.specs.Chain.{JoinUp};
 ghost use Rattle.mc_tree.specs.Tree as tree;
 ghost use Rattle.mc_tree.specs.Twice.{first};
 ghost use Rattle.mc_tree.specs.Paths as paths;
 ghost use Rattle.mc_campaign.specs.Page.{Chain, last_campaign, state_past};
-ghost use Rattle.mc_campaign.specs.Places.{Places, no_places};
 ghost use Rattle.mc_campaign.specs.Rest.{IsRest};
 ghost use Rattle.mc_campaign.specs.Resume.{behind};
 ghost use Rattle.mc_campaign.specs.State.{State, Told, moved_to};
@@ -16,13 +15,13 @@ ghost use Rattle.mc_campaign.specs.Boots.{IsPathOf, rounds};
 /// The campaigns that can occur are the paths of the tree of two rounds: each of at most so many cuts is that of a path of at
 /// most so many steps, and each such path is that of such a campaign. The order of campaigns is that of their paths.
 pub fn campaigns_are_paths()
-    ensures paths { (x : PowerOn) (confirms : Bool) (bound : ℕ) (c : Places)
+    ensures paths { (x : PowerOn) (confirms : Bool) (bound : ℕ) (c : List (ℕ × ℕ))
         → IsMember x confirms bound c ↔ ((path : List ℕ) × IsPathOf x confirms bound path c) }
     ensures all { (x : PowerOn) (confirms : Bool) (bound : ℕ) (path : List ℕ)
         → tree.IsMember (rounds x.rules x.geometry confirms) (first x.content) bound path
-        → (c : Places) × IsPathOf x confirms bound path c }
+        → (c : List (ℕ × ℕ)) × IsPathOf x confirms bound path c }
     ensures order { (x : PowerOn) (confirms : Bool) (bound : ℕ) (path other : List ℕ)
-        (c d : Places) → IsPathOf x confirms bound path c → IsPathOf x confirms bound other d
+        (c d : List (ℕ × ℕ)) → IsPathOf x confirms bound path c → IsPathOf x confirms bound other d
         → Precedes c d ↔ paths.Precedes path other }
 {}
 
@@ -48,6 +47,6 @@ pub fn campaign_pages_join_up()
     // After a full page an explorer is where one begins that goes on from its cursor.
     ensures resumed { (state : State) (rows : List Told) (limit : ℕ) → state.failed ≡ false
         → 0 < limit → length (take limit rows) ≡ limit → state_past state limit rows
-        ≡ behind state.start state.confirms state.bound
-        (last_campaign no_places (take limit rows)) }
+        ≡ behind state.start state.choice state.bound
+        (last_campaign [] (take limit rows)) }
 {}

@@ -1,9 +1,10 @@
 //! Pages: several rows at a time, as text.
 ghost use Rattle.std.specs.Prelude.{◌≡◌, ◌+◌, ◌*◌, ◌≤◌, ◌⊎◌, IfErr, OnOk, OnErr, IsErrOf};
-ghost use Rattle.mc_campaign.specs.Explores.{Explores, most_for_row};
+ghost use Rattle.mc_explore.specs.subjects.State.{Explores};
+ghost use Rattle.mc_campaign.specs.Bounds.{most_for_row};
 ghost use Rattle.mc_campaign.specs.Page.{PageIsOut, PageBegan};
 
-use crate::explorer::CampaignExplorer;
+use crate::exploring::CampaignExplorer;
 use mc_explore::{ExploreError, write_rows};
 use mc_flash::Flash;
 use std::io::Write;

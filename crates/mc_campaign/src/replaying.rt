@@ -12,7 +12,6 @@ ghost use Rattle.mc_explore.specs.Once as trees;
 ghost use Rattle.mc_explore.specs.Replay as replays;
 ghost use Rattle.mc_start.specs.Start.{begun};
 ghost use Rattle.mc_explore.specs.View.{begun_with};
-ghost use Rattle.mc_campaign.specs.Places.{pairs_of};
 ghost use Rattle.mc_campaign.specs.Replay.{AreReplayed, Refuses};
 ghost use Rattle.mc_campaign.specs.Restarts.{Restarts};
 
@@ -86,7 +85,7 @@ pub fn replay_campaign<F: Flash>(
     // A flash that counts has room for exactly so many boots.
     ensures exact { IfOk result (λ done. F.counted ≡ true → (F.seen done.2).usage.limits
         ≡ limits_for start.now.rules.grain start.now.geometry
-        (length (pairs_of campaign.now) + 3)) }
+        (length campaign.now + 3)) }
     // The restart theorem, for both rounds of the campaign that was replayed.
     ensures restarts { IfOk result (λ done. Restarts (begun start.now) confirms campaign.now
         (shown done.0) (shown done.1) (F.seen done.2).content) }
@@ -97,7 +96,11 @@ pub fn replay_campaign<F: Flash>(
         layout: *start.layout(),
     };
     let boots = campaign.len() as u8 + 3;
-    let (first, second) = (campaign.cuts(Round::First), campaign.cuts(Round::Second));
+    let (firsts, seconds) = (
+        campaign.places(Round::First),
+        campaign.places(Round::Second),
+    );
+    let (first, second) = (firsts.cuts(), seconds.cuts());
     let (primary, secondary) = (start.primary(), start.secondary());
     let (one, mut middle) = replay_round::<F>(
         alloc, &once, primary, secondary, first, boots, start,

@@ -20,7 +20,7 @@ longer_first state front between rest first later one two r =
     one_is_later (subst (Precedes (1 ∷ [])) two (subst (λ l. Precedes l later.schedule) one before))
 
 moved_behind : (state : State) (l : List ℕ) → state.failed ≡ false → moved_to state l ≡ behind state.start state.bound l
-moved_behind state l calm = ap (λ (b : Bool). record { start = state.start; bound = state.bound; position = After l; failed = b }) calm
+moved_behind state l calm = ap (λ (b : Bool). record { start = state.start; choice = tt; bound = state.bound; position = After l; failed = b }) calm
 
 -- After a full page an explorer is where one begins that goes on from its cursor.
 pub page_resumes : (state : State) (rows : List Told) (limit : ℕ) → state.failed ≡ false → 0 < limit → length (take limit rows) ≡ limit

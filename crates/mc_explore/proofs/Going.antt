@@ -5,8 +5,6 @@ use Rattle.std.proofs.Math.Nat.{mul-le-mul_right}
 use Rattle.std.proofs.lemmas.List.{length-take-le, take_all}
 use Rattle.mc_tree.specs.Tree as tree
 use Rattle.mc_tree.specs.Tree.{Allowed, landed}
-use Rattle.mc_tree.specs.Paths.{After, Lost}
-use Rattle.mc_tree.specs.facts.Order.{allowed_front}
 use Rattle.mc_flash.specs.Content.{Content}
 use Rattle.mc_flash.specs.Geometry.{Geometry, IsLayout}
 use Rattle.mc_flash.specs.Usage.{Limits, most_operations}
@@ -14,7 +12,7 @@ use Rattle.mc_flash.specs.Seen.{Seen}
 use Rattle.mc_flash.specs.Spends.{Allows, LeaveRoom, Spent, room_of}
 use Rattle.mc_flash.specs.declared.op.Op.{Op}
 use Rattle.mc_walk.specs.Kind.{telling}
-use Rattle.mc_walk.specs.Walks.{Walked, Begins, Follows, IsThere, path_cost, origin_of}
+use Rattle.mc_walk.specs.Walks.{Walked, Begins, Follows, IsSame, IsThere, path_cost, origin_of}
 use Rattle.mc_boot.specs.Boot.{Progress, progress}
 use Rattle.mc_boot.specs.Bounds.{left_of}
 use Rattle.mc_boot.specs.facts.Bounds.{ops_few}
@@ -25,21 +23,17 @@ use Rattle.mc_boot.specs.Runs.{after, ops_of}
 use Rattle.mc_explore.specs.Boots.{at_cut, boots}
 use Rattle.mc_explore.specs.Once.{IsTold, most_of, once}
 use Rattle.mc_explore.specs.Replay.{CannotOccurAt, IsReplayed}
-use Rattle.mc_explore.specs.Resume.{behind}
-use Rattle.mc_explore.specs.Rowing.{Rowed, position_in}
-use Rattle.mc_explore.specs.Schedules.{IsMember, CanOccur}
-use Rattle.mc_start.specs.Start.{start_digest}
+use Rattle.mc_explore.specs.Schedules.{CanOccur}
 use Rattle.mc_boot.specs.PowerOn.{PowerOn, again, power_on}
-use Rattle.mc_explore.specs.State.{State}
-use Rattle.mc_walk.specs.Tours.{position_of}
-use Rattle.mc_walk.specs.declared.tour.Phase.TheVariants as phases
-use Rattle.mc_explore.specs.View.{Followed, IsLoaded, IsSound, state_of}
+use Rattle.mc_explore.specs.View.{Followed, IsLoaded}
 use Rattle.mc_explore.specs.Once.{begun_of}
 use Rattle.mc_explore.specs.declared.once.Once.{Once}
 use Rattle.mc_explore.specs.declared.once.Told.{Told}
-use Rattle.mc_explore.proofs.Moving.{same_begun}
 use Rattle.mc_explore.proofs.Onwards.{ComesOn}
-use Rattle.mc_explore.specs.facts.Occurring.{allowed_after, occurs_allowed, member_of, path_of}
+use Rattle.mc_explore.specs.facts.Occurring.{allowed_after, occurs_allowed}
+
+same_begun : (old new : Walked Once) → IsSame old new → begun_of new ≡ begun_of old
+same_begun old new s = cc (s.branches, s.origin)
 
 -- ---- what a path costs
 
@@ -48,7 +42,7 @@ few_ops x valid =
     let few = ops_few x (length (ops_of x)) valid in
     omega (arith, few, ap (λ (ops : List Op). length ops) (take_all (length (ops_of x)) (ops_of x) (omega arith)))
 
-cost_few : (x : PowerOn) (l : List ℕ) → IsLayout x.geometry → Allowed (boots x.rules x.geometry) x.content l
+pub cost_few : (x : PowerOn) (l : List ℕ) → IsLayout x.geometry → Allowed (boots x.rules x.geometry) x.content l
     → path_cost (once x.rules x.geometry) l ≤ length l * (2 * most_operations x.rules.grain x.geometry)
 cost_few x [] valid a = omega arith
 cost_few x (c ∷ cs) valid a =
@@ -115,15 +109,6 @@ module _ (counted : Bool) (start : PowerOn) (bound : ℕ) (path : List ℕ) (zer
       sum : (most n cost many a b c : ℕ) → a ≡ 0 → b ≤ a + most → c ≤ b + cost → cost ≤ many → many ≤ n * (2 * most) → c ≤ 2 * (n + 1) * most
       sum most n cost many a b c z first along few all = let e : 2 * (n + 1) * most ≡ n * (2 * most) + 2 * most = omega arith in omega (arith, z, first, along, few, all, e)
 
-  -- Or the schedule is none of those.
-  pub not_listed : (went : Bool) → went ≡ false → Follows (once one.branches.rules one.branches.layout) path one went two → IsMember start bound path → ⊥
-  not_listed true is f m = absurd cc
-  not_listed false is f m =
-      let here = path_of start bound path m in
-      let n : ℕ = f.steps + 1 in
-      let len : length (take n path) ≤ bound = omega (arith, length-take-le n path (omega (arith, f.inside)), f.inside, here.0) in
-      f.no_child (at_one (take n path) (len, allowed_front (boots start.rules start.geometry) start.content path n here.1))
-
   -- And the cut where it stops is the first that can't occur.
   pub stops : (went : Bool) → went ≡ false → Follows (once one.branches.rules one.branches.layout) path one went two → bound ≡ length path → (place : ℕ) → place ≡ length two.path
       → CannotOccurAt start path place
@@ -146,29 +131,6 @@ module _ (counted : Bool) (start : PowerOn) (bound : ℕ) (path : List ℕ) (zer
           let occurs : CanOccur start (take n path) = ap (λ (o : Option Content). is_some o) e in
           let len : length (take n path) ≤ bound = omega (arith, length-take-le n path (omega (arith, f.inside)), f.inside, whole) in
           absurd (f.no_child (at_one (take n path) (len, occurs_allowed start (take n path) occurs)))
-
--- ---- an explorer behind a schedule
-
-pub resumed : (counted : Bool) (start : PowerOn) (bound : ℕ) (path : List ℕ) (w : Walked Once) → Followed counted start bound path w → bound ≤ 16
-    → IsSound counted start bound (record { walk = w; phase = phases.Going; last = path })
-resumed counted start bound path w f few = λ _. record { start_is = f.start_is; bound_is = f.bound_is; few = few; counted_is = f.counted_is }
-
-pub started : (counted : Bool) (start : PowerOn) (bound : ℕ) (w : Walked Once) → IsLoaded counted start bound w → bound ≤ 16
-    → IsSound counted start bound (record { walk = w; phase = phases.Fresh; last = [] })
-started counted start bound w l few = λ _. record { start_is = l.start_is; bound_is = l.bound_is; few = few; counted_is = l.counted_is }
-
-pub behind_it : (counted : Bool) (start : PowerOn) (bound : ℕ) (path : List ℕ) (w : Walked Once) → Followed counted start bound path w → state_of w (After path) ≡ behind start bound path
-behind_it counted start bound path w f = cc (f.start_is, f.bound_is, f.calm)
-
--- The start of an explorer behind a schedule is the one that it tells.
-pub same_digest : (counted : Bool) (start : PowerOn) (bound : ℕ) (rows : Rowed) (told : PowerOn) (many : ℕ) (path d : List ℕ) → IsSound counted start bound rows
-    → state_of rows.walk (position_in rows) ≡ behind told many path → d ≡ start_digest told → d ≡ start_digest start
-same_digest counted start bound rows told many path d sound is at =
-    let ours = sound (λ broken. let q : Lost ≡ After path = ap (λ p. position_of p rows.last) (sym broken) ∙ ap (λ (s : State). s.position) is in absurd cc) in
-    at ∙ ap start_digest (sym (ap (λ (s : State). s.start) is) ∙ ours.start_is)
-
-pub listed : (counted : Bool) (start : PowerOn) (bound : ℕ) (path : List ℕ) (w : Walked Once) → Followed counted start bound path w → IsMember start bound path
-listed counted start bound path w f = member_of start bound path f.allowed
 
 -- ---- a replay
 

@@ -1,5 +1,5 @@
 -- The outcomes at the cuts of one boot, and the rows of the boots that go on with it.
-use Rattle.std.specs.Prelude.{◌≡◌, ℕ, ◌<◌, ◌≤◌, ◌^◌, refl, Bool, true, false, if◌then◌else◌, List, [], ◌∷◌, ◌++◌, length, Some}
+use Rattle.std.specs.Prelude.{◌≡◌, ℕ, ◌<◌, ◌≤◌, ◌^◌, refl, List, [], ◌∷◌, ◌++◌, length, slice_get, Some}
 use Rattle.std.proofs.Common.{arith, sym, ap, subst, ◌∙◌}
 use Rattle.std.proofs.lemmas.Option.{slice_get_within}
 use Rattle.mc_boot.specs.Outcome.{outcome_of, shown}
@@ -15,7 +15,7 @@ use Rattle.mc_boot.specs.After.{IsCut}
 use Rattle.mc_boot.specs.Boot.{begun, progress}
 use Rattle.mc_boot.specs.Outcome.{Report}
 use Rattle.mc_boot.specs.Plan.{plan}
-use Rattle.mc_boot.specs.Rejoin.{IsRejoined}
+use Rattle.mc_boot.specs.Rejoin.{IsRejoined, place_of}
 use Rattle.mc_boot.specs.Runs.{ops_of}
 use Rattle.mc_boot.specs.declared.boot.Boot.{Boot}
 use Rattle.mc_boot.specs.declared.rejoining.Rejoin.{Rejoin}
@@ -28,6 +28,7 @@ use Rattle.mc_explore.proofs.Columns.{joined_here}
 use Rattle.mc_explore.specs.LastCuts.{AreAtCuts, AreLastCuts, flash_at}
 use Rattle.mc_explore.specs.facts.Occurring.{at_zero}
 use Rattle.mc_explore.proofs.Tables.{each_more}
+use Rattle.mc_explore.proofs.Weighing.{placed_at}
 use Rattle.mc_boot.specs.PowerOn.{PowerOn, again, power_on, powered}
 
 module _ (from : PowerOn) where
@@ -87,7 +88,7 @@ module _ (w : Walked Once) (f : Frame Boot Told) (told : Told) (of path : List �
       → ((y : Rules) (v : Content) (whole : Report) → IsCut (power_on y w.seen.geometry v) w.seen.content f.at whole → progress told.boot ≡ begun y (plan (powered y w.seen))
       → IsRejoined (power_on y w.seen.geometry v) w.seen.content x)
       → length outcomes ≡ f.parent.outcome.ops → 1 ≤ told.outcome.ops → told.outcome.ops ≤ 2 ^ 31
-      → AreLastCuts (power_on r g (origin_of w.seen)) of path outcomes (record { rejoin = x; count = told.outcome.ops; next = 0 })
+      → AreLastCuts (power_on r g (origin_of w.seen)) of path outcomes x told.outcome.ops
   last_cuts_there outcomes x joins whole some small =
       let at = subst (λ s. IsAt (once r g) s f.number f.at w.seen) before_is step.at_is in
       let early = subst (λ s. f.number < length (ops_of (power_on r g s))) before_is step.some in
@@ -103,5 +104,20 @@ module _ (w : Walked Once) (f : Frame Boot Told) (told : Told) (of path : List �
         whole = whole ∙ width_is r g f.parent before parent;
         some = some;
         small = small;
-        within = omega arith;
       }
+
+-- The outcome behind the last of them that is next.
+module _ (x : PowerOn) (of path : List ℕ) (outcomes : List Outcome) (rejoin : Rejoin) (count next : ℕ) (are : AreLastCuts x of path outcomes rejoin count) (lt : next < count) where
+  early : next < length (ops_of (again x (flash_at x path)))
+  early = omega (arith, lt, are.count_is)
+
+  pub within_there : place_of rejoin next < length outcomes
+  within_there = omega (arith, are.rejoined.within next early, are.whole)
+
+  pub outcome_there : (o : Outcome) → AreAtCuts x of outcomes → slice_get outcomes (place_of rejoin next) ≡ Some o
+      → outcome_of (again x (flash_at x (path ++ next ∷ []))) ≡ Some (shown o)
+  outcome_there o at told =
+      let r = x.rules in
+      let g = x.geometry in
+      let flash = landed-push (boots r g) x.content path next ∙ placed_at r g (flash_at x of) (flash_at x path) rejoin are.rejoined next early in
+      ap (λ s. outcome_of (again x s)) flash ∙ at (place_of rejoin next) o told

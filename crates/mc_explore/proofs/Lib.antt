@@ -2,7 +2,6 @@ mod Bytes
 mod TornPages
 mod Onwards
 mod Loaded
-mod Moving
 mod Going
 mod Restarts
 mod PageRows
@@ -17,3 +16,6 @@ mod Continued
 pub mod LastRows
 pub mod Rowing
 mod Verdicts
+mod Visiting
+mod Along
+mod Beginning

@@ -1,8 +1,6 @@
 -- What a call that goes through rows leaves of an explorer, whatever it answers.
 use Rattle.std.specs.Prelude.{◌≡◌, Bool, Result, OnErr, IsErrOf}
 use Rattle.mc_flash.specs.Usage.{Usage}
-use Rattle.mc_tree.specs.Paths.{Lost}
-use Rattle.mc_explore.specs.State.{Explored}
 use Rattle.mc_explore.specs.Want.{RanOut}
 use Rattle.mc_explore.specs.declared.error.ExploreError.{ExploreError}
 use Rattle.mc_explore.specs.declared.error.ExploreError.TheVariants as errors
@@ -22,13 +20,3 @@ module _ {E : Type 0} (usage_of : E → Usage) (IsLost : E → Type 0) where
   pub record ExploresOn {A : Type 0} (counted : Bool) (old : E) (result : Result A ExploreError) (new : E) : Type 0 where
     pub goes : GoesOn counted old result new
     pub lost : OnErr result (IsLost new)
-
--- So it is of an explorer of schedules.
-abbrev pub HasFailed : Explored → Type 0
-HasFailed explorer = explorer.state.position ≡ Lost
-
-abbrev pub Goes : {A : Type 0} → Bool → Explored → Result A ExploreError → Explored → Type 0
-Goes = GoesOn (λ explorer. explorer.usage) HasFailed
-
-abbrev pub Explores : {A : Type 0} → Bool → Explored → Result A ExploreError → Explored → Type 0
-Explores = ExploresOn (λ explorer. explorer.usage) HasFailed

@@ -1,5 +1,5 @@
 -- The schedules of the most cuts: the outcomes behind their last cuts are found among those at the cuts of another boot.
-use Rattle.std.specs.Prelude.{◌≡◌, ℕ, zero, suc, ◌≤◌, ◌^◌, List, [], ◌∷◌, ◌++◌, length, slice_get, Option, Some, None}
+use Rattle.std.specs.Prelude.{◌≡◌, ℕ, ◌≤◌, ◌^◌, List, [], ◌∷◌, ◌++◌, length, slice_get, Some}
 use Rattle.mc_boot.specs.Outcome.{outcome_of, shown}
 use Rattle.mc_boot.specs.Rejoin.{IsRejoined}
 use Rattle.mc_boot.specs.Runs.{ops_of}
@@ -7,21 +7,8 @@ use Rattle.mc_boot.specs.declared.outcome.Outcome.{Outcome}
 use Rattle.mc_flash.specs.Content.{Content}
 use Rattle.mc_tree.specs.Tree.{landed}
 use Rattle.mc_explore.specs.Boots.{at_cut, boots}
-use Rattle.mc_explore.specs.declared.last_cuts.LastCuts.{LastCuts}
+use Rattle.mc_boot.specs.declared.rejoining.Rejoin.{Rejoin}
 use Rattle.mc_boot.specs.PowerOn.{PowerOn, again}
-
--- The schedule of the last row, where so many of the last cuts behind a path were taken.
-abbrev pub with_last : List ℕ → ℕ → List ℕ
-with_last path zero = path
-with_last path (suc n) = path ++ n ∷ []
-
-abbrev pub last_of : List ℕ → Option LastCuts → List ℕ
-last_of path None = path
-last_of path (Some x) = with_last path x.next
-
--- No last cut is to come.
-abbrev pub IsSpent : LastCuts → Type 0
-IsSpent x = x.count ≤ x.next
 
 module _ (from : PowerOn) where
   -- The flash behind a schedule.
@@ -33,14 +20,13 @@ module _ (from : PowerOn) where
   AreAtCuts of outcomes =
       (i : ℕ) (o : Outcome) → slice_get outcomes i ≡ Some o → outcome_of (again from (at_cut (again from (flash_at of)) i)) ≡ Some (shown o)
 
-  -- The last cuts behind a path, of a boot that goes on with the one behind the path without its last cut; all outcomes of that
-  -- one are there.
-  pub record AreLastCuts (of path : List ℕ) (outcomes : List Outcome) (x : LastCuts) : Type 0 where
+  -- The last cuts behind a path, so many, of a boot that goes on with the one behind the path without its last cut; all outcomes of
+  -- that one are there.
+  pub record AreLastCuts (of path : List ℕ) (outcomes : List Outcome) (rejoin : Rejoin) (count : ℕ) : Type 0 where
     pub number : ℕ
     pub path_is : path ≡ of ++ number ∷ []
-    pub rejoined : IsRejoined (again from (flash_at of)) (flash_at path) x.rejoin
-    pub count_is : x.count ≡ length (ops_of (again from (flash_at path)))
+    pub rejoined : IsRejoined (again from (flash_at of)) (flash_at path) rejoin
+    pub count_is : count ≡ length (ops_of (again from (flash_at path)))
     pub whole : length outcomes ≡ length (ops_of (again from (flash_at of)))
-    pub some : 1 ≤ x.count
-    pub small : x.count ≤ 2 ^ 31
-    pub within : x.next ≤ x.count
+    pub some : 1 ≤ count
+    pub small : count ≤ 2 ^ 31

@@ -8,7 +8,6 @@ pub mod Rest
 pub mod RowText
 pub mod Once
 pub mod LastCuts
-pub mod Rowing
 pub mod View
 pub mod Want
 pub mod Explores
@@ -24,4 +23,6 @@ pub mod Table
 pub mod Resume
 pub mod Restarts
 pub mod Chain
+pub mod Subject
+pub mod subjects
 pub mod facts

@@ -1,7 +1,6 @@
--- What an explorer's fields stand for, and what holds of them.
-use Rattle.std.specs.Prelude.{◌≡◌, ◌≢◌, ℕ, ◌+◌, ◌*◌, ◌≤◌, Bool, true, false, List, length, Option, IfSome}
+-- Walks from a start.
+use Rattle.std.specs.Prelude.{◌≡◌, ℕ, ◌+◌, ◌*◌, ◌≤◌, Bool, true, false, List, Option, IfSome}
 use Rattle.mc_tree.specs.Tree as tree
-use Rattle.mc_tree.specs.Paths.{Position}
 use Rattle.mc_flash.specs.Geometry.{IsLayout}
 use Rattle.mc_flash.specs.Usage.{most_operations}
 use Rattle.mc_walk.specs.Walks.{Walked, IsFresh}
@@ -9,37 +8,11 @@ use Rattle.mc_explore.specs.Boots.{boots}
 use Rattle.mc_explore.specs.Once.{begins, begun_of, once}
 use Rattle.mc_start.specs.Start.{start_digest}
 use Rattle.mc_boot.specs.PowerOn.{PowerOn}
-use Rattle.mc_explore.specs.State.{State, Explored}
 use Rattle.mc_explore.specs.declared.once.Once.{Once}
-use Rattle.mc_walk.specs.declared.tour.Phase.TheVariants.{Broken}
-use Rattle.mc_explore.specs.Rowing.{Rowed}
 
 -- The start of a walk from a flash of these bytes.
 abbrev pub begun_with : Once → List ℕ → List ℕ → PowerOn
 begun_with once primary secondary = begins once (record { primary = primary; secondary = secondary })
-
--- The state of an explorer on that walk, whose last row is that of a schedule.
-abbrev pub state_of : Walked Once → Position (List ℕ) → State
-state_of w position = record { start = begun_of w; bound = w.bound; position = position; failed = w.seen.usage.failed }
-
-abbrev pub explored : Walked Once → Position (List ℕ) → Explored
-explored w position = record {
-  state = state_of w position;
-  content = w.seen.content;
-  usage = w.seen.usage;
-  marked = length w.seen.checkpoints;
-}
-
--- The walk is one from that start with so many cuts, and the flash counts where its kind does.
-pub record IsOurs (counted : Bool) (start : PowerOn) (bound : ℕ) (w : Walked Once) : Type 0 where
-  pub start_is : begun_of w ≡ start
-  pub bound_is : w.bound ≡ bound
-  pub few : bound ≤ 16
-  pub counted_is : w.seen.usage.limits.counted ≡ counted
-
--- What holds of an explorer's rows until they fail.
-abbrev pub IsSound : Bool → PowerOn → ℕ → Rowed → Type 0
-IsSound counted start bound rows = rows.phase ≢ Broken → IsOurs counted start bound rows.walk
 
 -- It is the digest of that start, where there is one.
 abbrev pub IsDigestOf : PowerOn → Option (List ℕ) → Type 0

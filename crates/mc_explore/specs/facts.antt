@@ -3,5 +3,6 @@ pub mod Occurring
 pub mod Telling
 pub mod Restarts
 pub mod Listed
+pub mod Keys
 pub mod Listings
 pub mod Whole

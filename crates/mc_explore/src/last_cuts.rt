@@ -3,9 +3,10 @@ ghost use Rattle.std.specs.Prelude.{◌≡◌, ℕ, List, ◌+◌, ◌∷◌, �
 ghost use Rattle.mc_boot.specs.Outcome.{outcome_of, shown};
 ghost use Rattle.mc_boot.specs.PowerOn.{PowerOn, again};
 ghost use Rattle.mc_boot.specs.Rejoin.{place_of};
-ghost use Rattle.mc_explore.specs.LastCuts.{flash_at, AreAtCuts, AreLastCuts, IsSpent};
+ghost use Rattle.mc_explore.specs.LastCuts.{flash_at, AreAtCuts, AreLastCuts};
 ghost use Rattle.mc_explore.specs.Once.{begun_of};
 
+use crate::ahead::RowsAhead;
 use crate::once::Once;
 use mc_boot::{Outcome, Rejoin};
 use mc_flash::Flash;
@@ -19,31 +20,10 @@ const MOST_COUNT: u32 = 0x8000_0000;
 /// The outcomes of the boots after the first cuts of one boot. It keeps no more of them than it took room for, and so takes memory
 /// only when it is made.
 #[derive(Drop)]
-pub(crate) struct AtCuts {
+pub struct AtCuts {
     /// The schedule behind which that boot begins.
     pub of: Schedule,
     pub outcomes: Vec<Outcome>,
-}
-
-/// The last cuts that are still to come, in a boot that goes on with the one that was cut.
-#[derive(Clone, Copy)]
-pub(crate) struct LastCuts {
-    pub rejoin: Rejoin,
-    /// How many operations the boot makes, before each of which it can be cut.
-    pub count: u32,
-    /// The next cut.
-    pub next: u32,
-}
-
-/// The last cuts where one is still to come.
-pub(crate) fn still_to_come(cuts: Option<LastCuts>) -> Option<LastCuts>
-    ensures { MatchOption result (IfSome cuts IsSpent) (λ left. (cuts ≡ Some left) × (left.next
-        < left.count)) }
-{
-    match cuts {
-        Some(left) if left.next < left.count => Some(left),
-        _ => None,
-    }
 }
 
 impl AtCuts {
@@ -76,12 +56,12 @@ impl AtCuts {
 
     /// The last cuts behind the path of a walk, where its boot goes on with the one that was cut, and all outcomes at the cuts of
     /// that one are there.
-    pub fn behind<F: Flash>(&self, walk: &Walk<F, Once>, path: &[u32]) -> Option<LastCuts>
+    pub fn behind<F: Flash>(&self, walk: &Walk<F, Once>, path: &[u32]) -> Option<RowsAhead<Rejoin>>
         requires stands { walk.now.stands ≡ true }
         requires path { path.now ≡ walk.now.path }
-        ensures cuts { IfSome result (AreLastCuts (begun_of walk.now) self.now.of path.now
-            self.now.outcomes.items) }
-        ensures fresh { IfSome result (λ cuts. cuts.next ≡ 0) }
+        ensures cuts { IfSome result (λ rows. AreLastCuts (begun_of walk.now) self.now.of path.now
+            self.now.outcomes.items rows.ahead rows.count) }
+        ensures fresh { IfSome result (λ rows. rows.next ≡ 0) }
     {
         let step = walk.last_step()?;
         let (_, of) = path.split_last()?;
@@ -96,8 +76,8 @@ impl AtCuts {
             return None;
         }
         let rejoin = Rejoin::find(walk.flash(), &step.at, &told.boot)?;
-        Some(LastCuts {
-            rejoin,
+        Some(RowsAhead {
+            ahead: rejoin,
             count,
             next: 0,
         })

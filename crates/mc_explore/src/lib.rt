@@ -1,6 +1,7 @@
 //! The explorer of all schedules of power cuts that can occur from a start, its rows, pages, surveys and censuses.
 #![tactic(auto)]
 
+mod ahead;
 mod census;
 mod census_text;
 mod error;
@@ -16,16 +17,22 @@ mod replaying;
 mod row;
 mod row_text;
 mod rows;
+mod schedules;
 mod source;
+mod subject;
 mod surveying;
 mod table;
 mod taking;
 mod torn;
+mod tree_explorer;
+mod tree_loading;
 
+pub use ahead::RowsAhead;
 pub use census::Census;
 pub use error::ExploreError;
 pub use explorer::Explorer;
 pub use labels::Labels;
+pub use last_cuts::AtCuts;
 pub use laws::{one_list_of_rows, pages_join_up};
 pub use loading::load_for;
 pub use mc_boot::Kind;
@@ -40,6 +47,8 @@ pub use replaying::{ReplayError, flash_at_cut, replay, replay_on};
 pub use row::Row;
 pub use row_text::{put_outcome, put_slots};
 pub use source::RowSource;
+pub use subject::{Fields, Subject};
 pub use surveying::{Tally, survey, survey_until};
 pub use taking::take_census;
 pub use torn::last_row;
+pub use tree_explorer::TreeExplorer;

@@ -1,16 +1,14 @@
-//! The walk from a start, and whether a cursor is one of that start.
+//! The walk from a start.
 ghost use Rattle.std.specs.Prelude.{◌≡◌, ◌+◌, ◌≤◌, true, length, IfOk, IfErr, OnOk};
 ghost use Rattle.mc_flash.specs.Content.{size_of};
 ghost use Rattle.mc_flash.specs.declared.op.Slot.TheVariants.{Primary, Secondary};
 ghost use Rattle.mc_flash.specs.Usage.{limits_for};
-ghost use Rattle.mc_explore.specs.Resume.{Names, Refuses};
 ghost use Rattle.mc_start.specs.Start.{begun};
 ghost use Rattle.mc_explore.specs.View.{IsLoaded, begun_with};
 
-use crate::error::ExploreError;
 use crate::once::Once;
 use mc_flash::{Flash, FlashError};
-use mc_start::{Cursor, Start};
+use mc_start::Start;
 use mc_walk::Walk;
 use std::alloc::Global;
 
@@ -61,25 +59,4 @@ pub fn load<F: Flash>(alloc: Global, start: &Start, bound: u8) -> Result<Walk<F,
     let (primary, secondary) = (start.primary(), start.secondary());
     let walk = load_for(alloc, once, primary, secondary, bound, bound + 1)?;
     Ok(walk)
-}
-
-/// Whether a cursor is one of this start and this bound.
-///
-/// # Errors
-///
-/// `OtherStart`, `OtherRules`, `OtherBound`: the first that holds.
-pub fn ask(start: &Start, bound: u8, cursor: &Cursor) -> Result<(), ExploreError>
-    ensures names { OnOk result (Names (begun start.now) bound cursor.now) }
-    ensures refused { IfErr result (λ e. Refuses (begun start.now) bound cursor.now e) }
-{
-    if cursor.digest != start.digest() {
-        return Err(ExploreError::OtherStart);
-    }
-    if cursor.rules != start.rules() {
-        return Err(ExploreError::OtherRules);
-    }
-    if cursor.bound != bound {
-        return Err(ExploreError::OtherBound);
-    }
-    Ok(())
 }

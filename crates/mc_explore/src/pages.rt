@@ -5,7 +5,8 @@ ghost use Rattle.mc_explore.specs.Bounds.{most_for_row};
 ghost use Rattle.mc_explore.specs.Page.{PageIsOut, PageBegan};
 ghost use Rattle.mc_explore.specs.Pages as pages;
 ghost use Rattle.mc_explore.specs.Until.{ShownIsOut, ShownBegan};
-ghost use Rattle.mc_explore.specs.Explores.{Explores, ExploresOn, GoesOn};
+ghost use Rattle.mc_explore.specs.Explores.{ExploresOn, GoesOn};
+ghost use Rattle.mc_explore.specs.subjects.State.{Explores};
 
 use crate::error::ExploreError;
 use crate::explorer::Explorer;
@@ -113,7 +114,7 @@ pub fn write_page_until<F: Flash + Drop, W: Write>(
     ensures err { IfErr result (λ e. (e ≡ ExploreError.Memory) ⊎ (e ≡ ExploreError.Failed)
         ⊎ (e ≡ ExploreError.Write)) }
 {
-    write_rows(explorer, &until, limit, writer)
+    write_rows(&mut explorer.inner, &until, limit, writer)
 }
 
 /// Writes the next rows, at most so many, a line each; then where to go on, or `end` where there were fewer. It takes no

@@ -1,59 +1,55 @@
 //! The rows of an exploration, one after another.
-ghost use Rattle.std.specs.Prelude.{◌≡◌, ℕ, List, ◌+◌, ◌≤◌, [], true, length, IfOk, IfSome};
-ghost use Rattle.mc_walk.specs.Walks.{IsFresh};
-ghost use Rattle.mc_explore.specs.Once.{begun_of};
-ghost use Rattle.mc_explore.specs.LastCuts.{AreAtCuts, AreLastCuts};
-ghost use Rattle.mc_explore.specs.Once.{once};
-ghost use Rattle.mc_explore.specs.Rowing.{CostsRow, FindsRow, StandsFor, kind_of};
+ghost use Rattle.std.specs.Prelude.{◌≡◌, ℕ, List, ◌≤◌, [], true, option_map, IfOk};
 ghost use Rattle.mc_tree.specs.Paths.{Position};
 ghost use Rattle.mc_walk.specs.Tours.{Costs, Visits};
+ghost use Rattle.mc_walk.specs.Walks.{IsFresh, origin_of};
+ghost use Rattle.mc_explore.specs.subjects.Rowing.{CostsRow, FindsRow, StandsFor};
 
-use crate::last_cuts::{AtCuts, LastCuts, still_to_come};
-use crate::once::Once;
-use crate::row::Row;
+use crate::ahead::{RowsAhead, still_to_come};
+use crate::subject::Subject;
 use mc_flash::Flash;
 use mc_start::{Schedule, Start};
 use mc_walk::{Phase, Tour, TourError, Walk};
 use std::marker::Model;
 
-/// Goes through the schedules over one flash. The last cuts in a boot that goes on with the one that was cut are told without the
-/// flash, by what was told at the cuts of that one.
+/// Goes through the rows of a subject over one flash. Those behind a node that can be told without the flash are told so.
 #[derive(Drop)]
-pub(crate) struct Rows<F: Flash> {
-    tour: Tour<F, Once>,
+pub struct Rows<F: Flash, X: Subject> {
+    tour: Tour<F, X>,
     // The path at which the tour stands.
     path: Schedule,
-    at_cuts: AtCuts,
-    // Those behind that path, where they are told so.
-    last_cuts: Option<LastCuts>,
+    kept: X::Kept,
+    // The rows behind that path, where they are told without the flash.
+    ahead: Option<RowsAhead<X::Ahead>>,
 }
 
-impl<F: Flash> Model for Rows<F> {
-    ghost use Rattle.mc_explore.specs.LastCuts.{last_of};
-    ghost use Rattle.mc_explore.specs.Rowing.{Rowed, IsRowing};
+impl<F: Flash, X: Subject> Model for Rows<F, X> {
+    ghost use Rattle.mc_explore.specs.subjects.Ahead.{last_of};
+    ghost use Rattle.mc_explore.specs.subjects.Rowing.{IsRowing};
+    ghost use Rattle.mc_explore.specs.subjects.View.{Rowed};
 
-    ghost Value = { Rowed };
+    ghost Value = { Rowed X };
 
     ghost view = { λ rows. record {
       walk = rows.tour.walk;
       phase = rows.tour.phase;
-      last = last_of rows.path rows.last_cuts;
+      last = last_of rows.path rows.ahead;
     } };
 
-    ghost invariant = { λ rows. IsRowing rows.tour rows.at_cuts.of rows.at_cuts.outcomes.items
-        rows.path rows.last_cuts };
+    ghost invariant = { λ rows. IsRowing X.kind X.holds X.is_ahead rows.tour rows.kept rows.path
+        rows.ahead };
 }
 
 // Goes on to the next node: from where a tour stands, or behind all children of that node.
-fn go_on<F: Flash>(
-    tour: &mut Tour<F, Once>,
+fn go_on<F: Flash, X: Subject>(
+    tour: &mut Tour<F, X>,
     is_behind: bool,
     start: &Start,
 ) -> Result<bool, TourError>
     ensures visits { IfOk result (λ went. (position : Position (List ℕ))
-        → StandsFor is_behind tour.old position
-        → Visits (kind_of tour.old.walk.branches) tour.old position went tour.new) }
-    ensures costs { Costs (kind_of tour.old.walk.branches) tour.old result tour.new }
+        → StandsFor X.kind is_behind tour.old position
+        → Visits (X.kind tour.old.walk.branches) tour.old position went tour.new) }
+    ensures costs { Costs (X.kind tour.old.walk.branches) tour.old result tour.new }
 {
     if is_behind {
         tour.leave(start)
@@ -62,58 +58,36 @@ fn go_on<F: Flash>(
     }
 }
 
-// Keeps what is told where a walk came to, and says which last cuts are told without the flash.
-fn arrive<F: Flash>(walk: &Walk<F, Once>, path: &[u32], at_cuts: &mut AtCuts) -> Option<LastCuts>
-    requires stands { walk.now.stands ≡ true }
-    requires path { (path.now ≡ walk.now.path) × (length path.now ≤ 16) }
-    ensures kept { let x = begun_of walk.now in AreAtCuts x at_cuts.old.of
-        at_cuts.old.outcomes.items → AreAtCuts x at_cuts.new.of at_cuts.new.outcomes.items }
-    ensures cuts { IfSome result (AreLastCuts (begun_of walk.now) at_cuts.new.of path.now
-        at_cuts.new.outcomes.items) }
-    ensures deep { IfSome result (λ _. length path.now + 1 ≡ walk.now.bound) }
-    ensures fresh { IfSome result (λ cuts. cuts.next ≡ 0) }
-{
-    if path.len() == walk.bound() {
-        at_cuts.keep(path, walk.told().outcome);
-        return None;
-    }
-    if path.len() + 1 == walk.bound() {
-        at_cuts.behind(walk, path)
-    } else {
-        None
-    }
-}
-
-impl<F: Flash + Drop> Rows<F> {
+impl<F: Flash + Drop, X: Subject> Rows<F, X> {
     /// From the root.
-    pub fn fresh(walk: Walk<F, Once>, at_cuts: AtCuts) -> Rows<F>
-        requires fresh { IsFresh (once walk.branches.rules walk.branches.layout) walk }
+    pub fn fresh(walk: Walk<F, X>, kept: X::Kept) -> Rows<F, X>
+        requires fresh { IsFresh (X.kind walk.branches) walk }
         requires few { walk.bound ≤ 16 }
-        requires none { at_cuts.outcomes.items ≡ [] }
+        requires kept { X.holds walk.branches (origin_of walk.seen) kept }
         ensures { result ≡ record { walk = walk; phase = Phase.Fresh; last = [] } }
     {
         let tour = Tour::fresh(walk);
         Rows {
             tour,
             path: Schedule::new(),
-            at_cuts,
-            last_cuts: None,
+            kept,
+            ahead: None,
         }
     }
 
-    /// Behind the schedule along which a walk came.
-    pub fn behind(walk: Walk<F, Once>, path: Schedule, at_cuts: AtCuts) -> Rows<F>
+    /// Behind the path along which a walk came.
+    pub fn behind(walk: Walk<F, X>, kept: X::Kept) -> Rows<F, X>
         requires stands { walk.stands ≡ true }
-        requires path { path ≡ walk.path }
         requires few { walk.bound ≤ 16 }
-        requires none { at_cuts.outcomes.items ≡ [] }
-        ensures { result ≡ record { walk = walk; phase = Phase.Going; last = path } }
+        requires kept { X.holds walk.branches (origin_of walk.seen) kept }
+        ensures { result ≡ record { walk = walk; phase = Phase.Going; last = walk.path } }
     {
+        let path = Schedule::of(walk.path().as_slice());
         Rows {
             tour: Tour::behind(walk),
             path,
-            at_cuts,
-            last_cuts: None,
+            kept,
+            ahead: None,
         }
     }
 
@@ -122,45 +96,28 @@ impl<F: Flash + Drop> Rows<F> {
     /// # Errors
     ///
     /// `Memory` where the flash was refused memory; from then on always `Failed`.
-    pub fn next(&mut self, start: &Start) -> Result<Option<Row>, TourError>
-        ensures finds { IfOk result (λ found. FindsRow self.old found self.new) }
-        ensures costs { CostsRow self.old result self.new }
+    pub fn next(&mut self, start: &Start) -> Result<Option<X::Row>, TourError>
+        ensures finds { IfOk result (λ found. FindsRow X.subject X.kind X.begins X.choice X.key_of
+            self.old (option_map X.shown found) self.new) }
+        ensures costs { CostsRow X.kind self.old result self.new }
     {
-        if let Some(cuts) = still_to_come(self.last_cuts) {
-            let outcome = self.at_cuts.outcome(&cuts.rejoin, cuts.next);
-            let mut schedule = self.path;
-            schedule.push(cuts.next);
-            self.last_cuts = Some(LastCuts {
-                next: cuts.next + 1,
-                ..cuts
+        if let Some(rows) = still_to_come(self.ahead) {
+            let row = X::row_ahead(&self.kept, &self.path, &rows);
+            self.ahead = Some(RowsAhead {
+                next: rows.next + 1,
+                ..rows
             });
-            return Ok(Some(Row { schedule, outcome }));
+            return Ok(Some(row));
         }
-        if !go_on(&mut self.tour, self.last_cuts.is_some(), start)? {
+        if !go_on(&mut self.tour, self.ahead.is_some(), start)? {
             return Ok(None);
         }
         let walk = self.tour.walk();
         let path = Schedule::of(walk.path().as_slice());
-        let outcome = walk.told().outcome;
-        self.last_cuts = arrive(walk, path.cuts(), &mut self.at_cuts);
+        let row = X::row(walk, &path);
+        self.ahead = X::arrive(&mut self.kept, walk, &path);
         self.path = path;
-        Ok(Some(Row {
-            schedule: path,
-            outcome,
-        }))
-    }
-
-    /// The schedule of the last row.
-    pub fn last(&self) -> Schedule
-        ensures { result ≡ self.now.last }
-    {
-        let mut last = self.path;
-        if let Some(cuts) = self.last_cuts {
-            if cuts.next > 0 {
-                last.push(cuts.next - 1);
-            }
-        }
-        last
+        Ok(Some(row))
     }
 
     /// The flash as it is.
@@ -178,7 +135,7 @@ impl<F: Flash + Drop> Rows<F> {
           last = self.new.last;
         } }
     {
-        self.last_cuts = None;
+        self.ahead = None;
         self.tour.give_up();
     }
 }

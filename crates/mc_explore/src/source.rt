@@ -30,8 +30,6 @@ pub trait RowSource {
 
     ghost listing: { Listing State Key Shown Cursor };
 
-    ghost laws: { IsLawful listing };
-
     ghost state: { Self → State };
 
     ghost usage: { Self → Usage };
@@ -43,9 +41,6 @@ pub trait RowSource {
     ghost until_of: { Self.Until → Option Key };
 
     ghost most_for_row: { State → ℕ };
-
-    ghost cost_stays: { (s : State) (k : Key) → most_for_row (listing.moved_to s k)
-        ≡ most_for_row s };
 
     /// The next row, where it comes before that one, if one is told; none where it does not, or where there is no further
     /// row.
@@ -98,4 +93,9 @@ pub trait RowSource {
         ensures lost { listing.position (state self.new) ≡ Lost }
         ensures usage { usage self.new ≡ usage self.old }
         ensures still { listing.position (state self.old) ≡ Lost → self.new ≡ self.old };
+
+    ghost laws: { IsLawful listing };
+
+    ghost cost_stays: { (s : State) (k : Key) → most_for_row (listing.moved_to s k)
+        ≡ most_for_row s };
 }

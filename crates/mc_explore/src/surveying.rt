@@ -4,12 +4,11 @@ ghost use Rattle.mc_explore.specs.Bounds.{most_for_row};
 ghost use Rattle.mc_explore.specs.State.{Told, told};
 ghost use Rattle.mc_explore.specs.Page.{Page};
 ghost use Rattle.mc_explore.specs.Survey.{AllBoot, Surveys, SurveysUntil, tally_of, tally_so_far, tally_text};
-ghost use Rattle.mc_explore.specs.Explores.{Explores};
+ghost use Rattle.mc_explore.specs.subjects.State.{Explores};
 
 use crate::error::ExploreError;
 use crate::explorer::Explorer;
 use crate::row::Row;
-use crate::source::RowSource;
 use mc_boot::BootResult;
 use mc_flash::Flash;
 use mc_start::{Cursor, Schedule};

@@ -10,7 +10,8 @@ use Rattle.mc_tree.specs.facts.Existence.{AreRows, all_from, all_rest}
 use Rattle.mc_tree.specs.facts.Precedence.{paths_in_order}
 use Rattle.mc_explore.specs.Boots.{boots}
 use Rattle.mc_explore.specs.Listing.{IsLawful}
-use Rattle.mc_explore.specs.Rest.{IsRow, IsRest, schedules}
+use Rattle.mc_explore.specs.Rest.{IsRow, IsRest, schedules, subject}
+use Rattle.mc_explore.specs.subjects.Rows.{are_lawful}
 use Rattle.mc_boot.specs.PowerOn.{PowerOn, again}
 use Rattle.mc_explore.specs.State.{State, Told, HasOutcome, at_start, outcome_after}
 use Rattle.mc_explore.specs.facts.Occurring.{allowed_after, member_of, path_of}
@@ -60,19 +61,10 @@ pub all_rows : (start : PowerOn) (bound : ℕ) → IsRest (at_start start bound)
 all_rows start bound =
     all_rest Precedes paths_in_order (λ row. row.schedule) (IsRow start bound) (boots start.rules start.geometry) start.content bound (row_at start) (are_rows start bound)
 
-module _ (state : State) where
-  some_rest : (rows : List Told) × IsRest state rows
-  some_rest =
-      existence.some_rest Precedes paths_in_order (λ row. row.schedule) (IsRow state.start state.bound) (boots state.start.rules state.start.geometry) state.start.content state.bound
-      (row_at state.start) (are_rows state.start state.bound) state.position
+pub some_rest : (state : State) → (rows : List Told) × IsRest state rows
+some_rest state =
+    existence.some_rest Precedes paths_in_order (λ row. row.schedule) (IsRow state.start state.bound) (boots state.start.rules state.start.geometry) state.start.content state.bound
+    (row_at state.start) (are_rows state.start state.bound) state.position
 
 pub schedules_are_lawful : IsLawful schedules
-schedules_are_lawful = record {
-  order = paths_in_order;
-  some_rest = some_rest;
-  position_is = λ state k. refl;
-  rows_stay = λ state k row is. is;
-  rows_stayed = λ state k row is. is;
-  cursor_stays = λ state k m. refl;
-  moved_again = λ state k m. refl;
-}
+schedules_are_lawful = are_lawful subject paths_in_order some_rest

@@ -72,9 +72,12 @@ fn texts_with_nothing_or_a_space_are_refused(rt: HostRuntime) {
 fn texts_name_their_cuts_in_order(rt: HostRuntime) -> Result<(), Fail> {
     let schedule = Schedule::read("9.4")?;
     let campaign = Campaign::read("1.3,2.0,2.17")?;
-    let rounds = (campaign.cuts(Round::First), campaign.cuts(Round::Second));
+    let (first, second) = (
+        campaign.places(Round::First),
+        campaign.places(Round::Second),
+    );
     assert_eq!(rt;
-        (schedule.cuts(), rounds),
+        (schedule.cuts(), (first.cuts(), second.cuts())),
         ([9, 4].as_slice(), ([3].as_slice(), [0, 17].as_slice()))
     );
     Ok(())

@@ -1,23 +1,25 @@
-use Rattle.std.proofs.Common.{sym}
-use Rattle.mc_output.specs.facts.Results.{if_ok}
-use Rattle.mc_campaign.specs.View.{FollowsCampaign, FollowsLater}
-use Rattle.mc_campaign.proofs.Gone.{goes_through, stops_early, too_late}
+use Rattle.mc_campaign.proofs.Along.{along_more, none_there, stops_there}
+use Rattle.mc_campaign.proofs.Placing.{is_none}
 use Rattle.mc_campaign.proofs.following.follow.Goals as goal
+
+pub returns-in_default-clause-follows : goal.returns-in_default-clause-follows
+returns-in_default-clause-follows g c =
+    let cuts = c.cuts-cut-items.ensures.value in
+    let inside = rw cuts at c.loop-cut-test.true in
+    none_there c.args.campaign.now c.args.walk.now c.loop-cut.cut-index c.loop-cut.walk c.loop-cut.invariant inside c.told.result.now c.told.ensures c.child_of.result (rw cuts at c.child_of.ensures)
+    c.requires.valid (is_none c.child_of.result c.in_default.not-Some)
 
 pub returns-then-not-branch-clause-follows : goal.returns-then-not-branch-clause-follows
 returns-then-not-branch-clause-follows g c =
-    stops_early c.args.walk.now c.follow.new.self c.args.campaign.now c.requires.root c.in_ok-follow.field-0 c.if-not-branch.true (rw c.cuts.ensures at c.in_ok-follow.ensures.step)
+    let cuts = c.cuts-cut-items.ensures.value in
+    let inside = rw cuts at c.loop-cut-test.true in
+    stops_there c.args.campaign.now c.args.walk.now c.loop-cut.cut-index c.loop-cut.walk c.loop-cut.invariant inside c.told.result.now c.told.ensures c.child_of.result (rw cuts at c.child_of.ensures)
+    c.requires.valid c.in-Some.number c.in_ok-go_down.field-0 c.go_down.new.self c.in-Some.is c.if-not-branch.true c.in_ok-go_down.ensures.step
 
-pub returns-in-First-clause-follows : goal.returns-in-First-clause-follows
-returns-in-First-clause-follows g c =
-    if_ok c.follow_later.result (λ went. FollowsLater c.follow.new.self c.told-told.result.now.first.outcome.ops c.cuts-in-First.result.now went c.follow_later.new.walk)
-    (λ went. FollowsCampaign c.args.walk.now c.args.campaign.now went c.follow_later.new.walk)
-    (λ went goes.
-    goes_through c.args.walk.now c.follow.new.self c.args.campaign.now c.requires.root c.in_ok-follow.field-0 c.if-not-branch.false (rw c.cuts.ensures at c.in_ok-follow.ensures.step)
-    c.told-told.result.now c.told-told.ensures c.follow_later.new.walk c.cuts-in-First.result.now went c.in-First.is c.requires.valid (sym c.cuts-in-First.ensures) goes)
-    c.follow_later.ensures.follows
-
-pub returns-in-Second-clause-follows : goal.returns-in-Second-clause-follows
-returns-in-Second-clause-follows g c =
-    too_late c.args.walk.now c.follow.new.self c.args.campaign.now c.requires.root c.in_ok-follow.field-0 c.if-not-branch.false (rw c.cuts.ensures at c.in_ok-follow.ensures.step)
-    c.told-told.result.now c.told-told.ensures c.in-Second.is
+pub loop-cut-preserved : goal.loop-cut-preserved
+loop-cut-preserved g c =
+    let cuts = c.cuts-cut-items.ensures.value in
+    let inside = rw cuts at c.loop-cut-test.true in
+    along_more c.args.campaign.now c.args.walk.now c.loop-cut.cut-index c.loop-cut.walk c.loop-cut.invariant inside c.told.result.now c.told.ensures c.child_of.result (rw cuts at c.child_of.ensures)
+    c.requires.valid c.in-Some.number c.in_ok-go_down.field-0 c.go_down.new.self c.in-Some.is c.if-not-branch.false c.in_ok-go_down.ensures.step
+    (record { limits = c.in_ok-go_down.ensures.spends.limits; failed = c.in_ok-go_down.ensures.spends.failed })

@@ -1,8 +1,8 @@
-use Rattle.std.proofs.Common.{Bool, ap, ◌∙◌}
+use Rattle.std.proofs.Common.{Bool, ap, ◌∙◌, []}
 use Rattle.mc_tree.specs.Paths.{After}
+use Rattle.mc_explore.specs.subjects.Rows.{rows_of}
 use Rattle.mc_explore.specs.facts.Listings.{pages_join, past_page}
 use Rattle.mc_campaign.specs.Page.{last_campaign}
-use Rattle.mc_campaign.specs.Places.{no_places}
 use Rattle.mc_campaign.specs.Rest.{campaigns}
 use Rattle.mc_campaign.specs.State.{State}
 use Rattle.mc_campaign.specs.facts.Listed.{campaigns_are_lawful}
@@ -10,10 +10,10 @@ use Rattle.std.specs.Prelude.{take}
 use Rattle.mc_campaign.proofs.laws.campaign_pages_join_up.Goals as goal
 
 pub returns-clause-joined : goal.returns-clause-joined
-returns-clause-joined c = λ limits state whole rows ended. pages_join campaigns campaigns_are_lawful state limits whole rows ended
+returns-clause-joined c = λ limits state whole rows ended. pages_join (rows_of campaigns) campaigns_are_lawful state limits whole rows ended
 
 pub returns-clause-resumed : goal.returns-clause-resumed
 returns-clause-resumed c = λ state rows limit calm some full.
-    let last = last_campaign no_places (take limit rows) in
-    let behind : Bool → State = λ b. record { start = state.start; confirms = state.confirms; bound = state.bound; position = After last; failed = b } in
-    past_page campaigns campaigns_are_lawful limit state rows some full ∙ ap behind calm
+    let last = last_campaign [] (take limit rows) in
+    let behind : Bool → State = λ b. record { start = state.start; choice = state.choice; bound = state.bound; position = After last; failed = b } in
+    past_page (rows_of campaigns) campaigns_are_lawful limit state rows some full ∙ ap behind calm

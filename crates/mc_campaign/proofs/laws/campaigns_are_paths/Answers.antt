@@ -1,4 +1,5 @@
-use Rattle.mc_campaign.specs.facts.Paths.{campaign_along, member_of, path_of, same_order}
+use Rattle.std.proofs.Common.{refl}
+use Rattle.mc_campaign.specs.facts.Paths.{member_of, path_of, same_order}
 use Rattle.mc_campaign.proofs.laws.campaigns_are_paths.Goals as goal
 
 pub returns-clause-paths : goal.returns-clause-paths
@@ -6,7 +7,7 @@ returns-clause-paths c x confirms bound k =
     (path_of x.rules x.geometry confirms x.content bound k, λ p. member_of x.rules x.geometry confirms x.content bound k p.0 p.1)
 
 pub returns-clause-all : goal.returns-clause-all
-returns-clause-all c x confirms bound path m = let q = campaign_along x.rules x.geometry confirms x.content bound path m in (q.0, q.2)
+returns-clause-all c x confirms bound path m = (_, record { member = m; cuts_are = refl })
 
 pub returns-clause-order : goal.returns-clause-order
 returns-clause-order c x confirms = same_order x.rules x.geometry confirms x.content

@@ -1,3 +1,4 @@
+use Rattle.mc_explore.specs.subjects.Rows.{rows_of}
 use Rattle.mc_explore.specs.facts.Listings.{one_rest, rest_tail, in_order}
 use Rattle.mc_campaign.specs.Rest.{campaigns}
 use Rattle.mc_campaign.specs.facts.Listed.{campaigns_are_lawful}
@@ -7,10 +8,10 @@ pub returns-clause-some : goal.returns-clause-some
 returns-clause-some c = campaigns_are_lawful.some_rest
 
 pub returns-clause-only : goal.returns-clause-only
-returns-clause-only c = one_rest campaigns campaigns_are_lawful
+returns-clause-only c = one_rest (rows_of campaigns) campaigns_are_lawful
 
 pub returns-clause-tail : goal.returns-clause-tail
-returns-clause-tail c = rest_tail campaigns campaigns_are_lawful
+returns-clause-tail c = rest_tail (rows_of campaigns) campaigns_are_lawful
 
 pub returns-clause-order : goal.returns-clause-order
-returns-clause-order c = in_order campaigns campaigns_are_lawful
+returns-clause-order c = in_order (rows_of campaigns) campaigns_are_lawful

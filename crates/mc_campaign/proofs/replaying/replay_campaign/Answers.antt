@@ -1,12 +1,13 @@
-use Rattle.std.proofs.Common.{◌≡◌, ℕ, ◌+◌, ◌≤◌, length, length-append, inr, sym, ap, ◌∙◌, arith}
-use Rattle.std.proofs.lemmas.List.{length-map}
+use Rattle.std.proofs.Common.{◌≡◌, ℕ, ◌+◌, ◌≤◌, length, inr, sym, ap, ◌∙◌, arith, subst}
+use Rattle.std.proofs.lemmas.Result.{err_from_is_err_and}
 use Rattle.mc_flash.specs.Usage.{limits_for}
 use Rattle.mc_trailer.specs.declared.tables.Rules.{Rules}
 use Rattle.mc_boot.specs.Outcome.{shown}
 use Rattle.mc_start.specs.Start.{begun}
-use Rattle.mc_campaign.specs.Places.{pairs_of}
+use Rattle.mc_campaign.specs.Replay.{Refuses}
 use Rattle.mc_campaign.proofs.Loaded.{room_for_one}
-use Rattle.mc_campaign.proofs.Replays.{refused_later, replayed_both}
+use Rattle.mc_campaign.proofs.Placing.{in_round_few}
+use Rattle.mc_campaign.proofs.Replays.{refused_first, refused_later, replayed_both}
 use Rattle.mc_campaign.proofs.Restarts.{campaign_restarts}
 use Rattle.mc_campaign.proofs.replaying.replay_campaign.Goals as goal
 
@@ -16,9 +17,9 @@ returns-in-Err-CannotOccur-clause-replayed g c =
     let left = g.F.Flash.seen c.settle.new.flash in
     inr (refused_later (begun c.args.start.now) c.args.confirms c.args.campaign.now c.rules.result c.layout.result.now c.rules.ensures c.layout.ensures.value
     c.primary-primary.result.now c.secondary-secondary.result.now c.cuts-first.result.now (shown c.in_ok-one.one) middle.content
-    c.primary-primary.ensures.value c.secondary-secondary.ensures.value c.cuts-first.ensures c.in_ok-one.ensures.replayed
+    c.primary-primary.ensures.value c.secondary-secondary.ensures.value (c.cuts-first.ensures.value ∙ c.places-firsts.ensures) c.in_ok-one.ensures.replayed
     middle.geometry left.content c.in_ok-one.ensures.geometry c.in_ok-settle.ensures.content c.read-primary.result.now c.read-secondary.result.now
-    c.cuts-second.result.now c.read-primary.ensures.value c.read-secondary.ensures.value c.cuts-second.ensures
+    c.cuts-second.result.now c.read-primary.ensures.value c.read-secondary.ensures.value (c.cuts-second.ensures.value ∙ c.places-seconds.ensures)
     c.in-Err-CannotOccur.field-0 c.in-Err-CannotOccur.later _ c.in-Err-CannotOccur.field-0-is c.in-Err-CannotOccur.later-is c.in-Err-CannotOccur.ensures.replayed)
 
 pub returns-in-Ok-clause-restarts : goal.returns-in-Ok-clause-restarts
@@ -31,16 +32,16 @@ returns-in-Ok-clause-restarts g c =
     let z = (g.F.Flash.seen c.in-Ok.flash).content in
     let both = replayed_both start c.args.confirms c.args.campaign.now c.rules.result c.layout.result.now c.rules.ensures c.layout.ensures.value
     c.primary-primary.result.now c.secondary-secondary.result.now c.cuts-first.result.now one middle.content
-    c.primary-primary.ensures.value c.secondary-secondary.ensures.value c.cuts-first.ensures c.in_ok-one.ensures.replayed
+    c.primary-primary.ensures.value c.secondary-secondary.ensures.value (c.cuts-first.ensures.value ∙ c.places-firsts.ensures) c.in_ok-one.ensures.replayed
     middle.geometry left.content c.in_ok-one.ensures.geometry c.in_ok-settle.ensures.content c.read-primary.result.now c.read-secondary.result.now
-    c.cuts-second.result.now c.read-primary.ensures.value c.read-secondary.ensures.value c.cuts-second.ensures two z c.in-Ok.ensures.replayed in
+    c.cuts-second.result.now c.read-primary.ensures.value c.read-secondary.ensures.value (c.cuts-second.ensures.value ∙ c.places-seconds.ensures) two z c.in-Ok.ensures.replayed in
     campaign_restarts start.rules start.geometry c.args.confirms start.content c.args.campaign.now one two z c.layout.ensures.valid
     (c.restart_law.ensures.restart start.rules) (c.restart_law.ensures.rounds start.rules) both
 
 pub returns-in-Ok-clause-exact : goal.returns-in-Ok-clause-exact
 returns-in-Ok-clause-exact g c = λ counted.
     let start = begun c.args.start.now in
-    let boots : c.len.result + 3 ≡ length (pairs_of c.args.campaign.now) + 3 = omega (arith, c.len.ensures.value) in
+    let boots : c.len.result + 3 ≡ length c.args.campaign.now + 3 = omega (arith, c.len.ensures.value) in
     c.in-Ok.ensures.exact counted
     ∙ ap (λ (r : Rules). limits_for r.grain c.layout.result.now (c.len.result + 3)) c.rules.ensures
     ∙ ap (λ g. limits_for start.rules.grain g (c.len.result + 3)) c.layout.ensures.value
@@ -50,6 +51,37 @@ pub settle-requires : goal.settle-requires
 settle-requires g c = λ counts.
     let one = c.in_ok-one.ensures in
     let n : ℕ = length c.cuts-first.result.now in
-    let pairs = simp (length-append, length-map) at c.len.ensures.value in
-    let few : n ≤ c.len.result = omega (arith, pairs, ap length c.cuts-first.ensures) in
+    let few : n ≤ c.len.result = omega (arith, c.len.ensures.value, in_round_few 1 c.args.campaign.now, ap length (c.cuts-first.ensures.value ∙ c.places-firsts.ensures)) in
     room_for_one c.rules.result c.layout.result.now n (c.len.result + 3) (g.F.Flash.seen c.in_ok-one.middle) one.counts (one.exact (sym one.counted ∙ counts)) (omega (arith, few))
+
+pub replay_round-requires-clause-few : goal.replay_round-requires-clause-few
+replay_round-requires-clause-few g c =
+    let few = in_round_few 1 c.args.campaign.now in
+    let is = ap length (c.cuts-first.ensures.value ∙ c.places-firsts.ensures) in
+    (omega (arith, c.cuts-first.ensures.few), omega (arith, few, is, c.len.ensures.value), omega (arith, c.len.ensures.few))
+
+pub replay_round-requires-2-clause-few : goal.replay_round-requires-2-clause-few
+replay_round-requires-2-clause-few g c =
+    let few = in_round_few 2 c.args.campaign.now in
+    let is = ap length (c.cuts-second.ensures.value ∙ c.places-seconds.ensures) in
+    (omega (arith, c.cuts-second.ensures.few), omega (arith, few, is, c.len.ensures.value), omega (arith, c.len.ensures.few))
+
+pub returns-in-Ok-clause-replayed : goal.returns-in-Ok-clause-replayed
+returns-in-Ok-clause-replayed g c =
+    let start = begun c.args.start.now in
+    let middle = g.F.Flash.seen c.in_ok-one.middle in
+    let left = g.F.Flash.seen c.settle.new.flash in
+    replayed_both start c.args.confirms c.args.campaign.now c.rules.result c.layout.result.now c.rules.ensures c.layout.ensures.value
+    c.primary-primary.result.now c.secondary-secondary.result.now c.cuts-first.result.now (shown c.in_ok-one.one) middle.content
+    c.primary-primary.ensures.value c.secondary-secondary.ensures.value (c.cuts-first.ensures.value ∙ c.places-firsts.ensures) c.in_ok-one.ensures.replayed
+    middle.geometry left.content c.in_ok-one.ensures.geometry c.in_ok-settle.ensures.content c.read-primary.result.now c.read-secondary.result.now
+    c.cuts-second.result.now c.read-primary.ensures.value c.read-secondary.ensures.value (c.cuts-second.ensures.value ∙ c.places-seconds.ensures) (shown c.in-Ok.two)
+    (g.F.Flash.seen c.in-Ok.flash).content c.in-Ok.ensures.replayed
+
+pub returns-in_err-one-clause-replayed : goal.returns-in_err-one-clause-replayed
+returns-in_err-one-clause-replayed g c =
+    let q = err_from_is_err_and c.from_residual.result c.from_residual.ensures.1 in
+    let refused = refused_first (begun c.args.start.now) c.args.confirms c.args.campaign.now c.rules.result c.layout.result.now c.rules.ensures c.layout.ensures.value
+    c.primary-primary.result.now c.secondary-secondary.result.now c.cuts-first.result.now c.in_err-one.field-0.0
+    c.primary-primary.ensures.value c.secondary-secondary.ensures.value (c.cuts-first.ensures.value ∙ c.places-firsts.ensures) c.in_err-one.ensures.replayed in
+    rw q.1 (subst (Refuses (begun c.args.start.now) c.args.confirms c.args.campaign.now) (sym q.2) refused)

@@ -32,11 +32,11 @@ returns-in-None-clause-began g c =
 pub fill-preserved : goal.fill-preserved
 fill-preserved g c =
     let found = rw c.in-Some.is at c.in_ok-row.ensures.found in
-    let laws = g.S.RowSource.laws in
+    let laws = g.met.S.RowSource.laws in
     let key = g.S.RowSource.listing.key (g.S.RowSource.shown c.in-Some.row) in
     let at = ap g.S.RowSource.listing.position found.2 ∙ laws.position_is (g.S.RowSource.state c.fill.source) key in
     let room : c.fill.room ≡ suc (c.fill.room - 1) = omega arith in
-    let cost = ap g.S.RowSource.most_for_row found.2 ∙ g.S.RowSource.cost_stays (g.S.RowSource.state c.fill.source) key ∙ c.fill.invariant.cost_is in
+    let cost = ap g.S.RowSource.most_for_row found.2 ∙ g.met.S.RowSource.cost_stays (g.S.RowSource.state c.fill.source) key ∙ c.fill.invariant.cost_is in
     record {
       page = page_on c.fill.invariant.page (c.fill.room - 1) room _ _ _ found c.in_ok-write_row-in-Some.ensures.whole;
       not_lost = λ e. let q : Lost ≡ After key = sym e ∙ at in absurd cc;

@@ -10,7 +10,7 @@ invariant-fill g l =
     let cost = g.S.RowSource.most_for_row in
     let position = g.S.RowSource.listing.position in
     record {
-      page : AreOut g.S.RowSource.listing g.S.RowSource.laws (g.S.RowSource.until_of l.until) (state l.fn.source) l.limit (g.W.Write.contents l.fn.writer) (state l.source) l.room
+      page : AreOut g.S.RowSource.listing g.met.S.RowSource.laws (g.S.RowSource.until_of l.until) (state l.fn.source) l.limit (g.W.Write.contents l.fn.writer) (state l.source) l.room
           (g.W.Write.contents l.writer);
       not_lost : position (state l.source) ≡ Lost → position (state l.fn.source) ≡ Lost;
       stuck : position (state l.fn.source) ≡ Lost → (position (state l.source) ≡ Lost) × (0 < l.room);

@@ -1,44 +1,40 @@
-use Rattle.std.specs.Prelude.{◌≡◌, ◌==◌, List, ℕ, length}
-use Rattle.std.proofs.Common.{sym, ap, subst, ◌∙◌}
+use Rattle.std.proofs.Common.{ap, subst, arith, ℕ, List, length}
 use Rattle.std.proofs.lemmas.Result.{err_from_is_err_and}
-use Rattle.mc_campaign.specs.Places.{Places, pairs_of}
-use Rattle.mc_campaign.specs.Texts.{cut_text, FitsCut, IsAdded}
-use Rattle.mc_campaign.specs.Rounds.{number_of}
-use Rattle.mc_campaign.specs.declared.campaign.Round.{Round}
-use Rattle.mc_campaign.specs.declared.campaign.Round.TheVariants as rounds
-use Rattle.mc_campaign.proofs.Reading.{not_told, not_behind, added_first, added_second, none_in, room_for, some_in}
+use Rattle.mc_campaign.specs.Cuts.{IsInOrder}
+use Rattle.mc_campaign.specs.facts.Cuts.{last_ordered, ordered_push}
+use Rattle.mc_campaign.specs.facts.Room.{len_again}
+use Rattle.mc_campaign.proofs.Reading.{cut_is, told_cut}
 use Rattle.mc_campaign.proofs.campaign.Campaign.add.Goals as goal
 
 pub returns-in_err-round-clause-refused : goal.returns-in_err-round-clause-refused
 returns-in_err-round-clause-refused c =
     let q = err_from_is_err_and c.from_residual.result c.from_residual.ensures.1 in
-    rw q.1 (λ cut f is. not_told (pairs_of c.args.self.now) c.args.text.now cut f is c.in_err-round.ensures)
+    rw q.1 (λ cut f is. c.in_err-round.ensures cut (cut_is c.args.self.now cut f) is)
 
--- A cut of the first round is told.
-first_told : (text : List ℕ) (round : Round) (place : ℕ) → round ≡ rounds.First → text ≡ cut_text (number_of round, place) → text ≡ cut_text (1, place)
-first_told text round place is told = told ∙ ap (λ r. cut_text (number_of r, place)) is
+pub returns-then-round-last_round-clause-refused : goal.returns-then-round-last_round-clause-refused
+returns-then-round-last_round-clause-refused c = λ cut f is.
+    let same = told_cut c.args.self.now c.args.text.now cut (c.in_ok-round.round, c.in_ok-round.place) f c.in_ok-round.ensures.1 is c.in_ok-round.ensures.0 in
+    omega (arith, c.if-round-last_round.true, c.last_round.ensures, (last_ordered 1 c.args.self.now cut f.in_order).1, ap (λ (z : ℕ × ℕ). z.0) same)
 
-second_told : (text : List ℕ) (round : Round) (place : ℕ) → round ≡ rounds.Second → text ≡ cut_text (number_of round, place) → text ≡ cut_text (2, place)
-second_told text round place is told = told ∙ ap (λ r. cut_text (number_of r, place)) is
+-- It stands behind the others in order.
+pub push-requires-clause-order : goal.push-requires-clause-order
+push-requires-clause-order c =
+    let cut : ℕ × ℕ = (c.in_ok-round.round, c.in_ok-round.place) in
+    ordered_push 1 c.args.self.now cut (subst IsInOrder c.self.view_is c.self.invariant.3) (omega (arith, c.if-round-last_round.false, c.last_round.ensures)) c.in_ok-round.ensures.1.round
 
-pub returns-then-not-is_empty-clause-refused : goal.returns-then-not-is_empty-clause-refused
-returns-then-not-is_empty-clause-refused c = λ cut f is.
-    let old : Places = record { first = c.self.inside.first; second = c.self.inside.second } in
-    let some = some_in c.self.inside.second c.is_empty.result (c.is_empty.ensures ∙ ap (λ (l : List ℕ). length l == 0) c.cuts.ensures.value) c.if-not-is_empty.true in
-    not_behind old c.args.text.now cut c.in_ok-round.place some (subst (λ z. FitsCut (pairs_of z) cut) (sym c.self.view_is) f)
-    c.in_ok-round.ensures.1 is (first_told _ _ _ c.in-First.is c.in_ok-round.ensures.0)
-
-pub returns-else-not-is_empty-clause-added : goal.returns-else-not-is_empty-clause-added
-returns-else-not-is_empty-clause-added c =
-    let old : Places = record { first = c.self.inside.first; second = c.self.inside.second } in
-    let none = none_in c.self.inside.second c.is_empty.result (c.is_empty.ensures ∙ ap (λ (l : List ℕ). length l == 0) c.cuts.ensures.value) c.if-not-is_empty.false in
-    let room = room_for c.self.inside.first c.self.inside.second c.len.result (c.len.ensures.value ∙ ap (λ z. length (pairs_of z)) (sym c.self.view_is)) c.if-len-eq-MOST_CUTS.false c.self.invariant in
-    subst (λ z. IsAdded z c.args.text.now (record { first = c.push.new.self; second = c.self.inside.second })) c.self.view_is
-    (added_first old c.push.new.self c.args.text.now c.in_ok-round.place none room c.in_ok-round.ensures.1 (first_told _ _ _ c.in-First.is c.in_ok-round.ensures.0) c.push.ensures)
-
-pub returns-in-Second-clause-added : goal.returns-in-Second-clause-added
-returns-in-Second-clause-added c =
-    let old : Places = record { first = c.self.inside.first; second = c.self.inside.second } in
-    let room = room_for c.self.inside.first c.self.inside.second c.len.result (c.len.ensures.value ∙ ap (λ z. length (pairs_of z)) (sym c.self.view_is)) c.if-len-eq-MOST_CUTS.false c.self.invariant in
-    subst (λ z. IsAdded z c.args.text.now (record { first = c.self.inside.first; second = c.push-in-Second.new.self })) c.self.view_is
-    (added_second old c.push-in-Second.new.self c.args.text.now c.in_ok-round.place room c.in_ok-round.ensures.1 (second_told _ _ _ c.in-Second.is c.in_ok-round.ensures.0) c.push-in-Second.ensures)
+pub returns-clause-added : goal.returns-clause-added
+returns-clause-added c =
+    let cut : ℕ × ℕ = (c.in_ok-round.round, c.in_ok-round.place) in
+    let order = ordered_push 1 c.args.self.now cut (subst IsInOrder c.self.view_is c.self.invariant.3) (omega (arith, c.if-round-last_round.false, c.last_round.ensures))
+    c.in_ok-round.ensures.1.round in
+    let few = len_again c.self.inside.cuts c.self.inside.len c.self.invariant.1 c.self.invariant.0 in
+    record {
+      item = cut;
+      fits = record {
+        room = omega (arith, c.if-self-eq-MOST_CUTS.false, few, c.self.invariant.0, ap (λ (l : List (ℕ × ℕ)). length l) c.self.view_is);
+        small = c.in_ok-round.ensures.1.small;
+        in_order = order;
+      };
+      text_is = c.in_ok-round.ensures.0;
+      new_is = c.push.ensures;
+    }

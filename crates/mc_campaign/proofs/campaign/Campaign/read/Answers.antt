@@ -1,31 +1,29 @@
 use Rattle.std.specs.Prelude.{Ok, codes}
-use Rattle.std.proofs.Common.{rules, arith, sym, ap, ◌∙◌}
+use Rattle.std.proofs.Common.{rules, arith, sym, ap, ◌∙◌, List, ℕ}
 use Rattle.std.proofs.lemmas.Result.{err_from_is_err_and}
 use Rattle.std.proofs.lemmas.Slice.Eq.{bytes_eq-Decides}
 use Rattle.mc_output.specs.facts.Reading.{dash, not_next, not_last, left_next, text_next, text_last, all_read, added_valid}
 use Rattle.mc_output.specs.facts.Parting.{parted, one_piece}
-use Rattle.mc_campaign.specs.Places.{Places, pairs_of}
 use Rattle.mc_campaign.specs.Texts.{cut_text}
-use Rattle.mc_campaign.proofs.Reading.{spelling, cuts_of, campaign_of}
-use Rattle.mc_campaign.specs.facts.Pairs.{same_campaign}
+use Rattle.mc_campaign.proofs.Reading.{spelling}
 use Rattle.mc_campaign.proofs.campaign.Campaign.read.Goals as goal
 
 pub returns-then-eq-clause-only : goal.returns-then-eq-clause-only
 returns-then-eq-clause-only c = λ m ok told.
-    let empty = dash spelling (pairs_of m) c.args.text.now (cuts_of m ok) ((bytes_eq-Decides c.args.text.now (codes "-")).0 (sym (c.if-eq.ensures))) told in
-    ap (λ (x : Places). Ok x) (c.new-campaign.ensures ∙ sym (same_campaign m _ empty))
+    let empty = dash spelling m c.args.text.now ok ((bytes_eq-Decides c.args.text.now (codes "-")).0 (sym (c.if-eq.ensures))) told in
+    ap (λ (x : List (ℕ × ℕ)). Ok x) (c.new-campaign.ensures ∙ sym empty)
 
 pub returns-in_err-add-clause-exact : goal.returns-in_err-add-clause-exact
 returns-in_err-add-clause-exact c =
     let q = err_from_is_err_and c.from_residual.result c.from_residual.ensures.1 in
     let p = parted 44 (omega arith) c.cuts.rest.now c.split_once.result c.split_once.ensures.cases c.in-Some.first c.in-Some.after c.in-Some.is in
-    rw q.1 (λ m ok told. not_next spelling (pairs_of c.cuts.campaign) (pairs_of m) c.cuts.rest.now c.in-Some.first.now c.in-Some.after.now (cuts_of m ok)
+    rw q.1 (λ m ok told. not_next spelling c.cuts.campaign m c.cuts.rest.now c.in-Some.first.now c.in-Some.after.now ok
     (c.cuts.invariant.left m ok told) p.parts p.lacks c.in_err-add.ensures.refused)
 
 pub returns-in_err-add-clause-only : goal.returns-in_err-add-clause-only
 returns-in_err-add-clause-only c = λ m ok told.
     let p = parted 44 (omega arith) c.cuts.rest.now c.split_once.result c.split_once.ensures.cases c.in-Some.first c.in-Some.after c.in-Some.is in
-    absurd (not_next spelling (pairs_of c.cuts.campaign) (pairs_of m) c.cuts.rest.now c.in-Some.first.now c.in-Some.after.now (cuts_of m ok)
+    absurd (not_next spelling c.cuts.campaign m c.cuts.rest.now c.in-Some.first.now c.in-Some.after.now ok
     (c.cuts.invariant.left m ok told) p.parts p.lacks c.in_err-add.ensures.refused)
 
 pub cuts-preserved : goal.cuts-preserved
@@ -33,36 +31,33 @@ cuts-preserved c =
     let p = parted 44 (omega arith) c.cuts.rest.now c.split_once.result c.split_once.ensures.cases c.in-Some.first c.in-Some.after c.in-Some.is in
     record {
       utf8 = search rules;
-      valid = campaign_of c.add.new.self
-          (added_valid spelling (pairs_of c.cuts.campaign) (pairs_of c.add.new.self) c.in-Some.first.now (cuts_of c.cuts.campaign c.cuts.invariant.valid) c.in_ok-add.ensures.added);
-      text = text_next 44 cut_text (pairs_of c.cuts.campaign) (pairs_of c.add.new.self) c.args.text.now c.cuts.rest.now c.in-Some.first.now c.in-Some.after.now
+      valid = added_valid spelling c.cuts.campaign c.add.new.self c.in-Some.first.now c.cuts.invariant.valid c.in_ok-add.ensures.added;
+      text = text_next 44 cut_text c.cuts.campaign c.add.new.self c.args.text.now c.cuts.rest.now c.in-Some.first.now c.in-Some.after.now
           c.cuts.invariant.text p.parts c.in_ok-add.ensures.added;
-      left = λ m ok told. left_next spelling (pairs_of c.cuts.campaign) (pairs_of m) (pairs_of c.add.new.self) c.cuts.rest.now c.in-Some.first.now c.in-Some.after.now
-          (cuts_of m ok) (c.cuts.invariant.left m ok told) p.parts p.lacks c.in_ok-add.ensures.added;
+      left = λ m ok told. left_next spelling c.cuts.campaign m c.add.new.self c.cuts.rest.now c.in-Some.first.now c.in-Some.after.now
+          ok (c.cuts.invariant.left m ok told) p.parts p.lacks c.in_ok-add.ensures.added;
     }
 
 pub returns-in_err-add-2-clause-exact : goal.returns-in_err-add-2-clause-exact
 returns-in_err-add-2-clause-exact c =
     let q = err_from_is_err_and c.from_residual-in_err-add-2.result c.from_residual-in_err-add-2.ensures.1 in
     let lacks = one_piece 44 (omega arith) c.cuts.rest.now c.split_once.result c.split_once.ensures.cases c.in_default.is in
-    rw q.1 (λ m ok told. not_last spelling (pairs_of c.cuts.campaign) (pairs_of m) c.cuts.rest.now (cuts_of m ok) (c.cuts.invariant.left m ok told) lacks c.in_err-add-2.ensures.refused)
+    rw q.1 (λ m ok told. not_last spelling c.cuts.campaign m c.cuts.rest.now ok (c.cuts.invariant.left m ok told) lacks c.in_err-add-2.ensures.refused)
 
 pub returns-in_err-add-2-clause-only : goal.returns-in_err-add-2-clause-only
 returns-in_err-add-2-clause-only c = λ m ok told.
     let lacks = one_piece 44 (omega arith) c.cuts.rest.now c.split_once.result c.split_once.ensures.cases c.in_default.is in
-    absurd (not_last spelling (pairs_of c.cuts.campaign) (pairs_of m) c.cuts.rest.now (cuts_of m ok) (c.cuts.invariant.left m ok told) lacks c.in_err-add-2.ensures.refused)
+    absurd (not_last spelling c.cuts.campaign m c.cuts.rest.now ok (c.cuts.invariant.left m ok told) lacks c.in_err-add-2.ensures.refused)
 
 pub returns-clause-exact : goal.returns-clause-exact
-returns-clause-exact c = text_last 44 cut_text (pairs_of c.cuts.campaign) (pairs_of c.add-2.new.self) c.args.text.now c.cuts.rest.now c.cuts.invariant.text c.in_ok-add-2.ensures.added
+returns-clause-exact c = text_last 44 cut_text c.cuts.campaign c.add-2.new.self c.args.text.now c.cuts.rest.now c.cuts.invariant.text c.in_ok-add-2.ensures.added
 
 pub returns-clause-only : goal.returns-clause-only
 returns-clause-only c = λ m ok told.
     let lacks = one_piece 44 (omega arith) c.cuts.rest.now c.split_once.result c.split_once.ensures.cases c.in_default.is in
-    let all = all_read spelling (pairs_of c.cuts.campaign) (pairs_of m) (pairs_of c.add-2.new.self) c.cuts.rest.now (cuts_of m ok)
+    let all = all_read spelling c.cuts.campaign m c.add-2.new.self c.cuts.rest.now ok
     (c.cuts.invariant.left m ok told) lacks c.in_ok-add-2.ensures.added in
-    ap (λ (x : Places). Ok x) (same_campaign c.add-2.new.self m all)
+    ap (λ (x : List (ℕ × ℕ)). Ok x) all
 
 pub returns-clause-valid : goal.returns-clause-valid
-returns-clause-valid c =
-    campaign_of c.add-2.new.self
-    (added_valid spelling (pairs_of c.cuts.campaign) (pairs_of c.add-2.new.self) c.cuts.rest.now (cuts_of c.cuts.campaign c.cuts.invariant.valid) c.in_ok-add-2.ensures.added)
+returns-clause-valid c = added_valid spelling c.cuts.campaign c.add-2.new.self c.cuts.rest.now c.cuts.invariant.valid c.in_ok-add-2.ensures.added

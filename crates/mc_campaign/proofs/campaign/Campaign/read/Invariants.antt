@@ -1,7 +1,6 @@
-use Rattle.std.specs.Prelude.{◌≡◌, ◌++◌, length}
+use Rattle.std.specs.Prelude.{◌≡◌, ℕ, List, ◌++◌, length}
 use Rattle.std.specs.Str.{IsUtf8}
 use Rattle.mc_output.specs.facts.Reading.{behind, IsLeft}
-use Rattle.mc_campaign.specs.Places.{Places, pairs_of}
 use Rattle.mc_campaign.specs.Texts.{campaign_text, cut_text, IsCampaign}
 use Rattle.mc_campaign.proofs.campaign.Campaign.read.Given as goal
 
@@ -9,8 +8,8 @@ abbrev pub invariant-cuts : goal.invariant-cuts
 invariant-cuts l = record {
   utf8 : IsUtf8 l.rest;
   valid : IsCampaign l.campaign;
-  text : l.fn.text ≡ behind 44 cut_text (pairs_of l.campaign) ++ l.rest;
-  left : (m : Places) → IsCampaign m → l.fn.text ≡ campaign_text m → IsLeft 44 cut_text (pairs_of l.campaign) (pairs_of m) l.rest;
+  text : l.fn.text ≡ behind 44 cut_text l.campaign ++ l.rest;
+  left : (m : List (ℕ × ℕ)) → IsCampaign m → l.fn.text ≡ campaign_text m → IsLeft 44 cut_text l.campaign m l.rest;
 }
 
 abbrev pub decreases-cuts : goal.decreases-cuts

@@ -1,0 +1,18 @@
+use Rattle.std.proofs.Common.{Bool, List, ℕ, true, false}
+use Rattle.mc_explore.specs.Once.{begins}
+use Rattle.mc_explore.specs.subjects.Follow.{FollowsKey}
+use Rattle.mc_walk.specs.Walks.{Walked}
+use Rattle.mc_campaign.specs.Boots.{cuts_along}
+use Rattle.mc_campaign.specs.Rest.{campaigns}
+use Rattle.mc_campaign.specs.View.{FollowsCampaign}
+use Rattle.mc_campaign.specs.declared.rounds.Twice.{Twice}
+use Rattle.mc_campaign.proofs.Outcomes.{kind_of}
+use Rattle.mc_campaign.proofs.exploring.TwiceSubject.follow.Goals as goal
+
+follows : (old new : Walked Twice) (k : List (ℕ × ℕ)) (went : Bool) → FollowsCampaign old k went new
+    → FollowsKey campaigns kind_of (λ (t : Twice) c. begins t.once c) (λ t. t.confirms) (λ t c path. cuts_along t.once.rules t.once.layout t.confirms c path) old k went new
+follows old new k true f = (f.0.member, f.0.cuts_are, f.1, f.2)
+follows old new k false f = f
+
+pub returns-clause-follows : goal.returns-clause-follows
+returns-clause-follows g c = follows c.args.walk.now c.follow.new.walk c.args.key.now c.in_ok-went.went c.in_ok-went.ensures.follows

@@ -1,0 +1,61 @@
+use Rattle.std.proofs.Common.{ℕ, ◌<◌, List, [], ◌∷◌, ◌++◌, length, take, drop, sym, ap, subst, ◌∙◌, arith, ◌+◌, ◌≡◌}
+use Rattle.std.proofs.lemmas.List.{length-take-le, take-append-drop}
+use Rattle.mc_tree.specs.Twice.{first, label}
+use Rattle.mc_explore.specs.Boots.{boots}
+use Rattle.mc_campaign.specs.Boots.{cuts_along, rounds, second_start}
+use Rattle.mc_campaign.specs.Cuts.{IsInOrder}
+use Rattle.mc_campaign.specs.View.{begun_of}
+use Rattle.mc_campaign.specs.facts.Cuts.{along_ordered, ordered_front}
+use Rattle.mc_campaign.proofs.Along.{labelled-length}
+use Rattle.mc_campaign.proofs.Placing.{is_none, taken_more, taken_whole, taken_within}
+use Rattle.mc_campaign.proofs.exploring.campaign_at.Given.{Over}
+use Rattle.mc_campaign.proofs.exploring.campaign_at.Goals as goal
+use Rattle.mc_campaign.proofs.exploring.campaign_at.Goals.{In-Some}
+
+abbrev all : (g : Over) (c : In-Some g) → List (ℕ × ℕ)
+all g c =
+    let w = c.args.walk.now in
+    cuts_along w.branches.once.rules w.branches.once.layout w.branches.confirms (begun_of w).content w.path
+
+below : (g : Over) (c : In-Some g) → c.cuts.step < length c.args.walk.now.path
+below g c =
+    let w = c.args.walk.now in
+    let b = w.branches in
+    let tree = rounds b.once.rules b.once.layout b.confirms in
+    let name = label (boots b.once.rules b.once.layout) (second_start b.once.rules b.once.layout b.confirms) in
+    omega (arith, taken_within (all g c) c.cuts.step (c.in-Some.round, c.in-Some.place) c.in-Some.ensures, labelled-length tree name (first (begun_of w).content) w.path)
+
+more : (g : Over) (c : In-Some g) → take (c.cuts.step + 1) (all g c) ≡ take c.cuts.step (all g c) ++ (c.in-Some.round, c.in-Some.place) ∷ []
+more g c = taken_more (all g c) c.cuts.step (c.in-Some.round, c.in-Some.place) c.in-Some.ensures
+
+pub push-requires-clause-room : goal.push-requires-clause-room
+push-requires-clause-room g c =
+    let a = (goal.at.push-requires-clause-room g c).In-Some in
+    let within = taken_within (all g a) c.cuts.step (c.in-Some.round, c.in-Some.place) c.in-Some.ensures in
+    omega (arith, below g a, c.requires.few, length-take-le c.cuts.step (all g a) (omega (arith, within)), ap (λ (x : List (ℕ × ℕ)). length x) c.cuts.invariant)
+
+pub push-requires-clause-order : goal.push-requires-clause-order
+push-requires-clause-order g c =
+    let a = (goal.at.push-requires-clause-order g c).In-Some in
+    let w = c.args.walk.now in
+    let front = ordered_front 1 (take (c.cuts.step + 1) (all g a)) (drop (c.cuts.step + 1) (all g a))
+    (subst IsInOrder (sym (take-append-drop (c.cuts.step + 1) (all g a))) (along_ordered (boots w.branches.once.rules w.branches.once.layout) (second_start w.branches.once.rules
+    w.branches.once.layout w.branches.confirms) (first (begun_of w).content) w.path)) in
+    subst IsInOrder (more g a ∙ ap (λ z. z ++ (c.in-Some.round, c.in-Some.place) ∷ []) (sym c.cuts.invariant)) front
+
+pub overflow_add-step : goal.overflow_add-step
+overflow_add-step g c = let small = below g (goal.at.overflow_add-step g c).In-Some in omega (arith, small, c.requires.few)
+
+pub cuts-smaller : goal.cuts-smaller
+cuts-smaller g c = let small = below g (goal.at.cuts-smaller g c).In-Some in omega (arith, small)
+
+pub cuts-preserved : goal.cuts-preserved
+cuts-preserved g c =
+    let a = (goal.at.cuts-preserved g c).In-Some in
+    c.push.ensures ∙ ap (λ z. z ++ (c.in-Some.round, c.in-Some.place) ∷ []) c.cuts.invariant ∙ sym (more g a)
+
+pub returns : goal.returns
+returns g c =
+    let w = c.args.walk.now in
+    let cuts = cuts_along w.branches.once.rules w.branches.once.layout w.branches.confirms (begun_of w).content w.path in
+    c.cuts.invariant ∙ taken_whole cuts c.cuts.step (sym (is_none c.label.result c.in_default.not-Some) ∙ c.label.ensures)

@@ -1,0 +1,70 @@
+-- Campaigns are the paths of the tree of two rounds.
+use Rattle.std.specs.Prelude.{◌≡◌, ◌≤◌, ◌+◌, ◌*◌, ℕ, Bool, refl}
+use Rattle.std.proofs.Common.{arith, ap, ◌∙◌}
+use Rattle.mc_tree.specs.Twice.{first}
+use Rattle.mc_flash.specs.Content.{Content}
+use Rattle.mc_flash.specs.Geometry.{Geometry}
+use Rattle.mc_flash.specs.Seen.{Seen}
+use Rattle.mc_flash.specs.Usage.{Usage, most_operations, most_saved}
+use Rattle.mc_flash.specs.declared.flash.Grain.{Grain}
+use Rattle.mc_flash.specs.declared.flash.Grain.TheVariants as grains
+use Rattle.mc_start.specs.facts.Room.{limits_are}
+use Rattle.mc_walk.specs.Walks.{IsClear}
+use Rattle.mc_explore.specs.Once.{begins}
+use Rattle.mc_explore.specs.subjects.Keys.{AreKeys}
+use Rattle.mc_explore.specs.subjects.Loads.{LoadsFor}
+use Rattle.mc_campaign.specs.Boots.{cuts_along, rounds}
+use Rattle.mc_campaign.specs.Bounds.{most_for_row}
+use Rattle.mc_campaign.specs.Rest.{campaigns}
+use Rattle.mc_campaign.specs.Twice.{twice_kind}
+use Rattle.mc_campaign.specs.declared.rounds.Twice.{Twice}
+use Rattle.mc_campaign.specs.facts.Paths.{listed_along, path_of, same_order}
+
+module _ (t : Twice) (c : Content) where
+  pub are_campaigns : AreKeys campaigns (rounds t.once.rules t.once.layout t.confirms) (first c) (begins t.once c) t.confirms
+      (λ path. cuts_along t.once.rules t.once.layout t.confirms c path)
+  are_campaigns =
+      let r = t.once.rules in
+      let g = t.once.layout in
+      record {
+        listed = λ bound path m. (listed_along r g t.confirms c bound path m).0;
+        path_of = λ bound k m. let p = path_of r g t.confirms c bound k m in (p.0, p.1.member, p.1.cuts_are);
+        order = λ bound path other m n. same_order r g t.confirms c bound path other _ _ (record { member = m; cuts_are = refl }) (record { member = n; cuts_are = refl });
+        none = refl;
+      }
+
+  pub campaign_costs : (twice_kind t.once.rules t.once.layout t.confirms).step + (twice_kind t.once.rules t.once.layout t.confirms).all.entries
+      ≤ most_for_row (begins t.once c).rules (begins t.once c).geometry
+  campaign_costs = omega arith
+
+pub three_more : (1 ≤ 3) × (3 ≤ 16)
+three_more = (omega arith, omega arith)
+
+-- A boot makes some operation at most.
+pub some_operations : (grain : Grain) (g : Geometry) → 1 ≤ most_operations grain g
+some_operations grains.Call g = omega arith
+some_operations grains.Unit g = omega arith
+
+-- A flash that was loaded for three boots more than there are cuts serves for a walk.
+pub campaigns_clear : (t : Twice) (counted : Bool) (c : Content) (bound : ℕ) (f : Seen) → LoadsFor counted (begins t.once c) (bound + 3) f
+    → IsClear (twice_kind t.once.rules t.once.layout t.confirms) bound f
+campaigns_clear t counted c bound f l =
+    let g = t.once.layout in
+    let grain = t.once.rules.grain in
+    let limits = limits_are grain g (bound + 3) f.usage.limits l.room in
+    let some = some_operations grain g in
+    let entries : (bound + 3) * most_operations grain g ≡ bound * most_operations grain g + 3 * most_operations grain g = three bound (most_operations grain g) in
+    let saved : (bound + 3) * most_saved g ≡ bound * most_saved g + 3 * most_saved g = three bound (most_saved g) in
+    record {
+      none = l.none;
+      counts = ap (λ (x : Usage). x.counts) l.usage_is;
+      layout_is = l.geometry_is;
+      roomy = record {
+        entries = omega (arith, limits.for_entries, entries, some);
+        saved = omega (arith, limits.for_saved, saved);
+        checkpoints = omega (arith, limits.for_checkpoints);
+      };
+    }
+  where
+    three : (n m : ℕ) → (n + 3) * m ≡ n * m + 3 * m
+    three n m = omega arith

@@ -1,0 +1,201 @@
+//! Campaigns, as what an explorer goes through.
+ghost use Rattle.std.specs.Prelude.{◌≡◌, ◌≤◌, true, length};
+ghost use Rattle.mc_campaign.specs.Boots.{cuts_along};
+ghost use Rattle.mc_campaign.specs.View.{begun_of};
+
+use crate::campaign::Campaign;
+use crate::cursor::CampaignCursor;
+use crate::following;
+use crate::rounds::Twice;
+use crate::row::CampaignRow;
+use mc_boot::restart_law;
+use mc_explore::{Fields, Labels, Line, Once, RowsAhead, Schedule, Start, Subject, TreeExplorer};
+use mc_flash::{Flash, FlashError};
+use mc_walk::Walk;
+use std::alloc::{AllocError, Global};
+
+/// Goes through all campaigns of at most so many cuts that can occur, in their order, each with the outcomes of both rounds, over
+/// one flash, which it loads for three boots more than there are cuts. Its choice is whether the image confirms itself between
+/// the rounds.
+pub type CampaignExplorer<'a, F> = TreeExplorer<'a, F, Twice>;
+
+// The campaign of the path at whose end a walk stands.
+fn campaign_at<F: Flash>(walk: &Walk<F, Twice>) -> Campaign
+    requires stands { walk.now.stands ≡ true }
+    requires few { length walk.now.path ≤ 16 }
+    ensures { result ≡ cuts_along walk.now.branches.once.rules walk.now.branches.once.layout
+        walk.now.branches.confirms (begun_of walk.now).content walk.now.path }
+{
+    let mut campaign = Campaign::new();
+    let mut step = 0;
+    'cuts: while let Some((round, place)) = walk.label(step) {
+        campaign.push(round, place);
+        step += 1;
+    }
+    campaign
+}
+
+impl Subject for Twice {
+    ghost use Rattle.std.specs.Prelude.{◌≡◌, None};
+    ghost use Rattle.mc_tree.specs.facts.Precedence.{pairs_in_order};
+    ghost use Rattle.mc_explore.specs.Once.{begins};
+    ghost use Rattle.mc_boot.specs.PowerOn.{PowerOn};
+    ghost use Rattle.mc_start.specs.Start.{start_digest};
+    ghost use Rattle.mc_campaign.specs.Cursor.{cursor_of, fields_of};
+    ghost use Rattle.mc_campaign.specs.Rest.{campaigns};
+    ghost use Rattle.mc_campaign.specs.State as states;
+    ghost use Rattle.mc_campaign.specs.facts.Keys.{are_campaigns, campaign_costs, campaigns_clear, three_more};
+    ghost use Rattle.mc_campaign.specs.facts.Listed.{some_rest};
+
+    ghost Shown = { states.Told };
+
+    type Choice = bool;
+
+    type Key = Campaign;
+
+    type Row = CampaignRow;
+
+    type Cursor = CampaignCursor;
+
+    type Until = ();
+
+    // Each row is told by the flash.
+    type Kept = ();
+
+    type Ahead = ();
+
+    ghost subject = { campaigns };
+
+    ghost begins = { λ t c. begins t.once c };
+
+    ghost choice = { λ t. t.confirms };
+
+    ghost key_of = { λ t c path. cuts_along t.once.rules t.once.layout t.confirms c path };
+
+    ghost shown = { states.told };
+
+    ghost fields = { fields_of };
+
+    ghost until_of = { λ _. None };
+
+    ghost holds = { λ _ _ _. Unit {0} };
+
+    ghost is_ahead = { λ _ _ _ _ _ _. ⊥ };
+
+    ghost MORE = { 3 };
+
+    const MORE: u32 = 3;
+
+    fn of(start: &Start, chosen: bool) -> Twice {
+        Twice {
+            once: Once {
+                rules: start.rules(),
+                layout: *start.layout(),
+            },
+            confirms: chosen,
+        }
+    }
+
+    fn is_choice(one: &bool, other: &bool) -> bool {
+        *one == *other
+    }
+
+    fn none() -> Campaign {
+        Campaign::new()
+    }
+
+    fn follow<F: Flash>(
+        walk: &mut Walk<F, Twice>,
+        key: &Campaign,
+        start: &Start,
+    ) -> Result<bool, FlashError> {
+        let went = following::follow(walk, key, start)?;
+        Ok(went)
+    }
+
+    fn row<F: Flash>(walk: &Walk<F, Twice>, path: &Schedule) -> CampaignRow {
+        // The path has no more steps than a schedule has cuts.
+        let _cuts = path.cuts();
+        let campaign = campaign_at(walk);
+        let told = walk.told();
+        CampaignRow {
+            campaign,
+            first: told.first.outcome,
+            second: told.second.outcome,
+        }
+    }
+
+    fn kept(_alloc: Global, _start: &Start, _bound: u8) -> Result<(), AllocError> {
+        Ok(())
+    }
+
+    fn arrive<F: Flash>(
+        _kept: &mut (),
+        _walk: &Walk<F, Twice>,
+        _path: &Schedule,
+    ) -> Option<RowsAhead<()>> {
+        None
+    }
+
+    fn row_ahead(_kept: &(), _path: &Schedule, _rows: &RowsAhead<()>) -> CampaignRow {
+        unreachable!()
+    }
+
+    fn key(row: &CampaignRow) -> Campaign {
+        row.campaign
+    }
+
+    fn is_before(_row: &CampaignRow, _until: &()) -> bool {
+        true
+    }
+
+    fn restarts() {
+        restart_law();
+    }
+
+    fn fields(cursor: &CampaignCursor) -> Fields<bool, Campaign> {
+        let digest = cursor.digest;
+        Fields {
+            rules: cursor.rules,
+            choice: cursor.confirms,
+            digest,
+            bound: cursor.bound,
+            key: cursor.campaign,
+        }
+    }
+
+    fn cursor(says: Fields<bool, Campaign>) -> CampaignCursor
+        ensures { (start : PowerOn) → says.rules ≡ start.rules
+            → says.digest ≡ start_digest start → result
+            ≡ cursor_of start says.choice says.bound says.key }
+    {
+        let digest = says.digest;
+        CampaignCursor {
+            rules: says.rules,
+            confirms: says.choice,
+            digest,
+            bound: says.bound,
+            campaign: says.key,
+        }
+    }
+
+    fn put_row(row: &CampaignRow, line: &mut Line, labels: &Labels) {
+        row.put_into(line, labels);
+    }
+
+    fn put_cursor(cursor: &CampaignCursor, line: &mut Line) {
+        cursor.put_into(line);
+    }
+
+    ghost are_keys = { are_campaigns };
+
+    ghost order = { pairs_in_order };
+
+    ghost some_rest = { some_rest };
+
+    ghost costs = { campaign_costs };
+
+    ghost few_more = { three_more };
+
+    ghost clear = { campaigns_clear };
+}

@@ -1,0 +1,10 @@
+use Rattle.std.proofs.Common.{List, ℕ, ap, ◌∙◌}
+use Rattle.mc_explore.specs.Once.{begun_of}
+use Rattle.mc_explore.specs.State.{outcome_after}
+use Rattle.mc_explore.specs.facts.Listed.{lands_told}
+use Rattle.mc_explore.proofs.schedules.OnceSubject.row.Goals as goal
+
+pub returns-clause-outcome : goal.returns-clause-outcome
+returns-clause-outcome g c =
+    let w = c.args.walk.now in
+    ap (λ (l : List ℕ). outcome_after (begun_of w) l) c.requires.path ∙ lands_told (begun_of w) w.path c.requires.listed.1 ∙ c.told.ensures.told_is.outcome_is

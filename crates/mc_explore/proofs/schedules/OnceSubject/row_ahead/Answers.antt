@@ -1,0 +1,17 @@
+use Rattle.std.proofs.Common.{List, ℕ, [], ◌∷◌, ◌++◌, ap, ◌∙◌}
+use Rattle.mc_explore.specs.Once.{begins}
+use Rattle.mc_explore.specs.State.{outcome_after}
+use Rattle.mc_explore.specs.facts.Listed.{lands_told}
+use Rattle.mc_explore.proofs.LastRows.{outcome_there}
+use Rattle.mc_explore.proofs.schedules.OnceSubject.row_ahead.Goals as goal
+
+pub returns : goal.returns
+returns c = λ o s holds are allowed.
+    let x = begins o s in
+    let rows = c.args.rows.now in
+    let kept = c.args.kept.now in
+    let path = c.args.path.now ++ rows.next ∷ [] in (
+      c.push.ensures,
+      ap (λ (l : List ℕ). outcome_after x l) c.push.ensures ∙ lands_told x path allowed
+          ∙ outcome_there x kept.of c.args.path.now kept.outcomes.items rows.ahead rows.count rows.next are c.requires.some c.outcome-outcome.result holds c.outcome-outcome.ensures,
+    )

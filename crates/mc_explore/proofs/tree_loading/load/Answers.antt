@@ -1,0 +1,15 @@
+use Rattle.std.proofs.Common.{sym, subst, ◌+◌}
+use Rattle.mc_boot.specs.PowerOn.{PowerOn}
+use Rattle.mc_start.specs.Start.{begun}
+use Rattle.mc_explore.specs.subjects.Loads.{LoadsFor}
+use Rattle.mc_explore.proofs.tree_loading.load.Goals as goal
+
+pub start-requires : goal.start-requires
+start-requires g c =
+    let x = begun c.args.start.now in
+    let f = g.F.Flash.seen c.in_ok-flash.flash in
+    let many = c.args.bound + g.X.Subject.MORE in
+    let loads = rw (c.layout.ensures.value, c.primary-primary.ensures.value, c.secondary-secondary.ensures.value, c.rules-grain.ensures, c.from.ensures, c.MORE.ensures) at
+    c.in_ok-flash.ensures.loads in
+    let there = subst (λ (y : PowerOn). LoadsFor g.F.Flash.counted y many f) (sym c.of-branches.ensures.begins) loads in
+    rw c.from-2.ensures (g.met.X.Subject.clear c.of-branches.result g.F.Flash.counted x.content c.args.bound f there)

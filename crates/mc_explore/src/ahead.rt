@@ -1,0 +1,25 @@
+//! Rows that are told without the flash.
+ghost use Rattle.std.specs.Prelude.{◌≡◌, ◌<◌, Some, IfSome, MatchOption};
+ghost use Rattle.mc_explore.specs.subjects.Ahead.{IsSpent};
+
+/// The rows of the children of a node, the last of their path, that are told without the flash.
+#[derive(Clone, Copy)]
+pub struct RowsAhead<A> {
+    /// By what they are told.
+    pub ahead: A,
+    /// How many children the node has.
+    pub count: u32,
+    /// The next child.
+    pub next: u32,
+}
+
+/// Those where one is still to come.
+pub(crate) fn still_to_come<A: Copy>(rows: Option<RowsAhead<A>>) -> Option<RowsAhead<A>>
+    ensures { MatchOption result (IfSome rows IsSpent) (λ left. (rows ≡ Some left) × (left.next
+        < left.count)) }
+{
+    match rows {
+        Some(left) if left.next < left.count => Some(left),
+        _ => None,
+    }
+}

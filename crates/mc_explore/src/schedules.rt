@@ -1,0 +1,191 @@
+//! Schedules, as what an explorer goes through.
+use crate::ahead::RowsAhead;
+use crate::labels::Labels;
+use crate::last_cuts::AtCuts;
+use crate::once::Once;
+use crate::row::Row;
+use crate::subject::{Fields, Subject};
+use mc_boot::{Rejoin, restart_law};
+use mc_flash::{Flash, FlashError, most_operations};
+use mc_start::{Cursor, Line, Schedule, Start};
+use mc_walk::Walk;
+use std::alloc::{AllocError, Global};
+
+/// For how many cuts of one boot an explorer keeps what is told there, at the most.
+const MOST_KEPT: u64 = 0x1_0000;
+
+impl Subject for Once {
+    ghost use Rattle.std.specs.Prelude.{◌≡◌};
+    ghost use Rattle.mc_boot.specs.PowerOn.{PowerOn};
+    ghost use Rattle.mc_start.specs.CursorText.{cursor_of};
+    ghost use Rattle.mc_start.specs.Start.{start_digest};
+    ghost use Rattle.mc_tree.specs.facts.Precedence.{paths_in_order};
+    ghost use Rattle.mc_explore.specs.LastCuts.{AreAtCuts, AreLastCuts};
+    ghost use Rattle.mc_explore.specs.Once.{begins};
+    ghost use Rattle.mc_explore.specs.Rest.{fields_of, subject};
+    ghost use Rattle.mc_explore.specs.State as states;
+    ghost use Rattle.mc_explore.specs.facts.Keys.{are_schedules, one_more, schedule_costs, schedules_clear};
+    ghost use Rattle.mc_explore.specs.facts.Listed.{some_rest};
+
+    ghost Shown = { states.Told };
+
+    type Choice = ();
+
+    type Key = Schedule;
+
+    type Row = Row;
+
+    type Cursor = Cursor;
+
+    type Until = Option<Schedule>;
+
+    type Kept = AtCuts;
+
+    type Ahead = Rejoin;
+
+    ghost subject = { subject };
+
+    ghost begins = { begins };
+
+    ghost choice = { λ _. tt };
+
+    ghost key_of = { λ _ _ path. path };
+
+    ghost shown = { states.told };
+
+    ghost fields = { fields_of };
+
+    ghost until_of = { λ until. until };
+
+    ghost holds = { λ o c kept. AreAtCuts (begins o c) kept.of kept.outcomes.items };
+
+    ghost is_ahead = { λ o c kept path rejoin count. AreLastCuts (begins o c) kept.of path
+        kept.outcomes.items rejoin count };
+
+    ghost MORE = { 1 };
+
+    const MORE: u32 = 1;
+
+    fn of(start: &Start, _chosen: ()) -> Once {
+        Once {
+            rules: start.rules(),
+            layout: *start.layout(),
+        }
+    }
+
+    fn is_choice(_one: &(), _other: &()) -> bool {
+        true
+    }
+
+    fn none() -> Schedule {
+        Schedule::new()
+    }
+
+    fn follow<F: Flash>(
+        walk: &mut Walk<F, Once>,
+        key: &Schedule,
+        start: &Start,
+    ) -> Result<bool, FlashError> {
+        let went = walk.follow(key.cuts(), start)?;
+        Ok(went)
+    }
+
+    fn row<F: Flash>(walk: &Walk<F, Once>, path: &Schedule) -> Row {
+        Row {
+            schedule: *path,
+            outcome: walk.told().outcome,
+        }
+    }
+
+    // Below two cuts no boot goes on with another that could be cut as well.
+    fn kept(alloc: Global, start: &Start, bound: u8) -> Result<AtCuts, AllocError> {
+        let most = match bound {
+            0 | 1 => 0,
+            _ => most_operations(start.layout(), start.rules().grain).min(MOST_KEPT),
+        };
+        AtCuts::new(alloc, most as usize)
+    }
+
+    fn arrive<F: Flash>(
+        kept: &mut AtCuts,
+        walk: &Walk<F, Once>,
+        path: &Schedule,
+    ) -> Option<RowsAhead<Rejoin>> {
+        let path = path.cuts();
+        if path.len() == walk.bound() {
+            kept.keep(path, walk.told().outcome);
+            return None;
+        }
+        if path.len() + 1 == walk.bound() {
+            kept.behind(walk, path)
+        } else {
+            None
+        }
+    }
+
+    fn row_ahead(kept: &AtCuts, path: &Schedule, rows: &RowsAhead<Rejoin>) -> Row {
+        let outcome = kept.outcome(&rows.ahead, rows.next);
+        let mut schedule = *path;
+        schedule.push(rows.next);
+        Row { schedule, outcome }
+    }
+
+    fn key(row: &Row) -> Schedule {
+        row.schedule
+    }
+
+    fn is_before(row: &Row, until: &Option<Schedule>) -> bool {
+        match until {
+            Some(until) => row.schedule.is_before(until),
+            None => true,
+        }
+    }
+
+    fn restarts() {
+        restart_law();
+    }
+
+    fn fields(cursor: &Cursor) -> Fields<(), Schedule> {
+        let digest = cursor.digest;
+        Fields {
+            rules: cursor.rules,
+            choice: (),
+            digest,
+            bound: cursor.bound,
+            key: cursor.schedule,
+        }
+    }
+
+    fn cursor(says: Fields<(), Schedule>) -> Cursor
+        ensures { (start : PowerOn) → says.rules ≡ start.rules
+            → says.digest ≡ start_digest start → result ≡ cursor_of start says.bound says.key }
+    {
+        let digest = says.digest;
+        Cursor {
+            rules: says.rules,
+            digest,
+            bound: says.bound,
+            schedule: says.key,
+        }
+    }
+
+    fn put_row(row: &Row, line: &mut Line, labels: &Labels) {
+        row.put_into(line, labels);
+    }
+
+    fn put_cursor(cursor: &Cursor, line: &mut Line) {
+        cursor.put_into(line);
+    }
+
+    ghost are_keys = { are_schedules };
+
+    ghost order = { paths_in_order };
+
+    ghost some_rest = { some_rest };
+
+    ghost costs = { schedule_costs };
+
+    ghost few_more = { one_more };
+
+    ghost clear = { schedules_clear };
+}

@@ -1,0 +1,220 @@
+//! What is explored.
+use crate::ahead::RowsAhead;
+use crate::labels::Labels;
+use mc_flash::{Flash, FlashError};
+use mc_start::{Line, Schedule, Start};
+use mc_trailer::Rules;
+use mc_walk::{Branches, Walk};
+use std::alloc::{AllocError, Global};
+
+/// What a cursor says: where to go on, of a start (told by its digest) under some rules and a choice, with so many cuts at most.
+#[derive(Clone, Copy)]
+pub struct Fields<C, K> {
+    pub rules: Rules,
+    pub choice: C,
+    pub digest: [u8; 32],
+    pub bound: u8,
+    pub key: K,
+}
+
+/// A kind of tree whose paths are gone through as rows, each found by a key.
+pub trait Subject: Branches<Known = Start> {
+    ghost use Rattle.std.specs.Prelude.{◌≡◌, ◌≢◌, ◌↔◌, ℕ, ◌+◌, ◌<◌, ◌≤◌, Bool, ◌^◌, List, [], ◌∷◌, length, ◌++◌, Option, true, false, IfOk, IfErr, IfSome, OnOk};
+    ghost use Rattle.mc_tree.specs.Tree.{Allowed};
+    ghost use Rattle.mc_tree.specs.facts.Precedence.{IsOrder};
+    ghost use Rattle.mc_flash.specs.Content.{Content};
+    ghost use Rattle.mc_flash.specs.Geometry.{IsLayout};
+    ghost use Rattle.mc_flash.specs.Seen.{Seen};
+    ghost use Rattle.mc_boot.specs.PowerOn.{PowerOn};
+    ghost use Rattle.mc_start.specs.Start.{begun, start_digest};
+    ghost use Rattle.mc_walk.specs.Walks.{IsClear, IsPath, origin_of};
+    ghost use Rattle.mc_explore.specs.Listing.{IsRest};
+    ghost use Rattle.mc_explore.specs.Pages.{IsBefore};
+    ghost use Rattle.mc_explore.specs.Subject as subjects;
+    ghost use Rattle.mc_explore.specs.declared.subject.Fields.{Fields as FieldsOf};
+    ghost use Rattle.mc_explore.specs.subjects.Follow.{FollowsKey, IsCalm, IsCheapFor};
+    ghost use Rattle.mc_explore.specs.subjects.Keys.{AreKeys};
+    ghost use Rattle.mc_explore.specs.subjects.Loads.{LoadsFor};
+    ghost use Rattle.mc_explore.specs.subjects.Rowing.{AreFresh};
+    ghost use Rattle.mc_explore.specs.subjects.Rows.{IsRowAt, rows_of};
+    ghost use Rattle.mc_explore.specs.subjects.State.{State};
+
+    ghost Shown: { Type 0 };
+
+    /// What is chosen besides the start.
+    type Choice: Copy;
+
+    /// By what a row is found: the cuts along its path.
+    type Key: Copy;
+
+    /// A row.
+    type Row: Copy;
+
+    /// Where to go on.
+    type Cursor: Copy;
+
+    /// What the rows of a page must come before, if anything.
+    type Until;
+
+    /// What is kept of nodes for the rows that are told without the flash.
+    type Kept: Drop;
+
+    /// By what the rows of the children of a node are told without the flash.
+    type Ahead: Copy;
+
+    ghost subject: { subjects.Subject Self.Choice Self.Key Shown Self.Cursor };
+
+    ghost begins: { Self → Content → PowerOn };
+
+    ghost choice: { Self → Self.Choice };
+
+    ghost key_of: { Self → Content → List ℕ → Self.Key };
+
+    ghost shown: { Self.Row → Shown };
+
+    ghost fields: { Self.Cursor → FieldsOf Self.Choice Self.Key };
+
+    ghost until_of: { Self.Until → Option Self.Key };
+
+    ghost holds: { Self → Content → Self.Kept → Type 0 };
+
+    ghost is_ahead: { Self → Content → Self.Kept → List ℕ → Self.Ahead → ℕ → Type 0 };
+
+    ghost MORE: { ℕ };
+
+    /// For how many boots more than there are cuts the flash is loaded.
+    const MORE: u32;
+
+    /// The kind of tree from a start, under a choice.
+    fn of(start: &Start, chosen: Self::Choice) -> Self
+        ensures begins { begins result (begun start.now).content ≡ begun start.now }
+        ensures choice { choice result ≡ chosen };
+
+    /// Whether two choices are the same.
+    fn is_choice(one: &Self::Choice, other: &Self::Choice) -> bool
+        ensures yes { result ≡ true → one.now ≡ other.now }
+        ensures no { result ≡ false → one.now ≢ other.now };
+
+    /// What stands in place of the last key where there was no row.
+    fn none() -> Self::Key
+        ensures { result ≡ subject.no_key };
+
+    /// Goes from the root along the path of a key, if it is one of those to go through.
+    ///
+    /// # Errors
+    ///
+    /// `Memory` where the flash was refused memory.
+    fn follow<F: Flash>(
+        walk: &mut Walk<F, Self>,
+        key: &Self::Key,
+        start: &Start,
+    ) -> Result<bool, FlashError>
+        requires stands { walk.old.stands ≡ true }
+        requires root { walk.old.path ≡ [] }
+        requires valid { IsLayout (begins walk.old.branches (origin_of walk.old.seen)).geometry }
+        ensures follows { IfOk result (λ went. FollowsKey subject Self.kind begins choice key_of
+            walk.old key.now went walk.new) }
+        ensures calm { OnOk result (IsCalm walk.old.seen walk.new.seen) }
+        ensures cheap { IfOk result (λ went. went ≡ true → walk.old.seen.usage.applied
+            ≤ (Self.kind walk.old.branches).all.entries → IsCheapFor subject begins walk.old
+            walk.new.seen.usage.applied) }
+        ensures err { IfErr result (λ e. e ≡ FlashError.Memory) };
+
+    /// The row of the path at whose end a walk stands.
+    fn row<F: Flash>(walk: &Walk<F, Self>, path: &Schedule) -> Self::Row
+        requires stands { walk.now.stands ≡ true }
+        requires path { path.now ≡ walk.now.path }
+        requires listed { IsPath (Self.kind walk.now.branches) walk.now walk.now.path }
+        ensures key { subject.key (shown result) ≡ key_of walk.now.branches
+            (origin_of walk.now.seen) walk.now.path }
+        ensures outcome { subject.HasOutcome (begins walk.now.branches (origin_of walk.now.seen))
+            (choice walk.now.branches) (shown result) };
+
+    /// Nothing yet, with room for what is kept of an exploration of at most so many cuts.
+    ///
+    /// # Errors
+    ///
+    /// Where an allocation failed.
+    fn kept(alloc: Global, start: &Start, bound: u8) -> Result<Self::Kept, AllocError>
+        ensures { IfOk result (λ kept. (b : Self) (c : Content) → holds b c kept) };
+
+    /// Keeps what is told where a walk came to, and says which rows behind that path are told without the flash.
+    fn arrive<F: Flash>(
+        kept: &mut Self::Kept,
+        walk: &Walk<F, Self>,
+        path: &Schedule,
+    ) -> Option<RowsAhead<Self::Ahead>>
+        requires stands { walk.now.stands ≡ true }
+        requires path { path.now ≡ walk.now.path }
+        requires listed { IsPath (Self.kind walk.now.branches) walk.now walk.now.path }
+        ensures kept { holds walk.now.branches (origin_of walk.now.seen) kept.old
+            → holds walk.now.branches (origin_of walk.now.seen) kept.new }
+        ensures ahead { IfSome result (AreFresh Self.kind holds is_ahead walk.now kept.new
+            path.now) };
+
+    /// The next row of those.
+    fn row_ahead(kept: &Self::Kept, path: &Schedule, rows: &RowsAhead<Self::Ahead>) -> Self::Row
+        requires short { length path.now < 16 }
+        requires some { rows.now.next < rows.now.count }
+        requires small { rows.now.count ≤ 2 ^ 31 }
+        requires told { (b : Self) × (c : Content)
+            × is_ahead b c kept.now path.now rows.now.ahead rows.now.count }
+        ensures { (b : Self) (c : Content) → holds b c kept.now
+            → is_ahead b c kept.now path.now rows.now.ahead rows.now.count
+            → Allowed (Self.kind b).tree ((Self.kind b).root c)
+            (path.now ++ rows.now.next ∷ [])
+            → IsRowAt subject begins choice key_of b c (path.now ++ rows.now.next ∷ [])
+            (shown result) };
+
+    /// The key of a row.
+    fn key(row: &Self::Row) -> Self::Key
+        ensures { result ≡ subject.key (shown row.now) };
+
+    /// Whether a row comes before that, if anything is told.
+    fn is_before(row: &Self::Row, until: &Self::Until) -> bool
+        ensures { (result ≡ true) ↔ IsBefore (rows_of subject) (until_of until.now)
+            (subject.key (shown row.now)) };
+
+    /// What the restart theorem says of the rows.
+    fn restarts()
+        ensures { (start : PowerOn) (c : Self.Choice) (row : Shown)
+            → subject.HasOutcome start c row → subject.Restarts start c row };
+
+    /// What a cursor says.
+    fn fields(cursor: &Self::Cursor) -> Fields<Self::Choice, Self::Key>
+        ensures { result ≡ fields cursor.now };
+
+    /// The cursor that says so.
+    fn cursor(says: Fields<Self::Choice, Self::Key>) -> Self::Cursor
+        ensures { (start : PowerOn) → says.rules ≡ start.rules
+            → says.digest ≡ start_digest start → result
+            ≡ subject.cursor start says.choice says.bound says.key };
+
+    /// Puts the text of a row into an empty line, where there is room for it and more.
+    fn put_row(row: &Self::Row, line: &mut Line, labels: &Labels)
+        requires { line.old ≡ [] }
+        ensures text { line.new ≡ subject.row_text (shown row.now) }
+        ensures length { length line.new < 512 };
+
+    /// Adds the text of a cursor to a line.
+    fn put_cursor(cursor: &Self::Cursor, line: &mut Line)
+        requires { length line.old + 303 ≤ 512 }
+        ensures text { line.new ≡ line.old ++ subject.cursor_text cursor.now }
+        ensures length { length line.new ≤ length line.old + 303 };
+
+    ghost are_keys: { (b : Self) (c : Content) → AreKeys subject (Self.kind b).tree
+        ((Self.kind b).root c) (begins b c) (choice b) (key_of b c) };
+
+    ghost order: { IsOrder subject.Before };
+
+    ghost some_rest: { (state : State Self.Choice Self.Key) → (rows : List Shown)
+        × IsRest (rows_of subject) state rows };
+
+    ghost costs: { (b : Self) (c : Content) → (Self.kind b).step + (Self.kind b).all.entries
+        ≤ subject.most_for_row (begins b c).rules (begins b c).geometry };
+
+    ghost few_more: { (1 ≤ MORE) × (MORE ≤ 16) };
+
+    ghost clear: { (b : Self) (counted : Bool) (c : Content) (bound : ℕ) (f : Seen)
+        → LoadsFor counted (begins b c) (bound + MORE) f → IsClear (Self.kind b) bound f };
+}

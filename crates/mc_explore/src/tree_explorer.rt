@@ -1,0 +1,282 @@
+//! Goes through the rows of a kind of tree, one after another.
+ghost use Rattle.std.specs.Prelude.{◌≡◌, ◌+◌, ◌≤◌, true, length, option_map, IfOk, IfErr, ◌⊎◌};
+ghost use Rattle.mc_flash.specs.Usage.{limits_for};
+ghost use Rattle.mc_start.specs.Start.{begun};
+ghost use Rattle.mc_tree.specs.Paths.{After};
+ghost use Rattle.mc_explore.specs.subjects.Resume.{Resumes};
+ghost use Rattle.mc_explore.specs.subjects.State.{Explores, Finds, GoesOnBehind, Restarts, at_start, row_cost, state_after};
+
+use crate::error::ExploreError;
+use crate::labels::Labels;
+use crate::output::write_text;
+use crate::rows::Rows;
+use crate::source::RowSource;
+use crate::subject::{Fields, Subject};
+use crate::tree_loading::{ask, load};
+use mc_flash::Flash;
+use mc_start::{Line, Start};
+use std::alloc::Global;
+use std::io::Write;
+use std::marker::Model;
+
+/// Goes through all keys of at most so many cuts that can occur, in their order, each with its outcomes, over one flash.
+#[derive(Drop)]
+pub struct TreeExplorer<'a, F: Flash, X: Subject> {
+    start: &'a Start,
+    // What tells the start apart, where a cursor told it.
+    digest: Option<[u8; 32]>,
+    choice: X::Choice,
+    bound: u8,
+    rows: Rows<F, X>,
+    // The key of the last row.
+    last: X::Key,
+    labels: Labels,
+}
+
+impl<'a, F: Flash, X: Subject> Model for TreeExplorer<'a, F, X> {
+    ghost use Rattle.mc_start.specs.Start.{begun};
+    ghost use Rattle.mc_explore.specs.View.{IsDigestOf};
+    ghost use Rattle.mc_walk.specs.Tours.{position_of};
+    ghost use Rattle.mc_explore.specs.subjects.State.{Explored};
+    ghost use Rattle.mc_explore.specs.subjects.View.{explored, IsSound};
+
+    ghost Value = { Explored X.Choice X.Key };
+
+    ghost view = { λ e. explored X.begins X.choice e.rows.walk (position_of e.rows.phase e.last) };
+
+    ghost invariant = { λ e. IsSound X.kind X.begins X.choice X.key_of F.counted
+        (begun e.start.now) e.choice e.bound e.rows e.last
+        × IsDigestOf (begun e.start.now) e.digest };
+}
+
+impl<'a, F: Flash + Drop, X: Subject> TreeExplorer<'a, F, X> {
+    /// An explorer at the start, under a choice. It takes its own memory here, and none later but through the flash, which
+    /// it loads for so many boots more than there are cuts as the subject says.
+    ///
+    /// # Errors
+    ///
+    /// `Memory` where an allocation failed.
+    pub fn start(
+        alloc: Global,
+        start: &'a Start,
+        bound: u8,
+        choice: X::Choice,
+    ) -> Result<TreeExplorer<'a, F, X>, ExploreError>
+        requires { bound ≤ 16 }
+        ensures ok { IfOk result (λ explorer. explorer.state
+            ≡ at_start (begun start.now) choice bound) }
+        // No operation is done yet, and a flash that counts has room for exactly so many boots.
+        ensures applied { IfOk result (λ explorer. explorer.usage.applied ≡ 0) }
+        ensures exact { IfOk result (λ explorer. F.counted ≡ true → explorer.usage.limits
+            ≡ limits_for start.now.rules.grain start.now.geometry (bound + X.MORE)) }
+        ensures err { IfErr result (λ e. e ≡ ExploreError.Memory) }
+    {
+        let walk = load(alloc, start, bound, choice)?;
+        let kept = X::kept(alloc, start, bound)?;
+        Ok(TreeExplorer {
+            start,
+            digest: None,
+            choice,
+            bound,
+            rows: Rows::fresh(walk, kept),
+            last: X::none(),
+            labels: Labels::of(start),
+        })
+    }
+
+    /// An explorer that goes on after a key, straight down along its path. It takes memory as one at the start does.
+    ///
+    /// # Errors
+    ///
+    /// `CannotOccur` where it is none of the keys to go through; `Memory`.
+    pub fn after(
+        alloc: Global,
+        start: &'a Start,
+        bound: u8,
+        choice: X::Choice,
+        key: &X::Key,
+    ) -> Result<TreeExplorer<'a, F, X>, ExploreError>
+        requires { bound ≤ 16 }
+        ensures resumes { GoesOnBehind X.subject (begun start.now) choice bound key.now result }
+        ensures cheap { IfOk result (λ explorer. X.subject.IsCheap start.now.rules
+            start.now.geometry bound explorer.usage.applied) }
+        ensures exact { IfOk result (λ explorer. F.counted ≡ true → explorer.usage.limits
+            ≡ limits_for start.now.rules.grain start.now.geometry (bound + X.MORE)) }
+    {
+        let mut walk = load(alloc, start, bound, choice)?;
+        walk.begin(start)?;
+        if !X::follow(&mut walk, key, start)? {
+            return Err(ExploreError::CannotOccur);
+        }
+        let kept = X::kept(alloc, start, bound)?;
+        Ok(TreeExplorer {
+            start,
+            digest: None,
+            choice,
+            bound,
+            rows: Rows::behind(walk, kept),
+            last: *key,
+            labels: Labels::of(start),
+        })
+    }
+
+    /// An explorer that goes on after the key of a cursor, straight down along its path. It takes memory as one at the start
+    /// does.
+    ///
+    /// # Errors
+    ///
+    /// The first of `OtherStart`, `OtherRules` (also for another choice), `OtherBound` and `CannotOccur` that holds of the
+    /// cursor; `Memory`.
+    pub fn resume(
+        alloc: Global,
+        start: &'a Start,
+        bound: u8,
+        choice: X::Choice,
+        cursor: &X::Cursor,
+    ) -> Result<TreeExplorer<'a, F, X>, ExploreError>
+        requires { bound ≤ 16 }
+        ensures resumes { Resumes X.subject (begun start.now) choice bound (X.fields cursor.now)
+            result }
+        ensures cheap { IfOk result (λ explorer. X.subject.IsCheap start.now.rules
+            start.now.geometry bound explorer.usage.applied) }
+        ensures exact { IfOk result (λ explorer. F.counted ≡ true → explorer.usage.limits
+            ≡ limits_for start.now.rules.grain start.now.geometry (bound + X.MORE)) }
+    {
+        let fields = X::fields(cursor);
+        ask::<X>(start, bound, choice, &fields)?;
+        let mut explorer = TreeExplorer::after(alloc, start, bound, choice, &fields.key)?;
+        explorer.digest = Some(fields.digest);
+        Ok(explorer)
+    }
+
+    /// Where to go on behind the last row. Only here the start is hashed, where no cursor told its digest.
+    pub fn cursor(&self) -> X::Cursor
+        ensures { (last : X.Key) → self.now.state.position ≡ After last → result
+            ≡ X.subject.cursor self.now.state.start self.now.state.choice self.now.state.bound
+            last }
+    {
+        let start = self.start;
+        let digest = match self.digest {
+            Some(digest) => digest,
+            None => start.digest(),
+        };
+        X::cursor(Fields {
+            rules: start.rules(),
+            choice: self.choice,
+            digest,
+            bound: self.bound,
+            key: self.last,
+        })
+    }
+
+    /// The next row, and none where there is no further one.
+    ///
+    /// # Errors
+    ///
+    /// `Memory` where the flash was refused memory; from then on always `Failed`.
+    pub fn next_row(&mut self) -> Result<Option<X::Row>, ExploreError>
+        // It is the first row past the position, and there is none exactly where no key is past it.
+        ensures found { IfOk result (λ found. Finds X.subject self.old.state
+            (option_map X.shown found)) }
+        ensures moved { IfOk result (λ found. self.new.state ≡ state_after X.subject self.old.state
+            (option_map X.shown found)) }
+        // The restart theorem, for that row.
+        ensures restarts { IfOk result (λ found. Restarts X.subject self.old.state
+            (option_map X.shown found)) }
+        // What it takes at most, and nothing where there is no row.
+        ensures applied { IfOk result (λ found. self.new.usage.applied ≤ self.old.usage.applied
+            + row_cost X.subject self.old.state (option_map X.shown found)) }
+        // A flash that counts has enough memory. After an error the explorer has failed, and it stays so as it is.
+        ensures explores { Explores F.counted self.old result self.new }
+        ensures err { IfErr result (λ e. (e ≡ ExploreError.Memory) ⊎ (e ≡ ExploreError.Failed)) }
+    {
+        X::restarts();
+        let found = self.rows.next(self.start)?;
+        let Some(row) = found else {
+            return Ok(None);
+        };
+        self.last = X::key(&row);
+        Ok(Some(row))
+    }
+
+    /// The flash as it is.
+    pub fn flash(&self) -> &F
+        ensures content { (F.seen result.now).content ≡ self.now.content }
+        ensures usage { (F.seen result.now).usage ≡ self.now.usage }
+        ensures marked { length (F.seen result.now).checkpoints ≡ self.now.marked }
+    {
+        self.rows.flash()
+    }
+}
+
+impl<'a, F: Flash + Drop, X: Subject> RowSource for TreeExplorer<'a, F, X> {
+    ghost use Rattle.std.specs.Prelude.{refl};
+    ghost use Rattle.mc_explore.specs.subjects.Rows.{are_lawful, rows_of};
+    ghost use Rattle.mc_explore.specs.subjects.State as states;
+
+    ghost State = { states.State X.Choice X.Key };
+
+    ghost Key = { X.Key };
+
+    ghost Shown = { X.Shown };
+
+    ghost Cursor = { X.Cursor };
+
+    type Row = X::Row;
+
+    type Until = X::Until;
+
+    ghost listing = { rows_of X.subject };
+
+    ghost laws = { are_lawful X.subject X.order X.some_rest };
+
+    ghost state = { λ explorer. explorer.state };
+
+    ghost usage = { λ explorer. explorer.usage };
+
+    ghost counted = { F.counted };
+
+    ghost shown = { X.shown };
+
+    ghost until_of = { X.until_of };
+
+    ghost most_for_row = { λ s. X.subject.most_for_row s.start.rules s.start.geometry };
+
+    ghost cost_stays = { λ s k. refl };
+
+    #[inline]
+    fn next_before(&mut self, until: &X::Until) -> Result<Option<X::Row>, ExploreError> {
+        let found = self.next_row()?;
+        if let Some(row) = &found {
+            if !X::is_before(row, until) {
+                return Ok(None);
+            }
+        }
+        Ok(found)
+    }
+
+    fn write_row<W: Write>(
+        &self,
+        row: &X::Row,
+        line: &mut Line,
+        writer: &mut W,
+    ) -> Result<(), ExploreError> {
+        line.clear();
+        X::put_row(row, line, &self.labels);
+        line.put("\n");
+        write_text(writer, line.as_str().as_bytes())
+    }
+
+    fn write_next<W: Write>(&self, writer: &mut W) -> Result<(), ExploreError> {
+        let cursor = self.cursor();
+        let mut line = Line::new();
+        line.put("next ");
+        X::put_cursor(&cursor, &mut line);
+        line.put("\n");
+        write_text(writer, line.as_str().as_bytes())
+    }
+
+    fn give_up(&mut self) {
+        self.rows.give_up();
+    }
+}

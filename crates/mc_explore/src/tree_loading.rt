@@ -1,0 +1,69 @@
+//! The walk from a start through the tree of a subject, and whether a cursor is one of that start.
+ghost use Rattle.std.specs.Prelude.{◌≡◌, ◌+◌, ◌≤◌, true, IfOk, IfErr, OnOk};
+ghost use Rattle.mc_flash.specs.Usage.{limits_for};
+ghost use Rattle.mc_start.specs.Start.{begun};
+ghost use Rattle.mc_explore.specs.subjects.Loads.{IsLoaded};
+ghost use Rattle.mc_explore.specs.subjects.Resume.{Names, Refuses};
+
+use crate::error::ExploreError;
+use crate::subject::{Fields, Subject};
+use mc_flash::{Flash, FlashError};
+use mc_start::Start;
+use mc_walk::Walk;
+use std::alloc::Global;
+
+/// Loads the flash of a start for so many boots more than there are cuts, for a walk from there.
+///
+/// # Errors
+///
+/// `Memory` where an allocation failed.
+pub fn load<F: Flash, X: Subject>(
+    alloc: Global,
+    start: &Start,
+    bound: u8,
+    choice: X::Choice,
+) -> Result<Walk<F, X>, FlashError>
+    requires { bound ≤ 16 }
+    ensures loaded { IfOk result (IsLoaded X.kind X.begins X.choice F.counted (begun start.now)
+        choice bound) }
+    ensures exact { IfOk result (λ walk. F.counted ≡ true → walk.seen.usage.limits
+        ≡ limits_for start.now.rules.grain start.now.geometry (bound + X.MORE)) }
+    ensures err { IfErr result (λ e. e ≡ FlashError.Memory) }
+{
+    let layout = *start.layout();
+    // Reading a field gives the prover that it is a layout.
+    let _sector = layout.sector();
+    let branches = X::of(start, choice);
+    let boots = u32::from(bound) + X::MORE;
+    let grain = start.rules().grain;
+    let (primary, secondary) = (start.primary(), start.secondary());
+    let flash = F::load(alloc, &layout, grain, primary, secondary, boots)?;
+    Walk::start(alloc, branches, usize::from(bound), flash)
+}
+
+/// Whether a cursor is one of this start, this choice and this bound.
+///
+/// # Errors
+///
+/// `OtherStart`, `OtherRules` (also for another choice), `OtherBound`: the first that holds.
+pub fn ask<X: Subject>(
+    start: &Start,
+    bound: u8,
+    choice: X::Choice,
+    fields: &Fields<X::Choice, X::Key>,
+) -> Result<(), ExploreError>
+    ensures names { OnOk result (Names X.subject (begun start.now) choice bound fields.now) }
+    ensures refused { IfErr result (λ e. Refuses X.subject (begun start.now) choice bound fields.now
+        e) }
+{
+    if fields.digest != start.digest() {
+        return Err(ExploreError::OtherStart);
+    }
+    if fields.rules != start.rules() || !X::is_choice(&fields.choice, &choice) {
+        return Err(ExploreError::OtherRules);
+    }
+    if fields.bound != bound {
+        return Err(ExploreError::OtherBound);
+    }
+    Ok(())
+}
