@@ -1,0 +1,4 @@
+mod Worn
+mod Wiping
+mod Booting
+mod Going

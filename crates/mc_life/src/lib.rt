@@ -1,0 +1,14 @@
+//! A device's life, replayed: what can happen to a device, as a script tells it, and what it comes to.
+#![tactic(auto)]
+
+mod boots;
+mod device;
+mod error;
+mod request;
+mod wear;
+mod work;
+
+pub use device::Device;
+pub use error::EventError;
+pub use request::Request;
+pub use wear::Wear;
