@@ -2,3 +2,5 @@ mod Worn
 mod Wiping
 mod Booting
 mod Going
+mod Reading
+mod Lines

@@ -14,12 +14,15 @@ pub enum EventError {
     /// The cut at that place of the event, counted from 0, is the first that can't occur.
     #[error("E53 CannotOccur at {0}")]
     CannotOccur(usize),
-    /// It is one of the running image, and none runs.
-    #[error("E78 NotRunning")]
-    NotRunning,
-    /// There is no such file.
-    #[error("E79 NoFile")]
+    /// The file cannot be opened.
+    #[error("E71 Open")]
     NoFile,
+    /// A line is no event's.
+    #[error("E78 EventSyntax")]
+    Syntax,
+    /// It is one of the running image, and none runs.
+    #[error("E79 NotRunning")]
+    NotRunning,
     /// What is downloaded is longer than the secondary; or what is stored is not as long.
     #[error("E80 NotThatLong")]
     NotThatLong,

@@ -4,11 +4,18 @@
 mod boots;
 mod device;
 mod error;
+mod event;
+mod files;
+mod life;
 mod request;
+mod state;
 mod wear;
 mod work;
 
 pub use device::Device;
 pub use error::EventError;
+pub use event::Event;
+pub use files::File;
+
 pub use request::Request;
 pub use wear::Wear;
