@@ -4,3 +4,4 @@ mod Booting
 mod Going
 mod Reading
 mod Lines
+mod Telling

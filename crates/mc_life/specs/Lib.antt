@@ -9,3 +9,4 @@ pub mod Files
 pub mod Texts
 pub mod States
 pub mod Happens
+pub mod Told

@@ -1,5 +1,5 @@
 -- The lines of a script.
-use Rattle.std.specs.Prelude.{ℕ, ◌==◌, Bool, true, false, if◌then◌else◌, List, [], ◌∷◌}
+use Rattle.std.specs.Prelude.{ℕ, ◌==◌, Bool, true, false, if◌then◌else◌, List, [], ◌∷◌, length, ◌+◌, Option, Some, None}
 
 abbrev pub onto : ℕ → List (List ℕ) → List (List ℕ)
 onto c [] = (c ∷ []) ∷ []
@@ -9,6 +9,16 @@ onto c (line ∷ lines) = (c ∷ line) ∷ lines
 abbrev pub lines_of : List ℕ → List (List ℕ)
 lines_of [] = [] ∷ []
 lines_of (c ∷ cs) = if c == 10 then [] ∷ lines_of cs else onto c (lines_of cs)
+
+-- The lines of what is left, if something is.
+abbrev pub lines_left : Option (List ℕ) → List (List ℕ)
+lines_left None = []
+lines_left (Some text) = lines_of text
+
+-- How many bytes are left, with a line feed before them.
+abbrev pub size_left : Option (List ℕ) → ℕ
+size_left None = 0
+size_left (Some text) = length text + 1
 
 -- A line that tells nothing: it is empty, or begins with `#`.
 abbrev pub is_skipped : List ℕ → Bool

@@ -111,11 +111,11 @@ impl State {
 }
 
 // The first word of the line of an event.
-fn number_line(number: u64) -> Line
+fn number_line(number: u32) -> Line
     ensures { result ≡ decimal number ++ codes " " }
 {
     let mut line = Line::new();
-    line.put_long_number(number);
+    line.put_number(number);
     line.put(" ");
     line
 }
@@ -138,7 +138,7 @@ fn end_line(outcome: &Option<Outcome>, state: &State) -> Line
 ///
 /// `WriteFailed` where a write fails or takes no bytes.
 pub fn write_event<W: Write>(
-    number: u64,
+    number: u32,
     words: &str,
     outcome: &Option<Outcome>,
     state: &State,
