@@ -266,7 +266,7 @@ static FLASHES: [Explanation; 7] = [
         name: "NotErased",
         status: None,
         when: "A write met bytes that are not 0xff.",
-        remedy: "No command ends with it: the boot's result is fault.",
+        remedy: "In a life, request once behind a download; elsewhere the boot's result is fault.",
     },
     Explanation {
         number: 41,
@@ -371,7 +371,7 @@ static EXPLORATIONS: [Explanation; 13] = [
     },
 ];
 
-static COMMANDS: [Explanation; 5] = [
+static COMMANDS: [Explanation; 12] = [
     Explanation {
         number: 70,
         name: "SourceOptions",
@@ -406,5 +406,54 @@ static COMMANDS: [Explanation; 5] = [
         status: Some(2),
         when: "OUTFILE is INFILE, by the same or another path; it would be emptied before it is read.",
         remedy: "Choose another OUTFILE. Nothing was touched.",
+    },
+    Explanation {
+        number: 78,
+        name: "EventSyntax",
+        status: Some(1),
+        when: "A line of the script tells no event.",
+        remedy: "See mcsim life --help for the events: words in lower case, one space between them.",
+    },
+    Explanation {
+        number: 79,
+        name: "NotRunning",
+        status: Some(1),
+        when: "The event is one of the running image, and none runs: the power is off, or the boot failed.",
+        remedy: "Put a boot before it.",
+    },
+    Explanation {
+        number: 80,
+        name: "NotThatLong",
+        status: Some(1),
+        when: "What is downloaded is longer than the secondary, or what is stored is not exactly as long.",
+        remedy: "Check the file and the layout's numbers.",
+    },
+    Explanation {
+        number: 81,
+        name: "NoSector",
+        status: Some(1),
+        when: "The secondary has no such sector; they are counted from 0.",
+        remedy: "Lower the number.",
+    },
+    Explanation {
+        number: 82,
+        name: "CannotMark",
+        status: Some(1),
+        when: "No swap is finished (copy-done is unset), so that the image writes no image-ok.",
+        remedy: "Put a boot that ends a swap before it.",
+    },
+    Explanation {
+        number: 83,
+        name: "DeviceOptions",
+        status: Some(2),
+        when: "What the device is delivered with is not told, or told twice.",
+        remedy: "Give --flash or --image.",
+    },
+    Explanation {
+        number: 84,
+        name: "ScriptText",
+        status: Some(1),
+        when: "The script is not UTF-8 text.",
+        remedy: "Give a script of lines as mcsim life --help shows them.",
     },
 ];

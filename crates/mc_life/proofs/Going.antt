@@ -39,18 +39,6 @@ pub lives_both : (r : Rules) (g : Geometry) (m k n : Moment) (events more : List
 lives_both r g m k n [] more first later = subst (λ (x : Moment). Lives r g x more n) first later
 lives_both r g m k n (e ∷ events) more (j, leads, rest) later = (j, leads, lives_both r g j k n events more rest later)
 
-pub goes_both : (d e f : Standing) (events more : List Event) (ops behind : List Op) → Goes d events ops e → Goes e more behind f → Goes d (events ++ more) (ops ++ behind) f
-goes_both d e f events more ops behind first later = record {
-  lives = λ rested.
-      let a = first.lives rested in
-      let b = later.lives a.0 in
-      let P : Rules → Geometry → Type 0 = λ r g. Lives r g (moment e a.0) more (moment f b.0) in
-      (b.0, lives_both d.rules d.seen.geometry (moment d rested) (moment e a.0) (moment f b.0) events more a.1 (subst (λ g. P d.rules g) first.geometry (subst (λ r. P r e.seen.geometry) first.rules b.1)));
-  rules = later.rules ∙ first.rules;
-  geometry = later.geometry ∙ first.geometry;
-  wear = later.wear ∙ ap (λ (w : Counts). worn w behind) first.wear ∙ worn_both d.wear ops behind;
-}
-
 -- What stays of a device.
 pub record Stays (d e : Standing) (ops : List Op) : Type 0 where
   pub rules : e.rules ≡ d.rules

@@ -5,3 +5,4 @@ mod Going
 mod Reading
 mod Lines
 mod Telling
+mod Worst

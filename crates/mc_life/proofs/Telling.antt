@@ -10,7 +10,14 @@ use Rattle.mc_output.specs.facts.Parting.{AreParts, Lacks}
 use Rattle.mc_start.specs.Start.{Started}
 use Rattle.mc_life.specs.Files.{Named}
 use Rattle.mc_life.specs.Script.{Either, is_skipped, lines_left, lines_of, onto, size_left}
-use Rattle.mc_life.specs.Standing.{IsNew, Standing}
+use Rattle.mc_boot.specs.Life.{Event as Happening, IsDelivered, LifeLaw, Lives, LivesOn, Moment, resting}
+use Rattle.mc_flash.specs.Content.{Content}
+use Rattle.mc_flash.specs.Geometry.{Geometry, IsLayout}
+use Rattle.mc_flash.specs.declared.op.Op.{Op}
+use Rattle.mc_trailer.specs.declared.tables.Rules.{Rules}
+use Rattle.mc_life.proofs.Going.{lives_both}
+use Rattle.mc_life.specs.Happens.{happenings, operations}
+use Rattle.mc_life.specs.Standing.{Goes, IsNew, Standing, moment}
 use Rattle.mc_life.specs.Told.{FailsLife, FailsLine, Happens, IsTold, RefusesLine, StopsAt, Tell, ToldUpTo, life_error, line_text}
 use Rattle.mc_life.specs.declared.life.LineError.{LineError}
 use Rattle.mc_life.specs.declared.life.LineError.TheVariants as errors_of_line
@@ -186,3 +193,46 @@ fails files start script old now later text number line d at words after lines l
 fails files start script old now later text number line d at words after lines less skipped errors_of_line.Write failed = tt
 fails files start script old now later text number line d at words after lines less skipped (errors_of_line.Event why) failed =
     stops files start script old now text number line d at words after lines less skipped why later failed.0 failed.1
+
+-- ---- the life law
+
+-- What the lines tell is one life.
+record IsLife (d e : Standing) : Type 0 where
+  events : List Happening
+  lives : (rested : Content) → (later : Content) × Lives d.rules d.seen.geometry (moment d rested) events (moment e later)
+
+life_first : (d k e : Standing) (events : List Happening) (ops : List Op) → Goes d events ops k → IsLife k e → IsLife d e
+life_first d k e events ops goes life = record {
+  events = events ++ life.events;
+  lives = λ rested.
+      let a = goes.lives rested in
+      let b = life.lives a.0 in
+      let P : Rules → Geometry → Type 0 = λ r g. Lives r g (moment k a.0) life.events (moment e b.0) in
+      (b.0, lives_both d.rules d.seen.geometry (moment d rested) (moment k a.0) (moment e b.0) events life.events a.1 (subst (λ g. P d.rules g) goes.geometry (subst (λ r. P r k.seen.geometry) goes.rules b.1)));
+}
+
+life_by : (b : Bool) (A B : Type 0) (d e : Standing) → (A → IsLife d e) → (B → IsLife d e) → Either b A B → IsLife d e
+life_by true A B d e f h x = f x
+life_by false A B d e f h x = h x
+
+tell_lives : (files : List Named) (number : ℕ) (d : Standing) (lines : List (List ℕ)) (count : ℕ) (e : Standing) (text : List ℕ) → Tell files number d lines count e text → IsLife d e
+tell_lives files number d [] count e text told = subst (λ x. IsLife d x) (sym told.0) (record { events = []; lives = λ rested. (rested, refl) })
+tell_lives files number d (l ∷ lines) count e text told =
+    life_by (is_skipped l) _ _ d e (tell_lives files number d lines count e text)
+    (λ t. life_first d t.0 e (happenings files d t.4.event) (operations d t.4.event) t.4.goes (tell_lives files (number + 1) t.0 lines t.3 e t.2 t.5)) told
+
+pub lives_on : (files : List Named) (start : Started) (script : List ℕ) (old new : Option (List ℕ)) (e : Standing) → IsTold files start script old new e → ((r : Rules) → LifeLaw r) → IsLayout start.geometry
+    → IsDelivered start.geometry start.content → (rested z : Content) × LivesOn start.rules start.geometry (moment e rested) z
+lives_on files start script old new e told law layout delivered =
+    let d = told.told.new in
+    let is = told.told.is_new in
+    let life = tell_lives files 1 d told.told.before told.count e told.text told.told.told in
+    let l = life.lives start.content in
+    let begun : moment d start.content ≡ resting start.content false =
+    ap (λ (s : Content). record { content = s; rested = start.content; runs = d.runs }) is.content ∙ ap (resting start.content) is.runs in
+    let from_start : Lives start.rules start.geometry (resting start.content false) life.events (moment e l.0) =
+    subst (λ (m : Moment). Lives start.rules start.geometry m life.events (moment e l.0)) begun
+    (subst (λ (g : Geometry). Lives start.rules g (moment d start.content) life.events (moment e l.0)) is.geometry
+    (subst (λ (r : Rules). Lives r d.seen.geometry (moment d start.content) life.events (moment e l.0)) is.rules l.1)) in
+    let on = law start.rules start.geometry start.content false life.events (moment e l.0) layout delivered from_start in
+    (l.0, on.0, on.1)

@@ -201,4 +201,12 @@ impl<'a> Event<'a> {
             None => of_word(line),
         }
     }
+
+    /// The file that it names, if it names one.
+    pub fn file(&self) -> Option<&'a str> {
+        match self {
+            Event::Download(file, _) | Event::Store(file) => Some(file),
+            _ => None,
+        }
+    }
 }

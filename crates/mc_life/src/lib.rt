@@ -10,12 +10,15 @@ mod life;
 mod request;
 mod state;
 mod wear;
+mod wear_text;
 mod work;
 
 pub use device::Device;
 pub use error::EventError;
 pub use event::Event;
-pub use files::File;
+pub use files::{File, find};
 
+pub use life::{LifeError, next_line, tell};
 pub use request::Request;
 pub use wear::Wear;
+pub use wear_text::write_wear;

@@ -17,7 +17,7 @@ use crate::error::EventError;
 use crate::event::Event;
 use crate::files::{File, find, image_in, known_at};
 use crate::state::{state_of, write_event};
-use mc_boot::{KnownImage, Outcome};
+use mc_boot::{KnownImage, Outcome, life_law};
 use mc_flash::Flash;
 use mc_output::WriteFailed;
 use mc_start::Start;
@@ -157,8 +157,8 @@ fn tell_line<F: Flash, W: Write>(
     Ok(())
 }
 
-// The first line of a text, and what is left behind it, if something is.
-fn next_line(text: &str) -> (&str, Option<&str>)
+/// The first line of a text, and what is left behind it, if something is.
+pub fn next_line(text: &str) -> (&str, Option<&str>)
     ensures lines { lines_of text.now ≡ result.0.now ∷ lines_left (option_map (λ t. t.now) result.1) }
     ensures less { size_left (option_map (λ t. t.now) result.1) ≤ length text.now }
 {
@@ -223,7 +223,13 @@ pub fn tell<F: Flash, W: Write>(
         (W.contents writer.new)) }
     ensures failed { IfErr result (FailsLife files.now start.now script.now
         (W.contents writer.old) (W.contents writer.new)) }
+    // Whatever the script: a device that can be delivered lives on, and its next boot ends well.
+    ensures lives { IfOk result (λ d. IsDelivered start.now.geometry start.now.content
+        → (rested z : Content) × LivesOn start.now.rules start.now.geometry (moment d rested) z) }
 {
+    life_law();
+    // The layout of a start tells that it is one.
+    let _layout = start.layout();
     let known = known_images(start, files);
     let Ok(mut device) = Device::new(alloc, start) else {
         return Err(LifeError::Memory);

@@ -1,6 +1,6 @@
-use Rattle.std.proofs.Common.{◌≡◌, Some, true, false, option_map, refl, sym, ap, ◌∙◌}
+use Rattle.std.proofs.Common.{◌≡◌, None, Some, true, false, option_map, refl, sym, ap, ◌∙◌}
 use Rattle.mc_life.specs.Script.{is_skipped}
-use Rattle.mc_life.proofs.Telling.{IsAt, begins, fails, skips, tells}
+use Rattle.mc_life.proofs.Telling.{IsAt, begins, ends, lives_on, fails, skips, tells}
 use Rattle.mc_life.proofs.life.tell.Goals as goal
 use Rattle.mc_life.proofs.life.tell.Goals.{then-not-is_skipped+in-Ok-tell_line, else-not-is_skipped}
 
@@ -26,3 +26,11 @@ lines-preserved g c =
       | else-not-is_skipped w ↦
           rw (w.writer-is, w.device-is, w.number-is) (skips _ _ _ _ _ _ _ _ _ here _ _ c.next_line.ensures.lines c.next_line.ensures.less (sym c.is_skipped.ensures ∙ w.if-not-is_skipped.false))
     ]
+
+pub returns-clause-lives : goal.returns-clause-lives
+returns-clause-lives g c =
+    let contents = g.W.Write.contents in
+    let none : c.lines.rest ≡ None = c.in_default-rest.is in
+    let here : IsAt c.args.files.now c.args.start.now c.args.script.now (contents c.args.writer.now) (contents c.lines.writer) None c.lines.number c.lines.line_number c.lines.device =
+    rw none at c.lines.invariant in
+    lives_on _ _ _ _ _ _ (ends _ _ _ _ _ _ _ _ here) c.life_law.ensures.life c.layout-layout.ensures.valid
