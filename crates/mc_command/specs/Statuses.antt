@@ -11,6 +11,9 @@ use Rattle.mc_explore.specs.declared.error.ExploreError.{ExploreError}
 use Rattle.mc_explore.specs.declared.error.ExploreError.TheVariants as explore_errors
 use Rattle.mc_trace.specs.declared.error.TraceError.{TraceError}
 use Rattle.mc_trace.specs.declared.error.TraceError.TheVariants as trace_errors
+use Rattle.mc_life.specs.declared.error.EventError.TheVariants as event_errors
+use Rattle.mc_life.specs.declared.life.LifeError.{LifeError}
+use Rattle.mc_life.specs.declared.life.LifeError.TheVariants as life_errors
 use Rattle.mc_command.specs.declared.refusal.Refusal.{Refusal}
 use Rattle.mc_command.specs.declared.refusal.Refusal.TheVariants as refusals
 
@@ -41,6 +44,13 @@ status_of_trace (trace_errors.CannotOccur _) = 1
 status_of_trace trace_errors.Memory = 3
 status_of_trace trace_errors.Write = 3
 
+-- the status for a life that is not told to its end: 3 where a file, memory or a write failed
+abbrev pub status_of_life : LifeError → ℕ
+status_of_life (life_errors.Refused event_errors.NoFile _ _) = 3
+status_of_life (life_errors.Refused _ _ _) = 1
+status_of_life life_errors.Memory = 3
+status_of_life life_errors.Write = 3
+
 -- the status for an exploration that ends early: 1 where a cursor does not serve, 3 where memory or a write failed
 abbrev pub status_of_exploration : ExploreError → ℕ
 status_of_exploration explore_errors.OtherStart = 1
@@ -60,6 +70,9 @@ status_of refusals.SameFile = 2
 status_of refusals.Unexplained = 2
 status_of refusals.CursorOptions = 2
 status_of refusals.NotAllBoot = 1
+status_of refusals.Device = 2
+status_of refusals.ScriptText = 1
+status_of (refusals.Life e) = status_of_life e
 status_of (refusals.Version _) = 2
 status_of refusals.Source = 2
 status_of (refusals.Layout _) = 2

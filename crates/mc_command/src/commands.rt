@@ -11,6 +11,7 @@ pub mod explain;
 pub mod explore;
 mod infile;
 pub mod layout;
+pub mod life;
 pub mod replay;
 mod schedule;
 pub mod trace;

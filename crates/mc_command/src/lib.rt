@@ -77,6 +77,7 @@ fn run_command<F: Files, R: Read, O: Write>(
         "verify" => commands::verify::run(files, arguments, input, out),
         "dumpinfo" => commands::dumpinfo::run(files, alloc, arguments, input, out),
         "layout" => commands::layout::run(arguments, out),
+        "life" => commands::life::run(files, alloc, arguments, input, out),
         "explain" => commands::explain::run(arguments, out),
         _ => run_boots(files, alloc, name, arguments, out),
     }

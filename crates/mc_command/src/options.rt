@@ -147,7 +147,7 @@ fn source_options<'a>(arguments: &ArgMatches<'a>) -> Result<Source<'a>, Refusal>
 /// # Errors
 ///
 /// `Argument` where one of the texts names nothing.
-fn rules_options(arguments: &ArgMatches<'_>) -> Result<Rules, Refusal>
+pub fn rules_options(arguments: &ArgMatches<'_>) -> Result<Rules, Refusal>
     ensures told { IfOk result (TellsRules (found_of arguments.now)) }
     ensures taken { (rules : Rules) → TellsRules (found_of arguments.now) rules → IsOk result }
 {

@@ -1,13 +1,14 @@
 //! Why a command ended without a result, and the status for it.
 ghost use Rattle.std.specs.Prelude.{◌≡◌, ◌≤◌};
 ghost use Rattle.mc_command.specs.Statuses.{status_of, status_of_start, status_of_replay, status_of_trace, status_of_tool};
-ghost use Rattle.mc_command.specs.Statuses.{status_of_exploration};
+ghost use Rattle.mc_command.specs.Statuses.{status_of_exploration, status_of_life};
 
 use crate::numbers::NumberOption;
 use mc_explore::{CursorError, ExploreError, ReplayError, ScheduleError, StartError};
 use mc_flash::{FlashError, LayoutError};
 use mc_image::{ImageError, VersionError};
 use mc_imgtool::ToolError;
+use mc_life::{EventError, LifeError};
 use mc_trace::TraceError;
 use std::io::Write;
 use thiserror::Error;
@@ -48,6 +49,9 @@ pub enum Refusal {
     /// The schedule is not told.
     #[error(transparent)]
     Trace(#[from] TraceError),
+    /// The life is not told to its end.
+    #[error(transparent)]
+    Life(#[from] LifeError),
     /// The exploration ends early.
     #[error(transparent)]
     Explore(ExploreError),
@@ -66,6 +70,12 @@ pub enum Refusal {
     /// A schedule that was counted does not end in a boot.
     #[error("E74 NotAllBoot")]
     NotAllBoot,
+    /// What a device is delivered with is not told, or twice.
+    #[error("E83 DeviceOptions")]
+    Device,
+    /// The script is not UTF-8 text.
+    #[error("E84 ScriptText")]
+    ScriptText,
     /// The file that is to be written is one that is read.
     #[error("E75 SameFile")]
     SameFile,
@@ -105,11 +115,13 @@ impl Refusal {
             | Refusal::Source
             | Refusal::Unexplained
             | Refusal::CursorOptions
+            | Refusal::Device
             | Refusal::SameFile
             | Refusal::Layout(_)
             | Refusal::Schedule(_)
             | Refusal::Cursor(_) => 2,
-            Refusal::NotAllBoot => 1,
+            Refusal::NotAllBoot | Refusal::ScriptText => 1,
+            Refusal::Life(error) => life_status(*error),
             Refusal::Start(error) => start_status(*error),
             Refusal::Replay(error) => replay_status(*error),
             Refusal::Trace(error) => trace_status(*error),
@@ -164,6 +176,17 @@ fn trace_status(error: TraceError) -> u8
     match error {
         TraceError::CannotOccur(_) => 1,
         TraceError::Memory | TraceError::Write => 3,
+    }
+}
+
+/// The status for a life that is not told to its end.
+fn life_status(error: LifeError) -> u8
+    ensures exact { result ≡ status_of_life error }
+    ensures range { (1 ≤ result) × (result ≤ 3) }
+{
+    match error {
+        LifeError::Refused(EventError::NoFile, _, _) | LifeError::Memory | LifeError::Write => 3,
+        LifeError::Refused(_, _, _) => 1,
     }
 }
 

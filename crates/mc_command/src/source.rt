@@ -11,17 +11,17 @@ use std::fs;
 use std::rt::Files;
 
 /// The most bytes of a file of an image: as many as a slot may have.
-const GREATEST_IMAGE: u32 = 1 << 24;
+pub(crate) const GREATEST_IMAGE: u32 = 1 << 24;
 
 /// The most bytes of a file of a flash: as many as two slots may have.
-const GREATEST_FLASH: u32 = 1 << 25;
+pub(crate) const GREATEST_FLASH: u32 = 1 << 25;
 
 /// All bytes of a file.
 ///
 /// # Errors
 ///
 /// `Open` where it cannot be opened; `Tool` with `InputTooLong` where it is longer than the limit, `Read`, or `Memory`.
-fn read_file<F: Files>(
+pub(crate) fn read_file<F: Files>(
     files: &F,
     alloc: Global,
     path: &str,

@@ -7,6 +7,7 @@ mod faults;
 mod faulty;
 mod hostile;
 mod layouts;
+mod lives;
 mod pages;
 mod sixteen;
 mod support;

@@ -29,6 +29,8 @@ pub enum Group {
     Survey,
     Census,
     Campaign,
+    Delivery,
+    Life,
     Refusal,
 }
 
@@ -47,6 +49,8 @@ impl Group {
             Group::Sectors => Some("Sectors"),
             Group::Exploration | Group::Survey | Group::Campaign => Some("Exploration"),
             Group::Census => Some("Census"),
+            Group::Delivery => Some("Device (--flash or --image)"),
+            Group::Life => Some("Life"),
         }
     }
 
@@ -67,6 +71,8 @@ impl Group {
             Group::Survey => &SURVEY,
             Group::Census => &CENSUS,
             Group::Campaign => &CAMPAIGN,
+            Group::Delivery => &DELIVERY,
+            Group::Life => &LIFE,
             Group::Refusal => &REFUSAL,
         }
     }
@@ -409,6 +415,39 @@ static CAMPAIGN: [Word; 4] = [
     },
 ];
 
+/// What a device is delivered with.
+static DELIVERY: [Word; 2] = [
+    Word {
+        name: "flash",
+        help: "A dump of both slots, primary first, with their trailers",
+        ..FILE
+    },
+    Word {
+        name: "image",
+        help: "The image in the primary slot; all else is blank",
+        ..FILE
+    },
+];
+
+/// What happens to it.
+static LIFE: [Word; 3] = [
+    Word {
+        name: "SCRIPT",
+        help: "The events, a line each; standard input if left out",
+        ..PLACE
+    },
+    Word {
+        name: "wear",
+        help: "Print at the end how often sectors were erased",
+        ..FLAG
+    },
+    Word {
+        name: "out",
+        help: "Write the flash at the end (primary, then secondary)",
+        ..FILE
+    },
+];
+
 /// What `explain` is told.
 static REFUSAL: [Word; 1] = [Word {
     name: "NUMBER",
@@ -481,12 +520,29 @@ rounds; what lies in the slots, and the next type, for the end. Between the roun
 primary confirms itself with --confirm, else not.
 Rows come in this order: -, 1.0, 1.0,1.0, .., 1.0,2.0, .., 1.1, .., 2.0, 2.0,2.0, ..";
 
+const AFTER_LIFE: &str = "\
+Events, a line each; blank lines, and lines that begin with #, tell none. At the start the power is off:
+  boot [CUTS]              power-on, cut as a schedule says, and then left alone
+  cut N                    power-on, cut after N operations
+While an image runs:
+  download FILE [BYTES]    it erases the secondary and writes the file, or stops after so many bytes
+  request test|perm        it writes the secondary's magic, and for perm image-ok
+  store FILE               the secondary's bytes are those of the file
+  erase N                  it erases a sector of the secondary
+  confirm                  it confirms itself
+  mark BYTES               a confirmation is torn: up to 8 bytes, as 01ff, stand at image-ok
+A line for each event: its number, its words, for a boot RESULT TYPE OPS, then the primary's image, trial
+or settled, the secondary's image, and the type of the next boot:
+  3 boot 9.4 boot test 5 2.0.0+0/80 trial 1.0.0+0/80 revert
+--wear adds a line for each slot: wear SLOT MOST SECTOR ALL: how often its most erased sector was erased,
+the first such sector, and how often all sectors were.";
+
 /// The commands, in the order of the help.
 pub fn commands() -> &'static [Subcommand] {
     &COMMANDS
 }
 
-static COMMANDS: [Subcommand; 14] = [
+static COMMANDS: [Subcommand; 15] = [
     Subcommand {
         name: "create",
         aliases: &["sign"],
@@ -603,6 +659,19 @@ static COMMANDS: [Subcommand; 14] = [
         usage: Some("mcsim campaign <LAYOUT> <SOURCE> --cuts <K> [OPTIONS]"),
         after_help: Some(AFTER_CAMPAIGN),
         groups: &[Group::Layout, Group::Source, Group::Rules, Group::Campaign],
+    },
+    Subcommand {
+        name: "life",
+        aliases: &[],
+        about: "Tell a device's life event by event: downloads, requests, power cuts and boots",
+        usage: Some("mcsim life <LAYOUT> <DEVICE> [SCRIPT] [OPTIONS]"),
+        after_help: Some(AFTER_LIFE),
+        groups: &[
+            Group::Layout,
+            Group::Delivery,
+            Group::Rules,
+            Group::Life,
+        ],
     },
     Subcommand {
         name: "explain",

@@ -22,10 +22,7 @@ pub fn run<O: Write>(arguments: &ArgMatches<'_>, out: &mut O) -> Result<(), Refu
     let name = explanation.name;
     let when = explanation.when;
     let remedy = explanation.remedy;
-    match explanation.status {
-        Some(status) => writeln!(out, "E{number} {name}, exit status {status}"),
-        None => writeln!(out, "E{number} {name}, no exit status"),
-    }
-    .map_err(|_| Refusal::Write)?;
+    let status = explanation.status;
+    writeln!(out, "E{number} {name}, exit status {status}").map_err(|_| Refusal::Write)?;
     write!(out, "{when}\n{remedy}\n").map_err(|_| Refusal::Write)
 }

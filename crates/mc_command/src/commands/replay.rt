@@ -73,8 +73,12 @@ fn tell<F: Files, O: Write>(
     write!(out, "{outcome}").map_err(|_| Refusal::Write)
 }
 
-// Writes the bytes of both slots, the primary's first, to a file that is made, or emptied first.
-fn write_file<F: Files, S: Flash>(files: &F, path: &str, flash: &S) -> Result<(), Refusal> {
+/// Writes the bytes of both slots, the primary's first, to a file that is made, or emptied first.
+///
+/// # Errors
+///
+/// `Open` where it cannot be made; `Write`.
+pub fn write_file<F: Files, S: Flash>(files: &F, path: &str, flash: &S) -> Result<(), Refusal> {
     let mut file = fs::create(files, path).map_err(|_| Refusal::Open)?;
     write_slots(flash, &mut file)?;
     Ok(())

@@ -108,9 +108,9 @@ E22 NeedsSlotSize, exit status 2
 --pad and --confirm need the length of the slot.
 Give --slot-size.
 $ explain 40
-E40 NotErased, no exit status
+E40 NotErased, exit status 1
 A write met bytes that are not 0xff.
-No command ends with it: the boot's result is fault.
+In a life: request once behind a download. In a boot the result is fault.
 ";
 
 #[test]

@@ -1,0 +1,162 @@
+//! `life`: what happens to a device, told event by event.
+ghost use Rattle.std.specs.Prelude.{◌≤◌, ◌^◌, length, IfOk};
+
+use super::replay::write_file;
+use crate::options::{layout_options, rules_options};
+use crate::refusal::Refusal;
+use crate::source::{GREATEST_FLASH, GREATEST_IMAGE, read_file};
+use clap::ArgMatches;
+use mc_explore::{Kind, Start};
+use mc_flash::{Layout, Slot, SnapFlash};
+use mc_imgtool::{ToolError, read_bounded};
+use mc_life::{Device, Event, File, next_line, tell, write_wear};
+use std::alloc::Global;
+use std::io::{Read, Write};
+use std::rt::Files;
+use std::str;
+
+/// The start of a device that is delivered with an image in the primary, all else blank.
+///
+/// # Errors
+///
+/// `Start` where the image is refused, or does not fit, or an allocation failed.
+fn delivered(alloc: Global, layout: &Layout, image: &[u8]) -> Result<Start, Refusal> {
+    let images = Start::from_images(alloc, layout, Kind::None, image, image)?;
+    let primary = images.primary();
+    let size = primary.len() + layout.size(Slot::Secondary) as usize;
+    let mut bytes = Vec::with_capacity(alloc, size).map_err(|_| Refusal::Memory)?;
+    bytes
+        .extend_from_slice(primary)
+        .map_err(|_| Refusal::Memory)?;
+    bytes.resize(size, 0xff).map_err(|_| Refusal::Memory)?;
+    Ok(Start::from_flash(alloc, layout, &bytes)?)
+}
+
+/// The start that the words tell. They are checked before a file is touched.
+///
+/// # Errors
+///
+/// `Layout` and `Argument` of the words; `Device` where not one of `--flash` and `--image` is given; what is refused of the
+/// file.
+fn read_device<F: Files>(
+    files: &F,
+    alloc: Global,
+    arguments: &ArgMatches<'_>,
+) -> Result<Start, Refusal> {
+    let layout = layout_options(arguments)?;
+    let rules = rules_options(arguments)?;
+    let start = match (arguments.get_str("flash"), arguments.get_str("image")) {
+        (Some(path), None) => {
+            let bytes = read_file(files, alloc, path, GREATEST_FLASH)?;
+            Start::from_flash(alloc, &layout, &bytes)?
+        }
+        (None, Some(path)) => {
+            let bytes = read_file(files, alloc, path, GREATEST_IMAGE)?;
+            delivered(alloc, &layout, &bytes)?
+        }
+        _ => return Err(Refusal::Device),
+    };
+    Ok(start.with_rules(rules))
+}
+
+/// Adds the file that a line names, if it names one that is not there yet and that can be opened.
+///
+/// # Errors
+///
+/// `Tool` where a read failed, or the file is too long; `Memory`.
+fn add_file<F: Files>(
+    files: &F,
+    alloc: Global,
+    line: &str,
+    shelf: &mut Vec<File>,
+) -> Result<(), Refusal> {
+    let Some(event) = Event::read(line) else {
+        return Ok(());
+    };
+    let Some(name) = event.file() else {
+        return Ok(());
+    };
+    if mc_life::find(shelf, name).is_some() {
+        return Ok(());
+    }
+    let bytes = match read_file(files, alloc, name, GREATEST_IMAGE) {
+        Ok(bytes) => bytes,
+        // The event that names it is refused.
+        Err(Refusal::Open) => return Ok(()),
+        Err(refusal) => return Err(refusal),
+    };
+    if bytes.len() > GREATEST_IMAGE as usize {
+        return Err(Refusal::Tool(ToolError::InputTooLong));
+    }
+    let file = File::new(alloc, name, bytes).map_err(|_| Refusal::Memory)?;
+    shelf.push(file).map_err(|_| Refusal::Memory)
+}
+
+/// The files that a script names, each once.
+///
+/// # Errors
+///
+/// Those of `add_file`.
+fn read_shelf<F: Files>(files: &F, alloc: Global, script: &str) -> Result<Vec<File>, Refusal> {
+    let mut shelf = Vec::new(alloc);
+    let mut rest = Some(script);
+    'lines: while let Some(text) = rest {
+        let (line, after) = next_line(text);
+        add_file(files, alloc, line, &mut shelf)?;
+        rest = after;
+    }
+    Ok(shelf)
+}
+
+/// The bytes of the script, from its file or from standard input.
+///
+/// # Errors
+///
+/// `Open` where the file cannot be opened; `Tool` where a read failed, or it is too long.
+fn read_script<F: Files, R: Read>(
+    files: &F,
+    alloc: Global,
+    arguments: &ArgMatches<'_>,
+    input: &mut R,
+) -> Result<Vec<u8>, Refusal>
+    ensures { IfOk result (λ bytes. length bytes.items ≤ 2 ^ 24) }
+{
+    let bytes = match arguments.get_str("SCRIPT") {
+        Some(path) => read_file(files, alloc, path, GREATEST_IMAGE)?,
+        None => read_bounded(alloc, input, GREATEST_IMAGE)?,
+    };
+    if bytes.len() > GREATEST_IMAGE as usize {
+        return Err(Refusal::Tool(ToolError::InputTooLong));
+    }
+    Ok(bytes)
+}
+
+/// Tells what happens to a device by a script, a line for each event. With `--wear` it ends with two lines of what was erased, and
+/// where `--out` names a file, the flash at the end is written to it.
+///
+/// # Errors
+///
+/// What refuses the words or their files; `ScriptText`; `Life` with the first event that can't happen: all before it is printed;
+/// `Write`.
+pub fn run<F: Files, R: Read, O: Write>(
+    files: &F,
+    alloc: Global,
+    arguments: &ArgMatches<'_>,
+    input: &mut R,
+    out: &mut O,
+) -> Result<(), Refusal> {
+    let start = read_device(files, alloc, arguments)?;
+    let bytes = read_script(files, alloc, arguments, input)?;
+    let Ok(script) = str::from_utf8(&bytes) else {
+        return Err(Refusal::ScriptText);
+    };
+    let shelf = read_shelf(files, alloc, script)?;
+    let device: Device<SnapFlash> = tell(alloc, &start, script, &shelf, out)?;
+    if arguments.get_flag("wear") {
+        write_wear(device.wear(), out).map_err(|_| Refusal::Write)?;
+    }
+    if let Some(path) = arguments.get_str("out") {
+        write_file(files, path, device.flash())?;
+    }
+    Ok(())
+}

@@ -1,0 +1,8 @@
+mod Worn
+mod Wiping
+mod Booting
+mod Going
+mod Reading
+mod Lines
+mod Telling
+mod Worst

@@ -1,0 +1,36 @@
+use Rattle.std.proofs.Common.{◌≡◌, None, Some, true, false, option_map, refl, sym, ap, ◌∙◌}
+use Rattle.mc_life.specs.Script.{is_skipped}
+use Rattle.mc_life.proofs.Telling.{IsAt, begins, ends, lives_on, fails, skips, tells}
+use Rattle.mc_life.proofs.life.tell.Goals as goal
+use Rattle.mc_life.proofs.life.tell.Goals.{then-not-is_skipped+in-Ok-tell_line, else-not-is_skipped}
+
+pub lines-init : goal.lines-init
+lines-init g c = begins _ _ _ _ _ c.in-Ok.ensures.new
+
+pub returns-in-Err-clause-failed : goal.returns-in-Err-clause-failed
+returns-in-Err-clause-failed g c =
+    let contents = g.W.Write.contents in
+    let here : IsAt c.args.files.now c.args.start.now c.args.script.now (contents c.args.writer.now) (contents c.lines.writer) (Some c.in-Some.text.now) c.lines.number c.lines.line_number c.lines.device =
+    rw c.in-Some.is at c.lines.invariant in
+    rw c.failure.ensures (fails _ _ _ _ _ _ _ _ _ _ here _ _ c.next_line.ensures.lines c.next_line.ensures.less (sym c.is_skipped.ensures ∙ c.if-not-is_skipped.true) c.in-Err.error c.in-Err.ensures.failed)
+
+pub lines-preserved : goal.lines-preserved
+lines-preserved g c =
+    let contents = g.W.Write.contents in
+    let here : IsAt c.args.files.now c.args.start.now c.args.script.now (contents c.args.writer.now) (contents c.lines.writer) (Some c.in-Some.text.now) c.lines.number c.lines.line_number c.lines.device =
+    rw c.in-Some.is at c.lines.invariant in
+    elim c.if-not-is_skipped.branch [
+      | then-not-is_skipped+in-Ok-tell_line w ↦
+          (let told = w.in-Ok-tell_line.ensures.told in
+          rw (w.writer-is, w.device-is, w.number-is) (tells _ _ _ _ _ _ _ _ _ here _ _ c.next_line.ensures.lines c.next_line.ensures.less (sym c.is_skipped.ensures ∙ w.if-not-is_skipped.true) _ told.0 _ told.1 told.2))
+      | else-not-is_skipped w ↦
+          rw (w.writer-is, w.device-is, w.number-is) (skips _ _ _ _ _ _ _ _ _ here _ _ c.next_line.ensures.lines c.next_line.ensures.less (sym c.is_skipped.ensures ∙ w.if-not-is_skipped.false))
+    ]
+
+pub returns-clause-lives : goal.returns-clause-lives
+returns-clause-lives g c =
+    let contents = g.W.Write.contents in
+    let none : c.lines.rest ≡ None = c.in_default-rest.is in
+    let here : IsAt c.args.files.now c.args.start.now c.args.script.now (contents c.args.writer.now) (contents c.lines.writer) None c.lines.number c.lines.line_number c.lines.device =
+    rw none at c.lines.invariant in
+    lives_on _ _ _ _ _ _ (ends _ _ _ _ _ _ _ _ here) c.life_law.ensures.life c.layout-layout.ensures.valid

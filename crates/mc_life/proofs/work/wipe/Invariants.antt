@@ -1,0 +1,16 @@
+use Rattle.std.proofs.Common.{◌≡◌, ◌≤◌, ◌*◌, ◌-◌, ℕ, drop, length, replicate}
+use Rattle.mc_flash.specs.Content.{size_of}
+use Rattle.mc_flash.specs.declared.op.Slot.TheVariants.{Secondary}
+use Rattle.mc_life.specs.Wear.{worn}
+use Rattle.mc_life.specs.Work.{wipes}
+use Rattle.mc_life.proofs.Wiping.{IsWiping}
+use Rattle.mc_life.proofs.work.wipe.Given as goal
+
+abbrev pub invariant-wipe : goal.invariant-wipe
+invariant-wipe g l = record {
+  wiping : IsWiping (g.F.Flash.seen l.fn.flash) (g.F.Flash.seen l.flash) l.left;
+  wear : worn l.wear (wipes l.left) ≡ worn l.fn.wear (wipes (g.F.Flash.seen l.fn.flash).geometry.secondary);
+}
+
+abbrev pub decreases-wipe : goal.decreases-wipe
+decreases-wipe g l = l.left

@@ -1,0 +1,12 @@
+pub mod Wear
+pub mod Standing
+pub mod Work
+pub mod Cuts
+pub mod Refused
+pub mod Events
+pub mod Script
+pub mod Files
+pub mod Texts
+pub mod States
+pub mod Happens
+pub mod Told

@@ -1,0 +1,176 @@
+//! One boot of a device, and what it erases.
+ghost use Rattle.std.specs.List.{between};
+ghost use Rattle.std.specs.Prelude.{◌≡◌, ◌⊎◌, ◌+◌, ◌≤◌, true, [], length, take, IfErr, IfOk, IfSome, IsSomeAnd, OnOk, Some, is_some};
+ghost use Rattle.mc_flash.specs.Apply.{CanTry, IsRange, apply};
+ghost use Rattle.mc_flash.specs.Blank.{is_blank};
+ghost use Rattle.mc_flash.specs.Content.{bytes_of};
+ghost use Rattle.mc_boot.specs.Boot.{progress, to_come, IsBootOf};
+ghost use Rattle.mc_boot.specs.Life.{is_boot};
+ghost use Rattle.mc_boot.specs.Outcome.{outcome_of, shown};
+ghost use Rattle.mc_boot.specs.Plan.{plan};
+ghost use Rattle.mc_boot.specs.PowerOn.{powered};
+ghost use Rattle.mc_boot.specs.Run.{HasCome};
+ghost use Rattle.mc_boot.specs.Runs.{after, left_by, ops_of};
+ghost use Rattle.mc_life.specs.Cuts.{Cuts, cut_ops};
+ghost use Rattle.mc_life.specs.Refused.{RefusesCuts};
+ghost use Rattle.mc_life.specs.Wear.{worn};
+
+use crate::error::EventError;
+use crate::wear::Wear;
+use mc_boot::{Boot, BootResult, KnownImage, Outcome};
+use mc_flash::{Flash, FlashError, Op, Slot, blank};
+use mc_trailer::Rules;
+
+/// Whether an image runs after a boot that ends so.
+pub fn starts(ended: BootResult) -> bool
+    ensures { result ≡ is_boot ended }
+{
+    match ended {
+        BootResult::Boot => true,
+        BootResult::None | BootResult::Panic | BootResult::Fault => false,
+    }
+}
+
+// Whether the bytes of a part of a slot are all 0xff.
+fn is_free<F: Flash>(flash: &F, slot: Slot, at: u32, len: u32) -> bool
+    requires { IsRange (F.seen flash.now).geometry slot at len }
+    ensures { result ≡ is_blank (between at (at + len) (bytes_of (F.seen flash.now).content slot)) }
+{
+    blank(&flash.read(slot)[at as usize..at as usize + len as usize])
+}
+
+// Whether the flash would do an operation.
+#[tactic(auto, unfolding(mc_flash::specs::Apply::apply))]
+fn is_defined<F: Flash>(flash: &F, op: Op) -> bool
+    requires { CanTry (F.seen flash.now).geometry op }
+    ensures { result ≡ is_some (apply (F.seen flash.now).geometry op (F.seen flash.now).content) }
+{
+    match op {
+        Op::Erase(_, _) => true,
+        Op::Program(slot, at, bytes) => is_free(flash, slot, at, bytes.bytes().len() as u32),
+        Op::Copy(from, _, to, offset, len) => {
+            // A slot tells how long it is.
+            let _from = flash.read(from);
+            is_free(flash, to, offset, len)
+        }
+    }
+}
+
+// Runs a boot from power-on until so many operations happened, or to its end.
+fn run<F: Flash>(
+    flash: &mut F,
+    wear: &mut Wear,
+    rules: Rules,
+    until: Option<u32>,
+    known: &[Option<KnownImage<'_>>],
+) -> Result<Boot, FlashError>
+    ensures come { IfOk result (λ boot. HasCome (powered rules (F.seen flash.old)) (progress boot)
+        (F.seen flash.new).content) }
+    ensures below { IfOk result (λ boot. IfSome until (λ n. (progress boot).count ≤ n)) }
+    ensures end { IfOk result (λ boot. (to_come boot ≡ [])
+        ⊎ IsSomeAnd until (λ n. (progress boot).count ≡ n)) }
+    ensures layout { (F.seen flash.new).geometry ≡ (F.seen flash.old).geometry }
+    ensures inside { IfOk result (IsBootOf (F.seen flash.new).geometry) }
+    ensures wear { IfOk result (λ boot. wear.new ≡ worn wear.old
+        (take (progress boot).count (plan (powered rules (F.seen flash.old))).list)) }
+    ensures err { IfErr result (λ e. e ≡ FlashError.Memory) }
+{
+    let mut boot = Boot::cold_among(flash, rules, known);
+    wear.idles();
+    'steps: while until.is_none_or(|until| boot.count() < until) {
+        let Some(op) = boot.peek() else {
+            return Ok(boot);
+        };
+        match boot.step(flash) {
+            Ok(()) => wear.note(op),
+            Err(FlashError::NotErased) => {}
+            Err(FlashError::Memory) => return Err(FlashError::Memory),
+        }
+    }
+    Ok(boot)
+}
+
+/// Runs a boot from power-on, and cuts the power after so many operations. False where it makes no more than that: then it has
+/// come to its end.
+///
+/// # Errors
+///
+/// `Memory`, where the flash can't grow.
+pub fn cut<F: Flash>(
+    flash: &mut F,
+    wear: &mut Wear,
+    rules: Rules,
+    count: u32,
+    known: &[Option<KnownImage<'_>>],
+) -> Result<bool, FlashError>
+    ensures cuts { IfOk result (λ occurs. Cuts (powered rules (F.seen flash.old)) count occurs
+        (F.seen flash.new).content) }
+    ensures layout { (F.seen flash.new).geometry ≡ (F.seen flash.old).geometry }
+    ensures wear { IfOk result (λ occurs. occurs ≡ true → wear.new ≡ worn wear.old
+        (take count (ops_of (powered rules (F.seen flash.old))))) }
+    ensures err { IfErr result (λ e. e ≡ FlashError.Memory) }
+{
+    let boot = run(flash, wear, rules, Some(count), known)?;
+    if boot.count() < count {
+        return Ok(false);
+    }
+    match boot.peek() {
+        Some(op) => Ok(is_defined(flash, op)),
+        None => Ok(false),
+    }
+}
+
+/// Runs a boot from power-on to its end.
+///
+/// # Errors
+///
+/// `Memory`, where the flash can't grow.
+pub fn boot<F: Flash>(
+    flash: &mut F,
+    wear: &mut Wear,
+    rules: Rules,
+    known: &[Option<KnownImage<'_>>],
+) -> Result<Outcome, FlashError>
+    ensures left { let x = powered rules (F.seen flash.old) in IfOk result
+        (λ _. left_by x ≡ Some (F.seen flash.new).content) }
+    ensures outcome { IfOk result (λ o. outcome_of (powered rules (F.seen flash.old))
+        ≡ Some (shown o)) }
+    ensures layout { (F.seen flash.new).geometry ≡ (F.seen flash.old).geometry }
+    ensures wear { IfOk result (λ _. wear.new ≡ worn wear.old
+        (ops_of (powered rules (F.seen flash.old)))) }
+    ensures err { IfErr result (λ e. e ≡ FlashError.Memory) }
+{
+    let boot = run(flash, wear, rules, None, known)?;
+    Ok(boot.outcome_among(flash, known))
+}
+
+/// Runs boots from power-on, each cut after so many operations, one after another.
+///
+/// # Errors
+///
+/// `CannotOccur` with the place of the first cut that can't occur; `Memory`, where the flash can't grow.
+pub fn cut_all<F: Flash>(
+    flash: &mut F,
+    wear: &mut Wear,
+    rules: Rules,
+    cuts: &[u32],
+    known: &[Option<KnownImage<'_>>],
+) -> Result<(), EventError>
+    requires { length cuts.now ≤ 16 }
+    ensures after { OnOk result (after (powered rules (F.seen flash.old)) cuts.now
+        ≡ Some (F.seen flash.new).content) }
+    ensures layout { OnOk result ((F.seen flash.new).geometry ≡ (F.seen flash.old).geometry) }
+    ensures wear { OnOk result (wear.new
+        ≡ worn wear.old (cut_ops (powered rules (F.seen flash.old)) cuts.now)) }
+    ensures refused { IfErr result (RefusesCuts (powered rules (F.seen flash.old)) cuts.now) }
+{
+    wear.idles();
+    let mut place = 0;
+    'cuts: for count in cuts {
+        if !cut(flash, wear, rules, *count, known)? {
+            return Err(EventError::CannotOccur(place));
+        }
+        place += 1;
+    }
+    Ok(())
+}

@@ -1,0 +1,61 @@
+//! Why an event cannot happen, and why a life is not told to its end.
+ghost use Rattle.std.specs.Prelude.{◌≡◌};
+
+use mc_flash::FlashError;
+use std::alloc::AllocError;
+use thiserror::Error;
+
+/// Why an event cannot happen.
+#[derive(Clone, Copy, Debug, PartialEq, Eq, Error)]
+pub enum EventError {
+    /// A byte that is to be written is not 0xff.
+    #[error("E40 NotErased")]
+    NotErased,
+    /// The cut at that place of the event, counted from 0, is the first that can't occur.
+    #[error("E53 CannotOccur at {0}")]
+    CannotOccur(usize),
+    /// The file cannot be opened.
+    #[error("E71 Open")]
+    NoFile,
+    /// A line is no event's.
+    #[error("E78 EventSyntax")]
+    Syntax,
+    /// It is one of the running image, and none runs.
+    #[error("E79 NotRunning")]
+    NotRunning,
+    /// What is downloaded is longer than the secondary; or what is stored is not as long.
+    #[error("E80 NotThatLong")]
+    NotThatLong,
+    /// The secondary has no such sector.
+    #[error("E81 NoSector")]
+    NoSector,
+    /// No swap is finished; or what is to stand at image-ok is longer than its room.
+    #[error("E82 CannotMark")]
+    CannotMark,
+    /// An allocation failed, or the room of a flash that counts is full.
+    #[error("E52 Memory")]
+    Memory,
+}
+
+impl From<FlashError> for EventError {
+    ghost use Rattle.mc_life.specs.Refused.{of_flash};
+
+    ghost from_gives = { λ error e. e ≡ of_flash error };
+
+    fn from(error: FlashError) -> Self {
+        match error {
+            FlashError::NotErased => EventError::NotErased,
+            FlashError::Memory => EventError::Memory,
+        }
+    }
+}
+
+impl From<AllocError> for EventError {
+    ghost use Rattle.mc_life.specs.declared.error.EventError.TheVariants.{Memory};
+
+    ghost from_gives = { λ _ e. e ≡ Memory };
+
+    fn from(_: AllocError) -> Self {
+        EventError::Memory
+    }
+}

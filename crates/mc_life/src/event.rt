@@ -1,0 +1,212 @@
+//! What can happen to a device, as a line of a script tells it.
+ghost use Rattle.std.specs.Prelude.{◌≡◌, ℕ, ◌<◌, ◌≤◌, ◌^◌, List, length, codes, decimal, MatchOption, Some, None, true, false};
+ghost use Rattle.hex.specs.Hex.{IsBytes, encode_lower};
+ghost use Rattle.mc_life.specs.Events.{ReadsEvent, Tells, TellsNone};
+
+use crate::request::Request;
+use mc_flash::Bytes16;
+use mc_output::Line;
+use mc_start::Schedule;
+
+/// What can happen to a device.
+#[derive(Clone, Copy, Debug)]
+pub enum Event<'a> {
+    /// The running image erases the secondary and writes a file from its start, all of it, or until it is stopped after so many
+    /// bytes.
+    Download(&'a str, Option<u32>),
+    /// It requests the secondary's image.
+    Request(Request),
+    /// The bytes of the secondary are those of a file.
+    Store(&'a str),
+    /// It erases a sector of the secondary.
+    Erase(u32),
+    /// It confirms itself.
+    Confirm,
+    /// A confirmation is torn: these bytes stand at the primary's image-ok.
+    Mark(Bytes16),
+    /// The power comes on, is lost as often as there are cuts, and then the boot is left alone.
+    Boot(Schedule),
+    /// The power comes on, and is lost after so many operations.
+    Cut(u32),
+}
+
+// The number that a text writes, without leading zeros.
+fn number_of(text: &str) -> Option<u32>
+    ensures { MatchOption result ((n : ℕ) → n < 2 ^ 32 → text.now ≡ decimal n → ⊥)
+        (λ n. text.now ≡ decimal n) }
+{
+    match text.parse::<u32>() {
+        Ok(number) if itoa::Buffer::new().format(number) == text => Some(number),
+        _ => None,
+    }
+}
+
+// Reads as many bytes as there is room for from lower-case hexadecimal digits. False for every other text.
+fn decode(text: &str, room: &mut [u8]) -> bool
+    requires { length room.old ≤ 8 }
+    ensures read { result ≡ true → text.now ≡ encode_lower room.new }
+    ensures none { result ≡ false → (b : List ℕ) → length b ≡ length room.old → IsBytes b
+        → text.now ≡ encode_lower b → ⊥ }
+    ensures len { length room.new ≡ length room.old }
+{
+    if hex::decode_to_slice(text, room).is_err() {
+        return false;
+    }
+    // Upper case digits are read too.
+    let mut digits = Line::new();
+    digits.put_hex(room);
+    digits.as_str() == text
+}
+
+// What a slice holds are bytes.
+fn bytes_stand(bytes: &[u8])
+    ensures { IsBytes bytes.now }
+{}
+
+// The bytes that lower-case hexadecimal digits write, at most eight.
+fn bytes_of(text: &str) -> Option<Bytes16>
+    ensures { MatchOption result
+        ((b : List ℕ) → length b ≤ 8 → IsBytes b → text.now ≡ encode_lower b → ⊥)
+        (λ b. (length b ≤ 8) × IsBytes b × (text.now ≡ encode_lower b)) }
+{
+    let mut room = [0; 8];
+    let len = text.len() / 2;
+    if 8 < len {
+        return None;
+    }
+    if !decode(text, &mut room[..len]) {
+        return None;
+    }
+    let bytes = &room[..len];
+    bytes_stand(bytes);
+    Some(Bytes16::new(bytes))
+}
+
+// A download of a file, and until when.
+fn download(rest: &str) -> Option<Event<'_>>
+    ensures { MatchOption result (TellsNone (codes "download") (Some rest.now))
+        (Tells (codes "download") (Some rest.now)) }
+{
+    let Some((file, count)) = rest.split_once(' ') else {
+        return Some(Event::Download(rest, None));
+    };
+    match number_of(count) {
+        Some(count) => Some(Event::Download(file, Some(count))),
+        None => None,
+    }
+}
+
+// A request.
+fn request(rest: &str) -> Option<Event<'_>>
+    ensures { MatchOption result (TellsNone (codes "request") (Some rest.now))
+        (Tells (codes "request") (Some rest.now)) }
+{
+    match rest {
+        "test" => Some(Event::Request(Request::Test)),
+        "perm" => Some(Event::Request(Request::Perm)),
+        _ => None,
+    }
+}
+
+// The bytes of a file.
+fn store(rest: &str) -> Option<Event<'_>>
+    ensures { MatchOption result (TellsNone (codes "store") (Some rest.now))
+        (Tells (codes "store") (Some rest.now)) }
+{
+    let Some((_file, _more)) = rest.split_once(' ') else {
+        return Some(Event::Store(rest));
+    };
+    None
+}
+
+// An erase of a sector.
+fn erase(rest: &str) -> Option<Event<'_>>
+    ensures { MatchOption result (TellsNone (codes "erase") (Some rest.now))
+        (Tells (codes "erase") (Some rest.now)) }
+{
+    match number_of(rest) {
+        Some(sector) => Some(Event::Erase(sector)),
+        None => None,
+    }
+}
+
+// A confirmation that is torn.
+fn mark(rest: &str) -> Option<Event<'_>>
+    ensures { MatchOption result (TellsNone (codes "mark") (Some rest.now))
+        (Tells (codes "mark") (Some rest.now)) }
+{
+    match bytes_of(rest) {
+        Some(bytes) => Some(Event::Mark(bytes)),
+        None => None,
+    }
+}
+
+// A boot with cuts.
+fn boot(rest: &str) -> Option<Event<'_>>
+    ensures { MatchOption result (TellsNone (codes "boot") (Some rest.now))
+        (Tells (codes "boot") (Some rest.now)) }
+{
+    match Schedule::read(rest) {
+        Ok(cuts) if !cuts.cuts().is_empty() => Some(Event::Boot(cuts)),
+        _ => None,
+    }
+}
+
+// A power cut.
+fn cut(rest: &str) -> Option<Event<'_>>
+    ensures { MatchOption result (TellsNone (codes "cut") (Some rest.now))
+        (Tells (codes "cut") (Some rest.now)) }
+{
+    match number_of(rest) {
+        Some(count) => Some(Event::Cut(count)),
+        None => None,
+    }
+}
+
+// What one word tells.
+fn of_word<'a>(name: &'a str) -> Option<Event<'a>>
+    ensures { MatchOption result (TellsNone name.now None) (Tells name.now None) }
+{
+    match name {
+        "confirm" => Some(Event::Confirm),
+        "boot" => Some(Event::Boot(Schedule::new())),
+        _ => None,
+    }
+}
+
+// What a first word and what stands behind it tell.
+fn of_words<'a>(name: &'a str, rest: &'a str) -> Option<Event<'a>>
+    ensures { MatchOption result (TellsNone name.now (Some rest.now))
+        (Tells name.now (Some rest.now)) }
+{
+    match name {
+        "download" => download(rest),
+        "request" => request(rest),
+        "store" => store(rest),
+        "erase" => erase(rest),
+        "mark" => mark(rest),
+        "boot" => boot(rest),
+        "cut" => cut(rest),
+        _ => None,
+    }
+}
+
+impl<'a> Event<'a> {
+    /// The event that a line tells, if it tells one.
+    pub fn read(line: &'a str) -> Option<Event<'a>>
+        ensures { ReadsEvent line.now result }
+    {
+        match line.split_once(' ') {
+            Some((name, rest)) => of_words(name, rest),
+            None => of_word(line),
+        }
+    }
+
+    /// The file that it names, if it names one.
+    pub fn file(&self) -> Option<&'a str> {
+        match self {
+            Event::Download(file, _) | Event::Store(file) => Some(file),
+            _ => None,
+        }
+    }
+}

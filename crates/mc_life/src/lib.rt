@@ -1,0 +1,24 @@
+//! A device's life, replayed: what can happen to a device, as a script tells it, and what it comes to.
+#![tactic(auto)]
+
+mod boots;
+mod device;
+mod error;
+mod event;
+mod files;
+mod life;
+mod request;
+mod state;
+mod wear;
+mod wear_text;
+mod work;
+
+pub use device::Device;
+pub use error::EventError;
+pub use event::Event;
+pub use files::{File, find};
+
+pub use life::{LifeError, next_line, tell};
+pub use request::Request;
+pub use wear::Wear;
+pub use wear_text::write_wear;

@@ -1,0 +1,253 @@
+//! A life, told event by event.
+ghost use Rattle.std.specs.Prelude.{◌≡◌, ◌<◌, ◌≤◌, ◌^◌, ◌∷◌, Option, length, option_map, IfErr, IfOk, MatchResult, None, Some, OnOk};
+ghost use Rattle.mc_boot.specs.Life.{IsDelivered, LivesOn};
+ghost use Rattle.mc_boot.specs.Outcome.{shown};
+ghost use Rattle.mc_flash.specs.Content.{Content};
+ghost use Rattle.mc_life.specs.Happens.{Ends, Refuses, happenings, operations};
+ghost use Rattle.mc_life.specs.Files.{file_of};
+ghost use Rattle.mc_boot.specs.Outcome.{Report};
+ghost use Rattle.std.specs.Io.KnownBytes.{Appends};
+ghost use Rattle.mc_life.specs.Script.{is_skipped, lines_left, lines_of, size_left};
+ghost use Rattle.mc_life.specs.Told.{FailsLife, FailsLine, Happens, IsTold, RefusesLine, life_error, line_text};
+ghost use Rattle.mc_life.specs.Standing.{Goes, moment};
+
+
+use crate::device::Device;
+use crate::error::EventError;
+use crate::event::Event;
+use crate::files::{File, find, image_in, known_at};
+use crate::state::{state_of, write_event};
+use mc_boot::{KnownImage, Outcome, life_law};
+use mc_flash::Flash;
+use mc_output::WriteFailed;
+use mc_start::Start;
+use std::alloc::Global;
+use std::io::Write;
+use thiserror::Error;
+
+/// Why a life is not told to its end.
+#[derive(Clone, Copy, Debug, PartialEq, Eq, Error)]
+pub enum LifeError {
+    /// The event of that number, in the line of that number, can't happen, or its line tells none; both are counted from 1. All
+    /// before it is out.
+    #[error("{0}, event {1}, line {2}")]
+    Refused(EventError, u32, u32),
+    /// An allocation failed, or the room of a flash that counts is full.
+    #[error("E52 Memory")]
+    Memory,
+    /// A write failed, or took no bytes.
+    #[error("E25 Write")]
+    Write,
+}
+
+/// The most bytes of an image.
+const MOST_IMAGE: usize = 1 << 24;
+
+// Whether a line tells nothing: it is empty, or begins with `#`.
+fn is_skipped(line: &str) -> bool
+    ensures { result ≡ is_skipped line.now }
+{
+    match line.as_bytes().first() {
+        Some(first) => *first == b'#',
+        None => true,
+    }
+}
+
+// What a file holds.
+fn held<'a>(files: &'a [File], name: &str) -> Result<&'a [u8], EventError>
+    ensures { MatchResult result (λ bytes. file_of files.now name.now ≡ Some bytes.now)
+        (λ e. (file_of files.now name.now ≡ None) × (e ≡ EventError.NoFile)) }
+{
+    match find(files, name) {
+        Some(bytes) => Ok(bytes),
+        None => Err(EventError::NoFile),
+    }
+}
+
+// An event happens to a device. A boot ends with an outcome.
+fn happen<F: Flash>(
+    device: &mut Device<F>,
+    alloc: Global,
+    event: &Event<'_>,
+    files: &[File],
+    known: &[Option<KnownImage<'_>>],
+) -> Result<Option<Outcome>, EventError>
+    ensures goes { OnOk result (Goes device.old (happenings files.now device.old event.now)
+        (operations device.old event.now) device.new) }
+    ensures ends { IfOk result (λ o. Ends device.old event.now (option_map shown o)) }
+    ensures refused { IfErr result (Refuses files.now device.old event.now) }
+{
+    match event {
+        Event::Download(file, bytes) => device.download(alloc, held(files, file)?, *bytes)?,
+        Event::Request(request) => device.request(*request)?,
+        Event::Store(file) => device.store(held(files, file)?)?,
+        Event::Erase(sector) => device.erase(*sector)?,
+        Event::Confirm => device.confirm()?,
+        Event::Mark(bytes) => device.mark(alloc, bytes.bytes())?,
+        Event::Boot(cuts) => return Ok(Some(device.boot(cuts.cuts(), known)?)),
+        Event::Cut(count) => device.cut(*count, known)?,
+    }
+    Ok(None)
+}
+
+// Why a line is not told.
+#[derive(Clone, Copy, Debug, PartialEq, Eq)]
+enum LineError {
+    Event(EventError),
+    Write,
+}
+
+impl From<EventError> for LineError {
+    ghost use Rattle.mc_life.specs.declared.life.LineError.TheVariants.{Event};
+
+    ghost from_gives = { λ why e. e ≡ Event why };
+
+    fn from(why: EventError) -> Self {
+        LineError::Event(why)
+    }
+}
+
+impl From<WriteFailed> for LineError {
+    ghost use Rattle.mc_life.specs.declared.life.LineError.TheVariants.{Write};
+
+    ghost from_gives = { λ _ e. e ≡ Write };
+
+    fn from(_: WriteFailed) -> Self {
+        LineError::Write
+    }
+}
+
+// What a line tells happens to a device.
+fn happen_line<F: Flash>(
+    device: &mut Device<F>,
+    alloc: Global,
+    line: &str,
+    files: &[File],
+    known: &[Option<KnownImage<'_>>],
+) -> Result<Option<Outcome>, EventError>
+    ensures happens { IfOk result (λ o. Happens files.now line.now device.old device.new
+        (option_map shown o)) }
+    ensures refused { IfErr result (RefusesLine files.now line.now device.old) }
+{
+    match Event::read(line) {
+        Some(event) => happen(device, alloc, &event, files, known),
+        None => Err(EventError::Syntax),
+    }
+}
+
+// Tells a line that is not skipped.
+fn tell_line<F: Flash, W: Write>(
+    device: &mut Device<F>,
+    alloc: Global,
+    number: u32,
+    line: &str,
+    files: &[File],
+    known: &[Option<KnownImage<'_>>],
+    writer: &mut W,
+) -> Result<(), LineError>
+    ensures told { OnOk result ((o : Option Report) × Happens files.now line.now device.old
+        device.new o × Appends (W.contents writer.old) (W.contents writer.new)
+        (line_text number line.now o device.new)) }
+    ensures failed { IfErr result (FailsLine files.now line.now device.old
+        (W.contents writer.old) (W.contents writer.new)) }
+{
+    let outcome = happen_line(device, alloc, line, files, known)?;
+    let state = state_of(device.flash(), device.rules(), known);
+    write_event(number, line, &outcome, &state, writer)?;
+    Ok(())
+}
+
+/// The first line of a text, and what is left behind it, if something is.
+pub fn next_line(text: &str) -> (&str, Option<&str>)
+    ensures lines { lines_of text.now ≡ result.0.now ∷ lines_left (option_map (λ t. t.now) result.1) }
+    ensures less { size_left (option_map (λ t. t.now) result.1) ≤ length text.now }
+{
+    match text.split_once('\n') {
+        Some((line, after)) => (line, Some(after)),
+        None => (text, None),
+    }
+}
+
+// The valid image that some bytes begin with, as one that is known.
+fn known_bytes(bytes: &[u8]) -> Option<KnownImage<'_>> {
+    if bytes.len() > MOST_IMAGE {
+        return None;
+    }
+    let id = image_in(bytes, &[])?;
+    Some(KnownImage::new(bytes, id))
+}
+
+// The images that a start and the first files begin with.
+fn known_images<'a>(start: &'a Start, files: &'a [File]) -> [Option<KnownImage<'a>>; 8] {
+    [
+        known_bytes(start.primary()),
+        known_bytes(start.secondary()),
+        known_at(files, 0),
+        known_at(files, 1),
+        known_at(files, 2),
+        known_at(files, 3),
+        known_at(files, 4),
+        known_at(files, 5),
+    ]
+}
+
+// Why a life is not told to its end, where that line is not told.
+fn failure(error: LineError, number: u32, line: u32) -> LifeError
+    ensures { result ≡ life_error error number line }
+{
+    match error {
+        LineError::Event(EventError::Memory) => LifeError::Memory,
+        LineError::Event(why) => LifeError::Refused(why, number, line),
+        LineError::Write => LifeError::Write,
+    }
+}
+
+/// Tells what happens to a device from a start on, by a script: a line for each event, with its number, its words, for a boot its
+/// result, its type and how many operations happened, then the primary's image, whether that is on trial, the secondary's image,
+/// and the type of the next boot. The device at the end. At the start the power is off.
+///
+/// The images that the start and the first six files begin with are hashed once.
+///
+/// # Errors
+///
+/// `Refused` with the first event that can't happen, or the first line that tells none: all before it is out. `Memory`. `Write`.
+pub fn tell<F: Flash, W: Write>(
+    alloc: Global,
+    start: &Start,
+    script: &str,
+    files: &[File],
+    writer: &mut W,
+) -> Result<Device<F>, LifeError>
+    requires { length script.now ≤ 2 ^ 24 }
+    ensures told { IfOk result (IsTold files.now start.now script.now (W.contents writer.old)
+        (W.contents writer.new)) }
+    ensures failed { IfErr result (FailsLife files.now start.now script.now
+        (W.contents writer.old) (W.contents writer.new)) }
+    // Whatever the script: a device that can be delivered lives on, and its next boot ends well.
+    ensures lives { IfOk result (λ d. IsDelivered start.now.geometry start.now.content
+        → (rested z : Content) × LivesOn start.now.rules start.now.geometry (moment d rested) z) }
+{
+    life_law();
+    // The layout of a start tells that it is one.
+    let _layout = start.layout();
+    let known = known_images(start, files);
+    let Ok(mut device) = Device::new(alloc, start) else {
+        return Err(LifeError::Memory);
+    };
+    let mut number = 1;
+    let mut line_number = 1;
+    let mut rest = Some(script);
+    'lines: while let Some(text) = rest {
+        let (line, after) = next_line(text);
+        if !is_skipped(line) {
+            match tell_line(&mut device, alloc, number, line, files, &known, writer) {
+                Ok(()) => {}
+                Err(error) => return Err(failure(error, number, line_number)),
+            }
+            number += 1;
+        }
+        line_number += 1;
+        rest = after;
+    }
+    Ok(device)
+}
