@@ -73,7 +73,11 @@ tell_more files number at d [] line count e k o text skipped here happens told =
 tell_more files number at d (l ∷ lines) line count e k o text skipped here happens told =
     either (is_skipped l) _ _ _ _ (tell_more files number at d lines line count e k o text skipped here happens)
     (λ t. (
-      t.0, t.1, t.2 ++ line_text at line o k, t.3 + 1, t.4,
+      t.0,
+      t.1,
+      t.2 ++ line_text at line o k,
+      t.3 + 1,
+      t.4,
       tell_more files (number + 1) at t.0 lines line t.3 e k o t.2 skipped (omega (arith, here, t.6)) happens t.5,
       ap (λ n. n + 1) t.6,
       ap (λ (z : List ℕ). z ++ line_text at line o k) t.7 ∙ append_assoc (line_text number l t.1 t.0) t.2 (line_text at line o k),

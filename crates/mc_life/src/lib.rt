@@ -17,7 +17,6 @@ pub use device::Device;
 pub use error::EventError;
 pub use event::Event;
 pub use files::{File, find};
-
 pub use life::{LifeError, next_line, tell};
 pub use request::Request;
 pub use wear::Wear;

@@ -11,7 +11,6 @@ ghost use Rattle.mc_life.specs.Script.{is_skipped, lines_left, lines_of, size_le
 ghost use Rattle.mc_life.specs.Told.{FailsLife, FailsLine, Happens, IsTold, RefusesLine, life_error, line_text};
 ghost use Rattle.mc_life.specs.Standing.{Goes, moment};
 
-
 use crate::device::Device;
 use crate::error::EventError;
 use crate::event::Event;

@@ -81,6 +81,12 @@ pub fn write_wear<W: Write>(wear: &Wear, writer: &mut W) -> Result<(), WriteFail
 {
     let primary = wear.counts(Slot::Primary);
     let secondary = wear.counts(Slot::Secondary);
-    write_line(writer, &slot_line("primary", most_of(primary), total(primary)))?;
-    write_line(writer, &slot_line("secondary", most_of(secondary), total(secondary)))
+    write_line(
+        writer,
+        &slot_line("primary", most_of(primary), total(primary)),
+    )?;
+    write_line(
+        writer,
+        &slot_line("secondary", most_of(secondary), total(secondary)),
+    )
 }

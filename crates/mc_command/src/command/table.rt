@@ -666,12 +666,7 @@ static COMMANDS: [Subcommand; 15] = [
         about: "Tell a device's life event by event: downloads, requests, power cuts and boots",
         usage: Some("mcsim life <LAYOUT> <DEVICE> [SCRIPT] [OPTIONS]"),
         after_help: Some(AFTER_LIFE),
-        groups: &[
-            Group::Layout,
-            Group::Delivery,
-            Group::Rules,
-            Group::Life,
-        ],
+        groups: &[Group::Layout, Group::Delivery, Group::Rules, Group::Life],
     },
     Subcommand {
         name: "explain",

@@ -150,7 +150,12 @@ fn refuses_what_cannot_happen(rt: HostRuntime) -> Result<(), Fail> {
 fn a_read_that_fails_ends_it(rt: HostRuntime) -> Result<(), Fail> {
     let alloc = rt.alloc();
     let line = in_full(alloc, "life WORKED --image first in")?;
-    let ended = ran_over(alloc, line.as_str(), b"boot\n", (0, usize::MAX, Fault::Error))?;
+    let ended = ran_over(
+        alloc,
+        line.as_str(),
+        b"boot\n",
+        (0, usize::MAX, Fault::Error),
+    )?;
     assert_eq!(rt; ended.text(alloc)?.as_str(), "! mcsim: E24 Read\nexit 3\n");
     Ok(())
 }
