@@ -1,25 +1,16 @@
 -- The room of a flash that was loaded for two rounds.
-use Rattle.std.specs.Prelude.{◌≡◌, ℕ, ◌+◌, ◌*◌, ◌≤◌, Bool, List, [], refl}
-use Rattle.std.proofs.Common.{arith, sym, ap, subst, ◌∙◌}
+use Rattle.std.specs.Prelude.{◌≡◌, ℕ, ◌+◌, ◌*◌, ◌≤◌}
+use Rattle.std.proofs.Common.{arith, sym, ap}
 use Rattle.std.proofs.Math.Nat.{mul-le-mul_right}
-use Rattle.mc_flash.specs.Content.{Content}
-use Rattle.mc_flash.specs.Geometry.{Geometry, IsLayout}
-use Rattle.mc_flash.specs.Usage.{Usage, Limits, limits_for, most_operations, most_saved, no_counts}
-use Rattle.mc_flash.specs.Seen.{Seen, Loads}
-use Rattle.mc_flash.specs.Spends.{Allows, LeaveRoom, Spent}
-use Rattle.mc_flash.specs.declared.flash.Grain.{Grain}
-use Rattle.mc_flash.specs.declared.flash.Grain.TheVariants as grains
+use Rattle.mc_flash.specs.Geometry.{Geometry}
+use Rattle.mc_flash.specs.Usage.{Limits, limits_for, most_operations, most_saved, no_counts}
+use Rattle.mc_flash.specs.Seen.{Seen}
+use Rattle.mc_flash.specs.Spends.{Allows, LeaveRoom}
 use Rattle.mc_trailer.specs.declared.tables.Rules.{Rules}
 use Rattle.mc_walk.specs.Stack.{most_at}
-use Rattle.mc_walk.specs.Walks.{IsClear, IsFresh, IsOf, Walked, origin_of}
 use Rattle.mc_boot.specs.Confirm.{one_write}
-use Rattle.mc_boot.specs.PowerOn.{PowerOn}
 use Rattle.mc_explore.specs.Once.{once}
-use Rattle.mc_start.specs.facts.Room.{limits_are}
-use Rattle.mc_campaign.specs.Twice.{twice_kind}
-use Rattle.mc_campaign.specs.declared.rounds.Twice.{Twice}
 use Rattle.mc_campaign.specs.facts.Keys.{some_operations}
-use Rattle.mc_walk.specs.declared.tour.Phase.TheVariants as phases
 
 -- A flash loaded for two boots more than so many cuts have room for, on which no more was counted than those cuts and a boot make, has
 -- room for one write more.

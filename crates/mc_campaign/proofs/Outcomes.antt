@@ -1,36 +1,25 @@
 -- What is told at the end of a path through two rounds.
-use Rattle.std.specs.Prelude.{◌≡◌, ◌≢◌, ◌≤◌, ℕ, Bool, true, false, List, [], length, Some, refl}
-use Rattle.std.proofs.Common.{arith, sym, ap, subst, ◌∙◌}
-use Rattle.mc_tree.specs.Tree as tree
+use Rattle.std.specs.Prelude.{◌≡◌, ℕ, Bool, List, refl}
+use Rattle.std.proofs.Common.{subst, ◌∙◌}
 use Rattle.mc_tree.specs.Tree.{landed}
 use Rattle.mc_tree.specs.Twice.{Place, first, second, in_both}
-use Rattle.mc_tree.specs.Paths as paths
-use Rattle.mc_tree.specs.Paths.{After, IsNextIn, IsOverIn, IsPastIn, Position}
 use Rattle.mc_tree.specs.facts.Rounds.{both_first, both_second, first_of, second_of}
 use Rattle.mc_flash.specs.Content.{Content}
 use Rattle.mc_flash.specs.Geometry.{Geometry}
-use Rattle.mc_flash.specs.Usage.{Limits}
 use Rattle.mc_trailer.specs.declared.tables.Rules.{Rules}
 use Rattle.mc_boot.specs.Outcome.{shown}
-use Rattle.mc_boot.specs.declared.outcome.Outcome.{Outcome}
 use Rattle.mc_walk.specs.Kind.{Kind}
-use Rattle.mc_walk.specs.Tours.{StandsAt, Toured, Visits, position_of}
-use Rattle.mc_walk.specs.Walks.{Walked, IsPath, IsSame, IsThere, origin_of}
-use Rattle.mc_walk.specs.facts.Same.{over_there}
-use Rattle.mc_walk.specs.declared.tour.Phase.{Phase}
-use Rattle.mc_walk.specs.declared.tour.Phase.TheVariants as phases
 use Rattle.mc_explore.specs.Boots.{boots}
 use Rattle.mc_explore.specs.Once.{IsTold}
-use Rattle.mc_boot.specs.PowerOn.{PowerOn, power_on}
+use Rattle.mc_boot.specs.PowerOn.{power_on}
 use Rattle.mc_campaign.specs.Boots.{IsPathOf, cuts_along, rounds, second_start}
-use Rattle.mc_campaign.specs.Campaigns.{IsMember, Precedes}
+use Rattle.mc_campaign.specs.Campaigns.{IsMember}
 use Rattle.mc_campaign.specs.Replay.{AreReplayed}
 use Rattle.mc_campaign.specs.Twice.{AreTold, began_at, later_from, twice_kind}
 use Rattle.mc_campaign.specs.declared.rounds.Both.{Both}
 use Rattle.mc_campaign.specs.declared.rounds.OnWay.{OnWay}
 use Rattle.mc_campaign.specs.declared.rounds.Twice.{Twice}
-use Rattle.mc_campaign.specs.declared.row.CampaignRow.{CampaignRow}
-use Rattle.mc_campaign.specs.facts.Paths.{are_replayed, first_allowed, listed_along, member_of, path_of, same_order}
+use Rattle.mc_campaign.specs.facts.Paths.{are_replayed, first_allowed, listed_along}
 use Rattle.mc_campaign.specs.Cuts.{in_round}
 
 -- The kind of tree that a walk goes through.

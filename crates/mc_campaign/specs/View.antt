@@ -1,19 +1,14 @@
 -- A walk through two rounds, along the path of a campaign.
-use Rattle.std.specs.Prelude.{◌≡◌, ◌≢◌, ◌↔◌, ℕ, ◌<◌, ◌≤◌, Bool, true, false, List, length, Option, Some}
+use Rattle.std.specs.Prelude.{◌≡◌, ◌↔◌, ℕ, ◌<◌, Bool, true, false, List, Option, Some}
 use Rattle.mc_tree.specs.Twice.{Place, label}
 use Rattle.mc_flash.specs.Content.{Content}
 use Rattle.mc_trailer.specs.declared.tables.Rules.{Rules}
-use Rattle.mc_tree.specs.Paths.{Position}
-use Rattle.mc_walk.specs.Tours.{StandsAt, Toured, position_of}
-use Rattle.mc_flash.specs.Geometry.{Geometry, IsLayout}
-use Rattle.mc_flash.specs.Seen.{Seen}
-use Rattle.mc_walk.specs.Walks.{Walked, IsFresh, IsPath, IsSame, origin_of}
-use Rattle.mc_walk.specs.declared.tour.Phase.TheVariants.{Broken}
+use Rattle.mc_flash.specs.Geometry.{Geometry}
+use Rattle.mc_walk.specs.Walks.{Walked, IsPath, IsSame, origin_of}
 use Rattle.mc_boot.specs.PowerOn.{PowerOn}
 use Rattle.mc_explore.specs.Boots.{boots}
 use Rattle.mc_campaign.specs.Boots.{IsPathOf, rounds, second_start}
 use Rattle.mc_campaign.specs.Campaigns.{IsMember}
-use Rattle.mc_campaign.specs.State.{State, Explored}
 use Rattle.mc_campaign.specs.Twice.{twice_kind}
 use Rattle.mc_explore.specs.Once.{begins}
 use Rattle.mc_campaign.specs.declared.rounds.Twice.{Twice}

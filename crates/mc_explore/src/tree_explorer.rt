@@ -192,11 +192,13 @@ impl<'a, F: Flash + Drop, X: Subject> TreeExplorer<'a, F, X> {
     {
         X::restarts();
         let found = self.rows.next(self.start)?;
-        let Some(row) = found else {
-            return Ok(None);
-        };
-        self.last = X::key(&row);
-        Ok(Some(row))
+        match &found {
+            Some(row) => {
+                self.last = X::key(row);
+                Ok(found)
+            }
+            None => Ok(found),
+        }
     }
 
     /// The flash as it is.
