@@ -141,10 +141,12 @@ impl Subject for Twice {
         unreachable!()
     }
 
+    #[inline]
     fn key(row: &CampaignRow) -> Campaign {
         row.campaign
     }
 
+    #[inline]
     fn is_before(_row: &CampaignRow, _until: &()) -> bool {
         true
     }

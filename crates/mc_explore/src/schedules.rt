@@ -123,6 +123,7 @@ impl Subject for Once {
         }
     }
 
+    #[inline]
     fn row_ahead(kept: &AtCuts, path: &Schedule, rows: &RowsAhead<Rejoin>) -> Row {
         let outcome = kept.outcome(&rows.ahead, rows.next);
         let mut schedule = *path;
@@ -130,10 +131,12 @@ impl Subject for Once {
         Row { schedule, outcome }
     }
 
+    #[inline]
     fn key(row: &Row) -> Schedule {
         row.schedule
     }
 
+    #[inline]
     fn is_before(row: &Row, until: &Option<Schedule>) -> bool {
         match until {
             Some(until) => row.schedule.is_before(until),

@@ -192,13 +192,11 @@ impl<'a, F: Flash + Drop, X: Subject> TreeExplorer<'a, F, X> {
     {
         X::restarts();
         let found = self.rows.next(self.start)?;
-        match &found {
-            Some(row) => {
-                self.last = X::key(row);
-                Ok(found)
-            }
-            None => Ok(found),
-        }
+        let Some(row) = found else {
+            return Ok(None);
+        };
+        self.last = X::key(&row);
+        Ok(Some(row))
     }
 
     /// The flash as it is.
