@@ -1,22 +1,21 @@
 -- A boot that goes on step by step, and how far it has come at a cut.
-use Rattle.std.specs.Prelude.{◌≡◌, ℕ, zero, suc, ◌+◌, ◌-◌, ◌<◌, ◌≤◌, ◌⊎◌, nat_lt, Bool, true, false, if◌then◌else◌, List, [], ◌∷◌, ◌++◌, length, take, drop, slice_get, Option, Some, None, is_some, option_and_then, IfSome, IsSomeAnd, Result, Ok, Err, refl}
+use Rattle.std.specs.Prelude.{◌≡◌, ℕ, zero, suc, ◌+◌, ◌<◌, ◌≤◌, ◌⊎◌, nat_lt, Bool, true, false, if◌then◌else◌, List, [], ◌∷◌, ◌++◌, length, take, drop, slice_get, Option, Some, None, is_some, option_and_then, IfSome, IsSomeAnd, Ok, Err, refl}
 use Rattle.std.proofs.Common.{arith, inl, inr, sym, ap, subst, append-nil, append_assoc, drop-cons, get_or, ◌∙◌}
 use Rattle.std.proofs.lemmas.Bool.Decides.{nat_tests}
 use Rattle.std.proofs.lemmas.List.{length-append, take_all, take_at}
-use Rattle.mc_boot.specs.Boot.{Progress, Steps, StepsAlong, begun, refused, stepped}
+use Rattle.mc_boot.specs.Boot.{Progress, Steps, StepsAlong, begun}
 use Rattle.mc_boot.specs.Outcome.{Report, outcome_of}
 use Rattle.mc_boot.specs.Plan.{plan}
 use Rattle.mc_boot.specs.PowerOn.{PowerOn, again, power_on, powered}
 use Rattle.mc_boot.specs.Run.{HasCome}
-use Rattle.mc_boot.specs.Runs.{after, at, cut_at, first_then, happening, left_by, ops_of}
-use Rattle.mc_boot.specs.facts.Run.{come_at, come_count, come_front, come_left, come_ops}
+use Rattle.mc_boot.specs.Runs.{after, at, cut_at, first_then, happening, ops_of}
+use Rattle.mc_boot.specs.facts.Run.{come_at, come_count, come_front, come_ops}
 use Rattle.mc_flash.specs.Apply.{apply, in_slot}
 use Rattle.mc_flash.specs.Blank.{is_blank}
 use Rattle.mc_flash.specs.Content.{Content, bytes_of, put, size_of}
 use Rattle.mc_flash.specs.Geometry.{Geometry}
 use Rattle.mc_flash.specs.Seen.{Seen}
 use Rattle.mc_trailer.specs.declared.tables.Rules.{Rules}
-use Rattle.mc_flash.specs.declared.flash.FlashError.{FlashError}
 use Rattle.mc_flash.specs.declared.flash.FlashError.TheVariants as errors
 use Rattle.mc_flash.specs.declared.op.Op.{Op}
 use Rattle.mc_flash.specs.declared.op.Op.TheVariants.{Copy}

@@ -1,7 +1,7 @@
 -- What happens to a device, as the events that it is.
-use Rattle.std.specs.Prelude.{◌≡◌, ℕ, Bool, true, false, List, [], ◌∷◌, ◌++◌, length, map, take, ◌≤◌, Option, Some, None, option_and_then, option_map, Result, Ok, Err, OnOk, IfErr, if◌then◌else◌, ◌+◌, ◌*◌, ◌%◌, refl}
+use Rattle.std.specs.Prelude.{◌≡◌, ℕ, Bool, true, false, List, [], ◌∷◌, ◌++◌, length, map, ◌≤◌, Option, Some, None, option_and_then, option_map, Result, Ok, Err, OnOk, IfErr, if◌then◌else◌, ◌+◌, refl}
 use Rattle.std.specs.List.{between}
-use Rattle.std.proofs.Common.{arith, inl, inr, sym, ap, subst, append-nil, ◌∙◌}
+use Rattle.std.proofs.Common.{inl, inr, sym, ap, subst, ◌∙◌}
 use Rattle.mc_boot.specs.Confirm.{confirmed}
 use Rattle.mc_boot.specs.Life.{AreSecondary, Event, Leads, Lives, Moment, boot, confirm, cut, is_boot, mark, resting, starts_image, store}
 use Rattle.mc_boot.specs.Outcome.{Report, outcome_of}
@@ -20,7 +20,7 @@ use Rattle.mc_flash.specs.declared.op.Op.TheVariants.{Erase, Program}
 use Rattle.mc_flash.specs.declared.op.Op.{Op}
 use Rattle.mc_flash.specs.declared.op.Slot.TheVariants.{Primary, Secondary}
 use Rattle.mc_trailer.specs.Fields.{one_unit, trailer_of}
-use Rattle.mc_trailer.specs.Places.{place, magic_bytes, room}
+use Rattle.mc_trailer.specs.Places.{magic_bytes, room}
 use Rattle.mc_trailer.specs.Tables.{is_set}
 use Rattle.mc_trailer.specs.declared.places.Field.TheVariants as field
 use Rattle.mc_trailer.specs.declared.tables.Rules.{Rules}
@@ -31,7 +31,7 @@ use Rattle.mc_life.specs.declared.request.Request.{Request}
 use Rattle.mc_life.specs.declared.request.Request.TheVariants as requests
 use Rattle.mc_life.specs.Standing.{Goes, Standing, moment}
 use Rattle.mc_life.specs.Wear.{Counts, worn}
-use Rattle.mc_life.specs.Work.{asked, boots, magic_write, marked, with_image_ok, with_magic}
+use Rattle.mc_life.specs.Work.{boots, magic_write, marked, with_image_ok, with_magic}
 use Rattle.mc_life.proofs.Worn.{worn_both}
 
 -- One life after another.

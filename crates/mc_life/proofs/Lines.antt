@@ -1,11 +1,10 @@
 -- The line of an event comes out in three pieces.
-use Rattle.std.specs.Prelude.{◌≡◌, ℕ, suc, ◌+◌, ◌<◌, ◌≤◌, List, [], ◌∷◌, ◌++◌, length, drop, bytes_eq, true, false, if◌then◌else◌, Option, Some, None, Result, OnOk, OnErr}
+use Rattle.std.specs.Prelude.{◌≡◌, ℕ, suc, ◌+◌, ◌<◌, ◌≤◌, List, [], ◌∷◌, ◌++◌, length, drop, bytes_eq, true, false, if◌then◌else◌, Option, Some, None}
 use Rattle.std.specs.Io.KnownBytes.{Appends}
 use Rattle.std.proofs.Common.{arith, sym, ap, subst, append-nil, get_or, drop-cons, drop_of_length-le, ◌∙◌}
 use Rattle.mc_life.specs.Files.{Named, file_of}
 use Rattle.mc_output.specs.Fronts.{AppendsFront}
 use Rattle.mc_output.specs.facts.Fronts.{IsOut, out_all, out_begun, out_front, out_more}
-use Rattle.mc_output.specs.facts.Results.{on_err, on_ok}
 
 module _ (a w b : List ℕ) (before mid : Option (List ℕ)) where
   pub first_begun : AppendsFront before mid a → AppendsFront before mid (a ++ (w ++ b))

@@ -1,13 +1,12 @@
 -- How the line of an event is read.
-use Rattle.std.specs.Prelude.{◌≡◌, ℕ, ◌+◌, ◌*◌, ◌/◌, ◌<◌, ◌≤◌, ◌^◌, List, [], ◌∷◌, ◌++◌, length, take, drop, codes, decimal, Option, Some, None, Result, Ok, Err, MatchResult, true, is_err, refl}
+use Rattle.std.specs.Prelude.{◌≡◌, ℕ, ◌*◌, ◌<◌, ◌^◌, List, ◌∷◌, ◌++◌, length, take, drop, codes, decimal, Some, None, Result, Ok, Err, MatchResult, true, is_err}
 use Rattle.std.proofs.Common.{arith, get_or, sym, ap, ◌∙◌}
 use Rattle.std.proofs.lemmas.List.{take_at}
-use Rattle.hex.specs.Hex.{IsBytes, decode_sized, encode_lower, encode_with, lower_digits}
+use Rattle.hex.specs.Hex.{IsBytes, decode_sized, encode_lower, lower_digits}
 use Rattle.hex.specs.declared.error.FromHexError.{FromHexError}
 use Rattle.hex.proofs.HexLemmas.{length-encode_with, decode_of-encode_lower, decode_sized-twice}
-use Rattle.mc_output.specs.facts.Parting.{AreParts, Lacks, no_part, one_part}
-use Rattle.mc_life.specs.Events.{Tells, TellsNone, name_of}
-use Rattle.mc_life.specs.declared.event.Event.{Event}
+use Rattle.mc_output.specs.facts.Parting.{AreParts, no_part, one_part}
+use Rattle.mc_life.specs.Events.{TellsNone, name_of}
 use Rattle.mc_life.specs.declared.event.Event.TheVariants as events
 
 some_is : {A : Type 0} (x y : A) → Some x ≡ Some y → x ≡ y

@@ -1,5 +1,5 @@
 -- A script, told line by line.
-use Rattle.std.specs.Prelude.{◌≡◌, ℕ, zero, suc, ◌+◌, ◌<◌, ◌≤◌, ◌^◌, ◌==◌, Bool, true, false, if◌then◌else◌, List, [], ◌∷◌, ◌++◌, length, Option, Some, None, refl}
+use Rattle.std.specs.Prelude.{◌≡◌, ℕ, ◌+◌, ◌≤◌, ◌==◌, Bool, true, false, if◌then◌else◌, List, [], ◌∷◌, ◌++◌, length, Option, Some, None, refl}
 use Rattle.std.specs.Io.KnownBytes.{Appends, Keeps}
 use Rattle.std.proofs.Common.{arith, sym, ap, subst, append_assoc, append-nil, ◌∙◌}
 use Rattle.std.proofs.KnownBytes.{Appends-nil, Appends-trans}
@@ -18,7 +18,7 @@ use Rattle.mc_trailer.specs.declared.tables.Rules.{Rules}
 use Rattle.mc_life.proofs.Going.{lives_both}
 use Rattle.mc_life.specs.Happens.{happenings, operations}
 use Rattle.mc_life.specs.Standing.{Goes, IsNew, Standing, moment}
-use Rattle.mc_life.specs.Told.{FailsLife, FailsLine, Happens, IsTold, RefusesLine, StopsAt, Tell, ToldUpTo, life_error, line_text}
+use Rattle.mc_life.specs.Told.{FailsLife, FailsLine, Happens, IsTold, RefusesLine, StopsAt, Tell, life_error, line_text}
 use Rattle.mc_life.specs.declared.life.LineError.{LineError}
 use Rattle.mc_life.specs.declared.life.LineError.TheVariants as errors_of_line
 use Rattle.mc_life.specs.declared.error.EventError.{EventError}

@@ -1,5 +1,5 @@
 -- What an event of a script is, where it can happen, and what is refused of it.
-use Rattle.std.specs.Prelude.{◌≡◌, ℕ, false, List, [], ◌∷◌, Option, Some, None, ⊤}
+use Rattle.std.specs.Prelude.{◌≡◌, ℕ, List, [], ◌∷◌, Option, Some, None, ⊤}
 use Rattle.mc_boot.specs.Life.{Event as Happening, confirm, cut, mark, store}
 use Rattle.mc_boot.specs.Outcome.{Report}
 use Rattle.mc_boot.specs.PowerOn.{PowerOn, powered}

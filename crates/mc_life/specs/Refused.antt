@@ -1,6 +1,6 @@
 -- What is refused of an event, where it can't happen. For want of memory any may be.
 use Rattle.std.specs.Prelude.{◌≡◌, ◌≢◌, ℕ, ◌<◌, ◌≤◌, ◌⊎◌, true, false, List, length, Option, None, ⊤}
-use Rattle.mc_boot.specs.PowerOn.{PowerOn, powered}
+use Rattle.mc_boot.specs.PowerOn.{PowerOn}
 use Rattle.mc_boot.specs.Writes.{image_ok_write}
 use Rattle.mc_flash.specs.Apply.{apply}
 use Rattle.mc_flash.specs.Geometry.{Geometry}

@@ -1,5 +1,5 @@
 -- A device as callers see it, and the events that lead from where it stands to where it stands later.
-use Rattle.std.specs.Prelude.{◌≡◌, Bool, false, List, IfSome}
+use Rattle.std.specs.Prelude.{◌≡◌, Bool, false, List}
 use Rattle.mc_boot.specs.Life.{Event, Lives, Moment}
 use Rattle.mc_flash.specs.Content.{Content}
 use Rattle.mc_flash.specs.Seen.{Seen}

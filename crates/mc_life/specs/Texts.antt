@@ -1,5 +1,5 @@
 -- What is printed of an event.
-use Rattle.std.specs.Prelude.{ℕ, Bool, true, false, if◌then◌else◌, List, [], ◌∷◌, ◌++◌, codes, decimal, Option, Some, None}
+use Rattle.std.specs.Prelude.{ℕ, Bool, true, false, List, [], ◌∷◌, ◌++◌, codes, decimal, Option, Some, None}
 use Rattle.mc_boot.specs.Life.{DeviceState}
 use Rattle.mc_boot.specs.Outcome.{Report}
 use Rattle.mc_boot.specs.Texts.{result_text}

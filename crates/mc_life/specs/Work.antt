@@ -1,6 +1,6 @@
 -- What a running image does to the flash.
 use Rattle.std.specs.Prelude.{ℕ, zero, suc, List, [], ◌∷◌, ◌++◌, map, replicate, take, Option, Some, None}
-use Rattle.mc_boot.specs.Life.{Event, boot, cut, store}
+use Rattle.mc_boot.specs.Life.{Event, boot, cut}
 use Rattle.mc_flash.specs.Content.{Content, put, size_of, with_bytes}
 use Rattle.mc_flash.specs.Geometry.{Geometry}
 use Rattle.mc_flash.specs.declared.op.Op.{Op}

@@ -1,4 +1,4 @@
-use Rattle.std.proofs.Common.{sym, ap, ◌∙◌}
+use Rattle.std.proofs.Common.{ap, ◌∙◌}
 use Rattle.mc_boot.specs.Boot.{progress}
 use Rattle.mc_boot.specs.Outcome.{shown}
 use Rattle.mc_boot.specs.PowerOn.{powered}

@@ -1,4 +1,4 @@
-use Rattle.std.proofs.Common.{◌≡◌, ℕ, Some, true, ◌≤◌, take, refl, sym, ap, arith, ◌∙◌}
+use Rattle.std.proofs.Common.{◌≡◌, ℕ, take, sym, ap, arith, ◌∙◌}
 use Rattle.mc_boot.specs.Boot.{progress, to_come}
 use Rattle.mc_boot.specs.PowerOn.{powered}
 use Rattle.mc_boot.specs.Runs.{ops_of}

@@ -1,4 +1,4 @@
-use Rattle.std.proofs.Common.{◌≡◌, get_or, ◌+◌, ℕ, true, false, Some, None, refl, sym, ap, subst, arith, ◌∙◌}
+use Rattle.std.proofs.Common.{get_or, ◌+◌, ℕ, true, false, refl, ap, subst, arith}
 use Rattle.mc_boot.specs.PowerOn.{powered}
 use Rattle.mc_life.specs.Cuts.{Cuts}
 use Rattle.mc_life.proofs.Booting.{cut_fails, cut_more}

@@ -1,4 +1,4 @@
-use Rattle.std.proofs.Common.{List, ℕ, length, sym, ap, arith, ◌∙◌}
+use Rattle.std.proofs.Common.{List, ℕ, length, sym, ap, ◌∙◌}
 use Rattle.std.specs.Option.{is_some}
 use Rattle.mc_flash.specs.Apply.{apply}
 use Rattle.mc_flash.specs.declared.op.Op.{Op}

@@ -1,4 +1,4 @@
-use Rattle.std.proofs.Common.{List, ℕ, ◌≡◌, ◌/◌, length, replicate, subst, refl, arith, ap, sym, ◌∙◌}
+use Rattle.std.proofs.Common.{List, ℕ, ◌≡◌, ◌/◌, length, replicate, subst, arith, ap, sym, ◌∙◌}
 use Rattle.hex.specs.Hex.{IsBytes, encode_lower}
 use Rattle.std.proofs.lemmas.List.{length-take-le}
 use Rattle.mc_life.proofs.Reading.{front_bytes, long}

@@ -1,4 +1,4 @@
-use Rattle.std.proofs.Common.{List, ℕ, ◌∷◌, ◌++◌, Some, refl, arith, ap, sym, ◌∙◌}
+use Rattle.std.proofs.Common.{List, ℕ, ◌∷◌, ◌++◌, Some, refl, arith, ap, ◌∙◌}
 use Rattle.mc_output.specs.facts.Parting.{one_piece, parted}
 use Rattle.mc_life.proofs.Reading.{no_download}
 use Rattle.mc_life.proofs.event.download.Goals as goal

@@ -1,4 +1,4 @@
-use Rattle.std.proofs.Common.{List, ℕ, Some, bytes_eq, refl, sym, ap, ◌∙◌, arith}
+use Rattle.std.proofs.Common.{List, ℕ, Some, bytes_eq, sym, ap, ◌∙◌, arith}
 use Rattle.mc_life.specs.Files.{Named}
 use Rattle.mc_life.proofs.Lines.{found, none_found, not_here}
 use Rattle.mc_life.proofs.files.find.Goals as goal

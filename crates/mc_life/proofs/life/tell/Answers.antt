@@ -1,5 +1,4 @@
-use Rattle.std.proofs.Common.{◌≡◌, None, Some, true, false, option_map, refl, sym, ap, ◌∙◌}
-use Rattle.mc_life.specs.Script.{is_skipped}
+use Rattle.std.proofs.Common.{◌≡◌, None, Some, sym, ◌∙◌}
 use Rattle.mc_life.proofs.Telling.{IsAt, begins, ends, lives_on, fails, skips, tells}
 use Rattle.mc_life.proofs.life.tell.Goals as goal
 use Rattle.mc_life.proofs.life.tell.Goals.{then-not-is_skipped+in-Ok-tell_line, else-not-is_skipped}

@@ -1,7 +1,5 @@
-use Rattle.std.proofs.Common.{List, ℕ, option_map, [], ◌∷◌, ◌++◌, refl, sym, ap, subst, ◌∙◌}
+use Rattle.std.proofs.Common.{option_map, [], ◌∷◌, ◌++◌}
 use Rattle.std.proofs.lemmas.Result.{err_from_is_err_and}
-use Rattle.std.specs.Io.KnownBytes.{Appends}
-use Rattle.mc_output.specs.Fronts.{AppendsFront}
 use Rattle.mc_output.specs.facts.Results.{on_err, on_ok}
 use Rattle.mc_boot.specs.Outcome.{shown}
 use Rattle.mc_life.specs.States.{stated}

@@ -1,4 +1,4 @@
-use Rattle.std.proofs.Common.{arith, sym, ap, refl, ◌∙◌}
+use Rattle.std.proofs.Common.{arith, sym}
 use Rattle.mc_life.proofs.Worn.{erased_none, erased_once}
 use Rattle.mc_life.proofs.wear.note_erase.Goals as goal
 

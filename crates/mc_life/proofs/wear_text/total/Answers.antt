@@ -1,4 +1,4 @@
-use Rattle.std.proofs.Common.{arith, refl, sym}
+use Rattle.std.proofs.Common.{arith, refl}
 use Rattle.mc_life.proofs.Worst.{sum_ends, sum_next}
 use Rattle.mc_life.proofs.wear_text.total.Goals as goal
 

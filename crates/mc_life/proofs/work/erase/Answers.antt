@@ -1,4 +1,3 @@
-use Rattle.std.proofs.Common.{refl, sym, ap, ◌∙◌}
 use Rattle.std.proofs.lemmas.Result.{err_from_is_err_and}
 use Rattle.mc_life.proofs.Wiping.{erase_fails}
 use Rattle.mc_life.proofs.work.erase.Goals as goal

@@ -1,4 +1,4 @@
-use Rattle.std.proofs.Common.{refl, sym, ap, arith, ◌∙◌}
+use Rattle.std.proofs.Common.{◌∙◌}
 use Rattle.mc_flash.specs.facts.Done.{does_keep}
 use Rattle.mc_life.proofs.Wiping.{rewritten, rewrite_fails, whole_slot}
 use Rattle.mc_life.proofs.work.rewrite.Goals as goal

@@ -1,5 +1,4 @@
 use Rattle.std.proofs.Common.{◌≡◌, List, ℕ, length, refl, sym, ap, arith, ◌∙◌}
-use Rattle.mc_flash.specs.Seen.{Seen}
 use Rattle.mc_flash.specs.Geometry.{Geometry}
 use Rattle.mc_life.proofs.Wiping.{all_counted, counted, wiping_begins, wiping_more, wiping_ends}
 use Rattle.mc_life.proofs.work.wipe.Goals as goal

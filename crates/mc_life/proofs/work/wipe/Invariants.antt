@@ -1,6 +1,4 @@
-use Rattle.std.proofs.Common.{◌≡◌, ◌≤◌, ◌*◌, ◌-◌, ℕ, drop, length, replicate}
-use Rattle.mc_flash.specs.Content.{size_of}
-use Rattle.mc_flash.specs.declared.op.Slot.TheVariants.{Secondary}
+use Rattle.std.proofs.Common.{◌≡◌}
 use Rattle.mc_life.specs.Wear.{worn}
 use Rattle.mc_life.specs.Work.{wipes}
 use Rattle.mc_life.proofs.Wiping.{IsWiping}

@@ -1,4 +1,4 @@
-use Rattle.std.proofs.Common.{refl, sym, ◌∙◌}
+use Rattle.std.proofs.Common.{refl}
 use Rattle.mc_boot.specs.Outcome.{shown}
 use Rattle.mc_life.specs.Standing.{Standing}
 use Rattle.mc_life.proofs.Going.{boots_to, ends_as}

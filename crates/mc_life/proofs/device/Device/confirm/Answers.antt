@@ -1,4 +1,4 @@
-use Rattle.std.proofs.Common.{refl, sym, ◌∙◌}
+use Rattle.std.proofs.Common.{refl}
 use Rattle.mc_life.specs.Standing.{Standing}
 use Rattle.mc_life.proofs.Going.{confirms}
 use Rattle.mc_life.proofs.device.Device.confirm.Goals as goal

@@ -1,4 +1,4 @@
-use Rattle.std.proofs.Common.{List, ℕ, refl, sym, ap, ◌∙◌}
+use Rattle.std.proofs.Common.{List, ℕ, refl, ap, ◌∙◌}
 use Rattle.mc_boot.specs.Start.{filled}
 use Rattle.mc_flash.specs.Content.{with_bytes}
 use Rattle.mc_flash.specs.Geometry.{Geometry}

@@ -1,5 +1,4 @@
-use Rattle.std.proofs.Common.{refl, sym, ◌∙◌}
-use Rattle.mc_flash.specs.facts.Done.{did, does_keep}
+use Rattle.std.proofs.Common.{refl}
 use Rattle.mc_life.specs.Standing.{Standing}
 use Rattle.mc_life.proofs.Going.{erased_content, stored}
 use Rattle.mc_life.proofs.device.Device.erase.Goals as goal

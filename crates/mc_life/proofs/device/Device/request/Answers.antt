@@ -1,4 +1,4 @@
-use Rattle.std.proofs.Common.{refl, sym, ap, ◌∙◌}
+use Rattle.std.proofs.Common.{refl}
 use Rattle.mc_life.specs.Standing.{Standing}
 use Rattle.mc_life.proofs.Going.{request_fails, stored}
 use Rattle.std.proofs.lemmas.Result.{err_from_is_err_and}

@@ -1,4 +1,3 @@
-use Rattle.std.proofs.Common.{arith, sym, ap, refl, ◌∙◌}
 use Rattle.mc_flash.specs.declared.op.Slot.TheVariants.{Primary, Secondary}
 use Rattle.mc_life.proofs.Worn.{noted_primary, noted_secondary}
 use Rattle.mc_life.proofs.wear.Wear.erased.Goals as goal

@@ -1,4 +1,4 @@
-use Rattle.std.proofs.Common.{arith, sym, ap, refl, ◌∙◌}
+use Rattle.std.proofs.Common.{refl}
 use Rattle.mc_life.proofs.Worn.{worn_idle}
 use Rattle.mc_life.proofs.wear.Wear.note.Goals as goal
 
