@@ -190,7 +190,8 @@ after_first : (x : PowerOn) (cuts : List ℕ) (c : ℕ) (u t : Content) → ((z 
 after_first x cuts c u t behind None is = absurd cc
 after_first x cuts c u t behind (Some z) is = behind z is
 
-ops_first : (x : PowerOn) (cuts : List ℕ) (c : ℕ) (front last : List Op) (u : Content) → ((z : Content) → after (again x z) cuts ≡ Some u → cut_ops (again x z) (cuts ++ c ∷ []) ≡ cut_ops (again x z) cuts ++ last)
+ops_first : (x : PowerOn) (cuts : List ℕ) (c : ℕ) (front last : List Op) (u : Content) → ((z : Content) → after (again x z) cuts ≡ Some u
+    → cut_ops (again x z) (cuts ++ c ∷ []) ≡ cut_ops (again x z) cuts ++ last)
     → (o : Option Content) → option_and_then (λ z. after (again x z) cuts) o ≡ Some u → front ++ from x (λ y. cut_ops y (cuts ++ c ∷ [])) o ≡ (front ++ from x (λ y. cut_ops y cuts) o) ++ last
 ops_first x cuts c front last u behind None is = absurd cc
 ops_first x cuts c front last u behind (Some z) is = ap (λ (w : List Op). front ++ w) (behind z is) ∙ sym (append_assoc front (cut_ops (again x z) cuts) last)
@@ -202,7 +203,8 @@ after_more x [] c u t so_far cut =
     ap (λ (s : Content). option_and_then (λ z. Some z) (cut_at (again x s) c)) same ∙ ap (λ (o : Option Content). option_and_then (λ z. Some z) o) cut
 after_more x (d ∷ cuts) c u t so_far cut = after_first x cuts c u t (λ z is. after_more (again x z) cuts c u t is cut) (cut_at x d) so_far
 
-pub ops_more : (x : PowerOn) (cuts : List ℕ) (c : ℕ) (u t : Content) → after x cuts ≡ Some u → cut_at (again x u) c ≡ Some t → cut_ops x (cuts ++ c ∷ []) ≡ cut_ops x cuts ++ take c (ops_of (again x u))
+pub ops_more : (x : PowerOn) (cuts : List ℕ) (c : ℕ) (u t : Content) → after x cuts ≡ Some u → cut_at (again x u) c ≡ Some t
+    → cut_ops x (cuts ++ c ∷ []) ≡ cut_ops x cuts ++ take c (ops_of (again x u))
 ops_more x [] c u t so_far cut =
     let same : x.content ≡ u = cc in
     let behind : from {A = Op} x (λ y. cut_ops y []) (cut_at x c) ≡ [] = none_behind x (cut_at x c) in

@@ -76,7 +76,8 @@ module _ (d e : Standing) (ops : List Op) (stays : Stays d e ops) where
 
   pub is_cut : (count : ℕ) → after (powered d.rules d.seen) (count ∷ []) ≡ Some e.seen.content → e.runs ≡ false → Goes d (cut count ∷ []) ops e
   is_cut count left off =
-      one_event (cut count) (λ rested. (rested, (e.seen.content, one (cut_at (powered d.rules d.seen) count) left, ap (λ (x : Bool). record { content = e.seen.content; rested = rested; runs = x }) off)))
+      one_event (cut count) (λ rested. (rested, (e.seen.content, one (cut_at (powered d.rules d.seen) count) left, ap (λ
+          (x : Bool). record { content = e.seen.content; rested = rested; runs = x }) off)))
     where
       one : (o : Option Content) → option_and_then (λ z. Some z) o ≡ Some e.seen.content → o ≡ Some e.seen.content
       one None is = absurd cc
@@ -176,6 +177,7 @@ pub first_fails : (f h : Seen) (request : Request) (e : FlashError) → Does (ma
 first_fails f h request errors.Memory does = tt
 first_fails f h request errors.NotErased does = inl (undefined (magic_write f.geometry) f does.0)
 
-pub request_fails : (d : Standing) (request : Request) (why : FlashError) (e : EventError) → d.runs ≡ true → e ≡ of_flash why → AskFails d.seen.geometry d.seen.content request why → RefusesRequest d request e
+pub request_fails : (d : Standing) (request : Request) (why : FlashError) (e : EventError) → d.runs ≡ true → e ≡ of_flash why → AskFails d.seen.geometry d.seen.content request why
+    → RefusesRequest d request e
 request_fails d request errors.NotErased e runs is fails = rw is (runs, fails)
 request_fails d request errors.Memory e runs is fails = rw is tt

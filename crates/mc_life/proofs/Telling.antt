@@ -212,7 +212,8 @@ life_first d k e events ops goes life = record {
       let a = goes.lives rested in
       let b = life.lives a.0 in
       let P : Rules → Geometry → Type 0 = λ r g. Lives r g (moment k a.0) life.events (moment e b.0) in
-      (b.0, lives_both d.rules d.seen.geometry (moment d rested) (moment k a.0) (moment e b.0) events life.events a.1 (subst (λ g. P d.rules g) goes.geometry (subst (λ r. P r k.seen.geometry) goes.rules b.1)));
+      (b.0, lives_both d.rules d.seen.geometry (moment d rested) (moment k a.0) (moment e b.0) events life.events a.1 (subst (λ g. P d.rules g) goes.geometry (subst
+          (λ r. P r k.seen.geometry) goes.rules b.1)));
 }
 
 life_by : (b : Bool) (A B : Type 0) (d e : Standing) → (A → IsLife d e) → (B → IsLife d e) → Either b A B → IsLife d e
@@ -225,7 +226,8 @@ tell_lives files number d (l ∷ lines) count e text told =
     life_by (is_skipped l) _ _ d e (tell_lives files number d lines count e text)
     (λ t. life_first d t.0 e (happenings files d t.4.event) (operations d t.4.event) t.4.goes (tell_lives files (number + 1) t.0 lines t.3 e t.2 t.5)) told
 
-pub lives_on : (files : List Named) (start : Started) (script : List ℕ) (old new : Option (List ℕ)) (e : Standing) → IsTold files start script old new e → ((r : Rules) → LifeLaw r) → IsLayout start.geometry
+pub lives_on : (files : List Named) (start : Started) (script : List ℕ) (old new : Option (List ℕ)) (e : Standing) → IsTold files start script old new e → ((r : Rules) → LifeLaw r)
+    → IsLayout start.geometry
     → IsDelivered start.geometry start.content → (rested z : Content) × LivesOn start.rules start.geometry (moment e rested) z
 lives_on files start script old new e told law layout delivered =
     let d = told.told.new in

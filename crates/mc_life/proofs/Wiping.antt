@@ -155,7 +155,8 @@ module _ (old f h : Seen) (bytes : List ℕ) (content : f.content ≡ with_bytes
   pub rewrite_fails : (result : Result (Unit {0}) FlashError) → Does (Program Secondary 0 bytes) f result h → IfErr result (λ e. e ≡ errors.Memory)
   rewrite_fails (Ok v) does = tt
   rewrite_fails (Err errors.Memory) does = refl
-  rewrite_fails (Err errors.NotErased) does = let no = undefined (Program Secondary 0 bytes) f does.0 in let not_so : None ≡ Some (with_bytes old.content Secondary bytes) = sym no ∙ defined in absurd cc
+  rewrite_fails (Err errors.NotErased) does = let no = undefined (Program Secondary 0 bytes) f does.0 in let not_so : None ≡ Some
+      (with_bytes old.content Secondary bytes) = sym no ∙ defined in absurd cc
 
 pub all_counted : (w all : Counts) (left : ℕ) → left ≤ 0 → w ≡ worn w [] → worn w (wipes left) ≡ all → w ≡ all
 all_counted w all left none_left idle whole = idle ∙ ap (λ n. worn w (wipes n)) (sym zero_left) ∙ whole
