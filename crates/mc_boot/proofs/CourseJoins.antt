@@ -1,43 +1,49 @@
--- Courses that go on within a transfer of another, or after its last: their lists are rests of the other's.
-use Rattle.std.specs.Prelude.{◌≡◌, ℕ, zero, suc, ◌+◌, ◌-◌, ◌*◌, ◌/◌, ◌==◌, ◌<◌, ◌≤◌, ◌&&◌, ◌||◌, not, nat_le, Bool, true, false, if◌then◌else◌, List, [], ◌∷◌, ◌++◌, length, map, flat_map, take, drop}
-use Rattle.std.specs.Prelude.{slice_get, Some, refl}
-use Rattle.std.specs.Bool.{beq}
-use Rattle.std.specs.List.{AllByRecursion, range_with_len}
-use Rattle.std.proofs.Common.{arith, sym, ap, subst, ◌∙◌, inl, inr, length-append, append_assoc, zero-mul}
-use Rattle.std.proofs.Math.Nat.{mul-le-mul_right, mod-add-div'}
+-- Courses that go on with another one: in their transfers, in their openings, by the test, and so the outcome after a cut.
+use Rattle.std.proofs.Common.{ap, append_assoc, arith, inl, inr, length-append, subst, sym, zero-mul, ◌∙◌}
+use Rattle.std.proofs.Math.Nat.{mod-add-div', mul-le-mul_right}
 use Rattle.std.proofs.Math.Seq.{drop-append-add}
-use Rattle.std.proofs.lemmas.List.{drop-drop, length-drop}
+use Rattle.std.proofs.lemmas.List.{drop-drop, length-drop, length-take}
 use Rattle.std.proofs.lemmas.List.FromFn.{length-map-range_with_len}
-use Rattle.mc_flash.specs.Geometry.{Geometry, IsLayout, greatest_sectors, trailer_sectors}
-use Rattle.mc_flash.specs.facts.Layouts.{trailer_leaves_one}
-use Rattle.mc_flash.specs.Content.{Content, IsSized, sectors_of}
-use Rattle.mc_flash.specs.Pieces.{in_pieces}
-use Rattle.mc_flash.specs.declared.flash.Grain.{Grain}
-use Rattle.mc_flash.specs.declared.flash.Grain.TheVariants as grains
-use Rattle.mc_flash.specs.declared.op.Op.{Op}
-use Rattle.mc_flash.specs.declared.op.Op.TheVariants.{Erase, Program, Copy}
-use Rattle.mc_flash.specs.declared.op.Slot.{Slot}
-use Rattle.mc_flash.specs.declared.op.Slot.TheVariants.{Primary, Secondary}
-use Rattle.mc_trailer.specs.declared.tables.SwapType.{SwapType}
+use Rattle.std.specs.Bool.{beq}
+use Rattle.std.specs.List.{AllByRecursion, between, range_with_len}
+use Rattle.std.specs.Prelude.{Bool, IfSome, List, Option, Some, [], drop, false, flat_map, if◌then◌else◌, length, map, nat_le, not, option_map, refl, slice_get, suc, take, true, zero, ℕ, ◌&&◌}
+use Rattle.std.specs.Prelude.{◌*◌, ◌++◌, ◌+◌, ◌-◌, ◌/◌, ◌<◌, ◌==◌, ◌||◌, ◌∷◌, ◌≡◌, ◌≤◌}
+use Rattle.mc_boot.proofs.Courses.{drop_at_place, length-steps, length-transfers}
+use Rattle.mc_boot.proofs.Joins.{IsJoined, Joins, are_equal, are_same, chosen, is_less, is_most, joined, less}
+use Rattle.mc_boot.proofs.Meets.{AreThere, BeginsIn, IsListed, IsRestOf, Meets, Sector, WritesIn, erase_of, target_of}
+use Rattle.mc_boot.proofs.Transfers.{fits_at, there_is}
+use Rattle.mc_boot.specs.Boot.{IsBootOf, IsCold, Progress, all_saves, begun, course_list, list_from, progress, whole_list}
+use Rattle.mc_boot.specs.Joins.{IsCut, comes_to, erases_at, erases_of, is_same_grain, is_same_swap, joins_from, joins_of, opening_reach, starts_as, transfer_reach}
+use Rattle.mc_boot.specs.Outcome.{Report, applied, at, left_by, ops_of, outcome_of}
+use Rattle.mc_boot.specs.Plan.{Plan, PowerOn, again, closing, copy_of, entry_of, from_transfer, image_ok_write, is_revert, is_test, marking, new_list, number_of, opening_writes, piece, plan}
+use Rattle.mc_boot.specs.Plan.{powered, preparation_writes, resumed_list, steps, swap_list, trailer_erase, trailer_erases, transfers, write}
+use Rattle.mc_boot.specs.declared.boot.Boot.{Boot}
 use Rattle.mc_boot.specs.declared.course.Course.{Course}
 use Rattle.mc_boot.specs.declared.course.Opening.{Opening}
 use Rattle.mc_boot.specs.declared.course.Opening.TheVariants.{New, Resumed}
 use Rattle.mc_boot.specs.declared.transfer.Transfer.{Transfer}
-use Rattle.mc_boot.specs.Course.{closing, from_transfer, resumed_list, swap_list, new_list}
-use Rattle.mc_boot.specs.CourseList.{list_from, course_list}
-use Rattle.mc_boot.specs.Plan.{plan}
-use Rattle.mc_boot.specs.Runs.{ops_of, at}
-use Rattle.mc_boot.specs.Transfers.{transfers, steps, copy_of, entry_of}
-use Rattle.mc_boot.specs.Writes.{trailer_erase, trailer_erases, preparation_writes, opening_writes, is_revert}
-use Rattle.mc_boot.proofs.Meets.{Sector, WritesIn, IsListed, AreThere, BeginsIn, IsRestOf, Meets, erase_of, target_of}
-use Rattle.mc_boot.specs.Joins.{comes_to, erases_at, transfer_reach}
-use Rattle.mc_boot.proofs.BoolTests.{are_equal, are_same, is_most, is_less}
-use Rattle.mc_boot.proofs.Joins.{Joins}
-use Rattle.mc_boot.proofs.Places.{drop_at_place}
-use Rattle.mc_boot.proofs.Sections.{length-steps, length-transfers}
-use Rattle.mc_boot.proofs.TransferFacts.{fits_at, there_is}
-use Rattle.mc_boot.specs.PowerOn.{PowerOn, again}
+use Rattle.mc_boot.specs.facts.Bounds.{plan_few, plan_saves}
+use Rattle.mc_boot.specs.facts.Run.{come_at}
+use Rattle.mc_flash.specs.Flash.{Content, IsSized, sectors_of, size_of}
+use Rattle.mc_flash.specs.Geometry.{Geometry, IsLayout, greatest_sectors, in_pieces, trailer_sectors}
+use Rattle.mc_flash.specs.Usage.{Seen, most_operations, most_saved}
+use Rattle.mc_flash.specs.declared.flash.Grain.{Grain}
+use Rattle.mc_flash.specs.declared.op.Op.{Op}
+use Rattle.mc_flash.specs.declared.op.Op.TheVariants.{Copy, Erase, Program}
+use Rattle.mc_flash.specs.declared.op.Slot.{Slot}
+use Rattle.mc_flash.specs.declared.op.Slot.TheVariants.{Primary, Secondary}
+use Rattle.mc_flash.specs.facts.Layouts.{trailer_covered, trailer_leaves_one}
+use Rattle.mc_trailer.specs.Trailer.{before_end, magic_bytes, one_unit, place, room, size_bytes}
+use Rattle.mc_trailer.specs.declared.places.Field.{Field}
+use Rattle.mc_trailer.specs.declared.tables.Rules.{Rules}
+use Rattle.mc_trailer.specs.declared.tables.SwapType.{SwapType}
+use Rattle.mc_trailer.specs.facts.Places.{field_ends, most_before_end, one_unit_fits, place_inside, size_bytes_fit}
 use Rattle.mc_trailer.specs.facts.Tables.{and_parts}
+use Rattle.mc_trailer.specs.declared.places.Field.TheVariants as field
+use Rattle.mc_flash.specs.declared.flash.Grain.TheVariants as grains
+use Rattle.mc_trailer.specs.declared.tables.SwapType.TheVariants as kinds
+
+-- Courses that go on within a transfer of another, or after its last: their lists are rests of the other's.
 
 -- ---- lists
 
@@ -405,3 +411,244 @@ course_meets g a b first erases image_ok done less layout_a layout_b ok grain se
       passed = low;
       reached = far;
     }
+
+-- The opening of a swap begins with the erases of a trailer, and then writes in it: what is cut there begins anew.
+
+-- ---- the writes of fields lie in the slot's last sector
+
+listed_last : (g : Geometry) (slot : Slot) → IsLayout g → IsListed (trailer_of_slot g slot) slot (sectors_of g slot - 1 - 0)
+listed_last g slot ok = first (trailer_sectors g) (trailer_covered g ok)
+  where
+    first : (n : ℕ) → 3 * g.max_sectors * g.unit + 48 ≤ n * g.sector → IsListed (map (trailer_sector g slot) (range_with_len 0 n)) slot (sectors_of g slot - 1 - 0)
+    first zero covered = absurd (let none = zero-mul g.sector in omega (arith, covered, none))
+    first (suc n) covered = inl (refl, refl)
+
+in_last : (g : Geometry) (slot : Slot) (f : Field) → IsLayout g → ((sectors_of g slot - 1 - 0) * g.sector ≤ place g slot f) × (size_of g slot ≤ (sectors_of g slot - 1 - 0) * g.sector + g.sector)
+in_last g slot f ok = go (sectors_of g slot) (let leaves = trailer_leaves_one g slot ok in omega (arith, leaves)) (place_inside g slot f ok)
+  where
+    go : (n : ℕ) → 0 < n → (n * g.sector - before_end f) + before_end f ≡ n * g.sector → ((n - 1 - 0) * g.sector ≤ n * g.sector - before_end f) × (n * g.sector ≤ (n - 1 - 0) * g.sector + g.sector)
+    go zero some inside = absurd (omega (arith, some))
+    go (suc n) some inside =
+        let one : suc n - 1 - 0 ≡ n = omega arith in
+        let rows : suc n * g.sector ≡ n * g.sector + g.sector = omega arith in
+        let wide = ok.least_sector in
+        let P : ℕ → Type 0 = λ k. (k * g.sector ≤ suc n * g.sector - before_end f) × (suc n * g.sector ≤ k * g.sector + g.sector) in
+        subst P (sym one) (omega (arith, rows, wide, most_before_end f), omega (arith, rows))
+
+writes_part : (g : Geometry) (slot : Slot) (f : Field) (from : ℕ) (bytes : List ℕ) → IsLayout g → from + length bytes ≤ room f
+    → WritesIn g (trailer_of_slot g slot) (Program slot (place g slot f + from) bytes)
+writes_part g slot f from bytes ok short =
+    let last = in_last g slot f ok in
+    record {
+      index = sectors_of g slot - 1 - 0;
+      listed = listed_last g slot ok;
+      from = omega (arith, last.0);
+      to = omega (arith, last.1, field_ends g slot f ok, short);
+    }
+
+writes_field : (g : Geometry) (slot : Slot) (f : Field) (bytes : List ℕ) → IsLayout g → length bytes ≤ room f → WritesIn g (trailer_of_slot g slot) (Program slot (place g slot f) bytes)
+writes_field g slot f bytes ok short =
+    let P : ℕ → Type 0 = λ n. WritesIn g (trailer_of_slot g slot) (Program slot n bytes) in
+    subst P (omega arith) (writes_part g slot f 0 bytes ok (omega (arith, short)))
+
+writes_pieces_of : (c : Grain) (g : Geometry) (slot : Slot) (f : Field) (new : List ℕ) → IsLayout g → length new ≤ room f → AllByRecursion (WritesIn g (trailer_of_slot g slot)) (write c g slot f new)
+writes_pieces_of grains.Call g slot f new ok short = (writes_field g slot f new ok short, tt)
+writes_pieces_of grains.Unit g slot f new ok short =
+    all_mapped (WritesIn g (trailer_of_slot g slot)) (piece g slot (place g slot f) new) 0 (length new / g.unit) (λ j h.
+    let row : (j + 1) * g.unit ≤ length new / g.unit * g.unit = mul-le-mul_right g.unit (omega (arith, h)) in
+    let parts = mod-add-div' (length new) g.unit in
+    let few : length (between (j * g.unit) (j * g.unit + g.unit) new) ≤ g.unit = omega (arith, length-take (j * g.unit + g.unit - j * g.unit) (drop (j * g.unit) new)) in
+    writes_part g slot f (j * g.unit) (between (j * g.unit) (j * g.unit + g.unit) new) ok (omega (arith, row, parts, few, short)))
+
+pub all_both : {A : Type 0} (P : A → Type 0) (xs ys : List A) → AllByRecursion P xs → AllByRecursion P ys → AllByRecursion P (xs ++ ys)
+all_both P [] ys one two = two
+all_both P (x ∷ xs) ys one two = (one.0, all_both P xs ys one.1 two)
+
+writes_marking : (c : Grain) (g : Geometry) (slot : Slot) (size : ℕ) → IsLayout g → AllByRecursion (WritesIn g (trailer_of_slot g slot)) (marking c g slot size)
+writes_marking c g slot size ok =
+    all_both (WritesIn g (trailer_of_slot g slot)) (write c g slot field.SwapSize (size_bytes g size)) (write c g slot field.Magic magic_bytes)
+    (writes_pieces_of c g slot field.SwapSize (size_bytes g size) ok (size_bytes_fit g size ok))
+    (writes_pieces_of c g slot field.Magic magic_bytes ok (omega arith))
+
+pub writes_preparation : (c : Grain) (g : Geometry) (size : ℕ) → IsLayout g → AllByRecursion (WritesIn g (trailer_of_slot g Secondary)) (preparation_writes c g size)
+writes_preparation c g size ok = (writes_field g Secondary field.ImageOk (one_unit g 1) ok (one_unit_fits g 1 field.ImageOk ok), writes_marking c g Secondary size ok)
+
+pub writes_opening : (c : Grain) (g : Geometry) (kind : SwapType) (size : ℕ) → IsLayout g → AllByRecursion (WritesIn g (trailer_of_slot g Primary)) (opening_writes c g kind size)
+writes_opening c g kind size ok = (writes_field g Primary field.SwapInfo (one_unit g (number_of kind)) ok (one_unit_fits g (number_of kind) field.SwapInfo ok), by (is_test kind))
+  where
+    by : (b : Bool) → AllByRecursion (WritesIn g (trailer_of_slot g Primary)) (if b then marking c g Primary size else image_ok_write g Primary ∷ marking c g Primary size)
+    by true = writes_marking c g Primary size ok
+    by false = (writes_field g Primary field.ImageOk (one_unit g 1) ok (one_unit_fits g 1 field.ImageOk ok), writes_marking c g Primary size ok)
+
+-- ---- the opening
+
+first_only : (es : List Sector) (rest : List Op) → take (length es) (map erase_of es ++ rest) ≡ map erase_of es
+first_only [] rest = refl
+first_only (e ∷ es) rest = ap (λ (ops : List Op). erase_of e ∷ ops) (first_only es rest)
+
+-- Erases of a trailer, then writes in it.
+trailer_opens : (g : Geometry) (slot : Slot) (writes rest : List Op) → IsLayout g → AllByRecursion (WritesIn g (trailer_of_slot g slot)) writes
+    → BeginsIn g (trailer_erases g slot ++ (writes ++ rest)) (trailer_of_slot g slot) (trailer_sectors g + length writes)
+trailer_opens g slot writes rest ok all =
+    let es : List Sector = trailer_of_slot g slot in
+    let P : List Op → Type 0 = λ ops. BeginsIn g (ops ++ (writes ++ rest)) es (trailer_sectors g + length writes) in
+    let Q : ℕ → Type 0 = λ n. AllByRecursion (WritesIn g es) (take (n + length writes) (map erase_of es ++ (writes ++ rest))) in
+    subst P (trailer_erased g slot) (record {
+      there = trailer_there g slot ok;
+      erases = first_only es (writes ++ rest);
+      inside = subst Q (length-map-range_with_len (trailer_sector g slot) 0 (trailer_sectors g))
+          (writes_erases g es es (writes ++ rest) (length writes) (λ o index is. is) (all_front (WritesIn g es) writes rest (length writes) (omega arith) all));
+    })
+
+new_begins : (c : Grain) (g : Geometry) (kind : SwapType) (size n : ℕ) → IsLayout g
+    → (es : List Sector) × (length es ≡ trailer_sectors g) × BeginsIn g (new_list c g kind size n) es (opening_reach c g kind size)
+new_begins c g kind size n ok = by (is_revert kind)
+  where
+    by : (b : Bool) → (es : List Sector) × (length es ≡ trailer_sectors g) × BeginsIn g
+        (if b then trailer_erases g Secondary ++ (preparation_writes c g size ++ swap_list c g kind size n) else swap_list c g kind size n) es
+        (trailer_sectors g + (if b then length (preparation_writes c g size) else length (opening_writes c g kind size)))
+    by true = (trailer_of_slot g Secondary, length-trailer g Secondary, trailer_opens g Secondary (preparation_writes c g size) (swap_list c g kind size n) ok (writes_preparation c g size ok))
+    by false = (trailer_of_slot g Primary, length-trailer g Primary, trailer_opens g Primary (opening_writes c g kind size) (resumed_list g n 0 true false) ok (writes_opening c g kind size ok))
+
+-- A swap that begins anew goes on with the same swap, where that was cut in the opening.
+pub anew_meets : (g : Geometry) (a b : Course) (kind : SwapType) (size done : ℕ) → a.layout ≡ in_pieces a.grain g → b.layout ≡ in_pieces b.grain g → a.grain ≡ b.grain → a.sectors ≡ b.sectors
+    → a.opening ≡ New kind size → b.opening ≡ New kind size → IsLayout b.layout → done ≤ opening_reach b.grain b.layout kind size
+    → Meets g (course_list a) (course_list b) done 0 (trailer_sectors b.layout)
+anew_meets g a b kind size done layout_a layout_b grain sectors opening_a opening_b ok far =
+    let layouts : a.layout ≡ b.layout = layout_a ∙ ap (λ (c : Grain). in_pieces c g) grain ∙ sym layout_b in
+    let list_b : course_list b ≡ new_list b.grain b.layout kind size b.sectors = ap (list_from b.grain b.layout b.sectors) opening_b in
+    let same : course_list b ≡ course_list a =
+    ap (list_from b.grain b.layout b.sectors) (opening_b ∙ sym opening_a)
+    ∙ ap (λ n. list_from b.grain b.layout n a.opening) (sym sectors)
+    ∙ ap (λ (l : Geometry). list_from b.grain l a.sectors a.opening) (sym layouts)
+    ∙ ap (λ (c : Grain). list_from c a.layout a.sectors a.opening) (sym grain) in
+    let begins = new_begins b.grain b.layout kind size b.sectors ok in
+    let P : List Op → Type 0 = λ ops. BeginsIn b.layout ops begins.0 (opening_reach b.grain b.layout kind size) in
+    let Q : Geometry → Type 0 = λ x. BeginsIn x (course_list b) begins.0 (opening_reach b.grain b.layout kind size) in
+    let R : List Op → Type 0 = λ ops. IsRestOf (course_list b) ops in
+    record {
+      count = omega (arith, ap (λ (ops : List Op). length ops) same);
+      is_rest = subst R same (whole_rest (course_list b));
+      sectors = begins.0;
+      so_many = begins.1;
+      reach = opening_reach b.grain b.layout kind size;
+      begins = begins_pieces b.grain g (course_list b) begins.0 (opening_reach b.grain b.layout kind size) (subst Q layout_b (subst P (sym list_b) begins.2));
+      passed = omega arith;
+      reached = omega (arith, far);
+    }
+
+-- Where the test of two courses gives a number, the second goes on where the first was cut.
+
+same_grain : (c d : Grain) → is_same_grain c d ≡ true → c ≡ d
+same_grain grains.Call grains.Call is = refl
+same_grain grains.Unit grains.Unit is = refl
+same_grain grains.Call grains.Unit is = absurd cc
+same_grain grains.Unit grains.Call is = absurd cc
+
+abbrev kind_at : ℕ → SwapType
+kind_at n =
+    if n == 1 then kinds.None else if n == 2 then kinds.Test else if n == 3 then kinds.Perm
+    else if n == 4 then kinds.Revert else if n == 5 then kinds.Fail else kinds.Panic
+
+kind_back : (kind : SwapType) → kind_at (number_of kind) ≡ kind
+kind_back kinds.None = refl
+kind_back kinds.Test = refl
+kind_back kinds.Perm = refl
+kind_back kinds.Revert = refl
+kind_back kinds.Fail = refl
+kind_back kinds.Panic = refl
+
+-- A type is told by its number.
+same_kind : (k l : SwapType) → (number_of k == number_of l) ≡ true → k ≡ l
+same_kind k l is = sym (kind_back k) ∙ ap kind_at (are_equal (number_of k) (number_of l) is) ∙ kind_back l
+
+same_start : (o : Opening) (kind : SwapType) (size : ℕ) → starts_as o kind size ≡ true → o ≡ New kind size
+same_start (Resumed first erases ok) kind size is = absurd cc
+same_start (New before whole) kind size is =
+    let parts = and_parts (number_of before == number_of kind) (whole == size) is in
+    ap (λ (k : SwapType). New k whole) (same_kind before kind parts.0) ∙ ap (λ n. New kind n) (are_equal whole size parts.1)
+
+from_opening : (g : Geometry) (a b : Course) (done j : ℕ) (opening : Opening) → b.opening ≡ opening → IsLayout b.layout → a.layout ≡ in_pieces a.grain g → b.layout ≡ in_pieces b.grain g
+    → joins_from a done b opening ≡ Some j → Meets g (course_list a) (course_list b) done j (erases_at b.layout b.sectors opening)
+from_opening g a b done j (New kind size) at_b ok layout_a layout_b is =
+    let far : Bool = nat_le done (opening_reach b.grain b.layout kind size) in
+    let found = chosen (is_same_swap a b && starts_as a.opening kind size && far) 0 j is in
+    let parts = and_parts (is_same_swap a b && starts_as a.opening kind size) far found.0 in
+    let starts = and_parts (is_same_swap a b) (starts_as a.opening kind size) parts.0 in
+    let swaps = and_parts (is_same_grain a.grain b.grain) (a.sectors == b.sectors) starts.0 in
+    let P : ℕ → Type 0 = λ n. Meets g (course_list a) (course_list b) done n (trailer_sectors b.layout) in
+    subst P found.1 (anew_meets g a b kind size done layout_a layout_b (same_grain a.grain b.grain swaps.0) (are_equal a.sectors b.sectors swaps.1)
+    (same_start a.opening kind size starts.1) at_b ok (is_most done (opening_reach b.grain b.layout kind size) parts.1))
+from_opening g a b done j (Resumed first erases image_ok) at_b ok layout_a layout_b is =
+    let less = length (course_list a) - length (course_list b) in
+    let reach : ℕ = transfer_reach b.layout b.sectors first erases in
+    let comes : Bool = comes_to b.sectors a.opening first erases image_ok in
+    let inside : Bool = nat_le first (3 * b.sectors) in
+    let found = chosen (is_same_swap a b && inside && comes && nat_le less done && nat_le done (less + reach)) less j is in
+    let far = and_parts (is_same_swap a b && inside && comes && nat_le less done) (nat_le done (less + reach)) found.0 in
+    let low = and_parts (is_same_swap a b && inside && comes) (nat_le less done) far.0 in
+    let goes = and_parts (is_same_swap a b && inside) comes low.0 in
+    let high = and_parts (is_same_swap a b) inside goes.0 in
+    let swaps = and_parts (is_same_grain a.grain b.grain) (a.sectors == b.sectors) high.0 in
+    let P : ℕ → Type 0 = λ n. Meets g (course_list a) (course_list b) done n (erases_at b.layout b.sectors (Resumed first erases image_ok)) in
+    subst P found.1 (course_meets g a b first erases image_ok done less layout_a layout_b ok (same_grain a.grain b.grain swaps.0) (are_equal a.sectors b.sectors swaps.1)
+    at_b (is_most first (3 * b.sectors) high.1) goes.1 refl (is_most less done low.1) (is_most done (less + reach) far.1))
+
+pub joins_meet : (g : Geometry) (a b : Course) (done j : ℕ) → IsLayout b.layout → a.layout ≡ in_pieces a.grain g → b.layout ≡ in_pieces b.grain g → joins_of a done b ≡ Some j
+    → Meets g (course_list a) (course_list b) done j (erases_of b)
+joins_meet g a b done j ok layout_a layout_b is = from_opening g a b done j b.opening refl ok layout_a layout_b is
+
+-- The outcome of a boot after a cut, by the courses of the two boots.
+
+rest_is : (faulted : Bool) (done : ℕ) (ops rest : List Op) → faulted ≡ false → done ≡ 0 → (if faulted then [] else drop done ops) ≡ rest → ops ≡ rest
+rest_is faulted done ops rest whole none is = ap (λ (n : ℕ). drop n ops) (sym none) ∙ ap (λ (b : Bool). if b then [] else drop done ops) (sym whole) ∙ is
+
+-- At power-on the whole list is to come.
+pub begun_list : (r : Rules) (p : Plan) (b : Boot) → progress b ≡ begun r p → whole_list b.course ≡ p.list
+begun_list r p b is =
+    rest_is b.faulted b.done (whole_list b.course) p.list (ap (λ (x : Progress). x.faulted) is) (ap (λ (x : Progress). x.count) is) (ap (λ (x : Progress). x.to_come) is)
+
+-- A boot at the beginning of its plan.
+pub is_cold : (r : Rules) (f : Seen) (b : Boot) → IsLayout f.geometry → IsSized f.geometry f.content → progress b ≡ begun r (plan (powered r f)) → IsBootOf f.geometry b → IsCold r f b
+is_cold r f b ok sized is of =
+    let x = powered r f in
+    record {
+      boot = is;
+      list = begun_list r (plan x) b is;
+      layout = of;
+      few = subst (λ (p : Progress). length p.to_come ≤ most_operations r.grain f.geometry) (sym is) (plan_few x ok);
+      saves = subst (λ (p : Progress). all_saves f.geometry p.to_come ≤ most_saved f.geometry) (sym is) (plan_saves x ok);
+      sized = sized;
+    }
+
+pub layout_is : (g : Geometry) (o : Option Course) (a : Course) → o ≡ Some a → IfSome o (λ c. c.layout ≡ in_pieces c.grain g) → a.layout ≡ in_pieces a.grain g
+layout_is g o a is all = let P : Option Course → Type 0 = λ x. IfSome x (λ c. c.layout ≡ in_pieces c.grain g) in subst P is all
+
+-- Before the first operation the flash is as it was.
+pub at_start : (from : PowerOn) (u : Content) (cut : Boot) (whole : Report) → IsCut from u cut whole → cut.done ≡ 0 → again from u ≡ from
+at_start from u cut whole is none =
+    let same : Some from.content ≡ Some u = ap (λ (n : ℕ). applied from.geometry (take n (plan from).list) from.content) (sym none) ∙ is.come.happened in
+    let e : from.content ≡ u = cc in
+    ap (again from) (sym e)
+
+-- After a cut the next boot goes on as the one that was cut would have, where the test of their courses gives a number.
+module _ (from : PowerOn) (u : Content) (cut next : Boot) (a b : Course) (whole : Report) (j : ℕ) where
+  module _ (is : IsCut from u cut whole) (at_a : cut.course ≡ Some a) (at_b : next.course ≡ Some b) where
+    module _ (of : IsBootOf from.geometry next) (start : progress next ≡ begun from.rules (plan (again from u))) (ok : IsLayout b.layout) (joins : joins_of a cut.done b ≡ Some j) where
+      follows : IsJoined from u j
+      follows =
+          let meets = joins_meet from.geometry a b cut.done j ok (layout_is from.geometry cut.course a at_a is.layout) (layout_is from.geometry next.course b at_b of) joins in
+          let list_s : (plan from).list ≡ course_list a = sym is.list ∙ ap whole_list at_a in
+          let list_u : (plan (again from u)).list ≡ course_list b = sym (begun_list from.rules (plan (again from u)) next start) ∙ ap whole_list at_b in
+          joined from u cut.done j meets.sectors (met_joins from u cut.done j (erases_of b) (course_list a) (course_list b) meets is.sized (come_at from (progress cut) u is.come) is.early list_s
+          list_u)
+
+      pub outcome_follows : outcome_of (again from u) ≡ Some (less next.kind j whole)
+      outcome_follows =
+          let kind : (plan (again from u)).kind ≡ next.kind = ap (λ (x : Progress). x.kind) (sym start) in
+          follows.outcome
+          ∙ ap (option_map (less (plan (again from u)).kind j)) is.outcome
+          ∙ ap (λ (k : SwapType). Some (less k j whole)) kind
+
+      pub left_follows : left_by (again from u) ≡ left_by from
+      left_follows = follows.left

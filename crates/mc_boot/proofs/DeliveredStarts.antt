@@ -4,26 +4,23 @@ use Rattle.std.specs.List.{list_all}
 use Rattle.std.proofs.Common.{arith, sym, ap, ◌∙◌, inl, inr}
 use Rattle.std.proofs.lemmas.Bool.{cases_lt, ltb-true}
 use Rattle.std.proofs.lemmas.List.{get_or-append_right, get_or_append_left, get_or_past}
-use Rattle.mc_boot.proofs.SameImages.{ImageLaws}
-use Rattle.mc_boot.proofs.StartBytes.{Holding, image_short, length-filled, primary_image}
-use Rattle.mc_boot.proofs.Starts.{perm_holds, placed_holds, placed_unasked, test_holds}
-use Rattle.mc_boot.proofs.Works.{erased_bytes, put_bytes}
-use Rattle.mc_boot.specs.Image.{image_size}
+use Rattle.mc_boot.proofs.Images.{ImageLaws}
+use Rattle.mc_boot.proofs.Starts.{Holding, image_short, length-filled, primary_image, perm_holds, placed_holds, placed_unasked, test_holds}
+use Rattle.mc_boot.proofs.Wearing.{erased_bytes, put_bytes}
+use Rattle.mc_boot.specs.Plan.{image_size}
 use Rattle.mc_boot.specs.Life.{IsDelivered, StartsLaw, is_at_rest}
-use Rattle.mc_boot.specs.Restart.{BeginsImage}
-use Rattle.mc_boot.specs.Start.{filled, image_bytes, perm_flash, placed, start_flash, test_flash}
+use Rattle.mc_boot.specs.Restart.{BeginsImage, filled, image_bytes, perm_flash, placed, start_flash, test_flash}
 use Rattle.mc_boot.specs.declared.kind.Kind.TheVariants as starts
-use Rattle.mc_flash.specs.Changes.{length-put, same_content}
-use Rattle.mc_flash.specs.Content.{Content, put, size_of}
+use Rattle.mc_flash.specs.facts.Changes.{length-put, same_content}
+use Rattle.mc_flash.specs.Flash.{Content, put, size_of}
 use Rattle.mc_flash.specs.facts.Layouts.{data_before_trailer}
 use Rattle.mc_flash.specs.Geometry.{Geometry, IsLayout, fits}
 use Rattle.mc_flash.specs.declared.op.Slot.{Slot}
 use Rattle.mc_flash.specs.declared.op.Slot.TheVariants.{Primary, Secondary}
-use Rattle.mc_image.specs.Bytes.{IsBytes}
+use Rattle.mc_image.specs.Image.{IsBytes}
 use Rattle.mc_trailer.specs.facts.Fields.{reads_absent}
 use Rattle.mc_trailer.specs.facts.Places.{place_inside}
-use Rattle.mc_trailer.specs.Fields.{trailer_of}
-use Rattle.mc_trailer.specs.Places.{magic_bytes, place}
+use Rattle.mc_trailer.specs.Trailer.{trailer_of, magic_bytes, place}
 use Rattle.mc_trailer.specs.declared.places.Field.TheVariants as field
 use Rattle.mc_trailer.specs.declared.trailer.Magic.TheVariants as magics
 use Rattle.mc_trailer.specs.declared.trailer.Trailer.{Trailer}

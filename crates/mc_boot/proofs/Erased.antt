@@ -6,13 +6,11 @@ use Rattle.std.proofs.lemmas.Bool.{cases_lt}
 use Rattle.std.proofs.lemmas.Grind.{elements}
 use Rattle.std.proofs.lemmas.List.{length-replicate}
 use Rattle.mc_flash.specs.Geometry.{Geometry}
-use Rattle.mc_flash.specs.Blank.{is_blank}
-use Rattle.mc_flash.specs.Content.{Content, byte, bytes_of}
-use Rattle.mc_flash.specs.Changes.{Changed, range_blank}
+use Rattle.mc_flash.specs.Flash.{is_blank, Content, byte, bytes_of}
+use Rattle.mc_flash.specs.facts.Changes.{Changed, range_blank}
 use Rattle.mc_flash.specs.declared.op.Slot.{Slot}
 use Rattle.mc_flash.specs.declared.op.Slot.TheVariants.{Primary, Secondary}
-use Rattle.mc_boot.proofs.Blanking.{blank, erase_in, erases, Fit, fit_longer, same_bytes, same_content, which_slot}
-use Rattle.mc_boot.proofs.Meets.{Sector}
+use Rattle.mc_boot.proofs.Meets.{blank, erase_in, erases, Fit, fit_longer, same_bytes, same_content, which_slot, Sector}
 
 index_replicate : (n i : ℕ) → i < n → slice_index (replicate n 255) i ≡ 255
 index_replicate n i lt = grind (arith, elements)

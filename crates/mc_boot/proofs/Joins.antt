@@ -1,40 +1,57 @@
--- The outcome of a boot after a cut, where it follows from that of the boot that was cut.
-use Rattle.std.specs.Prelude.{◌≡◌, ℕ, zero, suc, ◌+◌, ◌-◌, ◌<◌, ◌≤◌, nat_lt, not, ◌||◌, ◌==◌, Bool, true, false, if◌then◌else◌, List, [], ◌∷◌, ◌++◌, length, map, take, drop, Option, Some, None}
-use Rattle.std.specs.Prelude.{option_and_then, option_map, refl}
-use Rattle.std.specs.List.{AllByRecursion}
-use Rattle.std.specs.Int.{div_ceil}
-use Rattle.std.proofs.Common.{arith, sym, ap, ◌∙◌, length-append}
+-- Two boots that end alike.
+use Rattle.std.proofs.Common.{ap, arith, length-append, sym, ◌∙◌}
 use Rattle.std.proofs.Math.Seq.{take-add, take-length}
 use Rattle.std.proofs.lemmas.Bool.Decides.{nat_tests}
-use Rattle.std.proofs.lemmas.List.{length-take, length-drop, length-take-le}
-use Rattle.mc_flash.specs.Geometry.{Geometry, greatest_sectors}
-use Rattle.mc_flash.specs.Content.{Content, IsSized, bytes_of}
-use Rattle.mc_flash.specs.Apply.{apply}
-use Rattle.mc_flash.specs.Pieces.{in_pieces}
+use Rattle.std.proofs.lemmas.List.{length-drop, length-take, length-take-le}
+use Rattle.std.specs.Bool.{beq}
+use Rattle.std.specs.Int.{div_ceil}
+use Rattle.std.specs.List.{AllByRecursion}
+use Rattle.std.specs.Prelude.{Bool, List, None, Option, Some, [], drop, false, if◌then◌else◌, length, map, nat_le, nat_lt, not, option_and_then, option_map, refl, suc, take, true, zero, ℕ, ◌++◌}
+use Rattle.std.specs.Prelude.{◌+◌, ◌-◌, ◌<◌, ◌==◌, ◌||◌, ◌∷◌, ◌≡◌, ◌≤◌}
+use Rattle.mc_boot.proofs.Meets.{AreThere, Fit, Sector, WritesIn, blank, erase_in, erase_of, fit_longer, fit_there, op_blanked, op_longer}
+use Rattle.mc_boot.specs.Outcome.{Report, applied, at, first_then, happening, is_faulted, is_panic, left_by, ops_of, outcome_of, report, result_of}
+use Rattle.mc_boot.specs.Plan.{Plan, PowerOn, again, first_left, images_of, new_list, new_plan, new_swap, nothing, plan, plan_with, power_on, resumed_from, resumed_plan, resumed_swap}
+use Rattle.mc_boot.specs.declared.image.Images.{Images}
+use Rattle.mc_boot.specs.declared.outcome.BootResult.{BootResult}
+use Rattle.mc_boot.specs.facts.Run.{happening_front, left_defined}
+use Rattle.mc_flash.specs.Flash.{Content, IsSized, apply, bytes_of}
+use Rattle.mc_flash.specs.Geometry.{Geometry, greatest_sectors, in_pieces}
+use Rattle.mc_flash.specs.declared.flash.Grain.{Grain}
 use Rattle.mc_flash.specs.declared.op.Op.{Op}
 use Rattle.mc_flash.specs.declared.op.Slot.{Slot}
 use Rattle.mc_flash.specs.declared.op.Slot.TheVariants.{Primary}
-use Rattle.mc_flash.specs.declared.flash.Grain.{Grain}
-use Rattle.mc_trailer.specs.Fields.{trailer_of}
-use Rattle.mc_trailer.specs.Tables.{table_of, is_resumed}
-use Rattle.mc_trailer.specs.Entries.{highest_entry}
-use Rattle.mc_trailer.specs.declared.trailer.Flag.{Flag}
-use Rattle.mc_trailer.specs.declared.trailer.Trailer.{Trailer}
+use Rattle.mc_image.specs.Valid.{id_of, is_valid}
+use Rattle.mc_trailer.specs.Tables.{is_resumed, table_of}
+use Rattle.mc_trailer.specs.Trailer.{highest_entry, trailer_of}
 use Rattle.mc_trailer.specs.declared.tables.Rules.{Rules}
 use Rattle.mc_trailer.specs.declared.tables.SwapType.{SwapType}
+use Rattle.mc_trailer.specs.declared.trailer.Flag.{Flag}
+use Rattle.mc_trailer.specs.declared.trailer.Trailer.{Trailer}
 use Rattle.mc_trailer.specs.declared.tables.SwapType.TheVariants as kinds
-use Rattle.mc_image.specs.Valid.{is_valid, id_of}
-use Rattle.mc_boot.specs.declared.image.Images.{Images}
-use Rattle.mc_boot.specs.declared.outcome.BootResult.{BootResult}
-use Rattle.mc_boot.specs.Image.{images_of}
-use Rattle.mc_boot.specs.Course.{new_list}
-use Rattle.mc_boot.specs.Plan.{Plan, nothing, new_swap, new_plan, first_left, resumed_from, resumed_swap, resumed_plan, plan_with, plan}
-use Rattle.mc_boot.specs.Runs.{applied, first_then, happening, ops_of, at, is_faulted, left_by}
-use Rattle.mc_boot.specs.facts.Run.{happening_front, left_defined}
-use Rattle.mc_boot.specs.Outcome.{Report, is_panic, result_of, report, outcome_of}
-use Rattle.mc_boot.proofs.Meets.{Sector, WritesIn, AreThere, erase_of}
-use Rattle.mc_boot.proofs.Blanking.{blank, erase_in, Fit, fit_there, fit_longer, op_blanked, op_longer}
-use Rattle.mc_boot.specs.PowerOn.{PowerOn, again, power_on}
+
+-- What tests tell where they hold.
+
+pub are_same : (a b : Bool) → beq a b ≡ true → a ≡ b
+are_same true true is = refl
+are_same true false is = absurd cc
+are_same false true is = absurd cc
+are_same false false is = refl
+
+pub are_equal : (m n : ℕ) → (m == n) ≡ true → m ≡ n
+are_equal m n is = grind (arith, nat_tests)
+
+pub is_most : (m n : ℕ) → nat_le m n ≡ true → m ≤ n
+is_most m n is = grind (arith, nat_tests)
+
+pub is_less : (m n : ℕ) → m ≤ n → (m == n) ≡ false → m < n
+is_less m n high is = grind (arith, nat_tests)
+
+-- Which number a test gives, where it gives one.
+pub chosen : (t : Bool) (m n : ℕ) → (if t then Some m else None) ≡ Some n → (t ≡ true) × (m ≡ n)
+chosen true m n is = (refl, cc)
+chosen false m n is = absurd cc
+
+-- The outcome of a boot after a cut, where it follows from that of the boot that was cut.
 
 -- A boot of s was cut after c operations and left u. The list of the next boot is the first one's without its first j, it
 -- begins with erases of some sectors, and what the first boot made of it wrote in these alone.

@@ -1,16 +1,38 @@
--- Lists of operations that can all be applied, with what holds before each and at the end.
-use Rattle.std.specs.Prelude.{◌≡◌, ℕ, zero, suc, ◌+◌, ◌<◌, Bool, true, false, if◌then◌else◌, List, [], ◌∷◌, ◌++◌, map, length, take, nat_lt, Some, None, option_and_then, refl}
-use Rattle.std.specs.List.{range_with_len}
-use Rattle.std.proofs.Common.{arith, sym, ap, subst, ◌∙◌}
-use borrow.Author.Tests.{ltb-true}
-use Rattle.mc_boot.specs.Plan.{plan}
-use Rattle.mc_boot.specs.Runs.{after, applied, at, first_then, happening, ops_of}
-use Rattle.mc_flash.specs.Apply.{apply}
-use Rattle.mc_flash.specs.Content.{Content}
-use Rattle.mc_flash.specs.Geometry.{Geometry}
+-- What operations keep: a phase, operation by operation, through erases, writes in pieces and boots that are not cut.
+use Rattle.std.proofs.Common.{ap, arith, inl, inr, subst, sym, ◌∙◌}
+use Rattle.std.proofs.Math.Nat.{mod-add-div', mul-le-mul_right, zero-mul}
+use Rattle.std.proofs.lemmas.Bool.{cases_lt}
+use Rattle.std.proofs.lemmas.Bool.Decides.{nat_tests}
+use Rattle.std.proofs.lemmas.List.{get_or-replicate, get_or-take, length-replicate, length-take-le}
+use Rattle.std.proofs.lemmas.List.Edits.{get_or-between, length-between}
+use Rattle.std.specs.List.{between, range_with_len}
+use Rattle.std.specs.Prelude.{Bool, List, None, Option, Some, [], false, if◌then◌else◌, length, map, nat_lt, option_and_then, option_map, refl, replicate, slice_index, suc, take, true, zero, ℕ}
+use Rattle.std.specs.Prelude.{◌%◌, ◌*◌, ◌++◌, ◌+◌, ◌-◌, ◌/◌, ◌<◌, ◌∷◌, ◌≡◌, ◌≢◌, ◌≤◌}
+use Rattle.mc_boot.proofs.Transfers.{take_whole}
+use Rattle.mc_boot.specs.Outcome.{after, applied, at, first_then, happening, is_faulted, left_by, ops_of, outcome_of, report, result_of}
+use Rattle.mc_boot.specs.Plan.{PowerOn, piece, plan, power_on, trailer_erase, trailer_erases, write}
+use Rattle.mc_boot.specs.declared.outcome.BootResult.{BootResult}
+use Rattle.mc_flash.specs.Flash.{Content, IsSized, apply, byte, bytes_of, sectors_of, size_of}
+use Rattle.mc_flash.specs.Geometry.{Geometry, IsLayout, trailer_sectors}
+use Rattle.mc_flash.specs.declared.flash.Grain.{Grain}
 use Rattle.mc_flash.specs.declared.op.Op.{Op}
+use Rattle.mc_flash.specs.declared.op.Op.TheVariants.{Program}
+use Rattle.mc_flash.specs.declared.op.Slot.{Slot}
+use Rattle.mc_flash.specs.facts.Changes.{Changed, erase_changes, program_changes, sized_is}
+use Rattle.mc_flash.specs.facts.Layouts.{data_end, sector_inside, trailer_leaves_one, trailer_sector_behind_data}
+use Rattle.mc_image.specs.Valid.{is_valid}
+use Rattle.mc_trailer.specs.Trailer.{place, room}
+use Rattle.mc_trailer.specs.declared.places.Field.{Field}
 use Rattle.mc_trailer.specs.declared.tables.Rules.{Rules}
-use Rattle.mc_boot.specs.PowerOn.{power_on}
+use Rattle.mc_trailer.specs.declared.tables.SwapType.{SwapType}
+use Rattle.mc_trailer.specs.facts.Fields.{FieldIs, blank_byte, field_write}
+use Rattle.mc_trailer.specs.facts.Places.{field_behind_data, field_ends}
+use borrow.Author.Tests.{ltb-true}
+use Rattle.mc_flash.specs.declared.flash.Grain.TheVariants as grains
+use Rattle.mc_trailer.specs.declared.tables.SwapType.TheVariants as kinds
+use Rattle.mc_boot.specs.declared.outcome.BootResult.TheVariants as results
+
+-- Lists of operations that can all be applied, with what holds before each and at the end.
 
 -- From s each operation can be applied; before each P holds, and at the end Q.
 abbrev pub Keeps : Geometry → (Content → Type 0) → List Op → Content → (Content → Type 0) → Type 0
@@ -87,3 +109,218 @@ restart r g P Q boot (c ∷ cuts) s t p is = go (restart r g P Q boot cuts) (nat
 pub keeps_then : (g : Geometry) (P Q R : Content → Type 0) (ops : List Op) (s : Content) → ((t : Content) → Q t → R t) → Keeps g P ops s Q → Keeps g P ops s R
 keeps_then g P Q R [] s then_ k = then_ s k
 keeps_then g P Q R (op ∷ ops) s then_ k = (k.0, (k.1.0, k.1.1, keeps_then g P Q R ops k.1.0 then_ k.1.2))
+
+-- The erases of a trailer.
+
+-- the i-th erase of a trailer is behind the data, and in the slot
+pub erase_behind_data : (g : Geometry) (o : Slot) (i : ℕ) → i < trailer_sectors g → data_end g o ≤ (sectors_of g o - 1 - i) * g.sector
+erase_behind_data g o i below = trailer_sector_behind_data g o (sectors_of g o - 1 - i) (omega arith)
+
+pub erase_inside : (g : Geometry) (o : Slot) (i : ℕ) → IsLayout g → i < trailer_sectors g → (sectors_of g o - 1 - i) * g.sector + g.sector ≤ size_of g o
+erase_inside g o i ok below = sector_inside g o (sectors_of g o - 1 - i) (let leaves = trailer_leaves_one g o ok in omega arith)
+
+-- what the i-th erase of a trailer did
+abbrev pub Erased : Geometry → Slot → ℕ → Content → Content → Type 0
+Erased g slot i s t = Changed s t slot ((sectors_of g slot - 1 - i) * g.sector) (replicate g.sector 255)
+
+-- a byte in the erased sector, and a byte that was 0xff
+pub erased_here : (g : Geometry) (slot : Slot) (i : ℕ) (s t : Content) (p : ℕ) → Erased g slot i s t → (sectors_of g slot - 1 - i) * g.sector ≤ p
+    → p < (sectors_of g slot - 1 - i) * g.sector + g.sector → byte t slot p ≡ 255
+erased_here g slot i s t p ch from below = at ((sectors_of g slot - 1 - i) * g.sector) ch from below
+  where
+    at : (z : ℕ) → Changed s t slot z (replicate g.sector 255) → z ≤ p → p < z + g.sector → byte t slot p ≡ 255
+    at z c low high =
+        let short : p - z < g.sector = omega (arith, low, high) in
+        ap (byte t slot) (omega (arith, low)) ∙ c.inside (p - z) (omega (arith, short, length-replicate {A = ℕ} g.sector 255)) ∙ get_or-replicate g.sector (p - z) 255 0 short
+
+pub erased_still : (g : Geometry) (slot : Slot) (i : ℕ) (s t : Content) (p : ℕ) → Erased g slot i s t → byte s slot p ≡ 255 → byte t slot p ≡ 255
+erased_still g slot i s t p ch was = at ((sectors_of g slot - 1 - i) * g.sector) refl
+  where
+    at : (z : ℕ) → (sectors_of g slot - 1 - i) * g.sector ≡ z → byte t slot p ≡ 255
+    at z is = elim (cases_lt p z) [
+      | inl low ↦ ch.before p (omega (arith, is, low)) ∙ was
+      | inr from ↦ elim (cases_lt p (z + g.sector)) [
+        | inl below ↦ erased_here g slot i s t p ch (omega (arith, is, from)) (omega (arith, is, below))
+        | inr above ↦ ch.behind p (omega (arith, is, above, length-replicate {A = ℕ} g.sector 255)) ∙ was
+      ]
+    ]
+
+-- R holds before the i-th erase; after the last the slot is 0xff behind its data sectors.
+pub erases_keep : (g : Geometry) (slot : Slot) (P : Content → Type 0) (R : ℕ → Content → Type 0) (s : Content) → IsLayout g
+    → ((i : ℕ) (t : Content) → R i t → P t × IsSized g t)
+    → ((i : ℕ) (t u : Content) → i < trailer_sectors g → R i t → Erased g slot i t u → R (i + 1) u)
+    → R 0 s → Keeps g P (trailer_erases g slot) s (λ t. R (trailer_sectors g) t × ((p : ℕ) → data_end g slot ≤ p → p < size_of g slot → byte t slot p ≡ 255))
+erases_keep g slot P R s ok bears step begin =
+    let D : ℕ → Type 0 = λ m. Keeps g P (trailer_erases g slot) s (K m) in
+    subst D (omega arith) (keeps_range g P K (trailer_erase g slot) 0 (trailer_sectors g) s
+    (λ i t h k. let does = erase_changes g t slot (sectors_of g slot - 1 - i) (fits i t (omega (arith, h)) (bears i t k.0).1) in
+    ((bears i t k.0).0, (does.0, does.1, (step i t does.0 (omega (arith, h)) k.0 does.2, more i t does.0 (omega (arith, h)) does.2 k.1))))
+    (begin, λ p from below. absurd (nothing p from below)))
+  where
+    K : ℕ → Content → Type 0
+    K i t = R i t × ((p : ℕ) → (sectors_of g slot - i) * g.sector ≤ p → p < size_of g slot → byte t slot p ≡ 255)
+
+    nothing : (p : ℕ) → (sectors_of g slot - 0) * g.sector ≤ p → p < size_of g slot → ⊥
+    nothing p from below =
+        let whole : (sectors_of g slot - 0) * g.sector ≡ sectors_of g slot * g.sector = ap (λ n. n * g.sector) (omega arith) in
+        omega (arith, whole, from, below)
+
+    fits : (i : ℕ) (t : Content) → i < trailer_sectors g → IsSized g t → (sectors_of g slot - 1 - i) * g.sector + g.sector ≤ length (bytes_of t slot)
+    fits i t below sized = omega (arith, erase_inside g slot i ok below, sized_is g t slot sized)
+
+    next_sector : (i : ℕ) → i < trailer_sectors g → (sectors_of g slot - i) * g.sector ≡ (sectors_of g slot - 1 - i) * g.sector + g.sector
+    next_sector i below = with_sector (sectors_of g slot - i) (sectors_of g slot - 1 - i) (let leaves = trailer_leaves_one g slot ok in omega arith)
+      where
+        with_sector : (a b : ℕ) → a ≡ b + 1 → a * g.sector ≡ b * g.sector + g.sector
+        with_sector a b e = ap (λ n. n * g.sector) e ∙ omega arith
+
+    more : (i : ℕ) (t u : Content) → i < trailer_sectors g → Erased g slot i t u → ((p : ℕ) → (sectors_of g slot - i) * g.sector ≤ p → p < size_of g slot → byte t slot p ≡ 255) → (p : ℕ)
+        → (sectors_of g slot - (i + 1)) * g.sector ≤ p → p < size_of g slot → byte u slot p ≡ 255
+    more i t u below ch was p from short =
+        let same : (sectors_of g slot - (i + 1)) * g.sector ≡ (sectors_of g slot - 1 - i) * g.sector = ap (λ n. n * g.sector) (omega arith) in
+        elim (cases_lt p ((sectors_of g slot - i) * g.sector)) [
+          | inl low ↦ erased_here g slot i t u p ch (omega (arith, same, from)) (omega (arith, low, next_sector i below))
+          | inr high ↦ erased_still g slot i t u p ch (was p high short)
+        ]
+
+-- A write in pieces of one unit: what it changes is what one write of all the bytes changes.
+
+-- after the first k bytes
+abbrev pub Part : Content → Slot → ℕ → List ℕ → ℕ → Content → Type 0
+Part s slot at new k t = Changed s t slot at (take k new)
+
+none_yet : (s : Content) (slot : Slot) (at : ℕ) (new : List ℕ) → Part s slot at new 0 s
+none_yet s slot at new = record {
+  inside = λ i h. absurd (omega (arith, h, length-take-le 0 new (omega arith)));
+  before = λ i _. refl;
+  behind = λ i _. refl;
+  other = λ o i _. refl;
+  sizes = λ o. refl;
+}
+
+piece_more : (g : Geometry) (s t u : Content) (slot : Slot) (at : ℕ) (new : List ℕ) (k : ℕ) → k + g.unit ≤ length new → Part s slot at new k t → Changed t u slot (at + k) (between k (k + g.unit) new)
+    → Part s slot at new (k + g.unit) u
+piece_more g s t u slot at new k fits so ch = record {
+  inside = λ i h.
+      let short : i < k + g.unit = omega (arith, h, all) in
+      elim (cases_lt i k) [
+        | inl low ↦ ch.before (at + i) (omega (arith, low)) ∙ so.inside i (omega (arith, low, front)) ∙ get_or-take k new i 0 low ∙ sym (get_or-take (k + g.unit) new i 0 short)
+        | inr high ↦
+            ap (byte u slot) (omega (arith, high)) ∙ ch.inside (i - k) (omega (arith, high, short, part))
+            ∙ get_or-between new k (k + g.unit) (i - k) 0 (omega (arith, high, short))
+            ∙ ap (slice_index new) (omega (arith, high)) ∙ sym (get_or-take (k + g.unit) new i 0 short)
+      ];
+  before = λ i h. ch.before i (omega (arith, h)) ∙ so.before i h;
+  behind = λ i h. ch.behind i (omega (arith, h, all, part)) ∙ so.behind i (omega (arith, h, all, front));
+  other = λ o i away. ch.other o i away ∙ so.other o i away;
+  sizes = λ o. ch.sizes o ∙ so.sizes o;
+}
+  where
+    all : length (take (k + g.unit) new) ≡ k + g.unit
+    all = length-take-le (k + g.unit) new fits
+
+    front : length (take k new) ≡ k
+    front = length-take-le k new (omega (arith, fits))
+
+    part : length (between k (k + g.unit) new) ≡ g.unit
+    part = length-between new k (k + g.unit) fits ∙ omega arith
+
+piece_step : (g : Geometry) (s t : Content) (slot : Slot) (at : ℕ) (new : List ℕ) (k : ℕ) → at + length new ≤ length (bytes_of s slot) → ((i : ℕ) → i < length new → byte s slot (at + i) ≡ 255)
+    → k + g.unit ≤ length new → Part s slot at new k t
+    → (u : Content) × (apply g (Program slot (at + k) (between k (k + g.unit) new)) t ≡ Some u) × Part s slot at new (k + g.unit) u
+piece_step g s t slot at new k fits free within so =
+    let part : length (between k (k + g.unit) new) ≡ g.unit = length-between new k (k + g.unit) within ∙ omega arith in
+    let front : length (take k new) ≡ k = length-take-le k new (omega (arith, within)) in
+    let does = program_changes g t slot (at + k) (between k (k + g.unit) new) (omega (arith, fits, within, part, so.sizes slot))
+    (λ i h. ap (byte t slot) (omega arith) ∙ so.behind (at + (k + i)) (omega (arith, front)) ∙ free (k + i) (omega (arith, h, part, within))) in
+    (does.0, does.1, piece_more g s t does.0 slot at new k within so does.2)
+
+-- m pieces are the whole write; P has to bear each part of it
+pub pieces_keep : (g : Geometry) (P : Content → Type 0) (s : Content) (slot : Slot) (at : ℕ) (new : List ℕ) (m : ℕ) → length new ≡ m * g.unit → at + length new ≤ length (bytes_of s slot)
+    → ((i : ℕ) → i < length new → byte s slot (at + i) ≡ 255)
+    → ((j : ℕ) (t : Content) → j < m → Part s slot at new (j * g.unit) t → P t)
+    → Keeps g P (map (piece g slot at new) (range_with_len 0 m)) s (λ t. Changed s t slot at new)
+pieces_keep g P s slot at new m len fits free bears =
+    let K : ℕ → Content → Type 0 = λ j t. Part s slot at new (j * g.unit) t in
+    let W : List ℕ → Type 0 = λ l. Keeps g P (map (piece g slot at new) (range_with_len 0 m)) s (λ t. Changed s t slot at l) in
+    let D : ℕ → Type 0 = λ j. Keeps g P (map (piece g slot at new) (range_with_len 0 m)) s (λ t. Part s slot at new (j * g.unit) t) in
+    let Z : ℕ → Type 0 = λ k. Part s slot at new k s in
+    let count : 0 + m ≡ m = omega arith in
+    let nothing : 0 ≡ 0 * g.unit = sym (zero-mul g.unit) in
+    subst W (take_whole new (m * g.unit) (sym len))
+    (subst D count
+    (keeps_range g P K (piece g slot at new) 0 m s
+    (λ j t h k.
+    let below : j < m = omega (arith, h) in
+    let row : (j + 1) * g.unit ≤ m * g.unit = mul-le-mul_right g.unit (omega (arith, below)) in
+    let done = piece_step g s t slot at new (j * g.unit) fits free (omega (arith, row, len)) k in
+    let N : ℕ → Type 0 = λ n. Part s slot at new n done.0 in
+    let next : j * g.unit + g.unit ≡ (j + 1) * g.unit = omega arith in
+    (bears j t below k, (done.0, done.1, subst N next done.2)))
+    (subst Z nothing (none_yet s slot at new))))
+
+-- A write of a field that is free, by either grain.
+
+-- Either way it changes the same bytes, if P bears the start and, where units are written one by one, each part.
+pub field_write_keeps : (g : Geometry) (P : Content → Type 0) (s : Content) (c : Grain) (slot : Slot) (f : Field) (new : List ℕ) → IsLayout g → IsSized g s
+    → FieldIs g s slot f (replicate (room f) 255) → length new ≤ room f → length new % g.unit ≡ 0
+    → P s → ((k : ℕ) (t : Content) → c ≡ grains.Unit → k + g.unit ≤ length new → Part s slot (place g slot f) new k t → P t)
+    → Keeps g P (write c g slot f new) s (λ t. Changed s t slot (place g slot f) new)
+field_write_keeps g P s grains.Call slot f new ok sized free short whole p bears = let does = field_write g s slot f new ok sized free short in (p, (does.0, does.1, does.2))
+field_write_keeps g P s grains.Unit slot f new ok sized free short whole p bears =
+    pieces_keep g P s slot (place g slot f) new (length new / g.unit) units
+    (omega (arith, short, field_ends g slot f ok, sized_is g s slot sized))
+    (λ i h. blank_byte g s slot f i free (omega (arith, h, short)))
+    (λ j t h part.
+    let row : (j + 1) * g.unit ≤ length new / g.unit * g.unit = mul-le-mul_right g.unit (omega (arith, h)) in
+    bears (j * g.unit) t refl (omega (arith, row, units)) part)
+  where
+    units : length new ≡ length new / g.unit * g.unit
+    units = let parts = mod-add-div' (length new) g.unit in omega (arith, parts, whole)
+
+-- fields and entries are in the trailer
+pub place_behind_data : (g : Geometry) (slot : Slot) (f : Field) → IsLayout g → data_end g slot ≤ place g slot f
+place_behind_data g slot f ok = let behind = field_behind_data g slot f ok in omega (arith, behind)
+
+-- A boot whose list can be applied whole.
+
+pub record Ends (r : Rules) (g : Geometry) (Q : Content → Type 0) (u z : Content) : Type 0 where
+  pub end : left_by (power_on r g u) ≡ Some z
+  pub whole : is_faulted (power_on r g u) ≡ false
+  pub so : Q z
+
+not_below : (n : ℕ) → nat_lt n n ≡ false
+not_below n = grind (arith, nat_tests)
+
+left_whole : (x : PowerOn) (z : Content) → ops_of x ≡ (plan x).list → applied x.geometry (plan x).list x.content ≡ Some z → left_by x ≡ Some z
+unfolding left_by at
+left_whole x z whole end = ap (λ (l : List Op). applied x.geometry l x.content) (take_whole (ops_of x) (length (ops_of x)) refl ∙ whole) ∙ end
+
+not_faulted : (x : PowerOn) → ops_of x ≡ (plan x).list → is_faulted x ≡ false
+unfolding is_faulted
+not_faulted x whole = ap (λ (l : List Op). nat_lt (length l) (length (plan x).list)) whole ∙ not_below (length (plan x).list)
+
+pub ends : (r : Rules) (g : Geometry) (P Q : Content → Type 0) (u : Content) → Keeps g P (plan (power_on r g u)).list u Q → (z : Content) × Ends r g Q u z
+ends r g P Q u keeps =
+    let whole = keeps_boot r g P Q u keeps in
+    let end = keeps_end g P Q (plan (power_on r g u)).list u keeps in
+    (end.0, record { end = left_whole (power_on r g u) end.0 whole end.1; whole = not_faulted (power_on r g u) whole; so = end.2 })
+
+-- a boot that is not faulted and does not panic boots what it left, where that is valid
+calm_boots : (kind : SwapType) → kind ≢ kinds.Panic → result_of kind false true ≡ results.Boot
+calm_boots kinds.None calm = refl
+calm_boots kinds.Test calm = refl
+calm_boots kinds.Perm calm = refl
+calm_boots kinds.Revert calm = refl
+calm_boots kinds.Fail calm = refl
+calm_boots kinds.Panic calm = absurd (calm refl)
+
+pub boots_so : (x : PowerOn) (z : Content) → left_by x ≡ Some z → is_faulted x ≡ false → (plan x).kind ≢ kinds.Panic → is_valid z.primary ≡ true
+    → option_map (λ o. o.result) (outcome_of x) ≡ Some results.Boot
+unfolding outcome_of report
+boots_so from z end whole calm valid =
+    let kind : SwapType = (plan from).kind in
+    ap (λ (x : Option Content). option_map (λ o. o.result) (option_map (λ y. report from.rules from.geometry (plan from).kind (length (ops_of from)) (is_faulted from) y) x)) end
+    ∙ ap (λ (e : Bool). Some (result_of (plan from).kind e (is_valid z.primary))) whole
+    ∙ ap (λ (e : Bool). Some (result_of (plan from).kind false e)) valid
+    ∙ ap (λ (e : BootResult). Some e) (calm_boots (plan from).kind calm)

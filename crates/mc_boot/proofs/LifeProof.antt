@@ -5,34 +5,28 @@ use Rattle.std.specs.Int.{div_ceil}
 use Rattle.std.proofs.Common.{arith, sym, ap, subst, ◌∙◌, inl, inr}
 use Rattle.std.proofs.lemmas.Grind.{div_ceil_times}
 use Rattle.std.proofs.Math.Nat.{mul-le-mul_right}
-use Rattle.mc_boot.proofs.AtRest.{AtRest}
-use Rattle.mc_boot.proofs.FieldWrites.{place_behind_data}
-use Rattle.mc_boot.proofs.SameImages.{HasImage, ImageLaws, SameImage, has_same, same_image}
-use Rattle.mc_boot.proofs.NextBoots.{next_is}
+use Rattle.mc_boot.proofs.AtRest.{AtRest, next_is}
+use Rattle.mc_boot.proofs.Keeps.{place_behind_data}
+use Rattle.mc_boot.proofs.Images.{HasImage, ImageLaws, SameImage, has_same, same_image}
 use Rattle.mc_boot.proofs.FromRest.{done_rests, no_trial, rest_law, same_names, set_of}
-use Rattle.mc_boot.specs.Confirm.{confirmed, may_confirm}
-use Rattle.mc_boot.specs.Image.{image_size}
+use Rattle.mc_boot.specs.Restart.{confirmed, may_confirm}
+use Rattle.mc_boot.specs.Plan.{image_size, PowerOn, power_on, plan}
 use Rattle.mc_boot.specs.Life.{AreSecondary, Event, Forgets, AllStored, IsDelivered, Leads, LifeLaw, Lives, Moment, NextLaw, OnlyLaw, DeviceState, Predicts, Leaves, asked_of, booted_by}
 use Rattle.mc_boot.specs.Life.{can_swap, confirmed_by, done_or_fails, is_boot, is_on_trial, resting, device_state, starts_image, cut, boot, store, confirm, mark}
-use Rattle.mc_boot.specs.Outcome.{Report, outcome_of}
-use Rattle.mc_boot.specs.PowerOn.{PowerOn, power_on}
+use Rattle.mc_boot.specs.Outcome.{Report, outcome_of, after, cut_at}
 use Rattle.mc_boot.specs.declared.outcome.BootResult.TheVariants as results
-use Rattle.mc_boot.specs.Plan.{plan}
-use Rattle.mc_boot.specs.Runs.{after, cut_at}
-use Rattle.mc_flash.specs.Blank.{is_blank}
-use Rattle.mc_flash.specs.Changes.{Changed, changed, changed_sized, same_content, sized_is}
-use Rattle.mc_flash.specs.Content.{Content, put, with_bytes}
+use Rattle.mc_flash.specs.Flash.{is_blank, Content, put, with_bytes}
+use Rattle.mc_flash.specs.facts.Changes.{Changed, changed, changed_sized, same_content, sized_is}
 use Rattle.mc_flash.specs.facts.Layouts.{data_end, fits_few, image_is_data}
 use Rattle.mc_flash.specs.Geometry.{Geometry, IsLayout, greatest_sectors}
 use Rattle.mc_flash.specs.declared.op.Slot.TheVariants.{Primary, Secondary}
-use Rattle.mc_image.specs.Bytes.{IsBytes}
+use Rattle.mc_image.specs.Image.{IsBytes}
 use Rattle.mc_image.specs.Valid.{Identity, id_of, is_valid}
 use Rattle.mc_trailer.specs.declared.tables.SwapType.{SwapType}
 use Rattle.mc_trailer.specs.declared.tables.SwapType.TheVariants as kinds
 use Rattle.mc_trailer.specs.facts.Fields.{field_kept_beside, reads_image_ok, same_copy_done, written_field}
 use Rattle.mc_trailer.specs.facts.Places.{field_ends, one_unit_fits}
-use Rattle.mc_trailer.specs.Fields.{bytes_at, one_unit, trailer_of}
-use Rattle.mc_trailer.specs.Places.{place, room}
+use Rattle.mc_trailer.specs.Trailer.{bytes_at, one_unit, trailer_of, place, room}
 use Rattle.mc_trailer.specs.Tables.{is_good, is_set}
 use Rattle.mc_trailer.specs.declared.places.Field.TheVariants as field
 use Rattle.mc_trailer.specs.declared.tables.Rules.{Rules}

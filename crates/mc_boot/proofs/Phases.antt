@@ -1,24 +1,44 @@
--- What holds before each operation of a swap, however often it was cut.
-use Rattle.std.specs.Prelude.{◌≡◌, ◌⊎◌, ℕ, ◌+◌, ◌*◌, ◌<◌, ◌≤◌, ◌^◌, max, Bool, true, false, if◌then◌else◌, List, [], ◌∷◌, replicate}
+-- The phases of a swap, the plan of the boot in each, and fields by what is read of them.
+use Rattle.std.proofs.Common.{add-zero, ap, arith, inl, inr, subst, sym, ◌∙◌}
+use Rattle.std.proofs.lemmas.Bool.Decides.{nat_tests}
+use Rattle.std.proofs.lemmas.List.Edits.{get_or-between}
+use Rattle.std.proofs.lemmas.Slice.Eq.{bytes_eq-Decides}
 use Rattle.std.specs.Int.{div_ceil}
-use Rattle.std.proofs.Common.{inl, inr}
-use Rattle.mc_boot.proofs.EntryNumbers.{Entries}
-use Rattle.mc_boot.proofs.SameImages.{HasImage, ImageLaws}
-use Rattle.mc_boot.proofs.SectorData.{Data}
-use Rattle.mc_boot.specs.Image.{image_size}
-use Rattle.mc_boot.specs.Writes.{is_test, number_of}
-use Rattle.mc_flash.specs.Content.{Content, IsSized, byte}
-use Rattle.mc_flash.specs.Geometry.{Geometry, IsLayout, greatest_sectors}
+use Rattle.std.specs.Prelude.{Bool, List, Option, Some, [], bytes_eq, false, if◌then◌else◌, is_none, max, nat_lt, not, refl, replicate, slice_index, suc, true, zero, ℕ, ◌&&◌, ◌*◌, ◌+◌, ◌-◌, ◌<◌}
+use Rattle.std.specs.Prelude.{◌==◌, ◌^◌, ◌||◌, ◌∷◌, ◌≡◌, ◌≤◌, ◌⊎◌}
+use Rattle.mc_boot.proofs.Images.{HasImage, ImageLaws}
+use Rattle.mc_boot.proofs.Moving.{Data}
+use Rattle.mc_boot.proofs.Plans.{plan_new, plan_resumed, resumed_count}
+use Rattle.mc_boot.proofs.Transfers.{Entries, entries_last, entries_not, left_at, other_number}
+use Rattle.mc_boot.specs.Plan.{Plan, PowerOn, again, confirms, first_left, image_size, images_of, is_test, new_list, new_plan, new_swap, nothing, number_of, plan, resumed_from, resumed_list}
+use Rattle.mc_boot.specs.Plan.{resumed_plan, resumed_swap}
+use Rattle.mc_boot.specs.Restart.{forgets_reverts}
+use Rattle.mc_boot.specs.declared.image.Images.{Images}
+use Rattle.mc_flash.specs.Flash.{Content, IsSized, byte, bytes_of, is_blank}
+use Rattle.mc_flash.specs.Geometry.{Geometry, IsLayout, greatest_sectors, in_pieces}
 use Rattle.mc_flash.specs.declared.flash.Grain.{Grain}
-use Rattle.mc_trailer.specs.facts.Fields.{FieldIs, FieldsAre, blank_fields}
-use Rattle.mc_trailer.specs.Fields.{one_unit, size_bytes}
-use Rattle.mc_trailer.specs.Places.{magic_bytes, place}
-use Rattle.mc_trailer.specs.declared.places.Field.{Field}
-use Rattle.mc_trailer.specs.declared.tables.SwapType.{SwapType}
-use Rattle.mc_trailer.specs.declared.places.Field.TheVariants as field
-use Rattle.mc_trailer.specs.declared.tables.SwapType.TheVariants as kinds
-use Rattle.mc_flash.specs.declared.flash.Grain.TheVariants as grains
+use Rattle.mc_flash.specs.declared.op.Slot.{Slot}
 use Rattle.mc_flash.specs.declared.op.Slot.TheVariants.{Primary, Secondary}
+use Rattle.mc_flash.specs.facts.Changes.{sized_is}
+use Rattle.mc_image.specs.Valid.{is_valid}
+use Rattle.mc_trailer.specs.Tables.{asks_perm, asks_test, is_good, is_resumed, is_set, is_unset, resumes, reverts_at, swap_type, table_of}
+use Rattle.mc_trailer.specs.Trailer.{bytes_at, flag_of, highest_entry, magic_bytes, magic_of, one_unit, place, size_bytes, trailer_of}
+use Rattle.mc_trailer.specs.declared.places.Field.{Field}
+use Rattle.mc_trailer.specs.declared.tables.Profile.{Profile}
+use Rattle.mc_trailer.specs.declared.tables.SwapType.{SwapType}
+use Rattle.mc_trailer.specs.declared.trailer.Flag.{Flag}
+use Rattle.mc_trailer.specs.declared.trailer.Magic.{Magic}
+use Rattle.mc_trailer.specs.declared.trailer.Trailer.{Trailer}
+use Rattle.mc_trailer.specs.facts.Fields.{FieldIs, FieldsAre, blank_fields, field_as, reads_absent, reads_copy_done, reads_good, reads_image_ok, reads_info, reads_not_good, reads_size}
+use Rattle.mc_trailer.specs.facts.Tables.{types_are_rows}
+use Rattle.mc_trailer.specs.declared.places.Field.TheVariants as field
+use Rattle.mc_trailer.specs.declared.trailer.Flag.TheVariants as flags
+use Rattle.mc_flash.specs.declared.flash.Grain.TheVariants as grains
+use Rattle.mc_trailer.specs.declared.tables.SwapType.TheVariants as kinds
+use Rattle.mc_trailer.specs.declared.trailer.Magic.TheVariants as magics
+use Rattle.mc_trailer.specs.declared.tables.Profile.TheVariants as profiles
+
+-- What holds before each operation of a swap, however often it was cut.
 
 -- the size of the larger image of two slots
 abbrev pub larger_size : Content → ℕ
@@ -133,3 +153,268 @@ asks R g start size n b s is = inr (inl is)
 pub runs : (R : Content → Type 0) (g : Geometry) (start : Content) (size n : ℕ) (b : Bool) (kind : SwapType) (k : ℕ) (s : Content) → IsSwapOf b kind → k ≤ 3 * n → Under g start size n kind k s
     → Phase R g start size n b s
 runs R g start size n b kind k s of most is = inr (inr (kind, k, of, most, is))
+
+-- The plan of each phase.
+
+-- the tests of two trailers
+resumes_when : (p q : Trailer) → p.magic ≡ magics.Good → p.copy_done ≡ flags.Unset → q.magic ≡ magics.Unset → resumes p q ≡ true
+resumes_when p q good unset absent = rw good (rw unset (rw absent refl))
+
+not_when_asked : (p q : Trailer) → q.magic ≡ magics.Good → resumes p q ≡ false
+not_when_asked p q good = rw good (never (is_good p.magic && is_unset p.copy_done))
+  where
+    never : (b : Bool) → (b && false) ≡ false
+    never true = refl
+    never false = refl
+
+pub not_when_done : (p q : Trailer) → p.copy_done ≡ flags.Set → resumes p q ≡ false
+not_when_done p q set = rw set (never (is_good p.magic))
+  where
+    never : (b : Bool) → (b && false && not (is_good q.magic)) ≡ false
+    never true = refl
+    never false = refl
+
+tests_when : (profile : Profile) (p q : Trailer) → q.magic ≡ magics.Good → q.image_ok ≡ flags.Unset → swap_type profile p q ≡ kinds.Test
+tests_when profile p q good unset = rw good (rw unset refl)
+
+stays_when : (profile : Profile) (p q : Trailer) → q.magic ≡ magics.Good → q.image_ok ≡ flags.Set → swap_type profile p q ≡ kinds.Perm
+stays_when profile p q good set = rw good (rw set refl)
+
+all_hold : (a b c d : Bool) → a ≡ true → b ≡ true → c ≡ true → d ≡ true → (a && b && c && d) ≡ true
+all_hold a b c d at_a at_b at_c at_d = rw at_a (rw at_b (rw at_c (rw at_d refl)))
+
+pub reverts_when : (profile : Profile) (p q : Trailer) → p.magic ≡ magics.Good → reverts_at profile q.magic ≡ true → p.image_ok ≡ flags.Unset → p.copy_done ≡ flags.Set
+    → swap_type profile p q ≡ kinds.Revert
+reverts_when profile p q good reverts unset set =
+    (types_are_rows profile p q kinds.Revert).1
+    (all_hold (is_good p.magic) (reverts_at profile q.magic) (is_unset p.image_ok) (is_set p.copy_done) (ap is_good good) reverts (ap is_unset unset) (ap is_set set))
+
+third_fails : (a b c d : Bool) → c ≡ false → (a && b && c && d) ≡ false
+third_fails true true c d is = rw is refl
+third_fails true false c d is = refl
+third_fails false b c d is = refl
+
+nothing_asked : (p q : Trailer) → q.magic ≡ magics.Unset → (asks_test p q ≡ false) × (asks_perm p q ≡ false)
+nothing_asked p q absent = (rw absent refl, rw absent refl)
+
+pub none_when : (profile : Profile) (p q : Trailer) → q.magic ≡ magics.Unset → p.image_ok ≡ flags.Set → swap_type profile p q ≡ kinds.None
+none_when profile p q absent set =
+    let asks = nothing_asked p q absent in
+    (types_are_rows profile p q kinds.None).1 (asks.0, asks.1, third_fails (is_good p.magic) (reverts_at profile q.magic) (is_unset p.image_ok) (is_set p.copy_done) (ap is_unset set))
+
+none_at_all : (profile : Profile) (p q : Trailer) → p.magic ≡ magics.Unset → q.magic ≡ magics.Unset → (resumes p q ≡ false) × (swap_type profile p q ≡ kinds.None)
+none_at_all profile p q absent_p absent_q =
+    let asks = nothing_asked p q absent_q in
+    (rw absent_p refl, (types_are_rows profile p q kinds.None).1 (asks.0, asks.1, rw absent_p refl))
+
+-- a plan where the boot does not resume
+pub new_is : (x : PowerOn) (kind : SwapType) (p : Plan) → is_resumed x.geometry x.content ≡ false → table_of x.rules.profile x.geometry x.content ≡ kind
+    → new_plan x.rules.grain x.geometry (images_of x.content) kind ≡ p → plan x ≡ p
+new_is x kind p not_so of is = plan_new x not_so ∙ ap (new_plan x.rules.grain x.geometry (images_of x.content)) of ∙ is
+
+pub swap_of : (b : Bool) (kind : SwapType) → IsSwapOf b kind → is_test kind ≡ b
+swap_of b kinds.Test of = sym of
+swap_of b kinds.Perm of = sym of
+swap_of b kinds.Revert of = sym of
+swap_of b kinds.None of = absurd of
+swap_of b kinds.Fail of = absurd of
+swap_of b kinds.Panic of = absurd of
+
+abbrev by_info : Grain → Geometry → Flag → Option ℕ → ℕ → ℕ → Plan
+by_info c g image_ok highest n info =
+    if info == 2 then resumed_swap c g image_ok highest kinds.Test n
+    else if info == 3 then resumed_swap c g image_ok highest kinds.Perm n
+    else if info == 4 then resumed_swap c g image_ok highest kinds.Revert n
+    else nothing kinds.None
+
+of_kind : (c : Grain) (g : Geometry) (image_ok : Flag) (highest : Option ℕ) (n : ℕ) (b : Bool) (kind : SwapType) → IsSwapOf b kind
+    → by_info c g image_ok highest n (number_of kind) ≡ resumed_swap c g image_ok highest kind n
+of_kind c g image_ok highest n b kinds.Test of = refl
+of_kind c g image_ok highest n b kinds.Perm of = refl
+of_kind c g image_ok highest n b kinds.Revert of = refl
+of_kind c g image_ok highest n b kinds.None of = absurd of
+of_kind c g image_ok highest n b kinds.Fail of = absurd of
+of_kind c g image_ok highest n b kinds.Panic of = absurd of
+
+-- the plan of a swap that runs
+abbrev pub running : Geometry → SwapType → ℕ → ℕ → Bool → Plan
+running g kind n k erases = record { kind = kind; sectors = n; list = resumed_list g n k erases false }
+
+running_is : (c : Grain) (g : Geometry) (p : Trailer) (highest : Option ℕ) (b : Bool) (kind : SwapType) (size n k : ℕ) → IsSwapOf b kind → p.swap_info ≡ number_of kind → p.swap_size ≡ size
+    → div_ceil size g.sector ≡ n → 0 < n → n ≤ greatest_sectors g
+    → first_left g n highest ≡ Some k → is_none highest ≡ (k == 0) → confirms kind p.image_ok ≡ false → resumed_plan c g p highest ≡ running (in_pieces c g) kind n k (k == 0)
+running_is c g p highest b kind size n k of info sized_is count some few first any settled =
+    ap (by_info c g p.image_ok highest (div_ceil p.swap_size g.sector)) info
+    ∙ of_kind c g p.image_ok highest (div_ceil p.swap_size g.sector) b kind of
+    ∙ ap (λ z. resumed_swap c g p.image_ok highest kind (div_ceil z g.sector)) sized_is
+    ∙ ap (resumed_swap c g p.image_ok highest kind) count
+    ∙ resumed_count c g p.image_ok highest kind n some few
+    ∙ ap (resumed_from c g p.image_ok highest kind n) first
+    ∙ ap (λ (e : Bool). record { kind = kind; sectors = n; list = resumed_list (in_pieces c g) n k e (confirms kind p.image_ok) }) any
+    ∙ ap (λ (e : Bool). record { kind = kind; sectors = n; list = resumed_list (in_pieces c g) n k (k == 0) e }) settled
+
+confirms_not : (b : Bool) (kind : SwapType) (image_ok : Flag) → is_test kind ≡ b → (b ≡ false → image_ok ≡ flags.Set) → confirms kind image_ok ≡ false
+confirms_not true kind image_ok of set = rw of refl
+confirms_not false kind image_ok of set = rw of (rw (set refl) refl)
+
+-- what the entries tell: the first transfer that is left, and whether any is made
+found : (g : Geometry) (n k : ℕ) (s : Content) → IsLayout g → IsSized g s → n ≤ greatest_sectors g → k ≤ 3 * n → Entries g n k s → (first_left g n (highest_entry g s) ≡ Some k)
+    × (is_none (highest_entry g s) ≡ (k == 0))
+found g n zero s ok sized few most en = let none = entries_not g n s ok sized en in (ap (first_left g n) none, ap (λ (o : Option ℕ). is_none o) none)
+found g n (suc j) s ok sized few most en =
+    let last = entries_last g n (suc j) s ok sized (omega (arith, few)) (omega arith) most en in
+    (ap (first_left g n) last ∙ left_at g n (suc j) ok few (omega arith) most, ap (λ (o : Option ℕ). is_none o) last ∙ sym (other_number (suc j) 0 (λ e. omega (arith, e))))
+
+-- the flag in the primary while the swap runs, and at its end
+pub image_ok_is : (g : Geometry) (s : Content) (kind : SwapType) (b : Bool) → is_test kind ≡ b → FieldIs g s Primary field.ImageOk (if is_test kind then blank_fields field.ImageOk else one_unit g 1)
+    → (trailer_of g s Primary).image_ok ≡ (if b then flags.Unset else flags.Set)
+image_ok_is g s kind true of is = reads_image_ok g s Primary 255 (replicate 7 255) (field_as g s Primary field.ImageOk _ (replicate 8 255)
+    (ap (λ (c : Bool). if c then replicate 8 255 else one_unit g 1) of) is)
+image_ok_is g s kind false of is = reads_image_ok g s Primary 1 (replicate (g.unit - 1) 255)
+    (field_as g s Primary field.ImageOk _ (one_unit g 1) (ap (λ (c : Bool). if c then replicate 8 255 else one_unit g 1) of) is)
+
+pub plan_under : (x : PowerOn) (size n : ℕ) (b : Bool) (kind : SwapType) (k : ℕ) (s : Content) → Swap x.geometry x.content size n → IsSwapOf b kind → k ≤ 3 * n
+    → Under x.geometry x.content size n kind k s → plan (again x s) ≡ running (in_pieces x.rules.grain x.geometry) kind n k (k == 0)
+plan_under x size n b kind k s w of most u =
+    let sized = u.data_.sized in
+    let good = reads_good x.geometry s Primary w.ok sized (u.primary field.Magic) in
+    let unset = reads_copy_done x.geometry s Primary 255 (replicate 7 255) (u.primary field.CopyDone) in
+    let absent = reads_absent x.geometry s Secondary w.ok sized (u.secondary field.Magic) in
+    let info = reads_info x.geometry s Primary (number_of kind) (replicate (x.geometry.unit - 1) 255) (u.primary field.SwapInfo) in
+    let sized_is = reads_size x.geometry s Primary size (replicate (x.geometry.unit - 4) 255) w.ok sized w.small (u.primary field.SwapSize) in
+    let first = found x.geometry n k s w.ok sized w.few most u.entries in
+    let settled = confirms_not b kind (trailer_of x.geometry s Primary).image_ok (swap_of b kind of)
+    (λ stays. image_ok_is x.geometry s kind false (swap_of b kind of ∙ stays) (u.primary field.ImageOk)) in
+    plan_resumed (again x s) (resumes_when (trailer_of x.geometry s Primary) (trailer_of x.geometry s Secondary) good unset absent)
+    ∙ running_is x.rules.grain x.geometry (trailer_of x.geometry s Primary) (highest_entry x.geometry s) b kind size n k of info sized_is w.count w.some w.few first.0 first.1 settled
+
+-- the plan of a swap from its start
+abbrev pub starting : Grain → Geometry → SwapType → ℕ → ℕ → Plan
+starting c g kind size n = record { kind = kind; sectors = n; list = new_list c (in_pieces c g) kind size n }
+
+pub new_swap_is : (c : Grain) (g : Geometry) (images : Images) (kind : SwapType) (size n : ℕ) → images.valid ≡ true → images.size ≡ size → div_ceil size g.sector ≡ n → n ≤ greatest_sectors g
+    → new_swap c g images kind ≡ starting c g kind size n
+new_swap_is c g images kind size n valid larger count few =
+    ap (λ (z : ℕ). if not images.valid || nat_lt (greatest_sectors g) (div_ceil z g.sector) then nothing kinds.Fail else record {
+      kind = kind;
+      sectors = div_ceil z g.sector;
+      list =
+          new_list c (in_pieces c g) kind z (div_ceil z g.sector);
+    }) larger
+    ∙ ap (λ (m : ℕ). if not images.valid || nat_lt (greatest_sectors g) m then nothing kinds.Fail else record { kind = kind; sectors = m; list = new_list c (in_pieces c g) kind size m }) count
+    ∙ ap (λ (v : Bool). if not v || nat_lt (greatest_sectors g) n then nothing kinds.Fail else starting c g kind size n) valid
+    ∙ ap (λ (v : Bool). if v then nothing kinds.Fail else starting c g kind size n) (no_more (greatest_sectors g) few)
+  where
+    no_more : (most : ℕ) → n ≤ most → nat_lt most n ≡ false
+    no_more most h = grind (arith, nat_tests)
+
+-- the images that the slots begin with, as a plan sees them
+pub record SeesImages (s : Content) (size : ℕ) : Type 0 where
+  pub valid : (images_of s).valid ≡ true
+  pub larger : (images_of s).size ≡ size
+
+pub sees_images : (s : Content) (size : ℕ) → is_valid s.secondary ≡ true → larger_size s ≡ size → SeesImages s size
+unfolding images_of
+sees_images s size valid larger = record { valid = valid; larger = larger }
+
+-- what a swap that is asked for is called
+abbrev pub kind_asked : Bool → SwapType
+kind_asked b = if b then kinds.Test else kinds.Perm
+
+pub plan_asked : (x : PowerOn) (size n : ℕ) (b : Bool) (s : Content) → Swap x.geometry x.content size n → SeesImages s size → Asked x.geometry x.content n b s
+    → plan (again x s) ≡ starting x.rules.grain x.geometry (kind_asked b) size n
+plan_asked x size n b s w sees u =
+    let good = reads_good x.geometry s Secondary w.ok u.data_.sized (u.secondary field.Magic) in
+    new_is (again x s) (kind_asked b) (starting x.rules.grain x.geometry (kind_asked b) size n) (not_when_asked (trailer_of x.geometry s Primary) (trailer_of x.geometry s Secondary) good)
+    (table b good u.secondary) (swap b)
+  where
+    table : (e : Bool) → (trailer_of x.geometry s Secondary).magic ≡ magics.Good → FieldsAre x.geometry s Secondary (asked e) → table_of x.rules.profile x.geometry s ≡ kind_asked e
+    table true good are = tests_when x.rules.profile (trailer_of x.geometry s Primary) (trailer_of x.geometry s Secondary) good (reads_image_ok x.geometry s Secondary 255 [] (are field.ImageOk))
+    table false good are = stays_when x.rules.profile (trailer_of x.geometry s Primary) (trailer_of x.geometry s Secondary) good (reads_image_ok x.geometry s Secondary 1 [] (are field.ImageOk))
+
+    swap : (e : Bool) → new_plan x.rules.grain x.geometry (images_of s) (kind_asked e) ≡ starting x.rules.grain x.geometry (kind_asked e) size n
+    swap true = new_swap_is x.rules.grain x.geometry (images_of s) kinds.Test size n sees.valid sees.larger w.count w.few
+    swap false = new_swap_is x.rules.grain x.geometry (images_of s) kinds.Perm size n sees.valid sees.larger w.count w.few
+
+-- after a swap: the trailers decide
+pub plan_tested : (x : PowerOn) (size n : ℕ) → (trailer_of x.geometry x.content Primary).magic ≡ magics.Good → (trailer_of x.geometry x.content Primary).image_ok ≡ flags.Unset
+    → (trailer_of x.geometry x.content Primary).copy_done ≡ flags.Set → reverts_at x.rules.profile (trailer_of x.geometry x.content Secondary).magic ≡ true
+    → SeesImages x.content size → div_ceil size x.geometry.sector ≡ n → n ≤ greatest_sectors x.geometry → plan x ≡ starting x.rules.grain x.geometry kinds.Revert size n
+plan_tested x size n good unset done reverts sees count few =
+    new_is x kinds.Revert (starting x.rules.grain x.geometry kinds.Revert size n) (not_when_done (trailer_of x.geometry x.content Primary) (trailer_of x.geometry x.content Secondary) done)
+    (reverts_when x.rules.profile (trailer_of x.geometry x.content Primary) (trailer_of x.geometry x.content Secondary) good reverts unset done)
+    (new_swap_is x.rules.grain x.geometry (images_of x.content) kinds.Revert size n sees.valid sees.larger count few)
+
+pub plan_settled : (x : PowerOn) → (trailer_of x.geometry x.content Primary).copy_done ≡ flags.Set → (trailer_of x.geometry x.content Secondary).magic ≡ magics.Unset
+    → (trailer_of x.geometry x.content Primary).image_ok ≡ flags.Set → plan x ≡ nothing kinds.None
+plan_settled x done absent set =
+    new_is x kinds.None (nothing kinds.None) (not_when_done (trailer_of x.geometry x.content Primary) (trailer_of x.geometry x.content Secondary) done)
+    (none_when x.rules.profile (trailer_of x.geometry x.content Primary) (trailer_of x.geometry x.content Secondary) absent set) refl
+
+-- no magic in either slot
+pub plan_none : (x : PowerOn) → (trailer_of x.geometry x.content Primary).magic ≡ magics.Unset → (trailer_of x.geometry x.content Secondary).magic ≡ magics.Unset → plan x ≡ nothing kinds.None
+plan_none x p q =
+    let none = none_at_all x.rules.profile (trailer_of x.geometry x.content Primary) (trailer_of x.geometry x.content Secondary) p q in
+    new_is x kinds.None (nothing kinds.None) none.0 none.1 refl
+
+-- an unset magic is one that either profile reverts at, and any that is not good is one of the second
+pub absent_reverts : (profile : Profile) (m : Magic) → m ≡ magics.Unset → reverts_at profile m ≡ true
+absent_reverts profiles.One m is = ap (reverts_at profiles.One) is
+absent_reverts profiles.Two m is = ap (reverts_at profiles.Two) is
+
+pub quiet_reverts : (c : Grain) (profile : Profile) (g : Geometry) (s : Content) → forgets_reverts c profile ≡ false → IsLayout g → IsSized g s → Quiet c g s
+    → reverts_at profile (trailer_of g s Secondary).magic ≡ true
+quiet_reverts grains.Call profile g s keeps ok sized quiet = absent_reverts profile (trailer_of g s Secondary).magic (reads_absent g s Secondary ok sized quiet)
+quiet_reverts grains.Unit profiles.One g s keeps ok sized quiet = absurd cc
+quiet_reverts grains.Unit profiles.Two g s keeps ok sized quiet = ap not (reads_not_good g s Secondary quiet)
+
+-- The bytes of a trailer's fields, by what is read of them.
+
+-- a magic
+good_only : (c d : Bool) → (if c then magics.Good else if d then magics.Unset else magics.Bad) ≡ magics.Good → c ≡ true
+good_only true d is = refl
+good_only false true is = absurd cc
+good_only false false is = absurd cc
+
+good_is : (xs : List ℕ) → magic_of xs ≡ magics.Good → xs ≡ magic_bytes
+good_is xs is = (bytes_eq-Decides xs magic_bytes).0 (good_only (bytes_eq xs magic_bytes) (is_blank xs) is)
+
+pub good_bytes : (g : Geometry) (s : Content) (slot : Slot) → (trailer_of g s slot).magic ≡ magics.Good → FieldIs g s slot field.Magic magic_bytes
+unfolding trailer_of
+good_bytes g s slot is i short within =
+    sym (get_or-between (bytes_of s slot) (place g slot field.Magic) (place g slot field.Magic + 16) i 0 (omega (arith, within)))
+    ∙ ap (λ (l : List ℕ). slice_index l i) (good_is (bytes_at s slot (place g slot field.Magic) 16) is)
+
+-- a flag
+pub set_is : (b : ℕ) → flag_of b ≡ flags.Set → b ≡ 1
+set_is b set = grind (arith, nat_tests, set)
+
+pub unset_is : (b : ℕ) → flag_of b ≡ flags.Unset → b ≡ 255
+unset_is b unset = grind (arith, nat_tests, unset)
+
+one_byte : (g : Geometry) (s : Content) (slot : Slot) (f : Field) (value : ℕ) → byte s slot (place g slot f) ≡ value → FieldIs g s slot f (value ∷ [])
+one_byte g s slot f value is i short within =
+    let first : 0 ≡ i = omega (arith, short) in
+    let E : ℕ → Type 0 = λ j. byte s slot (place g slot f + j) ≡ slice_index (value ∷ []) j in
+    subst E first (ap (byte s slot) (add-zero (place g slot f)) ∙ is)
+
+-- The secondary asks for a test or a swap that stays.
+pub asked_from : (g : Geometry) (s : Content) (b : Bool) → (trailer_of g s Secondary).magic ≡ magics.Good → (trailer_of g s Secondary).image_ok ≡ (if b then flags.Unset else flags.Set)
+    → FieldsAre g s Secondary (asked b)
+unfolding trailer_of
+asked_from g s b good flag field.Magic i short within = good_bytes g s Secondary good i short within
+asked_from g s true good flag field.ImageOk i short within = one_byte g s Secondary field.ImageOk 255 (unset_is (byte s Secondary (place g Secondary field.ImageOk)) flag) i short within
+asked_from g s false good flag field.ImageOk i short within = one_byte g s Secondary field.ImageOk 1 (set_is (byte s Secondary (place g Secondary field.ImageOk)) flag) i short within
+asked_from g s b good flag field.CopyDone i short within = absurd (omega (arith, short))
+asked_from g s b good flag field.SwapInfo i short within = absurd (omega (arith, short))
+asked_from g s b good flag field.SwapSize i short within = absurd (omega (arith, short))
+
+-- The primary's image is on trial.
+pub tested_from : (g : Geometry) (s : Content) → (trailer_of g s Primary).magic ≡ magics.Good → (trailer_of g s Primary).image_ok ≡ flags.Unset → (trailer_of g s Primary).copy_done ≡ flags.Set
+    → FieldsAre g s Primary tested
+unfolding trailer_of
+tested_from g s good unset set field.Magic i short within = good_bytes g s Primary good i short within
+tested_from g s good unset set field.ImageOk i short within = one_byte g s Primary field.ImageOk 255 (unset_is (byte s Primary (place g Primary field.ImageOk)) unset) i short within
+tested_from g s good unset set field.CopyDone i short within = one_byte g s Primary field.CopyDone 1 (set_is (byte s Primary (place g Primary field.CopyDone)) set) i short within
+tested_from g s good unset set field.SwapInfo i short within = absurd (omega (arith, short))
+tested_from g s good unset set field.SwapSize i short within = absurd (omega (arith, short))

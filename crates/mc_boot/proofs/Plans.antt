@@ -1,28 +1,40 @@
--- A boot at power-on, as its plan says.
-use Rattle.std.specs.Prelude.{◌≡◌, ℕ, ◌<◌, ◌≤◌, ◌==◌, ◌||◌, nat_lt, not, Bool, true, false, if◌then◌else◌, Option, Some, None, is_none, refl}
-use Rattle.std.specs.Option.{is_some}
-use Rattle.std.proofs.Common.{arith, sym, ap, ◌∙◌}
+-- Plans, the steps of a boot through them, and what it reports at their end.
+use Rattle.std.proofs.Common.{Fits, add-zero, ap, arith, subst, sym, w32, ◌∙◌}
+use Rattle.std.proofs.lemmas.Bool.{lt-ltb, ne_eqb}
 use Rattle.std.proofs.lemmas.Bool.Decides.{nat_tests}
-use Rattle.mc_flash.specs.Geometry.{Geometry, greatest_sectors}
-use Rattle.mc_flash.specs.Pieces.{in_pieces}
+use Rattle.std.specs.Int.{div_ceil}
+use Rattle.std.specs.Option.{is_some}
+use Rattle.std.specs.Prelude.{Bool, Err, List, None, Ok, Option, Result, Some, [], drop, false, if◌then◌else◌, is_none, nat_lt, not, option_map, refl, slice_get, true, ℕ, ◌*◌, ◌+◌, ◌<◌, ◌==◌}
+use Rattle.std.specs.Prelude.{◌||◌, ◌∷◌, ◌≡◌, ◌≤◌}
+use Rattle.mc_boot.proofs.Courses.{drop_at_place, get_dropped}
+use Rattle.mc_boot.proofs.Images.{valid_held}
+use Rattle.mc_boot.specs.Boot.{Progress, Steps, StepsAlong, Turns, begun, progress, to_come, whole_list}
+use Rattle.mc_boot.specs.Outcome.{Report, report, result_of, shown}
+use Rattle.mc_boot.specs.Plan.{PowerOn, confirms, first_left, identity_of, images_of, new_list, new_plan, new_swap, nothing, plan, plan_with, resumed_from, resumed_list, resumed_plan}
+use Rattle.mc_boot.specs.Plan.{resumed_swap}
+use Rattle.mc_boot.specs.declared.boot.Boot.{Boot}
+use Rattle.mc_boot.specs.declared.course.Course.{Course}
+use Rattle.mc_boot.specs.declared.image.ImageId.{ImageId}
+use Rattle.mc_boot.specs.declared.image.Images.{Images}
+use Rattle.mc_boot.specs.declared.outcome.BootResult.{BootResult}
+use Rattle.mc_flash.specs.Geometry.{Geometry, IsLayout, greatest_sectors, in_pieces, trailer_sectors}
+use Rattle.mc_flash.specs.Usage.{Does, Seen}
+use Rattle.mc_flash.specs.declared.flash.FlashError.{FlashError}
 use Rattle.mc_flash.specs.declared.flash.Grain.{Grain}
+use Rattle.mc_flash.specs.declared.op.Op.{Op}
+use Rattle.mc_flash.specs.declared.op.Slot.TheVariants.{Primary, Secondary}
+use Rattle.mc_flash.specs.facts.Usage.{few_trailer_sectors}
+use Rattle.mc_image.specs.Valid.{Identity, id_of, is_valid}
+use Rattle.mc_trailer.specs.Tables.{is_resumed, resumes, swap_type, table_of}
+use Rattle.mc_trailer.specs.Trailer.{highest_entry, trailer_of}
+use Rattle.mc_trailer.specs.declared.tables.Rules.{Rules}
+use Rattle.mc_trailer.specs.declared.tables.SwapType.{SwapType}
 use Rattle.mc_trailer.specs.declared.trailer.Flag.{Flag}
 use Rattle.mc_trailer.specs.declared.trailer.Trailer.{Trailer}
-use Rattle.mc_trailer.specs.declared.tables.SwapType.{SwapType}
+use Rattle.mc_flash.specs.declared.flash.FlashError.TheVariants as errors
 use Rattle.mc_trailer.specs.declared.tables.SwapType.TheVariants as kinds
-use Rattle.mc_trailer.specs.declared.tables.Rules.{Rules}
-use Rattle.mc_boot.specs.Course.{new_list, resumed_list}
-use Rattle.mc_boot.specs.declared.image.Images.{Images}
-use Rattle.std.specs.Int.{div_ceil}
-use Rattle.std.proofs.lemmas.Bool.{ne_eqb, lt-ltb}
-use Rattle.mc_flash.specs.declared.op.Slot.TheVariants.{Primary, Secondary}
-use Rattle.mc_trailer.specs.Fields.{trailer_of}
-use Rattle.mc_trailer.specs.Entries.{highest_entry}
-use Rattle.mc_trailer.specs.Tables.{is_resumed, resumes, swap_type, table_of}
-use Rattle.mc_boot.specs.Image.{images_of}
-use Rattle.mc_boot.specs.Plan.{nothing, first_left, confirms, resumed_swap, resumed_from, resumed_plan, new_swap, new_plan, plan_with, plan}
-use Rattle.mc_boot.specs.Boot.{Progress, begun}
-use Rattle.mc_boot.specs.PowerOn.{PowerOn}
+
+-- A boot at power-on, as its plan says.
 
 may_swap : (n most : ℕ) → 0 < n → n ≤ most → (n == 0 || nat_lt most n) ≡ false
 may_swap n most some few =
@@ -104,3 +116,59 @@ begun_new from p q b kind first second is it asks =
     let table : kind ≡ table_of from.rules.profile g s = asks ∙ ap (λ (x : Trailer). swap_type from.rules.profile x q) first
     ∙ ap (λ (x : Trailer). swap_type from.rules.profile (trailer_of g s Primary) x) second in
     ap (λ (k : SwapType). begun from.rules (new_plan from.rules.grain g (images_of s) k)) table ∙ ap (begun from.rules) (sym (plan_new from both))
+
+-- One step of a boot.
+
+boot_at : Rules → SwapType → Option Course → ℕ → Bool → Boot
+boot_at rules kind course done faulted = record { rules = rules; kind = kind; course = course; done = done; faulted = faulted }
+
+along : (p q : Progress) (op : Op) (rest : List Op) (old new : Seen) (result : Result (Unit {0}) FlashError) → p.to_come ≡ op ∷ rest → Turns rest p result q → Does op old result new
+    → Steps p old result q new
+along p q op rest old new result first turns does = subst (λ ops. StepsAlong ops p old result q new) (sym first) (turns, does)
+
+module _ (b : Boot) (op : Op) (old new : Seen) (head : slice_get (to_come b) 0 ≡ Some op) where
+  pub next_step : Does op old (Ok tt) new
+      → Steps (progress b) old (Ok tt) (progress (record { rules = b.rules; kind = b.kind; course = b.course; done = b.done + 1; faulted = b.faulted })) new
+  unfolding boot_at
+  next_step does = at b.rules b.kind b.course b.done b.faulted head
+    where
+      at : (rules : Rules) (kind : SwapType) (course : Option Course) (done : ℕ) (faulted : Bool) → slice_get (to_come (boot_at rules kind course done faulted)) 0 ≡ Some op
+          → Steps (progress (boot_at rules kind course done faulted)) old (Ok tt) (progress (boot_at rules kind course (done + 1) faulted)) new
+      at rules kind course done true first = absurd cc
+      at rules kind course done false first =
+          let here : slice_get (whole_list course) done ≡ Some op = ap (slice_get (whole_list course)) (sym (add-zero done)) ∙ sym (get_dropped done (whole_list course) 0) ∙ first in
+          along _ _ op (drop (done + 1) (whole_list course)) old new (Ok tt) (drop_at_place (whole_list course) done op here) refl does
+
+  pub refused_step : Does op old (Err errors.NotErased) new
+      → Steps (progress b) old (Err errors.NotErased) (progress (record { rules = b.rules; kind = b.kind; course = b.course; done = b.done; faulted = true })) new
+  refused_step does = at (to_come b) refl head
+    where
+      at : (ops : List Op) → to_come b ≡ ops → slice_get ops 0 ≡ Some op
+          → Steps (progress b) old (Err errors.NotErased) (progress (record { rules = b.rules; kind = b.kind; course = b.course; done = b.done; faulted = true })) new
+      at [] is first = absurd cc
+      at (x ∷ rest) is first =
+          let same : x ≡ op = cc in
+          along (progress b) _ op rest old new (Err errors.NotErased) (is ∙ ap (λ (y : Op). y ∷ rest) same) refl does
+
+-- What is told of a boot, by what was read of the slots.
+
+pub told : (x : PowerOn) (kind next : SwapType) (ops : ℕ) (faulted boots : Bool) (result : BootResult) (primary secondary : Option ImageId)
+    → result ≡ result_of kind faulted boots → boots ≡ is_some primary
+    → option_map identity_of primary ≡ id_of x.content.primary → option_map identity_of secondary ≡ id_of x.content.secondary → next ≡ (plan x).kind
+    → shown (record { result = result; kind = kind; ops = ops; primary = primary; secondary = secondary; next = next }) ≡ report x.rules x.geometry kind ops faulted x.content
+unfolding report
+told from kind next ops faulted boots result primary secondary result_is boots_is first second next_is =
+    let here : BootResult → Option Identity → Option Identity → SwapType → Report = λ x p q n. record { result = x; kind = kind; ops = ops; primary = p; secondary = q; next = n } in
+    let valid : boots ≡ is_valid from.content.primary = boots_is ∙ valid_held from.content.primary primary first in
+    ap (λ x. here x (option_map identity_of primary) (option_map identity_of secondary) next) (result_is ∙ ap (result_of kind faulted) valid)
+    ∙ ap (λ p. here (result_of kind faulted (is_valid from.content.primary)) p (option_map identity_of secondary) next) first
+    ∙ ap (λ q. here (result_of kind faulted (is_valid from.content.primary)) (id_of from.content.primary) q next) second
+    ∙ ap (λ n. here (result_of kind faulted (is_valid from.content.primary)) (id_of from.content.primary) (id_of from.content.secondary) n) next_is
+
+-- How few sectors a trailer takes, by the count that a call told, and how few transfers a swap has.
+
+pub few_told : (g : Geometry) (count : ℕ) → count ≡ trailer_sectors g → IsLayout g → count ≤ 262144
+few_told g count is ok = rw is (few_trailer_sectors g ok)
+
+pub thrice : (n : ℕ) → n ≤ 1024 → Fits w32 (3 * n)
+thrice n few = omega arith

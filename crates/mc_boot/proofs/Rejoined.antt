@@ -3,37 +3,29 @@ use Rattle.std.specs.Prelude.{◌≡◌, ℕ, zero, suc, ◌+◌, ◌*◌, ◌<�
 use Rattle.std.proofs.Common.{arith, sym, ap, subst, ◌∙◌, inl, inr}
 use Rattle.std.proofs.lemmas.Bool.{cases_lt}
 use Rattle.std.proofs.lemmas.Bool.Decides.{nat_tests}
-use Rattle.mc_flash.specs.Apply.{CanTry}
-use Rattle.mc_flash.specs.Content.{Content, size_of}
+use Rattle.mc_flash.specs.Flash.{CanTry, Content, size_of}
 use Rattle.mc_flash.specs.facts.Layouts.{sector_inside}
 use Rattle.mc_flash.specs.Geometry.{Geometry, IsLayout}
-use Rattle.mc_flash.specs.Pieces.{in_pieces}
+use Rattle.mc_flash.specs.Geometry.{in_pieces}
 use Rattle.mc_flash.specs.declared.flash.Grain.{Grain}
 use Rattle.mc_flash.specs.declared.op.Op.{Op}
 use Rattle.mc_flash.specs.declared.op.Op.TheVariants.{Erase}
 use Rattle.mc_flash.specs.declared.op.Slot.{Slot}
-use Rattle.mc_boot.specs.After.{IsCut}
-use Rattle.mc_boot.specs.Boot.{IsBootOf, begun, progress}
-use Rattle.mc_boot.specs.CourseList.{course_list, whole_list}
-use Rattle.mc_boot.specs.Joins.{erases_of, joins_of}
-use Rattle.mc_boot.specs.Outcome.{Report}
-use Rattle.mc_boot.specs.Plan.{plan}
-use Rattle.mc_boot.specs.Idle.{AllIdleBut, changes_nothing}
+use Rattle.mc_boot.specs.Joins.{IsCut, erases_of, joins_of}
+use Rattle.mc_boot.specs.Boot.{IsBootOf, begun, progress, course_list, whole_list}
+use Rattle.mc_boot.specs.Outcome.{Report, at, ops_of}
+use Rattle.mc_boot.specs.Plan.{plan, PowerOn, again}
+use Rattle.mc_boot.specs.inner.Idle.{AllIdleBut, changes_nothing}
 use Rattle.mc_boot.specs.Rejoin.{IsRejoined, place_of}
 use Rattle.mc_boot.specs.facts.Run.{come_at}
-use Rattle.mc_boot.specs.Runs.{at, ops_of}
 use Rattle.mc_boot.specs.declared.boot.Boot.{Boot}
 use Rattle.mc_boot.specs.declared.course.Course.{Course}
 use Rattle.mc_boot.specs.declared.rejoining.Rejoin.{Rejoin}
-use Rattle.mc_boot.proofs.AfterCut.{begun_list, layout_is}
-use Rattle.mc_boot.proofs.Blanking.{Fit}
-use Rattle.mc_boot.proofs.CourseJoins.{met_joins, sectors_pieces}
+use Rattle.mc_boot.proofs.CourseJoins.{begun_list, layout_is, met_joins, sectors_pieces, joins_meet}
+use Rattle.mc_boot.proofs.Meets.{Fit, Meets, Sector, erase_of}
 use Rattle.mc_boot.proofs.Erased.{AreErased, erased_here}
 use Rattle.mc_boot.proofs.Joins.{Joins, joined}
-use Rattle.mc_boot.proofs.JoinsMeet.{joins_meet}
-use Rattle.mc_boot.proofs.Meets.{Meets, Sector, erase_of}
 use Rattle.mc_boot.proofs.Rejoins.{among, behind_erased, fits, late, next_erases, stays}
-use Rattle.mc_boot.specs.PowerOn.{PowerOn, again}
 
 -- A sector that is erased lies in its slot, whatever the pieces in which sectors are copied.
 pub sector_there : (c : Grain) (g : Geometry) (slot : Slot) (sector : ℕ) → CanTry (in_pieces c g) (Erase slot sector)

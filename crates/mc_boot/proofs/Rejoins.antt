@@ -5,17 +5,15 @@ use Rattle.std.proofs.Math.Seq.{take-add, take-length}
 use Rattle.std.proofs.lemmas.Bool.{cases_lt}
 use Rattle.std.proofs.lemmas.List.{length-take-le, length-map, take-append-drop}
 use Rattle.mc_flash.specs.Geometry.{Geometry}
-use Rattle.mc_flash.specs.Content.{Content}
+use Rattle.mc_flash.specs.Flash.{Content}
 use Rattle.mc_flash.specs.declared.op.Op.{Op}
-use Rattle.mc_boot.specs.Plan.{plan}
+use Rattle.mc_boot.specs.Plan.{plan, PowerOn, again}
 use Rattle.mc_boot.specs.facts.Run.{happening_front}
-use Rattle.mc_boot.specs.Runs.{applied, at, happening, ops_of}
-use Rattle.mc_boot.proofs.Blanking.{Fit, blank, fit_longer, fit_there}
+use Rattle.mc_boot.specs.Outcome.{applied, at, happening, ops_of}
+use Rattle.mc_boot.proofs.Meets.{Fit, blank, fit_longer, fit_there, Sector, erase_of}
 use Rattle.mc_boot.proofs.Erased.{AreErased, blank_erased, blank_noop, blank_stays, erased_front, fit_behind, fit_blanked, fit_front}
 use Rattle.mc_boot.proofs.Joins.{Joins, Met, applied_behind, applied_longer, erases_applied, happens_all, happens_few_of, meets}
-use Rattle.mc_boot.proofs.Meets.{Sector, erase_of}
-use Rattle.mc_boot.specs.PowerOn.{PowerOn, again}
-use Rattle.mc_flash.specs.Changes.{same_content}
+use Rattle.mc_flash.specs.facts.Changes.{same_content}
 
 blank_append : (g : Geometry) (xs ys : List Sector) (s : Content) → blank g (xs ++ ys) s ≡ blank g ys (blank g xs s)
 blank_append g [] ys s = refl

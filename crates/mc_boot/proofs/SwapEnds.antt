@@ -1,26 +1,210 @@
--- What a swap leaves, after every list of cuts.
-use Rattle.std.specs.Prelude.{◌≡◌, ℕ, ◌-◌, ◌*◌, Bool, true, false, if◌then◌else◌, List, [], ◌++◌, replicate, refl}
-use Rattle.std.proofs.Common.{sym, ap, ◌∙◌}
-use Rattle.mc_boot.proofs.BootsKeep.{Swaps, phase_swaps}
-use Rattle.mc_boot.proofs.Fronts.{front_at_end, front_lists, image_there, sees_end}
+-- What stands at the front of the slots on the way of a swap, what a boot keeps, and how a swap ends.
+use Rattle.std.proofs.Common.{ap, arith, inl, inr, subst, sym, ◌∙◌}
+use Rattle.std.proofs.Math.Nat.{mod-add-div', mul-le-mul_right}
+use Rattle.std.proofs.lemmas.Bool.{cases_lt}
+use Rattle.std.proofs.lemmas.Grind.{div_ceil_times}
+use Rattle.std.proofs.lemmas.Nat.{mod_below}
+use Rattle.std.specs.Prelude.{Bool, List, [], false, if◌then◌else◌, max, refl, replicate, suc, take, true, zero, ℕ, ◌%◌, ◌*◌, ◌++◌, ◌+◌, ◌-◌, ◌/◌, ◌<◌, ◌==◌, ◌≡◌, ◌≤◌}
+use Rattle.mc_boot.proofs.Courses.{get_moved}
+use Rattle.mc_boot.proofs.Images.{HasImage, SameImage, same_fronts, same_image}
 use Rattle.mc_boot.proofs.InPieces.{pieces_again, plan_in_pieces, swap_pieces, trailer_pieces}
-use Rattle.mc_boot.proofs.PhasePlans.{absent_reverts, image_ok_is, plan_settled, plan_tested, swap_of}
-use Rattle.mc_boot.proofs.Phases.{Ended, Phase, Swap, closed, tested}
-use Rattle.mc_boot.proofs.SameImages.{SameImage}
-use Rattle.mc_boot.proofs.SectorData.{Data}
-use Rattle.mc_boot.specs.Plan.{Plan}
-use Rattle.mc_boot.specs.PowerOn.{PowerOn, again, power_on}
+use Rattle.mc_boot.proofs.Keeps.{Keeps}
+use Rattle.mc_boot.proofs.Moving.{Data, IsNoTarget, byte_held}
+use Rattle.mc_boot.proofs.Phases.{Asked, Ended, IsSwapOf, Phase, SeesImages, Swap, Under, absent_reverts, closed, image_ok_is, kind_asked, larger_size, plan_asked, plan_settled, plan_tested}
+use Rattle.mc_boot.proofs.Phases.{plan_under, running, sees_images, starting, swap_of, tested}
+use Rattle.mc_boot.proofs.SwapsKeep.{rest_keeps, resumed_keeps, swap_keeps}
+use Rattle.mc_boot.proofs.Transfers.{Held, at_start, exchanged, held_after_all, held_at, held_begin, held_end, other_number, place_below, same_transfer}
+use Rattle.mc_boot.specs.Plan.{Plan, PowerOn, again, image_size, moved_up, new_list, plan, power_on, transfers}
 use Rattle.mc_boot.specs.Restart.{AreExchanged, IsSettled, IsTested}
-use Rattle.mc_flash.specs.Content.{Content}
-use Rattle.mc_flash.specs.Geometry.{Geometry}
-use Rattle.mc_flash.specs.Pieces.{in_pieces}
+use Rattle.mc_boot.specs.declared.transfer.Transfer.{Transfer}
+use Rattle.mc_flash.specs.Flash.{Content, IsSized, byte, bytes_of, size_of}
+use Rattle.mc_flash.specs.Geometry.{Geometry, IsLayout, greatest_sectors, in_pieces}
+use Rattle.mc_flash.specs.declared.flash.Grain.{Grain}
+use Rattle.mc_flash.specs.declared.op.Slot.{Slot}
 use Rattle.mc_flash.specs.declared.op.Slot.TheVariants.{Primary, Secondary}
-use Rattle.mc_trailer.specs.facts.Fields.{FieldsAre, blank_fields, fields_front, reads_absent, reads_copy_done, reads_good}
-use Rattle.mc_trailer.specs.Fields.{one_unit, trailer_of}
+use Rattle.mc_flash.specs.facts.Changes.{sized_is}
+use Rattle.mc_flash.specs.facts.Layouts.{data_before_trailer, data_sectors, image_is_data}
+use Rattle.mc_image.specs.Valid.{is_valid}
+use Rattle.mc_trailer.specs.Trailer.{one_unit, room, trailer_of}
 use Rattle.mc_trailer.specs.declared.places.Field.{Field}
-use Rattle.mc_trailer.specs.declared.places.Field.TheVariants as field
 use Rattle.mc_trailer.specs.declared.tables.Rules.{Rules}
+use Rattle.mc_trailer.specs.declared.tables.SwapType.{SwapType}
 use Rattle.mc_trailer.specs.declared.trailer.Trailer.{Trailer}
+use Rattle.mc_trailer.specs.facts.Fields.{FieldsAre, blank_fields, fields_front, reads_absent, reads_copy_done, reads_good}
+use Rattle.mc_trailer.specs.declared.places.Field.TheVariants as field
+use Rattle.mc_trailer.specs.declared.tables.SwapType.TheVariants as kinds
+
+-- The first n sectors of a slot, byte by byte, and the image in them.
+
+abbrev pub other_slot : Slot → Slot
+other_slot Primary = Secondary
+other_slot Secondary = Primary
+
+-- where the first n sectors of `from` stand in `o`
+front_held : (g : Geometry) (start : Content) (n k : ℕ) (s : Content) (o from : Slot) → IsLayout g → n ≤ data_sectors g o → ((i : ℕ) → i < n → held_at g n k o i ≡ (from, i))
+    → ((i : ℕ) → i < n → IsNoTarget g n k o i) → Data g n start k s
+    → (p : ℕ) → p < n * g.sector → byte s o p ≡ byte start from p
+front_held g start n k s o from ok room held free data_ p below =
+    let parts = mod-add-div' p g.sector in
+    let wide = ok.least_sector in
+    let short : p % g.sector < g.sector = mod_below p g.sector (omega (arith, wide)) in
+    let i : ℕ = p / g.sector in
+    let inside : p / g.sector < n = in_front (p / g.sector) (p % g.sector) parts in
+    ap (byte s o) (omega (arith, parts))
+    ∙ data_.held o (p / g.sector) (p % g.sector) (omega (arith, inside, room)) short (free (p / g.sector) inside)
+    ∙ ap (λ (h : Slot × ℕ). byte_held g start h (p % g.sector)) (held (p / g.sector) inside)
+    ∙ ap (byte start from) (omega (arith, parts))
+  where
+    in_front : (q r : ℕ) → r + q * g.sector ≡ p → q < n
+    in_front q r e = elim (cases_lt q n) [
+      | inl low ↦ low
+      | inr high ↦ absurd (let rows : n * g.sector ≤ q * g.sector = mul-le-mul_right g.sector high in omega (arith, rows, e, below))
+    ]
+
+pub front_inside : (g : Geometry) (n : ℕ) (o : Slot) → IsLayout g → n ≤ greatest_sectors g → n * g.sector ≤ size_of g o
+front_inside g n o ok few =
+    let rows : n * g.sector ≤ data_sectors g o * g.sector = mul-le-mul_right g.sector (image_is_data g o n few) in
+    omega (arith, rows, data_before_trailer g o ok)
+
+-- before the first transfer
+pub front_at_start : (g : Geometry) (start : Content) (n : ℕ) (s : Content) (o : Slot) → IsLayout g → 0 < n → n ≤ greatest_sectors g → Data g n start 0 s → (p : ℕ) → p < n * g.sector
+    → byte s o p ≡ byte start o p
+front_at_start g start n s o ok some few data_ =
+    front_held g start n 0 s o o ok (image_is_data g o n few)
+    (λ i h. let E : Held → Type 0 = λ f. f o i ≡ (o, i) in subst E (sym (held_begin g n)) refl)
+    (λ i h x at slot sector.
+    let same : moved_up n 0 ≡ x = same_transfer (moved_up n 0) x (sym (get_moved g n 0 some) ∙ at) in
+    let to : x.to_sector ≡ n - 0 = ap (λ (y : Transfer). y.to_sector) (sym same) in
+    omega (arith, h, sector, to)) data_
+
+-- after the last
+pub front_at_end : (g : Geometry) (start : Content) (n : ℕ) (s : Content) (o : Slot) → IsLayout g → n ≤ greatest_sectors g → Data g n start (3 * n) s → (p : ℕ) → p < n * g.sector
+    → byte s o p ≡ byte start (other_slot o) p
+front_at_end g start n s o ok few data_ =
+    front_held g start n (3 * n) s o (other_slot o) ok (image_is_data g o n few)
+    (λ i h. let E : Held → Type 0 = λ f. f o i ≡ (other_slot o, i) in subst E (sym (held_end g n)) (swapped o i h))
+    (λ i h x at slot sector. omega (arith, place_below g n (3 * n) x at)) data_
+  where
+    swapped : (o : Slot) (i : ℕ) → i < n → held_after_all at_start (transfers g n) o i ≡ (other_slot o, i)
+    swapped Primary i h = (exchanged g n).done i h
+    swapped Secondary i h = (exchanged g n).taken i h
+
+-- the images of a start end in its first n sectors
+size_in_front : (g : Geometry) (start : Content) (size n : ℕ) (o : Slot) → Swap g start size n → image_size (bytes_of start o) ≤ n * g.sector
+size_in_front g start size n o w = omega (arith, least o, rows)
+  where
+    rows : size ≤ n * g.sector
+    rows = let wide = w.ok.least_sector in let E : ℕ → Type 0 = λ m. size ≤ m * g.sector in subst E w.count (div_ceil_times size g.sector (omega (arith, wide))).0
+
+    least : (o : Slot) → image_size (bytes_of start o) ≤ size
+    least Primary = let larger = w.larger in omega (arith, larger)
+    least Secondary = let larger = w.larger in omega (arith, larger)
+
+has_image : (g : Geometry) (start : Content) (size n : ℕ) (o : Slot) → Swap g start size n → HasImage (bytes_of start o)
+has_image g start size n Primary w = w.primary
+has_image g start size n Secondary w = w.secondary
+
+-- a slot that begins as a slot of the start holds its image
+pub image_there : (g : Geometry) (start : Content) (size n : ℕ) (s : Content) (o from : Slot) → Swap g start size n → IsSized g s → ((p : ℕ) → p < n * g.sector → byte s o p ≡ byte start from p)
+    → SameImage (bytes_of start from) (bytes_of s o)
+image_there g start size n s o from w sized same =
+    let there = size_in_front g start size n from w in
+    same_image (bytes_of start from) (bytes_of s o) w.laws (has_image g start size n from w)
+    (omega (arith, there, front_inside g n from w.ok w.few, sized_is g start from w.sized))
+    (omega (arith, there, front_inside g n o w.ok w.few, sized_is g s o sized)) (λ i h. same i (omega (arith, h, there)))
+
+pub front_lists : (g : Geometry) (start : Content) (n : ℕ) (s : Content) (o from : Slot) → IsLayout g → n ≤ greatest_sectors g → IsSized g start → IsSized g s
+    → ((p : ℕ) → p < n * g.sector → byte s o p ≡ byte start from p) → take (n * g.sector) (bytes_of s o) ≡ take (n * g.sector) (bytes_of start from)
+front_lists g start n s o from ok few sized_start sized same =
+    same_fronts (bytes_of start from) (bytes_of s o) (n * g.sector) (omega (arith, front_inside g n from ok few, sized_is g start from sized_start))
+    (omega (arith, front_inside g n o ok few, sized_is g s o sized)) same
+
+-- the larger image before the first transfer, and after the last, and what a plan sees of them
+pub larger_start : (g : Geometry) (start : Content) (size n : ℕ) (s : Content) → Swap g start size n → Data g n start 0 s → (is_valid s.secondary ≡ true) × (larger_size s ≡ size)
+larger_start g start size n s w data_ =
+    let one = image_there g start size n s Primary Primary w data_.sized (front_at_start g start n s Primary w.ok w.some w.few data_) in
+    let two = image_there g start size n s Secondary Secondary w data_.sized (front_at_start g start n s Secondary w.ok w.some w.few data_) in
+    (two.valid, ap (λ m. max m (image_size s.secondary)) one.size ∙ ap (max (image_size start.primary)) two.size ∙ w.larger)
+
+pub larger_end : (g : Geometry) (start : Content) (size n : ℕ) (s : Content) → Swap g start size n → Data g n start (3 * n) s → (is_valid s.secondary ≡ true) × (larger_size s ≡ size)
+larger_end g start size n s w data_ =
+    let one = image_there g start size n s Primary Secondary w data_.sized (front_at_end g start n s Primary w.ok w.few data_) in
+    let two = image_there g start size n s Secondary Primary w data_.sized (front_at_end g start n s Secondary w.ok w.few data_) in
+    let larger = w.larger in
+    (two.valid, ap (λ m. max m (image_size s.secondary)) one.size ∙ ap (max (image_size start.secondary)) two.size ∙ omega (arith, larger))
+
+pub sees_start : (g : Geometry) (start : Content) (size n : ℕ) (s : Content) → Swap g start size n → Data g n start 0 s → SeesImages s size
+sees_start g start size n s w data_ = let sees = larger_start g start size n s w data_ in sees_images s size sees.0 sees.1
+
+pub sees_end : (g : Geometry) (start : Content) (size n : ℕ) (s : Content) → Swap g start size n → Data g n start (3 * n) s → SeesImages s size
+sees_end g start size n s w data_ = let sees = larger_end g start size n s w data_ in sees_images s size sees.0 sees.1
+
+-- Each boot from a phase keeps to the phases, and ends the swap. Here the chunk of the layout is what is copied at once.
+
+-- the kind and the count of a boot's plan
+pub record Planned (r : Rules) (g : Geometry) (n : ℕ) (b : Bool) (s : Content) : Type 0 where
+  pub kind : SwapType
+  pub of : IsSwapOf b kind
+  pub is : (plan (power_on r g s)).kind ≡ kind
+  pub sectors : (plan (power_on r g s)).sectors ≡ n
+
+-- what a boot from a phase does
+pub record Swaps (R : Content → Type 0) (x : PowerOn) (size n : ℕ) (b : Bool) (s : Content) : Type 0 where
+  pub keeps : Keeps x.geometry (Phase R x.geometry x.content size n b) (plan (again x s)).list s (Ended x.geometry x.content size n b)
+  pub planned : Planned x.rules x.geometry n b s
+
+-- by the plan that is known
+by_plan : (R : Content → Type 0) (x : PowerOn) (size n : ℕ) (b : Bool) (s : Content) (p : Plan) → plan (again x s) ≡ p → IsSwapOf b p.kind → p.sectors ≡ n
+    → Keeps x.geometry (Phase R x.geometry x.content size n b) p.list s (Ended x.geometry x.content size n b) → Swaps R x size n b s
+by_plan R x size n b s p is of sectors keeps = record {
+  keeps = let E : Plan → Type 0 = λ q. Keeps x.geometry (Phase R x.geometry x.content size n b) q.list s (Ended x.geometry x.content size n b) in subst E (sym is) keeps;
+  planned = record { kind = p.kind; of = of; is = ap (λ (q : Plan). q.kind) is; sectors = ap (λ (q : Plan). q.sectors) is ∙ sectors };
+}
+
+-- from where a swap is asked for
+asked_keeps : (R : Content → Type 0) (c : Grain) (g : Geometry) (start : Content) (size n : ℕ) (b : Bool) (s : Content) → Swap g start size n → Asked g start n b s
+    → Keeps g (Phase R g start size n b) (new_list c g (kind_asked b) size n) s (Ended g start size n b)
+asked_keeps R c g start size n true s w is = swap_keeps g start size n w true R c kinds.Test s refl is
+asked_keeps R c g start size n false s w is = swap_keeps g start size n w false R c kinds.Perm s refl is
+
+of_asked : (b : Bool) → IsSwapOf b (kind_asked b)
+of_asked true = refl
+of_asked false = refl
+
+pub asked_swaps : (R : Content → Type 0) (x : PowerOn) (size n : ℕ) (b : Bool) → in_pieces x.rules.grain x.geometry ≡ x.geometry → Swap x.geometry x.content size n → (s : Content)
+    → Asked x.geometry x.content n b s
+    → Swaps R x size n b s
+asked_swaps R from size n b whole w s is =
+    let g = from.geometry in
+    let c = from.rules.grain in
+    let F : Geometry → Type 0 = λ x. Keeps g (Phase R g from.content size n b) (new_list c x (kind_asked b) size n) s (Ended g from.content size n b) in
+    by_plan R from size n b s (starting c g (kind_asked b) size n) (plan_asked from size n b s w (sees_start g from.content size n s w is.data_) is) (of_asked b) refl
+    (subst F (sym whole) (asked_keeps R c g from.content size n b s w is))
+
+-- from where it runs
+running_keeps : (R : Content → Type 0) (g : Geometry) (start : Content) (size n : ℕ) (b : Bool) (kind : SwapType) (k : ℕ) (s : Content) → Swap g start size n → IsSwapOf b kind → k ≤ 3 * n
+    → Under g start size n kind k s → Keeps g (Phase R g start size n b) (running g kind n k (k == 0)).list s (Ended g start size n b)
+running_keeps R g start size n b kind zero s w of most is = resumed_keeps g start size n w b R kind s of is
+running_keeps R g start size n b kind (suc j) s w of most is =
+    let E : Bool → Type 0 = λ c. Keeps g (Phase R g start size n b) (running g kind n (suc j) c).list s (Ended g start size n b) in
+    subst E (sym (other_number (suc j) 0 (λ e. omega (arith, e)))) (rest_keeps g start size n w R b kind of (suc j) s most is)
+
+pub running_swaps : (R : Content → Type 0) (x : PowerOn) (size n : ℕ) (b : Bool) (kind : SwapType) (k : ℕ) → in_pieces x.rules.grain x.geometry ≡ x.geometry → Swap x.geometry x.content size n
+    → IsSwapOf b kind
+    → k ≤ 3 * n → (s : Content) → Under x.geometry x.content size n kind k s → Swaps R x size n b s
+running_swaps R from size n b kind k whole w of most s is =
+    let F : Geometry → Type 0 = λ x. Keeps from.geometry (Phase R from.geometry from.content size n b) (running x kind n k (k == 0)).list s (Ended from.geometry from.content size n b) in
+    by_plan R from size n b s (running (in_pieces from.rules.grain from.geometry) kind n k (k == 0)) (plan_under from size n b kind k s w of most is) of refl
+    (subst F (sym whole) (running_keeps R from.geometry from.content size n b kind k s w of most is))
+
+-- from each phase
+pub phase_swaps : (R : Content → Type 0) (x : PowerOn) (size n : ℕ) (b : Bool) → in_pieces x.rules.grain x.geometry ≡ x.geometry → Swap x.geometry x.content size n
+    → ((s : Content) → R s → Swaps R x size n b s) → (s : Content) → Phase R x.geometry x.content size n b s → Swaps R x size n b s
+phase_swaps R x size n b whole w before s (inl is) = before s is
+phase_swaps R x size n b whole w before s (inr (inl is)) = asked_swaps R x size n b whole w s is
+phase_swaps R x size n b whole w before s (inr (inr under)) = running_swaps R x size n b under.0 under.1 whole w under.2 under.3 s under.4
+
+-- What a swap leaves, after every list of cuts.
 
 -- Each boot by the rules, on any layout: the phases are of the layout in pieces.
 abbrev pub BootsSwap : (Content → Type 0) → Rules → Geometry → Content → ℕ → ℕ → Bool → Type 0

@@ -1,34 +1,186 @@
--- A swap from its start, by either grain: the primary's trailer is made, then the secondary's is erased.
-use Rattle.std.specs.Prelude.{◌≡◌, ◌⊎◌, ℕ, ◌+◌, ◌-◌, ◌*◌, ◌%◌, ◌<◌, ◌≤◌, Bool, true, false, if◌then◌else◌, List, [], ◌∷◌, ◌++◌, length, take, replicate, refl}
-use Rattle.std.proofs.Common.{arith, sym, ap, subst, ◌∙◌, inl, inr}
-use Rattle.std.proofs.lemmas.List.{get_or-replicate, length-replicate}
-use Rattle.mc_boot.proofs.EntryNumbers.{Entries, entries_kept, entries_none}
-use Rattle.mc_boot.proofs.ErasesKeep.{Erased, erase_behind_data, erased_here, erased_still, erases_keep}
-use Rattle.mc_boot.proofs.FieldWrites.{field_write_keeps, place_behind_data}
-use Rattle.mc_boot.proofs.Keeps.{Keeps, keeps_append, keeps_then}
-use Rattle.mc_boot.proofs.Phases.{Asked, Ended, IsSwapOf, Phase, Swap, Under, asked, asks, opened, runs, unasked}
-use Rattle.mc_boot.proofs.SectorData.{Data, data_same, kept_below}
-use Rattle.mc_boot.proofs.TransfersKeep.{rest_keeps}
-use Rattle.mc_boot.specs.Course.{from_transfer, resumed_list, swap_list}
-use Rattle.mc_boot.specs.Writes.{image_ok_write, info_write, is_test, marking, number_of, opening_writes, trailer_erases, write}
-use Rattle.mc_flash.specs.Changes.{Changed, changed_sized}
-use Rattle.mc_flash.specs.Content.{Content, IsSized, byte, sectors_of, size_of}
-use Rattle.mc_flash.specs.facts.Layouts.{data_before_trailer, data_end, trailer_leaves_one}
-use Rattle.mc_flash.specs.Geometry.{Geometry, trailer_sectors}
+-- The phases of a swap are kept by its transfers, by the whole of it, and by the preparation of a revert.
+use Rattle.std.proofs.Common.{ap, arith, inl, inr, subst, sym, ◌∙◌}
+use Rattle.std.proofs.lemmas.List.{get_or-replicate, length-replicate, length-take-le}
+use Rattle.std.specs.Prelude.{Bool, List, None, Option, Some, [], drop, false, flat_map, if◌then◌else◌, length, refl, replicate, slice_get, suc, take, true, zero, ℕ, ◌%◌, ◌*◌, ◌++◌, ◌+◌, ◌-◌}
+use Rattle.std.specs.Prelude.{◌/◌, ◌<◌, ◌∷◌, ◌≡◌, ◌≢◌, ◌≤◌, ◌⊎◌}
+use Rattle.mc_boot.proofs.Courses.{drop_at_place, drop_past_end}
+use Rattle.mc_boot.proofs.Keeps.{Erased, Keeps, Part, erase_behind_data, erased_here, erased_still, erases_keep, field_write_keeps, keeps_append, keeps_then, place_behind_data}
+use Rattle.mc_boot.proofs.Moving.{Copied, Data, IsOutside, Transferred, data_half, data_same, data_step, kept_below, transfer_keeps}
+use Rattle.mc_boot.proofs.Phases.{Asked, Ended, IsSwapOf, Phase, Quiet, Swap, Under, Waiting, asked, asks, closed, opened, runs, tested, unasked, waits}
+use Rattle.mc_boot.proofs.Setup.{some_trailer}
+use Rattle.mc_boot.proofs.Transfers.{Entries, Fits, entries_kept, entries_none, entry_number, entry_step, fits_at, number_below, number_up, place_below, there_is}
+use Rattle.mc_boot.specs.Plan.{closing, from_transfer, image_ok_write, info_write, is_test, marking, new_list, number_of, opening_writes, preparation_writes, resumed_list, steps, swap_list}
+use Rattle.mc_boot.specs.Plan.{trailer_erases, transfers, write}
+use Rattle.mc_boot.specs.declared.transfer.Transfer.{Transfer}
+use Rattle.mc_flash.specs.Flash.{Content, IsSized, byte, sectors_of, size_of}
+use Rattle.mc_flash.specs.Geometry.{Geometry, IsLayout, greatest_sectors, trailer_bytes, trailer_sectors}
 use Rattle.mc_flash.specs.declared.flash.Grain.{Grain}
 use Rattle.mc_flash.specs.declared.op.Slot.{Slot}
-use Rattle.mc_trailer.specs.facts.Fields.{FieldIs, FieldsAre, blank_fields, field_as, fields_as, fields_same, set_field, write_field}
-use Rattle.mc_trailer.specs.Fields.{one_unit, size_bytes}
-use Rattle.mc_trailer.specs.facts.Places.{entry_ends, entry_inside, field_ends, magic_range, most_before_end, one_unit_fits, one_unit_whole, place_inside, size_bytes_fit, size_bytes_whole}
-use Rattle.mc_trailer.specs.Places.{room}
-use Rattle.mc_trailer.specs.Places.{entry_place, magic_bytes, place}
+use Rattle.mc_flash.specs.declared.op.Slot.TheVariants.{Primary, Secondary}
+use Rattle.mc_flash.specs.facts.Changes.{Changed, changed_sized}
+use Rattle.mc_flash.specs.facts.Layouts.{data_before_trailer, data_end, sector_in_data, small_unit, trailer_leaves_one}
+use Rattle.mc_trailer.specs.Trailer.{entry_place, magic_bytes, one_unit, place, room, size_bytes}
 use Rattle.mc_trailer.specs.declared.places.Field.{Field}
 use Rattle.mc_trailer.specs.declared.tables.SwapType.{SwapType}
+use Rattle.mc_trailer.specs.facts.Fields.{FieldIs, FieldsAre, blank_byte, blank_field, blank_fields, field_as, field_kept_beside, field_write, fields_as, fields_front, fields_same, same_field_is}
+use Rattle.mc_trailer.specs.facts.Fields.{set_field, write_field}
+use Rattle.mc_trailer.specs.facts.Places.{entry_ends, entry_inside, field_ends, magic_range, most_before_end, one_unit_fits, one_unit_len, one_unit_whole, place_inside, size_bytes_fit}
+use Rattle.mc_trailer.specs.facts.Places.{size_bytes_whole}
 use Rattle.mc_trailer.specs.declared.places.Field.TheVariants as field
-use Rattle.mc_trailer.specs.declared.tables.SwapType.TheVariants as kinds
 use Rattle.mc_flash.specs.declared.flash.Grain.TheVariants as grains
-use Rattle.mc_flash.specs.declared.op.Slot.TheVariants.{Primary, Secondary}
-use Rattle.mc_boot.proofs.NewPlans.{some_trailer}
+use Rattle.mc_trailer.specs.declared.tables.SwapType.TheVariants as kinds
+
+-- The transfers that are left, and the finish.
+
+-- what stands behind the data sectors of a slot is outside of a transfer's target
+trailer_outside : (g : Geometry) (n k : ℕ) (x : Transfer) (o : Slot) (i : ℕ) → Fits g n k x → data_end g o ≤ i → IsOutside g x.to x.to_sector o i
+trailer_outside g n k x o i fits behind same =
+    let E : Slot → Type 0 = λ p. data_end g p ≤ i in
+    let here : data_end g x.to ≤ i = subst E same behind in
+    inr (omega (arith, here, sector_in_data g x.to x.to_sector fits.to_data))
+
+-- the trailers after copies of a transfer
+trailers_kept : (g : Geometry) (n k c : ℕ) (s u : Content) (x : Transfer) → IsLayout g → Fits g n k x → Copied g s u x c → (o : Slot) (i : ℕ) → size_of g o ≤ i + trailer_bytes g
+    → byte u o i ≡ byte s o i
+trailers_kept g n k c s u x ok fits so o i behind = so.elsewhere o i (trailer_outside g n k x o i fits (omega (arith, behind, data_before_trailer g o ok)))
+
+field_in_trailer : (g : Geometry) (o : Slot) (i : ℕ) → size_of g o ≤ i + 48 → size_of g o ≤ i + trailer_bytes g
+field_in_trailer g o i h = omega (arith, h)
+
+-- Of a swap, under way.
+module _ (g : Geometry) (start : Content) (size n : ℕ) (w : Swap g start size n) where
+  -- a transfer made in part
+  under_half : (kind : SwapType) (k c : ℕ) (s u : Content) (x : Transfer) → k ≤ 3 * n → slice_get (transfers g n) k ≡ Some x
+      → Under g start size n kind k s → Copied g s u x c → Under g start size n kind k u
+  under_half kind k c s u x most at is so =
+      let fits = fits_at g n k x w.ok w.few at in
+      let kept = trailers_kept g n k c s u x w.ok fits so in
+      let few = w.few in
+      record {
+        primary = fields_same g s u Primary (opened g kind size) w.ok (λ i h. kept Primary i (field_in_trailer g Primary i h)) is.primary;
+        entries = entries_kept g n k s u w.ok (omega (arith, few)) most (λ i h _. kept Primary i h) is.entries;
+        secondary = fields_same g s u Secondary unasked w.ok (λ i h. kept Secondary i (field_in_trailer g Secondary i h)) is.secondary;
+        data_ = data_half g n start k c s u x at is.data_ so;
+      }
+
+  -- a transfer made
+  under_next : (kind : SwapType) (k : ℕ) (s v : Content) (x : Transfer) → slice_get (transfers g n) k ≡ Some x
+      → Under g start size n kind k s → Transferred g s v x → Under g start size n kind (k + 1) v
+  under_next kind k s v x at is so = record {
+    primary = fields_same g u v Primary (opened g kind size) w.ok (λ i h. written.behind i (omega (arith, h, len, ends))) half.primary;
+    entries = entry_step g n k u v w.ok (omega (arith, few)) below half.entries written;
+    secondary = fields_same g u v Secondary unasked w.ok (λ i h. written.other Secondary i (λ e. cc)) half.secondary;
+    data_ = data_same g n start (k + 1) u v (changed_sized g u v Primary _ _ written so.copied.sized)
+        (kept_below g u v Primary (entry_place g (entry_number g n k)) (one_unit g 1) written (omega (arith, inside, data_before_trailer g Primary w.ok)))
+        (data_step g n start k s u x w.ok w.few at is.data_ so.copied);
+  }
+    where
+      u : Content
+      u = so.before_entry
+
+      few : n ≤ greatest_sectors g
+      few = w.few
+
+      below : k < 3 * n
+      below = place_below g n k x at
+
+      fits : Fits g n k x
+      fits = fits_at g n k x w.ok w.few at
+
+      half : Under g start size n kind k u
+      half = under_half kind k (g.sector / g.chunk) s u x (omega (arith, below)) at is so.copied
+
+      written : Changed u v Primary (entry_place g (entry_number g n k)) (one_unit g 1)
+      written = let E : ℕ → Type 0 = λ e. Changed u v Primary (entry_place g e) (one_unit g 1) in subst E fits.entry so.written
+
+      len : length (one_unit g 1) ≡ g.unit
+      len = one_unit_len g 1 w.ok
+
+      ends : entry_place g (entry_number g n k) + g.unit + 48 ≤ size_of g Primary
+      ends = entry_ends g (entry_number g n k) w.ok (number_below g n k (omega (arith, few)) below)
+
+      inside : entry_place g (entry_number g n k) + (48 + 3 * g.max_sectors * g.unit) ≡ size_of g Primary + entry_number g n k * g.unit
+      inside = entry_inside g (entry_number g n k) w.ok (number_below g n k (omega (arith, few)) below)
+
+  module _ (R : Content → Type 0) (b : Bool) (kind : SwapType) (of : IsSwapOf b kind) where
+    -- one transfer
+    one_keeps : (k : ℕ) (s : Content) (x : Transfer) → slice_get (transfers g n) k ≡ Some x → Under g start size n kind k s
+        → Keeps g (Phase R g start size n b) (steps g x) s (λ v. Transferred g s v x)
+    one_keeps k s x at is =
+        let fits = fits_at g n k x w.ok w.few at in
+        let few = w.few in
+        let below = place_below g n k x at in
+        let number = number_below g n k (omega (arith, few)) below in
+        let E : ℕ → Type 0 = λ e. (i : ℕ) → i < g.unit → (byte s Primary (entry_place g e + i) ≡ 255) × IsOutside g x.to x.to_sector Primary (entry_place g e + i) in
+        let entry : (i : ℕ) → i < g.unit → (byte s Primary (entry_place g x.entry + i) ≡ 255) × IsOutside g x.to x.to_sector Primary (entry_place g x.entry + i) =
+        subst E (sym fits.entry) (λ i h. (
+          is.entries.free (entry_number g n k) i number (λ some. over k some) h,
+          trailer_outside g n k x Primary (entry_place g (entry_number g n k) + i) fits (omega (arith, entry_inside g (entry_number g n k) w.ok number, data_before_trailer g Primary w.ok)),
+        )) in
+        transfer_keeps g (Phase R g start size n b) s x w.ok fits.inside is.data_.sized (λ i h. (entry i h).0) (λ i h. (entry i h).1)
+        (runs R g start size n b kind k s of (omega (arith, below)) is)
+        (λ u c so. runs R g start size n b kind k u of (omega (arith, below)) (under_half kind k c s u x (omega (arith, below)) at is so))
+      where
+        over : (k : ℕ) → 0 < k → entry_number g n (k - 1) < entry_number g n k
+        over k some = let few = w.few in number_up g n (k - 1) k (omega (arith, few)) (omega (arith, some))
+
+    pub transfers_keep : (m k : ℕ) (s : Content) → k + m ≡ 3 * n → Under g start size n kind k s
+        → Keeps g (Phase R g start size n b) (flat_map (steps g) (drop k (transfers g n))) s (Under g start size n kind (3 * n))
+    transfers_keep zero k s whole is =
+        let E : List Transfer → Type 0 = λ l. Keeps g (Phase R g start size n b) (flat_map (steps g) l) s (Under g start size n kind (3 * n)) in
+        let F : ℕ → Type 0 = λ j. Under g start size n kind j s in
+        subst E (sym (drop_past_end (transfers g n) k (none_at (slice_get (transfers g n) k) refl))) (subst F (omega (arith, whole)) is)
+      where
+        none_at : (o : Option Transfer) → slice_get (transfers g n) k ≡ o → slice_get (transfers g n) k ≡ None
+        none_at None e = e
+        none_at (Some x) e = absurd (omega (arith, whole, place_below g n k x e))
+    transfers_keep (suc m) k s whole is =
+        let there = there_is g n k (omega (arith, whole)) in
+        let E : List Transfer → Type 0 = λ l. Keeps g (Phase R g start size n b) (flat_map (steps g) l) s (Under g start size n kind (3 * n)) in
+        subst E (sym (drop_at_place (transfers g n) k there.0 there.1))
+        (keeps_append g (Phase R g start size n b) (λ v. Transferred g s v there.0) (Under g start size n kind (3 * n)) (steps g there.0) (flat_map (steps g) (drop (k + 1) (transfers g n))) s
+        (one_keeps k s there.0 there.1 is)
+        (λ v so. transfers_keep m (k + 1) v (omega (arith, whole)) (under_next kind k s v there.0 there.1 is so)))
+
+    -- copy-done
+    closing_keeps : (s : Content) → Under g start size n kind (3 * n) s
+        → Keeps g (Phase R g start size n b) (closing g false) s (Ended g start size n b)
+    closing_keeps s is =
+        let does = field_write g s Primary field.CopyDone (one_unit g 1) w.ok is.data_.sized (is.primary field.CopyDone) (one_unit_fits g 1 field.CopyDone w.ok) in (
+          runs R g start size n b kind (3 * n) s of (omega arith) is,
+          (
+            does.0,
+            does.1,
+            (
+              kind,
+              of,
+              record {
+                primary = fields_as g does.0 Primary _ (closed g kind size) closes (write_field g s does.0 Primary (opened g kind size) field.CopyDone (one_unit g 1) w.ok
+                    (one_unit_fits g 1 field.CopyDone w.ok) is.primary does.2);
+                secondary = fields_same g s does.0 Secondary unasked w.ok (λ i h. does.2.other Secondary i (λ e. cc)) is.secondary;
+                data_ = data_same g n start (3 * n) s does.0 (changed_sized g s does.0 Primary _ _ does.2 is.data_.sized)
+                    (kept_below g s does.0 Primary (place g Primary field.CopyDone) (one_unit g 1) does.2 (place_behind_data g Primary field.CopyDone w.ok)) is.data_;
+              },
+            ),
+          ),
+        )
+      where
+        closes : (f : Field) → set_field (opened g kind size) field.CopyDone (one_unit g 1) f ≡ closed g kind size f
+        closes field.Magic = refl
+        closes field.ImageOk = refl
+        closes field.CopyDone = refl
+        closes field.SwapInfo = refl
+        closes field.SwapSize = refl
+
+    -- all that is left
+    pub rest_keeps : (k : ℕ) (s : Content) → k ≤ 3 * n → Under g start size n kind k s
+        → Keeps g (Phase R g start size n b) (from_transfer g n k false) s (Ended g start size n b)
+    rest_keeps k s most is =
+        keeps_append g (Phase R g start size n b) (Under g start size n kind (3 * n)) (Ended g start size n b) (flat_map (steps g) (drop k (transfers g n))) (closing g false) s
+        (transfers_keep (3 * n - k) k s (omega (arith, most)) is)
+        (λ v end. closing_keeps v end)
+
+-- A swap from its start, by either grain: the primary's trailer is made, then the secondary's is erased.
 
 -- a slot whose magic is 0xff
 pub unasked_from : (g : Geometry) (s : Content) (slot : Slot) → ((i : ℕ) → i < 16 → byte s slot (place g slot field.Magic + i) ≡ 255) → FieldsAre g s slot unasked
@@ -241,3 +393,142 @@ module _ (g : Geometry) (start : Content) (size n : ℕ) (w : Swap g start size 
         (λ t k. keeps_append g (Phase R g start size n b) (Ready g start size n b kind) (Ended g start size n b) (opening_writes c g kind size) (resumed_list g n 0 true false) t
         (opening_keeps c kind t of (freed t k.0 k.1))
         (λ u ready. clearing_keeps kind u of (inl (refl, ready))))
+
+-- A revert, by either grain: the secondary is made to ask for an upgrade, and while it is the revert waits.
+
+-- a magic that is unset is quiet by either grain
+pub quiet_blank : (c : Grain) (g : Geometry) (s : Content) → FieldIs g s Secondary field.Magic (replicate 16 255) → Quiet c g s
+quiet_blank grains.Call g s free = free
+quiet_blank grains.Unit g s free = blank_byte g s Secondary field.Magic 15 free (omega arith)
+
+-- and so is one whose sectors are erased
+quiet_erased : (c : Grain) (g : Geometry) (i : ℕ) (t u : Content) → Erased g Secondary i t u → Quiet c g t → Quiet c g u
+quiet_erased grains.Call g i t u ch quiet =
+    blank_field g u Secondary field.Magic (λ p h. erased_still g Secondary i t u (place g Secondary field.Magic + p) ch (blank_byte g t Secondary field.Magic p quiet h))
+quiet_erased grains.Unit g i t u ch quiet = erased_still g Secondary i t u (place g Secondary field.Magic + 15) ch quiet
+
+-- the writes of the secondary's trailer, up to the magic
+record Preparing (g : Geometry) (start : Content) (n : ℕ) (v : Field → List ℕ) (s : Content) : Type 0 where
+  primary : FieldsAre g s Primary tested
+  secondary : FieldsAre g s Secondary v
+  data_ : Data g n start 0 s
+
+magic_blank : (g : Geometry) (start : Content) (n : ℕ) (v : Field → List ℕ) (s : Content) → v field.Magic ≡ replicate 16 255 → Preparing g start n v s
+    → FieldIs g s Secondary field.Magic (replicate 16 255)
+magic_blank g start n v s free is = field_as g s Secondary field.Magic (v field.Magic) (replicate 16 255) free (is.secondary field.Magic)
+
+waiting_of : (c : Grain) (g : Geometry) (start : Content) (n : ℕ) (v : Field → List ℕ) (s : Content) → v field.Magic ≡ replicate 16 255 → Preparing g start n v s → Waiting c g start n s
+waiting_of c g start n v s free is = record { primary = is.primary; quiet = quiet_blank c g s (magic_blank g start n v s free is); data_ = is.data_ }
+
+abbrev confirmed : Geometry → Field → List ℕ
+confirmed g = set_field blank_fields field.ImageOk (one_unit g 1)
+
+abbrev sized : Geometry → ℕ → Field → List ℕ
+sized g size = set_field (confirmed g) field.SwapSize (size_bytes g size)
+
+-- Of a swap back, up to its magic.
+module _ (g : Geometry) (start : Content) (size n : ℕ) (w : Swap g start size n) where
+  -- a write of the secondary's trailer keeps the rest
+  primary_after : (f : Field) (new : List ℕ) (s t : Content) → FieldsAre g s Primary tested
+      → Changed s t Secondary (place g Secondary f) new → FieldsAre g t Primary tested
+  primary_after f new s t are ch = fields_same g s t Primary tested w.ok (λ i _. ch.other Primary i (λ e. cc)) are
+
+  data_after : (f : Field) (new : List ℕ) (s t : Content) → Data g n start 0 s → Changed s t Secondary (place g Secondary f) new → Data g n start 0 t
+  data_after f new s t data_ ch =
+      data_same g n start 0 s t (changed_sized g s t Secondary (place g Secondary f) new ch data_.sized) (kept_below g s t Secondary (place g Secondary f) new ch
+      (place_behind_data g Secondary f w.ok)) data_
+
+  preparing_after : (v : Field → List ℕ) (f : Field) (new : List ℕ) (s t : Content) → Preparing g start n v s → length new ≤ room f
+      → Changed s t Secondary (place g Secondary f) new → Preparing g start n (set_field v f new) t
+  preparing_after v f new s t is short ch = record {
+    primary = primary_after f new s t is.primary ch;
+    secondary = write_field g s t Secondary v f new w.ok short is.secondary ch;
+    data_ = data_after f new s t is.data_ ch;
+  }
+
+  module _ (c : Grain) where
+    abbrev Bears : Content → Type 0
+    Bears = Phase (Waiting c g start n) g start size n false
+
+    waiting_erased : (i : ℕ) (t u : Content) → i < trailer_sectors g → Waiting c g start n t → Erased g Secondary i t u → Waiting c g start n u
+    waiting_erased i t u below is ch = record {
+      primary = fields_same g t u Primary tested w.ok (λ p h. ch.other Primary p (λ e. cc)) is.primary;
+      quiet = quiet_erased c g i t u ch is.quiet;
+      data_ = data_erased g Secondary n start 0 i t u below ch is.data_;
+    }
+
+    -- a field before the magic, written whole or in part
+    preparing_field_keeps : (d : Grain) (v : Field → List ℕ) (f : Field) (new : List ℕ) (s : Content) → Preparing g start n v s
+        → v field.Magic ≡ replicate 16 255 → f ≢ field.Magic → v f ≡ replicate (room f) 255 → length new ≤ room f → length new % g.unit ≡ 0
+        → Keeps g (Bears) (write d g Secondary f new) s (Preparing g start n (set_field v f new))
+    preparing_field_keeps d v f new s is magic other free short whole =
+        keeps_then g (Bears) (λ t. Changed s t Secondary (place g Secondary f) new) (Preparing g start n (set_field v f new)) (write d g Secondary f new) s
+        (λ t ch. preparing_after v f new s t is short ch)
+        (field_write_keeps g (Bears) s d Secondary f new w.ok is.data_.sized (field_as g s Secondary f (v f) (replicate (room f) 255) free (is.secondary f))
+        short whole
+        (waits (Waiting c g start n) g start size n false s (waiting_of c g start n v s magic is))
+        (λ k t fine h part. waits (Waiting c g start n) g start size n false t (record {
+          primary = primary_after f (take k new) s t is.primary part;
+          quiet = quiet_blank c g t (same_field_is g s t Secondary field.Magic (replicate 16 255)
+              (field_kept_beside g s t Secondary f field.Magic (take k new) w.ok part (omega (arith, h, short, length-take-le k new (omega (arith, h)))) other)
+              (magic_blank g start n v s magic is));
+          data_ = data_after f (take k new) s t is.data_ part;
+        })))
+
+    -- The magic: where it is written unit by unit the revert waits until the last.
+    magic_keeps : (v : Field → List ℕ) (s : Content) → Preparing g start n v s → v field.Magic ≡ replicate 16 255
+        → Keeps g (Bears) (write c g Secondary field.Magic magic_bytes) s (Preparing g start n (set_field v field.Magic magic_bytes))
+    magic_keeps v s is free =
+        keeps_then g (Bears) (λ t. Changed s t Secondary (place g Secondary field.Magic) magic_bytes) (Preparing g start n (set_field v field.Magic magic_bytes))
+        (write c g Secondary field.Magic magic_bytes) s
+        (λ t ch. preparing_after v field.Magic magic_bytes s t is (omega arith) ch)
+        (field_write_keeps g (Bears) s c Secondary field.Magic magic_bytes w.ok is.data_.sized (magic_blank g start n v s free is) (omega arith)
+        (magic_range g Secondary w.ok).units
+        (waits (Waiting c g start n) g start size n false s (waiting_of c g start n v s free is))
+        (λ k t fine h part. waits (Waiting c g start n) g start size n false t (record {
+          primary = primary_after field.Magic (take k magic_bytes) s t is.primary part;
+          quiet = let E : Grain → Type 0 = λ e. Quiet e g t in subst E (sym fine) (still k t h part);
+          data_ = data_after field.Magic (take k magic_bytes) s t is.data_ part;
+        })))
+      where
+        still : (k : ℕ) (t : Content) → k + g.unit ≤ 16 → Part s Secondary (place g Secondary field.Magic) magic_bytes k t → byte t Secondary (place g Secondary field.Magic + 15) ≡ 255
+        still k t h part =
+            let unit = small_unit g w.ok in
+            part.behind (place g Secondary field.Magic + 15) (omega (arith, h, unit, length-take-le k magic_bytes (omega (arith, h))))
+            ∙ blank_byte g s Secondary field.Magic 15 (magic_blank g start n v s free is) (omega arith)
+
+    preparation_keeps : (s : Content) → Preparing g start n blank_fields s → Keeps g (Bears) (preparation_writes c g size) s (Asked g start n false)
+    preparation_keeps s is =
+        keeps_append g Bears (Preparing g start n (confirmed g)) (Asked g start n false) (image_ok_write g Secondary ∷ []) (marking c g Secondary size) s
+        (preparing_field_keeps grains.Call blank_fields field.ImageOk (one_unit g 1) s is refl (λ e. cc) refl (one_unit_fits g 1 field.ImageOk w.ok) (one_unit_whole g 1 w.ok))
+        (λ t one. keeps_append g Bears (Preparing g start n (sized g size)) (Asked g start n false) (write c g Secondary field.SwapSize (size_bytes g size))
+        (write c g Secondary field.Magic magic_bytes) t
+        (preparing_field_keeps c (confirmed g) field.SwapSize (size_bytes g size) t one refl (λ e. cc) refl (size_bytes_fit g size w.ok) (size_bytes_whole g size w.ok))
+        (λ u two. keeps_then g Bears (Preparing g start n (set_field (sized g size) field.Magic magic_bytes)) (Asked g start n false) (write c g Secondary field.Magic magic_bytes) u
+        (λ x three. record { secondary = fields_front g x Secondary (set_field (sized g size) field.Magic magic_bytes) (asked false) less three.secondary; data_ = three.data_ })
+        (magic_keeps (sized g size) u two refl)))
+      where
+        less : (f : Field) → (rest : List ℕ) × (set_field (sized g size) field.Magic magic_bytes f ≡ asked false f ++ rest)
+        less field.Magic = ([], refl)
+        less field.ImageOk = (replicate (g.unit - 1) 255, refl)
+        less field.CopyDone = (_, refl)
+        less field.SwapInfo = (_, refl)
+        less field.SwapSize = (_, refl)
+
+    pub revert_keeps : (s : Content) → Waiting c g start n s → Keeps g (Bears) (new_list c g kinds.Revert size n) s (Ended g start size n false)
+    revert_keeps s is =
+        keeps_append g (Bears) _ (Ended g start size n false) (trailer_erases g Secondary) (preparation_writes c g size ++ swap_list c g kinds.Revert size n) s
+        (erases_keep g Secondary (Bears) (λ i t. Waiting c g start n t) s w.ok
+        (λ i t k. (waits (Waiting c g start n) g start size n false t k, k.data_.sized))
+        (λ i t u h k ch. waiting_erased i t u h k ch) is)
+        (λ t k. keeps_append g (Bears) (Asked g start n false) (Ended g start size n false) (preparation_writes c g size) (swap_list c g kinds.Revert size n) t
+        (preparation_keeps t (freed t k.0 k.1))
+        (λ u asks_. swap_keeps g start size n w false (Waiting c g start n) c kinds.Revert u refl asks_))
+      where
+        freed : (t : Content) → Waiting c g start n t → ((p : ℕ) → data_end g Secondary ≤ p → p < size_of g Secondary → byte t Secondary p ≡ 255) → Preparing g start n blank_fields t
+        freed t k free = record {
+          primary = k.primary;
+          secondary = λ f. blank_field g t Secondary f (λ i within. free (place g Secondary f + i) (omega (arith, place_behind_data g Secondary f w.ok))
+              (omega (arith, within, field_ends g Secondary f w.ok)));
+          data_ = k.data_;
+        }

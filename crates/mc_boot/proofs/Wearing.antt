@@ -1,43 +1,99 @@
--- No power-on erases a sector more than twice.
-use Rattle.std.specs.Prelude.{◌≡◌, ◌≢◌, ◌⊎◌, ℕ, zero, suc, ◌+◌, ◌-◌, ◌*◌, ◌/◌, ◌<◌, ◌≤◌, ◌==◌, ◌||◌, not, nat_lt, Bool, true, false, if◌then◌else◌, List, [], ◌∷◌, ◌++◌, length, take}
-use Rattle.std.specs.Prelude.{drop, map, flat_map, Option, Some, None, is_none, refl}
-use Rattle.std.specs.Int.{div_ceil}
-use Rattle.std.specs.List.{range_with_len}
-use Rattle.std.proofs.Common.{arith, ap, inl, inr}
+-- The application's own work leaves bytes; a list of operations erases a sector at most twice.
+use Rattle.std.proofs.Common.{ap, arith, inl, inr, subst, ◌∙◌}
 use Rattle.std.proofs.lemmas.Bool.{cases_eq, cases_lt}
 use Rattle.std.proofs.lemmas.Bool.Decides.{nat_tests}
-use Rattle.mc_boot.proofs.Exchange.{other_number}
-use Rattle.mc_boot.specs.Course.{closing, from_transfer, new_list, resumed_list, swap_list}
-use Rattle.mc_boot.specs.Image.{images_of}
-use Rattle.mc_boot.specs.Life.{WearLaw, all_erases, erases}
-use Rattle.mc_boot.specs.Plan.{Plan, confirms, first_left, new_plan, new_swap, nothing, plan, plan_with, resumed_from, resumed_plan, resumed_swap}
-use Rattle.mc_boot.specs.PowerOn.{PowerOn}
-use Rattle.mc_boot.specs.Runs.{first_then, happening, ops_of}
-use Rattle.mc_boot.specs.Transfers.{brought_in, copy_of, entry_of, moved_up, steps, taken_out, transfers}
-use Rattle.mc_boot.specs.Writes.{image_ok_write, info_write, is_revert, is_test, marking, opening_writes, piece, preparation_writes, trailer_erase, trailer_erases, write}
+use Rattle.std.proofs.lemmas.List.{get_or-replicate, get_or_past, length-replicate}
+use Rattle.std.specs.Int.{div_ceil}
+use Rattle.std.specs.List.{between, range_with_len}
+use Rattle.std.specs.Prelude.{Bool, List, None, Option, Some, [], drop, false, flat_map, if◌then◌else◌, is_none, length, map, nat_lt, not, refl, replicate, slice_index, suc, take, true, zero, ℕ}
+use Rattle.std.specs.Prelude.{◌*◌, ◌++◌, ◌+◌, ◌-◌, ◌/◌, ◌<◌, ◌==◌, ◌||◌, ◌∷◌, ◌≡◌, ◌≢◌, ◌≤◌, ◌⊎◌}
+use Rattle.mc_boot.proofs.Transfers.{other_number}
+use Rattle.mc_boot.specs.Life.{AreSecondary, WearLaw, WorkLaw, all_erases, erases}
+use Rattle.mc_boot.specs.Outcome.{first_then, happening, ops_of}
+use Rattle.mc_boot.specs.Plan.{Plan, PowerOn, brought_in, closing, confirms, copy_of, entry_of, first_left, from_transfer, image_ok_write, images_of, info_write, is_revert, is_test, marking}
+use Rattle.mc_boot.specs.Plan.{moved_up, new_list, new_plan, new_swap, nothing, opening_writes, piece, plan, plan_with, preparation_writes, resumed_from, resumed_list, resumed_plan, resumed_swap}
+use Rattle.mc_boot.specs.Plan.{steps, swap_list, taken_out, trailer_erase, trailer_erases, transfers, write}
 use Rattle.mc_boot.specs.declared.image.Images.{Images}
 use Rattle.mc_boot.specs.declared.transfer.Transfer.{Transfer}
-use Rattle.mc_flash.specs.Apply.{apply}
-use Rattle.mc_flash.specs.Content.{Content}
-use Rattle.mc_flash.specs.facts.Layouts.{data_sectors, trailer_leaves_one}
-use Rattle.mc_flash.specs.Geometry.{Geometry, IsLayout, greatest_sectors, trailer_sectors}
-use Rattle.mc_flash.specs.Pieces.{in_pieces, pieces_layout}
+use Rattle.mc_flash.specs.Flash.{Content, IsSized, apply, erased, in_slot, is_blank, put, size_of, with_bytes}
+use Rattle.mc_flash.specs.Geometry.{Geometry, IsLayout, greatest_sectors, in_pieces, trailer_sectors}
 use Rattle.mc_flash.specs.declared.flash.Grain.{Grain}
-use Rattle.mc_flash.specs.declared.flash.Grain.TheVariants as grains
 use Rattle.mc_flash.specs.declared.op.Op.{Op}
 use Rattle.mc_flash.specs.declared.op.Op.TheVariants.{Copy, Erase, Program}
 use Rattle.mc_flash.specs.declared.op.Slot.{Slot}
 use Rattle.mc_flash.specs.declared.op.Slot.TheVariants.{Primary, Secondary}
-use Rattle.mc_trailer.specs.Entries.{highest_entry}
-use Rattle.mc_trailer.specs.Fields.{size_bytes, trailer_of}
-use Rattle.mc_trailer.specs.Places.{magic_bytes, place}
+use Rattle.mc_flash.specs.facts.Changes.{length-put, put_before, put_behind, put_inside, same_content}
+use Rattle.mc_flash.specs.facts.Layouts.{data_sectors, sector_inside, trailer_leaves_one}
+use Rattle.mc_flash.specs.facts.Pieces.{pieces_layout}
+use Rattle.mc_image.specs.Image.{IsBytes}
 use Rattle.mc_trailer.specs.Tables.{is_resumed, table_of}
+use Rattle.mc_trailer.specs.Trailer.{highest_entry, magic_bytes, place, size_bytes, trailer_of}
 use Rattle.mc_trailer.specs.declared.places.Field.{Field}
-use Rattle.mc_trailer.specs.declared.places.Field.TheVariants as field
 use Rattle.mc_trailer.specs.declared.tables.SwapType.{SwapType}
-use Rattle.mc_trailer.specs.declared.tables.SwapType.TheVariants as kinds
 use Rattle.mc_trailer.specs.declared.trailer.Flag.{Flag}
 use Rattle.mc_trailer.specs.declared.trailer.Trailer.{Trailer}
+use Rattle.mc_trailer.specs.declared.places.Field.TheVariants as field
+use Rattle.mc_flash.specs.declared.flash.Grain.TheVariants as grains
+use Rattle.mc_trailer.specs.declared.tables.SwapType.TheVariants as kinds
+
+-- The work of a running image on the secondary leaves bytes there.
+
+-- bytes put among bytes are bytes
+pub put_bytes : (xs new : List ℕ) (at : ℕ) → at + length new ≤ length xs → IsBytes xs → IsBytes new → IsBytes (put xs at new)
+put_bytes xs new at fits old fresh i = elim (cases_lt i at) [
+  | inl low ↦ let same = put_before xs new at i fits low in let small = old i in omega (arith, same, small)
+  | inr from ↦ elim (cases_lt i (at + length new)) [
+    | inl below ↦ within (i - at) (omega (arith, from, below)) (omega (arith, from))
+    | inr above ↦ let same = put_behind xs new at i fits above in let small = old i in omega (arith, same, small)
+  ]
+]
+  where
+    within : (k : ℕ) → k < length new → at + k ≡ i → slice_index (put xs at new) i < 256
+    within k short is =
+        let E : ℕ → Type 0 = λ j. slice_index (put xs at new) j < 256 in
+        let same = put_inside xs new at k fits short in
+        let small = fresh k in
+        subst E is (omega (arith, same, small))
+
+pub erased_bytes : (n : ℕ) → IsBytes (replicate n 255)
+erased_bytes n i = elim (cases_lt i n) [
+  | inl low ↦ let same : slice_index (replicate n 255) i ≡ 255 = get_or-replicate n i 255 0 low in omega (arith, same)
+  | inr high ↦ let same : slice_index (replicate n 255) i ≡ 0 = get_or_past (replicate n 255) i 0 (omega (arith, high, length-replicate {A = ℕ} n 255)) in omega (arith, same)
+]
+
+-- the bytes of the slot with others in their place
+stored : (g : Geometry) (s : Content) (at : ℕ) (new : List ℕ) → IsSized g s → IsBytes s.secondary → IsBytes new → at + length new ≤ size_of g Secondary → AreSecondary g (put s.secondary at new)
+stored g s at new sized old fresh inside =
+    let fits : at + length new ≤ length s.secondary = omega (arith, inside, sized.secondary) in
+    record { sized = length-put s.secondary new at fits ∙ sized.secondary; numbers = put_bytes s.secondary new at fits old fresh }
+
+pub work_law : WorkLaw
+unfolding apply
+work_law g (Erase Primary sector) s t ok sized bytes work can is = absurd work
+work_law g (Erase Secondary sector) s t ok sized bytes work can is =
+    let new : Content = with_bytes s Secondary (erased g.sector sector s.secondary) in
+    let same : new ≡ t = same_content new t is in
+    let E : Content → Type 0 = λ x. AreSecondary g x.secondary × (x ≡ with_bytes s Secondary x.secondary) in
+    let inside = sector_inside g Secondary sector can in
+    subst E same (stored g s (sector * g.sector) (replicate g.sector 255) sized bytes (erased_bytes g.sector) (omega (arith, inside, length-replicate {A = ℕ} g.sector 255)), refl)
+work_law g (Program Primary at new) s t ok sized bytes work can is = absurd work
+work_law g (Program Secondary at new) s t ok sized bytes work can is = go (is_blank (between at (at + length new) s.secondary)) is
+  where
+    E : Content → Type 0
+    E x = AreSecondary g x.secondary × (x ≡ with_bytes s Secondary x.secondary)
+
+    go : (b : Bool) → in_slot s Secondary (if b then Some (put s.secondary at new) else None) ≡ Some t → AreSecondary g t.secondary × (t ≡ with_bytes s Secondary t.secondary)
+    go true e =
+        let given : Content = with_bytes s Secondary (put s.secondary at new) in
+        let same : given ≡ t = same_content given t e in
+        subst E same (stored g s at new sized bytes work can.inside, refl)
+    go false e = absurd (none e)
+      where
+        none : None ≡ Some t → ⊥
+        none e = cc
+work_law g (Copy from at to offset len) s t ok sized bytes work can is = absurd work
+
+-- No power-on erases a sector more than twice.
 
 -- an erase of the sector, or none
 abbrev count : Bool → ℕ

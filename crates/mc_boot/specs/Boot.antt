@@ -1,16 +1,45 @@
--- What callers see of a boot, and what a step does to it and to the flash.
-use Rattle.std.specs.Prelude.{◌≡◌, ℕ, ◌+◌, Bool, true, false, if◌then◌else◌, List, [], ◌∷◌, drop, Result, Ok, Err, IfSome}
-use Rattle.mc_flash.specs.Geometry.{Geometry}
-use Rattle.mc_flash.specs.Pieces.{in_pieces}
-use Rattle.mc_flash.specs.Seen.{Seen, Does}
-use Rattle.mc_flash.specs.declared.op.Op.{Op}
-use Rattle.mc_flash.specs.declared.flash.FlashError.{FlashError}
-use Rattle.mc_flash.specs.declared.flash.FlashError.TheVariants as errors
-use Rattle.mc_trailer.specs.declared.tables.SwapType.{SwapType}
-use Rattle.mc_trailer.specs.declared.tables.Rules.{Rules}
+-- How a boot on its way is seen: how far it has come, what a step does, and what is left of it.
+use Rattle.std.proofs.Common.{subst, sym, ◌∙◌}
+use Rattle.std.specs.Prelude.{Bool, Err, IfSome, List, None, Ok, Option, Result, Some, [], drop, false, if◌then◌else◌, length, take, true, ℕ, ◌*◌, ◌+◌, ◌<◌, ◌∷◌, ◌≡◌, ◌≤◌}
+use Rattle.mc_boot.specs.Outcome.{applied, happening}
+use Rattle.mc_boot.specs.Plan.{Plan, PowerOn, new_list, new_setup, plan, power_on, powered, resumed_list}
 use Rattle.mc_boot.specs.declared.boot.Boot.{Boot}
-use Rattle.mc_boot.specs.CourseList.{whole_list}
-use Rattle.mc_boot.specs.Plan.{Plan}
+use Rattle.mc_boot.specs.declared.course.Course.{Course}
+use Rattle.mc_boot.specs.declared.course.Opening.{Opening}
+use Rattle.mc_boot.specs.declared.course.Opening.TheVariants.{New, Resumed}
+use Rattle.mc_boot.specs.declared.transfer.Transfer.{Transfer}
+use Rattle.mc_flash.specs.Flash.{Content, IsSized, sectors_of}
+use Rattle.mc_flash.specs.Geometry.{Geometry, in_pieces}
+use Rattle.mc_flash.specs.Usage.{Counts, Does, Keeps, LeaveRoom, Seen, most_operations, most_saved, plus, saves}
+use Rattle.mc_flash.specs.declared.flash.FlashError.{FlashError}
+use Rattle.mc_flash.specs.declared.flash.Grain.{Grain}
+use Rattle.mc_flash.specs.declared.op.Op.{Op}
+use Rattle.mc_flash.specs.facts.Spends.{keeps_both}
+use Rattle.mc_trailer.specs.declared.tables.Rules.{Rules}
+use Rattle.mc_trailer.specs.declared.tables.SwapType.{SwapType}
+use Rattle.mc_flash.specs.declared.flash.FlashError.TheVariants as errors
+
+-- The operations of a course.
+
+abbrev pub list_from : Grain → Geometry → ℕ → Opening → List Op
+list_from c g n (New kind size) = new_list c g kind size n
+list_from c g n (Resumed first erases image_ok) = resumed_list g n first erases image_ok
+
+-- The operations of a whole course.
+abbrev pub course_list : Course → List Op
+course_list c = list_from c.grain c.layout c.sectors c.opening
+
+-- None where there is no course.
+abbrev pub whole_list : Option Course → List Op
+whole_list None = []
+whole_list (Some c) = course_list c
+
+-- How many operations of a course come before those that it would go on with after a cut: none where it was cut.
+abbrev pub setup_of : Grain → Geometry → Opening → ℕ
+setup_of c g (New kind size) = new_setup c g kind size
+setup_of c g (Resumed first erases image_ok) = 0
+
+-- What callers see of a boot, and what a step does to it and to the flash.
 
 -- A boot as callers see it: its rules and its type, the operations still to come, how many happened, and whether one was
 -- refused.
@@ -64,3 +93,78 @@ StepsAlong (op ∷ rest) p old result q new = Turns rest p result q × Does op o
 -- A step of a boot that is at p, over a flash: the boot is at q then.
 abbrev pub Steps : Progress → Seen → Result (Unit {0}) FlashError → Progress → Seen → Type 0
 Steps p old result q new = StepsAlong p.to_come p old result q new
+
+-- Where a boot is on its way: what was made of the plan of the flash at power-on, and what is still to come.
+
+-- A boot from s by these rules has come to p, and its flash to t: the first operations of the plan happened, one by one,
+-- and the rest is to come. Where one was refused it is the next one, and nothing is to come.
+pub record HasCome (x : PowerOn) (p : Progress) (t : Content) : Type 0 where
+  pub rules : p.rules ≡ x.rules
+  pub kind : p.kind ≡ (plan x).kind
+  pub within : p.count ≤ length (plan x).list
+  pub happened : applied x.geometry (take p.count (plan x).list) x.content ≡ Some t
+  pub rest : p.to_come ≡ (if p.faulted then [] else drop p.count (plan x).list)
+  pub refused : p.faulted ≡ true → (happening x.geometry (drop p.count (plan x).list) t ≡ []) × (p.count < length (plan x).list)
+
+-- How much a boot counts: how many operations, and how many bytes their erases save.
+
+-- The bytes that operations save.
+abbrev pub all_saves : Geometry → List Op → ℕ
+all_saves g [] = 0
+all_saves g (op ∷ rest) = saves g op + all_saves g rest
+
+-- What a boot has still to count: the operations to come, and the bytes that they save.
+abbrev pub left_of : Geometry → Progress → Counts
+left_of g p = record { entries = length p.to_come; saved = all_saves g p.to_come }
+
+-- What is counted and what is left to count are together no more than before.
+abbrev pub CountsOn : Progress → Progress → Seen → Seen → Type 0
+CountsOn p q old new = LeaveRoom new.usage.counts (left_of old.geometry q) (plus old.usage.counts (left_of old.geometry p))
+
+-- At most so many operations, and at most so many bytes that they save.
+pub record IsBounded (g : Geometry) (ops : List Op) (count saved : ℕ) : Type 0 where
+  pub few : length ops ≤ count
+  pub saves : all_saves g ops ≤ saved
+
+-- What a boot at power-on is.
+
+-- A boot by these rules from where a flash stands, which is of its slots' lengths: it is at the beginning of its plan and has
+-- all operations of it. They are few, and what their erases save is little.
+pub record IsCold (r : Rules) (f : Seen) (b : Boot) : Type 0 where
+  pub boot : progress b ≡ begun r (plan (powered r f))
+  pub list : all_of b ≡ (plan (powered r f)).list
+  pub layout : IsBootOf f.geometry b
+  pub few : length (progress b).to_come ≤ most_operations r.grain f.geometry
+  pub saves : all_saves f.geometry (progress b).to_come ≤ most_saved f.geometry
+  pub sized : IsSized f.geometry f.content
+
+-- How a boot goes on, by steps.
+
+-- A boot of a flash's layout stays on its way from the flash at power-on, with the same operations in all. The flash keeps
+-- its layout and its checkpoints.
+pub record GoesOn (old : Boot) (before : Seen) (new : Boot) (after : Seen) : Type 0 where
+  pub come : (r : Rules) (s : Content) → HasCome (power_on r before.geometry s) (progress old) before.content → HasCome (power_on r before.geometry s) (progress new) after.content
+  pub layout : IsBootOf after.geometry new
+  pub whole : all_of new ≡ all_of old
+  pub keeps : Keeps before after
+
+-- or some, and some more.
+pub goes_further : (a : Boot) (x : Seen) (b : Boot) (y : Seen) (c : Boot) (z : Seen) → GoesOn a x b y → GoesOn b y c z → GoesOn a x c z
+goes_further a x b y c z first more = record {
+  come = λ r s began.
+      let P : Geometry → Type 0 = λ g. HasCome (power_on r g s) (progress b) y.content in
+      let Q : Geometry → Type 0 = λ g. HasCome (power_on r g s) (progress c) z.content in
+      subst Q first.keeps.geometry (more.come r s (subst P (sym first.keeps.geometry) (first.come r s began)));
+  layout = more.layout;
+  whole = more.whole ∙ first.whole;
+  keeps = keeps_both x y z first.keeps more.keeps;
+}
+
+-- The transfers that a layout has room for.
+
+-- Source, target and entry are there, and in one slot the target is the sector behind the source.
+pub record IsInside (g : Geometry) (t : Transfer) : Type 0 where
+  pub from : t.from_sector < sectors_of g t.from
+  pub to : t.to_sector < sectors_of g t.to
+  pub entry : t.entry < 3 * g.max_sectors
+  pub apart : t.from ≡ t.to → t.from_sector + 1 ≡ t.to_sector

@@ -3,17 +3,15 @@
 -- words, with the automaton as a table. That a test is taken back unless its image has set image-ok is from MCUboot's design document
 -- ("swap types", "image trailer"); what else may happen to the flash, and when, is this project's own choice.
 use Rattle.std.specs.Prelude.{◌≡◌, ◌≢◌, ◌⊎◌, ℕ, ◌==◌, Bool, true, false, not, ◌&&◌, ◌||◌, if◌then◌else◌, List, [], ◌∷◌, length, Option, Some, option_map, ◌+◌, ◌≤◌, take}
-use Rattle.mc_flash.specs.Content.{Content, IsSized, put, size_of, with_bytes}
-use Rattle.mc_flash.specs.Apply.{CanTry, apply}
+use Rattle.mc_flash.specs.Flash.{Content, IsSized, put, size_of, with_bytes, CanTry, apply}
 use Rattle.mc_flash.specs.Geometry.{Geometry, IsLayout, fits}
 use Rattle.mc_flash.specs.declared.op.Op.{Op}
 use Rattle.mc_flash.specs.declared.op.Op.TheVariants.{Copy, Erase, Program}
 use Rattle.mc_flash.specs.declared.op.Slot.{Slot}
 use Rattle.mc_flash.specs.declared.op.Slot.TheVariants.{Primary, Secondary}
-use Rattle.mc_image.specs.Bytes.{IsBytes}
+use Rattle.mc_image.specs.Image.{IsBytes}
 use Rattle.mc_image.specs.Valid.{Identity, id_of, is_valid}
-use Rattle.mc_trailer.specs.Fields.{trailer_of}
-use Rattle.mc_trailer.specs.Places.{place, room}
+use Rattle.mc_trailer.specs.Trailer.{trailer_of, place, room}
 use Rattle.mc_trailer.specs.declared.places.Field.TheVariants as field
 use Rattle.mc_trailer.specs.Tables.{is_good, is_set, is_unset, reverts_at}
 use Rattle.mc_trailer.specs.declared.tables.Profile.{Profile}
@@ -21,22 +19,17 @@ use Rattle.mc_trailer.specs.declared.tables.Rules.{Rules}
 use Rattle.mc_trailer.specs.declared.tables.SwapType.{SwapType}
 use Rattle.mc_trailer.specs.declared.tables.SwapType.TheVariants as kinds
 use Rattle.mc_trailer.specs.declared.trailer.Trailer.{Trailer}
-use Rattle.mc_boot.specs.Confirm.{confirmed, may_confirm}
-use Rattle.mc_boot.specs.Image.{image_size}
-use Rattle.mc_boot.specs.Outcome.{outcome_of}
-use Rattle.mc_boot.specs.Plan.{plan}
-use Rattle.mc_boot.specs.PowerOn.{PowerOn, power_on}
-use Rattle.mc_boot.specs.Start.{start_flash}
+use Rattle.mc_boot.specs.Restart.{confirmed, may_confirm, start_flash, AreExchanged, BeginsImage, IsSettled, IsTested, forgets_reverts}
+use Rattle.mc_boot.specs.Plan.{image_size, plan, PowerOn, power_on}
+use Rattle.mc_boot.specs.Outcome.{outcome_of, cut_at, is_faulted, left_by, ops_of}
 use Rattle.mc_boot.specs.declared.kind.Kind.{Kind}
 use Rattle.mc_boot.specs.declared.kind.Kind.TheVariants as starts
-use Rattle.mc_boot.specs.Restart.{AreExchanged, BeginsImage, IsSettled, IsTested, forgets_reverts}
-use Rattle.mc_boot.specs.Runs.{cut_at, is_faulted, left_by, ops_of}
 use Rattle.mc_boot.specs.declared.outcome.BootResult.{BootResult}
 use Rattle.mc_boot.specs.declared.outcome.BootResult.TheVariants as results
 
 -- ---- what a device is like
 
--- The numbers of the types of a swap, as swap-info has them: test, perm and revert (docs/FORMAT.md, "Trailers").
+-- The numbers of the types of a swap, as swap-info has them: test, perm and revert (docs/MODEL.md, "Trailers").
 abbrev pub is_swap : ℕ → Bool
 is_swap info = info == 2 || info == 3 || info == 4
 
@@ -154,7 +147,7 @@ abbrev pub forgotten : DeviceState → DeviceState
 forgotten x = record { primary = x.primary; trial = x.trial; secondary = x.secondary; next = kinds.None }
 
 -- What a flash at rest asks a boot for: what the secondary asks for, if its magic is good; else that a trial is taken back. These are
--- the rows of the swap table (docs/FORMAT.md, "Swap tables") in the words of the automaton.
+-- the rows of the swap table (docs/MODEL.md, "Swap tables") in the words of the automaton.
 abbrev pub asked_of : Profile → Bool → Trailer → SwapType
 asked_of profile trial q =
     if is_good q.magic then (if is_unset q.image_ok then kinds.Test else if is_set q.image_ok then kinds.Perm else kinds.None)

@@ -1,18 +1,63 @@
--- What a boot has done when it is at its end.
-use Rattle.std.specs.Prelude.{ℕ, Bool, true, false, if◌then◌else◌, length, Option, option_map}
+-- What happens of a plan, the flash after power cuts, and the outcome of a boot with its text (docs/MODEL.md, "Boots").
+use Rattle.std.specs.Prelude.{Bool, List, None, Option, Some, [], codes, decimal, false, if◌then◌else◌, length, nat_lt, option_and_then, option_map, take, true, ℕ, ◌++◌, ◌∷◌}
+use Rattle.hex.specs.Hex.{encode_lower}
+use Rattle.mc_boot.specs.Plan.{PowerOn, again, identity_of, plan, power_on}
+use Rattle.mc_boot.specs.declared.outcome.BootResult.{BootResult}
+use Rattle.mc_boot.specs.declared.outcome.Outcome.{Outcome}
+use Rattle.mc_flash.specs.Flash.{Content, apply}
 use Rattle.mc_flash.specs.Geometry.{Geometry}
-use Rattle.mc_flash.specs.Content.{Content}
-use Rattle.mc_image.specs.Valid.{Identity, is_valid, id_of}
+use Rattle.mc_flash.specs.declared.op.Op.{Op}
+use Rattle.mc_image.specs.Valid.{Identity, id_of, is_valid}
+use Rattle.mc_image.specs.VersionText.{version_line}
+use Rattle.mc_trailer.specs.Tables.{type_text}
+use Rattle.mc_trailer.specs.declared.tables.Rules.{Rules}
 use Rattle.mc_trailer.specs.declared.tables.SwapType.{SwapType}
 use Rattle.mc_trailer.specs.declared.tables.SwapType.TheVariants as kinds
-use Rattle.mc_trailer.specs.declared.tables.Rules.{Rules}
-use Rattle.mc_boot.specs.declared.outcome.BootResult.{BootResult}
 use Rattle.mc_boot.specs.declared.outcome.BootResult.TheVariants as results
-use Rattle.mc_boot.specs.declared.outcome.Outcome.{Outcome}
-use Rattle.mc_boot.specs.Image.{identity_of}
-use Rattle.mc_boot.specs.Plan.{plan}
-use Rattle.mc_boot.specs.Runs.{ops_of, is_faulted, left_by}
-use Rattle.mc_boot.specs.PowerOn.{PowerOn, power_on}
+
+-- What happens of a boot, and the flashes that power cuts leave.
+
+-- Where a list of operations leads, if each can be applied.
+abbrev pub applied : Geometry → List Op → Content → Option Content
+applied g [] s = Some s
+applied g (op ∷ ops) s = option_and_then (λ t. applied g ops t) (apply g op s)
+
+-- An operation, and what happens after it; nothing where it can't be applied.
+abbrev pub first_then : Op → (Content → List Op) → Option Content → List Op
+first_then op rest None = []
+first_then op rest (Some t) = op ∷ rest t
+
+-- The longest front of a list that can be applied.
+abbrev pub happening : Geometry → List Op → Content → List Op
+happening g [] s = []
+happening g (op ∷ ops) s = first_then op (λ t. happening g ops t) (apply g op s)
+
+-- The operations of an uncut boot that happen.
+unfoldable pub ops_of : PowerOn → List Op
+ops_of x = happening x.geometry (plan x).list x.content
+
+-- The flash after the first c of them.
+unfoldable pub at : PowerOn → ℕ → Option Content
+at x c = applied x.geometry (take c (ops_of x)) x.content
+
+-- An operation is refused.
+unfoldable pub is_faulted : PowerOn → Bool
+is_faulted x = nat_lt (length (ops_of x)) (length (plan x).list)
+
+-- What an uncut boot leaves.
+unfoldable pub left_by : PowerOn → Option Content
+left_by x = at x (length (ops_of x))
+
+-- The flash that a boot leaves whose power is lost after c operations, where the uncut boot makes more than that.
+abbrev pub cut_at : PowerOn → ℕ → Option Content
+cut_at x c = if nat_lt c (length (ops_of x)) then at x c else None
+
+-- The flash after a list of cuts, each of a boot from what the earlier ones left, where all of them can occur.
+abbrev pub after : PowerOn → List ℕ → Option Content
+after x [] = Some x.content
+after x (c ∷ cuts) = option_and_then (λ t. after (again x t) cuts) (cut_at x c)
+
+-- What a boot has done when it is at its end.
 
 -- An outcome as callers see it.
 pub record Report : Type 0 where
@@ -62,3 +107,30 @@ report r g kind count faulted z = record {
 unfoldable pub outcome_of : PowerOn → Option Report
 outcome_of x =
     option_map (λ z. report x.rules x.geometry (plan x).kind (length (ops_of x)) (is_faulted x) z) (left_by x)
+
+-- How outcomes are printed: this project's own texts.
+
+abbrev pub result_text : BootResult → List ℕ
+result_text results.Boot = codes "boot"
+result_text results.None = codes "none"
+result_text results.Panic = codes "panic"
+result_text results.Fault = codes "fault"
+
+-- The version, the size and the digest in hexadecimal digits.
+abbrev pub identity_text : Identity → List ℕ
+identity_text id = version_line id.version ++ (codes " " ++ (decimal id.size ++ (codes " " ++ encode_lower id.digest)))
+
+abbrev pub slot_text : Option Identity → List ℕ
+slot_text None = codes "none"
+slot_text (Some id) = identity_text id
+
+-- What happened, and what the boot left: three lines each.
+abbrev pub happened_text : Report → List ℕ
+happened_text o = codes "result " ++ (result_text o.result ++ (codes "\ntype " ++ (type_text o.kind ++ (codes "\nops " ++ (decimal o.ops ++ codes "\n")))))
+
+abbrev pub left_text : Report → List ℕ
+left_text o = codes "primary " ++ (slot_text o.primary ++ (codes "\nsecondary " ++ (slot_text o.secondary ++ (codes "\nnext " ++ (type_text o.next ++ codes "\n")))))
+
+-- Six lines.
+abbrev pub outcome_text : Report → List ℕ
+outcome_text o = happened_text o ++ left_text o

@@ -1,21 +1,18 @@
 -- The whole swap of the largest images for a test.
 use Rattle.std.specs.Prelude.{◌≡◌, ℕ, max, List, length, Some}
 use Rattle.std.specs.Int.{div_ceil}
-use Rattle.mc_flash.specs.Content.{Content}
+use Rattle.mc_flash.specs.Flash.{Content}
 use Rattle.mc_flash.specs.Geometry.{Geometry, greatest_sectors}
 use Rattle.mc_flash.specs.Largest.{largest_image}
-use Rattle.mc_flash.specs.Pieces.{in_pieces}
+use Rattle.mc_flash.specs.Geometry.{in_pieces}
 use Rattle.mc_flash.specs.declared.flash.Grain.{Grain}
 use Rattle.mc_flash.specs.declared.op.Op.{Op}
 use Rattle.mc_trailer.specs.declared.tables.Rules.{Rules}
 use Rattle.mc_trailer.specs.declared.tables.SwapType.TheVariants as kinds
-use Rattle.mc_boot.specs.Course.{new_list}
-use Rattle.mc_boot.specs.Image.{image_size}
-use Rattle.mc_boot.specs.Restart.{BeginsImage}
-use Rattle.mc_boot.specs.Runs.{ops_of}
-use Rattle.mc_boot.specs.Start.{start_flash}
+use Rattle.mc_boot.specs.Plan.{new_list, image_size, power_on}
+use Rattle.mc_boot.specs.Restart.{BeginsImage, start_flash}
+use Rattle.mc_boot.specs.Outcome.{ops_of}
 use Rattle.mc_boot.specs.declared.kind.Kind.TheVariants as starts
-use Rattle.mc_boot.specs.PowerOn.{power_on}
 
 -- Its operations.
 abbrev pub largest_swap : Grain → Geometry → List Op

@@ -1,19 +1,19 @@
 //! The boot as a machine that makes one operation at a time.
 ghost use Rattle.std.specs.Prelude.{◌≡◌, ◌<◌, ◌≤◌, [], length, slice_get, Some, ◌↔◌, IsSome, IfSome, MatchResult};
-ghost use Rattle.mc_trailer.specs.Entries.{highest_entry};
+ghost use Rattle.mc_trailer.specs.Trailer.{highest_entry};
 ghost use Rattle.mc_flash.specs.Geometry.{Geometry};
-ghost use Rattle.mc_flash.specs.Content.{Content};
-ghost use Rattle.mc_flash.specs.Apply.{CanTry};
-ghost use Rattle.mc_flash.specs.Seen.{Does, Keeps};
-ghost use Rattle.mc_flash.specs.Spends.{Spends, Allows};
+ghost use Rattle.mc_flash.specs.Flash.{Content};
+ghost use Rattle.mc_flash.specs.Flash.{CanTry};
+ghost use Rattle.mc_flash.specs.Usage.{Does, Keeps};
+ghost use Rattle.mc_flash.specs.Usage.{Spends, Allows};
 ghost use Rattle.mc_trailer.specs.declared.tables.Rules.{Rules};
-ghost use Rattle.mc_boot.specs.After.{IsCut, operations_kept};
+ghost use Rattle.mc_boot.specs.Joins.{IsCut, operations_kept};
 ghost use Rattle.mc_boot.specs.Boot.{progress, IsBootOf, begun};
 ghost use Rattle.mc_boot.specs.Outcome.{shown, outcome_of};
-ghost use Rattle.mc_boot.specs.Image.{images_of};
+ghost use Rattle.mc_boot.specs.Plan.{images_of};
 ghost use Rattle.mc_boot.specs.Plan.{confirms, nothing, new_swap, new_plan, resumed_swap, resumed_plan, plan};
-ghost use Rattle.mc_boot.specs.PowerOn.{PowerOn, again, power_on, powered};
-ghost use Rattle.mc_boot.specs.Runs.{left_by};
+ghost use Rattle.mc_boot.specs.Plan.{PowerOn, again, power_on, powered};
+ghost use Rattle.mc_boot.specs.Outcome.{left_by};
 
 use crate::course::{Course, Opening};
 use crate::image::Images;
@@ -59,11 +59,11 @@ fn confirms(kind: SwapType, image_ok: Flag) -> bool
 
 impl Boot {
     ghost use Rattle.mc_boot.specs.Boot.{all_of, to_come, progress, IsBootOf, Steps, begun};
-    ghost use Rattle.mc_boot.specs.After.{IsStopped, in_setup};
-    ghost use Rattle.mc_boot.specs.Run.{HasCome};
-    ghost use Rattle.mc_boot.specs.Goes.{GoesOn};
-    ghost use Rattle.mc_boot.specs.Cold.{IsCold};
-    ghost use Rattle.mc_boot.specs.Bounds.{left_of, CountsOn};
+    ghost use Rattle.mc_boot.specs.Joins.{IsStopped, in_setup};
+    ghost use Rattle.mc_boot.specs.Boot.{HasCome};
+    ghost use Rattle.mc_boot.specs.Boot.{GoesOn};
+    ghost use Rattle.mc_boot.specs.Boot.{IsCold};
+    ghost use Rattle.mc_boot.specs.Boot.{left_of, CountsOn};
     ghost use Rattle.mc_boot.specs.Outcome.{shown, report, outcome_of};
 
     // A boot with no operations.

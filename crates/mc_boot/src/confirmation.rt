@@ -2,9 +2,9 @@
 ghost use Rattle.std.specs.Prelude.{◌≡◌, OnOk, IfErr};
 ghost use Rattle.mc_flash.specs.Geometry.{IsLayout};
 ghost use Rattle.mc_flash.specs.Usage.{no_counts};
-ghost use Rattle.mc_flash.specs.Seen.{Keeps};
-ghost use Rattle.mc_flash.specs.Spends.{Allows, LeaveRoom, Spends, plus};
-ghost use Rattle.mc_boot.specs.Confirm.{Confirms, confirmed, may_confirm, one_write};
+ghost use Rattle.mc_flash.specs.Usage.{Keeps};
+ghost use Rattle.mc_flash.specs.Usage.{Allows, LeaveRoom, Spends, plus};
+ghost use Rattle.mc_boot.specs.Restart.{Confirms, confirmed, may_confirm, one_write};
 
 use crate::boot::perform;
 use crate::writes::image_ok_write;

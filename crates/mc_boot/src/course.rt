@@ -1,8 +1,8 @@
 //! The operations of a swap by their number, from its opening to its end.
 ghost use Rattle.std.specs.Prelude.{◌≡◌, ℕ, ◌≤◌, length, slice_get, IfSome};
 ghost use Rattle.mc_flash.specs.Geometry.{Geometry, greatest_sectors};
-ghost use Rattle.mc_flash.specs.Apply.{CanTry};
-ghost use Rattle.mc_boot.specs.Course.{closing, from_transfer, resumed_list, swap_list, new_list, new_setup};
+ghost use Rattle.mc_flash.specs.Flash.{CanTry};
+ghost use Rattle.mc_boot.specs.Plan.{closing, from_transfer, resumed_list, swap_list, new_list, new_setup};
 
 use crate::transfer::{transfer_at, transfer_len, transfer_op};
 use crate::writes::{
@@ -216,7 +216,7 @@ fn new_op(
 }
 
 impl Course {
-    ghost use Rattle.mc_boot.specs.CourseList.{course_list, setup_of};
+    ghost use Rattle.mc_boot.specs.Boot.{course_list, setup_of};
 
     /// How many operations there are.
     pub fn len(&self) -> u32

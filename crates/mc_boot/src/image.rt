@@ -1,10 +1,10 @@
 //! What a boot asks of the images at the start of the slots.
 ghost use Rattle.std.specs.Prelude.{◌≡◌, ◌<◌, ◌≤◌, ◌^◌, true, length, max, option_map};
-ghost use Rattle.mc_flash.specs.Content.{bytes_of};
+ghost use Rattle.mc_flash.specs.Flash.{bytes_of};
 ghost use Rattle.std.specs.Option.{is_some};
 ghost use Rattle.mc_image.specs.Image.{Begins, image_text};
 ghost use Rattle.mc_image.specs.Valid.{identity, is_valid, id_of};
-ghost use Rattle.mc_boot.specs.Image.{image_size, images_of, identity_of};
+ghost use Rattle.mc_boot.specs.Plan.{image_size, images_of, identity_of};
 
 use mc_flash::{Flash, Slot};
 use mc_image::{ImageView, Version};
@@ -53,7 +53,7 @@ fn view_size(bytes: &[u8], view: &ImageView<'_>) -> u32
 }
 
 /// The size of the image that the bytes begin with, by structure alone; 0 where they begin with none.
-#[tactic(auto, using(crate::specs::facts::Sizes::size_read, crate::proofs::ImageFacts::size_refused))]
+#[tactic(auto, using(crate::specs::facts::Sizes::size_read, crate::proofs::Images::size_refused))]
 pub fn image_size(bytes: &[u8]) -> u32
     requires { length bytes.now ≤ 2 ^ 24 }
     ensures { result ≡ image_size bytes.now }
@@ -82,7 +82,7 @@ impl ImageId {
 
 impl Held {
     /// The image that the bytes begin with, read and hashed once.
-    #[tactic(auto, using(crate::specs::facts::Sizes::size_read, crate::proofs::ImageFacts::size_refused, crate::proofs::ImageFacts::id_good, crate::proofs::ImageFacts::id_bad, crate::proofs::ImageFacts::id_refused))]
+    #[tactic(auto, using(crate::specs::facts::Sizes::size_read, crate::proofs::Images::size_refused, crate::proofs::Images::id_good, crate::proofs::Images::id_bad, crate::proofs::Images::id_refused))]
     pub fn read(bytes: &[u8]) -> Held
         requires { length bytes.now ≤ 2 ^ 24 }
         ensures size { result.size ≡ image_size bytes.now }

@@ -1,8 +1,8 @@
 //! Images whose bytes are known: where a slot begins with them, nothing is hashed.
 ghost use Rattle.std.specs.Prelude.{◌≡◌, ◌≤◌, ◌^◌, true, length, take, IfSome, option_map, Some};
-ghost use Rattle.mc_image.specs.Bytes.{IsBytes};
+ghost use Rattle.mc_image.specs.Image.{IsBytes};
 ghost use Rattle.mc_image.specs.Valid.{id_of};
-ghost use Rattle.mc_boot.specs.Image.{image_size, images_of, identity_of};
+ghost use Rattle.mc_boot.specs.Plan.{image_size, images_of, identity_of};
 
 use crate::image::{Held, ImageId, Images, image_size, slot_bytes};
 use mc_flash::{Flash, Slot};
@@ -72,7 +72,7 @@ pub fn known_id(bytes: &[u8], known: &[Option<KnownImage<'_>>]) -> Option<ImageI
 
 impl Held {
     /// The image that the bytes begin with. It is hashed where it is none of those that are known.
-    #[tactic(auto, using(crate::proofs::ImageFacts::known_size))]
+    #[tactic(auto, using(crate::proofs::Images::known_size))]
     pub fn read_among(bytes: &[u8], known: &[Option<KnownImage<'_>>]) -> Held
         requires { length bytes.now ≤ 2 ^ 24 }
         ensures size { result.size ≡ image_size bytes.now }

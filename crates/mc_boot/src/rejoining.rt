@@ -1,16 +1,16 @@
 //! Where the flashes after a power cut lie among those of the boot that was cut.
 ghost use Rattle.std.specs.Prelude.{◌≡◌, ◌≢◌, ℕ, ◌+◌, ◌<◌, ◌≤◌, ◌^◌, IfSome, slice_get, true};
-ghost use Rattle.mc_flash.specs.Content.{Content};
-ghost use Rattle.mc_flash.specs.Pieces.{in_pieces};
+ghost use Rattle.mc_flash.specs.Flash.{Content};
+ghost use Rattle.mc_flash.specs.Geometry.{in_pieces};
 ghost use Rattle.mc_trailer.specs.declared.tables.Rules.{Rules};
-ghost use Rattle.mc_boot.specs.After.{IsCut};
+ghost use Rattle.mc_boot.specs.Joins.{IsCut};
 ghost use Rattle.mc_boot.specs.Boot.{IsBootOf, begun, progress};
-ghost use Rattle.mc_boot.specs.CourseList.{course_list};
-ghost use Rattle.mc_boot.specs.Idle.{AllIdleBut, changes_nothing};
+ghost use Rattle.mc_boot.specs.Boot.{course_list};
+ghost use Rattle.mc_boot.specs.inner.Idle.{AllIdleBut, changes_nothing};
 ghost use Rattle.mc_boot.specs.Joins.{erases_of};
 ghost use Rattle.mc_boot.specs.Outcome.{Report};
 ghost use Rattle.mc_boot.specs.Plan.{plan};
-ghost use Rattle.mc_boot.specs.PowerOn.{power_on, powered};
+ghost use Rattle.mc_boot.specs.Plan.{power_on, powered};
 
 use crate::boot::Boot;
 use crate::course::{Course, Opening};

@@ -1,7 +1,7 @@
 //! The restart theorem.
 ghost use Rattle.mc_trailer.specs.declared.tables.Rules.{Rules};
 ghost use Rattle.mc_boot.specs.Restart.{StartsExist, RestartLaw};
-ghost use Rattle.mc_boot.specs.Rounds.{RoundsLaw};
+ghost use Rattle.mc_boot.specs.Restart.{RoundsLaw};
 
 use mc_image::{one_reading, same_front};
 

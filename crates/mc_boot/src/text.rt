@@ -1,8 +1,8 @@
 //! Outcomes as text.
 ghost use Rattle.std.specs.Prelude.{◌≡◌, ◌+◌, ◌≤◌, ◌++◌, length, Some, option_map};
-ghost use Rattle.mc_boot.specs.Image.{identity_of};
+ghost use Rattle.mc_boot.specs.Plan.{identity_of};
 ghost use Rattle.mc_boot.specs.Outcome.{shown};
-ghost use Rattle.mc_boot.specs.Texts.{result_text, identity_text, slot_text, happened_text, left_text, outcome_text};
+ghost use Rattle.mc_boot.specs.Outcome.{result_text, identity_text, slot_text, happened_text, left_text, outcome_text};
 
 use crate::image::ImageId;
 use crate::outcome::{BootResult, Outcome};

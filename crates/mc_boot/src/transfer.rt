@@ -1,11 +1,11 @@
 //! The transfers of a swap, and the operations of each.
 ghost use Rattle.std.specs.Prelude.{◌≡◌, ◌+◌, ◌-◌, ◌*◌, ◌/◌, ◌<◌, ◌≤◌, slice_get, Some};
-ghost use Rattle.mc_trailer.specs.Fields.{one_unit};
+ghost use Rattle.mc_trailer.specs.Trailer.{one_unit};
 ghost use Rattle.mc_flash.specs.Geometry.{greatest_sectors, IsLayout};
-ghost use Rattle.mc_flash.specs.Content.{sectors_of};
-ghost use Rattle.mc_flash.specs.Apply.{CanTry};
-ghost use Rattle.mc_boot.specs.Transfers.{transfers, steps, copy_of, entry_of};
-ghost use Rattle.mc_boot.specs.Inside.{IsInside};
+ghost use Rattle.mc_flash.specs.Flash.{sectors_of};
+ghost use Rattle.mc_flash.specs.Flash.{CanTry};
+ghost use Rattle.mc_boot.specs.Plan.{transfers, steps, copy_of, entry_of};
+ghost use Rattle.mc_boot.specs.Boot.{IsInside};
 ghost use Rattle.mc_boot.specs.Plan.{first_left};
 
 use mc_flash::{Bytes16, Layout, Op, Slot};

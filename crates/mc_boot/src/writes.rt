@@ -1,11 +1,11 @@
 //! The operations on the trailers by their number: the erases, and the writes of the fields.
 ghost use Rattle.std.specs.Prelude.{◌≡◌, ℕ, ◌+◌, ◌%◌, ◌<◌, ◌≤◌, length, slice_get, Some};
-ghost use Rattle.mc_trailer.specs.Fields.{size_bytes};
+ghost use Rattle.mc_trailer.specs.Trailer.{size_bytes};
 ghost use Rattle.mc_flash.specs.Geometry.{trailer_sectors};
-ghost use Rattle.mc_flash.specs.Apply.{CanTry};
+ghost use Rattle.mc_flash.specs.Flash.{CanTry};
 ghost use Rattle.mc_flash.specs.declared.op.Slot.{Slot as FlashSlot};
-ghost use Rattle.mc_trailer.specs.Places.{before_end};
-ghost use Rattle.mc_boot.specs.Writes.{trailer_erase, image_ok_write, copy_done_write, write, write_count, marking, number_of, info_write, is_test, is_revert, opening_writes, preparation_writes};
+ghost use Rattle.mc_trailer.specs.Trailer.{before_end};
+ghost use Rattle.mc_boot.specs.Plan.{trailer_erase, image_ok_write, copy_done_write, write, write_count, marking, number_of, info_write, is_test, is_revert, opening_writes, preparation_writes};
 
 use crate::transfer::one_unit;
 use byteorder::{ByteOrder, LittleEndian};

@@ -1,34 +1,32 @@
 -- A walk along the cuts of a campaign.
-use Rattle.std.specs.Prelude.{◌≡◌, ℕ, zero, suc, ◌+◌, ◌-◌, ◌<◌, ◌≤◌, ◌^◌, Bool, true, false, List, [], ◌∷◌, ◌++◌, length, take, drop, get_or, if◌then◌else◌, ◌↔◌, Option, Some, None, SomeIff, refl}
+use Rattle.std.specs.Prelude.{◌≡◌, ℕ, zero, suc, ◌+◌, ◌-◌, ◌<◌, ◌≤◌, ◌^◌, Bool, true, false, List, [], ◌∷◌, ◌++◌, length, take, drop, get_or, if◌then◌else◌, ◌↔◌, Option, Some, None, SomeIff}
+use Rattle.std.specs.Prelude.{refl}
 use Rattle.std.proofs.Common.{arith, inl, inr, sym, ap, subst, ◌∙◌}
 use Rattle.std.proofs.Math.Seq.{drop-append_seam}
 use Rattle.std.proofs.lemmas.Bool.{cases_lt}
 use Rattle.std.proofs.lemmas.List.{length-take-le, take_all, take_more}
-use Rattle.mc_tree.specs.Tree.{Tree, labelled, landed}
-use Rattle.mc_tree.specs.Twice.{Place, first, second, label, labels}
-use Rattle.mc_tree.specs.facts.Order.{allowed-last, allowed_front}
-use Rattle.mc_tree.specs.facts.Precedence.{not_same, paths_in_order, pairs_in_order}
+use Rattle.mc_tree.specs.Tree.{Tree, labelled, landed, Place, first, second, label, labels}
+use Rattle.mc_tree.specs.facts.Order.{allowed-last, allowed_front, not_same, paths_in_order, pairs_in_order}
 use Rattle.mc_tree.specs.facts.Rounds.{inside, outside, pairs_precede}
-use Rattle.mc_flash.specs.Content.{Content}
+use Rattle.mc_flash.specs.Flash.{Content}
 use Rattle.mc_flash.specs.Geometry.{Geometry, IsLayout}
 use Rattle.mc_trailer.specs.declared.tables.Rules.{Rules}
-use Rattle.mc_boot.specs.PowerOn.{power_on}
-use Rattle.mc_boot.specs.Runs.{ops_of}
+use Rattle.mc_boot.specs.Plan.{power_on}
+use Rattle.mc_boot.specs.Outcome.{ops_of}
 use Rattle.mc_walk.specs.Walks.{Walked, GoesDown, IsSame, IsThere, origin_of}
 use Rattle.mc_walk.specs.facts.Same.{path_back, same_back}
-use Rattle.mc_explore.specs.Boots.{boots}
+use Rattle.mc_explore.specs.inner.Once.{boots}
 use Rattle.mc_explore.specs.facts.Telling.{width_is}
-use Rattle.mc_campaign.specs.Boots.{cuts_along, rounds, second_start}
+use Rattle.mc_campaign.specs.inner.Twice.{cuts_along, rounds, second_start, AreTold}
 use Rattle.mc_campaign.specs.Campaigns.{IsMember}
-use Rattle.mc_campaign.specs.Twice.{AreTold}
-use Rattle.mc_campaign.specs.View.{FollowsCampaign, HasChildOf, IsPathIn, begun_of}
-use Rattle.mc_explore.specs.subjects.Follow.{IsCalm}
+use Rattle.mc_campaign.specs.inner.View.{FollowsCampaign, HasChildOf, IsPathIn, begun_of}
+use Rattle.mc_explore.specs.inner.Exploring.{IsCalm}
 use Rattle.mc_campaign.specs.declared.campaign.Round.TheVariants as rounds_of
 use Rattle.mc_campaign.specs.declared.rounds.Both.{Both}
 use Rattle.mc_campaign.specs.declared.rounds.Twice.{Twice}
 use Rattle.mc_campaign.specs.facts.Paths.{path_of}
 use Rattle.mc_campaign.proofs.Steps.{few_ops}
-use Rattle.mc_campaign.proofs.Outcomes.{kind_of}
+use Rattle.mc_campaign.proofs.Replays.{kind_of}
 
 -- ---- labels along a path
 

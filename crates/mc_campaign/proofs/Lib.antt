@@ -1,11 +1,8 @@
-mod Reading
-mod Room
 mod Ways
 mod Steps
-mod Replays
 mod Restarts
 mod Placing
-mod Outcomes
 mod Loaded
+pub mod Replays
 mod Along
-mod Cursors
+pub mod Reading

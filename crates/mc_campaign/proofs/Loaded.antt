@@ -3,13 +3,11 @@ use Rattle.std.specs.Prelude.{◌≡◌, ℕ, ◌+◌, ◌*◌, ◌≤◌}
 use Rattle.std.proofs.Common.{arith, sym, ap}
 use Rattle.std.proofs.Math.Nat.{mul-le-mul_right}
 use Rattle.mc_flash.specs.Geometry.{Geometry}
-use Rattle.mc_flash.specs.Usage.{Limits, limits_for, most_operations, most_saved, no_counts}
-use Rattle.mc_flash.specs.Seen.{Seen}
-use Rattle.mc_flash.specs.Spends.{Allows, LeaveRoom}
+use Rattle.mc_flash.specs.Usage.{Limits, limits_for, most_operations, most_saved, no_counts, Seen, Allows, LeaveRoom}
 use Rattle.mc_trailer.specs.declared.tables.Rules.{Rules}
-use Rattle.mc_walk.specs.Stack.{most_at}
-use Rattle.mc_boot.specs.Confirm.{one_write}
-use Rattle.mc_explore.specs.Once.{once}
+use Rattle.mc_walk.specs.inner.Stack.{most_at}
+use Rattle.mc_boot.specs.Restart.{one_write}
+use Rattle.mc_explore.specs.inner.Once.{once}
 use Rattle.mc_campaign.specs.facts.Keys.{some_operations}
 
 -- A flash loaded for two boots more than so many cuts have room for, on which no more was counted than those cuts and a boot make, has

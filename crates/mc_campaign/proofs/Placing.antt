@@ -5,7 +5,7 @@ use Rattle.std.specs.List.{slice_get}
 use Rattle.std.proofs.lemmas.Bool.Decides.{nat_tests}
 use Rattle.std.proofs.lemmas.List.{take_all, take_more}
 use Rattle.std.proofs.lemmas.Option.{get_or_from_slice_get, slice_get_within}
-use Rattle.mc_campaign.specs.Cuts.{in_round}
+use Rattle.mc_campaign.specs.Campaigns.{in_round}
 
 -- One cut more.
 pub in_round-push : (round : ℕ) (cuts : List (ℕ × ℕ)) (cut : ℕ × ℕ) → in_round round (cuts ++ cut ∷ []) ≡ in_round round cuts ++ in_round round (cut ∷ [])

@@ -1,15 +1,22 @@
--- The text of a campaign, for a reader that goes cut by cut.
-use Rattle.std.specs.Prelude.{◌≡◌, ℕ, ◌<◌, ◌≤◌, ◌^◌, List, [], ◌∷◌, ◌++◌, length, decimal, All, Result, Ok}
-use Rattle.std.proofs.Common.{arith, sym, ap, subst, ◌∙◌, append_assoc, append-nil, length-append}
+-- The texts of campaigns and of their cursors, read cut by cut, and the fixed room of their cuts.
+use Rattle.std.proofs.Common.{ap, append-nil, append_assoc, arith, length-append, rules, subst, sym, ◌∙◌}
 use Rattle.std.proofs.Math.Seq.{drop-append_seam}
 use Rattle.std.proofs.lemmas.Fmt.{decimal_injective}
+use Rattle.std.proofs.lemmas.List.{drop-drop, drop-replicate, drop-set-lt}
 use Rattle.std.proofs.lemmas.List.Elements.{All-cons, All-drop, All-head, All-nil, All-push}
+use Rattle.std.specs.Prelude.{All, Bool, List, Ok, Result, [], codes, decimal, drop, false, get_or, length, refl, replicate, slice_set, true, ℕ, ◌++◌, ◌+◌, ◌-◌, ◌<◌, ◌^◌, ◌∷◌, ◌≡◌, ◌≤◌}
+use Rattle.mc_campaign.specs.Campaigns.{AscendFrom}
+use Rattle.mc_campaign.specs.Texts.{FitsCut, IsCampaign, IsCut, choice_text, cut_text}
+use Rattle.mc_campaign.specs.declared.cursor.CampaignCursor.{CampaignCursor}
+use Rattle.mc_campaign.specs.facts.Cuts.{last_ordered, ordered_front}
+use Rattle.mc_campaign.specs.facts.Room.{blanks_after}
 use Rattle.mc_output.specs.facts.Parting.{Lacks, lacks_both, lacks_decimal, no_dash, one_part}
 use Rattle.mc_output.specs.facts.Reading.{IsSpelling}
-use Rattle.mc_start.specs.Texts.{schedule_text, IsSchedule}
-use Rattle.mc_campaign.specs.Cuts.{AscendFrom}
-use Rattle.mc_campaign.specs.Texts.{cut_text, FitsCut, IsCampaign, IsCut}
-use Rattle.mc_campaign.specs.facts.Cuts.{last_ordered, ordered_front}
+use Rattle.mc_start.specs.Start.{IsSchedule, schedule_text}
+use Rattle.mc_start.specs.declared.cursor_fields.StartField.{StartField}
+use Rattle.mc_trailer.specs.declared.tables.Rules.{Rules}
+
+-- The text of a campaign, for a reader that goes cut by cut.
 
 -- ---- a cut
 
@@ -77,3 +84,44 @@ spelling = record {
     in_order = f.in_order;
   };
 }
+
+-- How the text of a cursor of campaigns is taken apart.
+
+-- What follows the first word.
+pub behind_word : (text rest tail : List ℕ) → text ≡ codes "mc3:" ++ rest → text ≡ codes "mc3:" ++ tail → rest ≡ tail
+behind_word text rest tail a b = ap (λ (z : List ℕ). drop 4 z) (sym a ∙ b)
+
+-- The word of a choice has no colon, and tells that choice alone.
+pub lacks_choice : (confirms : Bool) → Lacks 58 (choice_text confirms)
+lacks_choice false = search rules
+lacks_choice true = search rules
+
+pub one_choice : (a b : Bool) → choice_text a ≡ choice_text b → a ≡ b
+one_choice false false e = refl
+one_choice false true e = let q : 108 ≡ 99 = ap (λ (zs : List ℕ). get_or zs 0 0) e in absurd (omega (arith, q))
+one_choice true false e = let q : 99 ≡ 108 = ap (λ (zs : List ℕ). get_or zs 0 0) e in absurd (omega (arith, q))
+one_choice true true e = refl
+
+abbrev pub field_of : CampaignCursor → StartField
+field_of c = record { digest = c.digest; bound = c.bound }
+
+-- A cursor that was read is the one of its fields.
+pub cursor_is : (told : Rules) (confirms : Bool) (start : StartField) (campaign : List (ℕ × ℕ)) (c : CampaignCursor)
+    → told ≡ c.rules → confirms ≡ c.confirms → start ≡ field_of c → campaign ≡ c.campaign
+    → record { rules = told; confirms = confirms; digest = start.digest; bound = start.bound; campaign = campaign } ≡ c
+cursor_is told confirms start campaign c a b d e =
+    ap (λ (x : Rules). record { rules = x; confirms = confirms; digest = start.digest; bound = start.bound; campaign = campaign }) a
+    ∙ ap (λ (x : Bool). record { rules = c.rules; confirms = x; digest = start.digest; bound = start.bound; campaign = campaign }) b
+    ∙ ap (λ (x : StartField). record { rules = c.rules; confirms = c.confirms; digest = x.digest; bound = x.bound; campaign = campaign }) d
+    ∙ ap (λ (x : List (ℕ × ℕ)). record { rules = c.rules; confirms = c.confirms; digest = c.digest; bound = c.bound; campaign = x }) e
+
+-- The fixed room of a campaign: behind its cuts stand blanks.
+
+-- Blanks stand behind one cut more.
+pub blanks_behind : (cuts : List (ℕ × ℕ)) (n : ℕ) (cut : ℕ × ℕ) → n < 16 → drop n cuts ≡ blanks_after n → drop (n + 1) (slice_set cuts n cut) ≡ blanks_after (n + 1)
+blanks_behind cuts n cut room blanks =
+    drop-set-lt (n + 1) cuts n cut (omega arith)
+    ∙ sym (drop-drop 1 n cuts)
+    ∙ ap (drop 1) blanks
+    ∙ drop-replicate 1 (16 - n) (0, 0)
+    ∙ ap (λ k. replicate k (0, 0)) (omega arith)

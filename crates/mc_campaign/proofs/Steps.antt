@@ -2,35 +2,30 @@
 use Rattle.std.specs.Prelude.{◌≡◌, ℕ, ◌+◌, ◌<◌, ◌≤◌, min, Bool, List, length, Some, Result, Ok, Err, IfOk, refl}
 use Rattle.std.proofs.Common.{arith, sym, ap, subst, ◌∙◌}
 use Rattle.std.proofs.lemmas.List.{take_all}
-use Rattle.mc_tree.specs.Twice.{Place, first, second}
-use Rattle.mc_flash.specs.Content.{Content}
+use Rattle.mc_tree.specs.Tree.{Place, first, second}
+use Rattle.mc_flash.specs.Flash.{Content}
 use Rattle.mc_flash.specs.Geometry.{Geometry, IsLayout}
-use Rattle.mc_flash.specs.Usage.{Counts, Limits, no_counts}
+use Rattle.mc_flash.specs.Usage.{Counts, Limits, no_counts, Seen, Allows, LeaveRoom, plus, room_of}
 use Rattle.mc_flash.specs.facts.Usage.{few_operations}
-use Rattle.mc_flash.specs.Seen.{Seen}
-use Rattle.mc_flash.specs.Spends.{Allows, LeaveRoom, plus, room_of}
 use Rattle.mc_flash.specs.declared.op.Op.{Op}
 use Rattle.mc_trailer.specs.declared.tables.Rules.{Rules}
-use Rattle.mc_boot.specs.Boot.{progress}
-use Rattle.mc_boot.specs.Bounds.{left_of}
+use Rattle.mc_boot.specs.Boot.{progress, left_of}
 use Rattle.mc_boot.specs.facts.Bounds.{ops_few}
-use Rattle.mc_boot.specs.Confirm.{confirmed_if, one_write}
-use Rattle.mc_boot.specs.Runs.{left_by, ops_of}
+use Rattle.mc_boot.specs.Restart.{confirmed_if, one_write}
+use Rattle.mc_boot.specs.Outcome.{left_by, ops_of}
 use Rattle.mc_boot.specs.declared.boot.Boot.{Boot}
 use Rattle.mc_walk.specs.Kind.{IsAt, IsChild, TellsChild}
-use Rattle.mc_explore.specs.Boots.{at_cut}
-use Rattle.mc_explore.specs.Once.{CanPass, CountsAtMost, IsTold, LeavesAlike, most_of, once}
+use Rattle.mc_explore.specs.inner.Once.{at_cut, CanPass, CountsAtMost, IsTold, LeavesAlike, most_of, once}
 use Rattle.mc_explore.specs.facts.Occurring.{at_zero}
 use Rattle.mc_explore.specs.facts.Telling.{first_left, first_on, width_is}
 use Rattle.mc_explore.specs.declared.once.Told.{Told}
-use Rattle.mc_campaign.specs.Boots.{second_start}
-use Rattle.mc_campaign.specs.Twice.{AreTold, content_at, later_from, later_number, left_of_way, most_of_both, owed_at, twice_kind}
+use Rattle.mc_campaign.specs.inner.Twice.{second_start, AreTold, content_at, later_from, later_number, left_of_way, most_of_both, owed_at, twice_kind}
 use Rattle.mc_campaign.specs.declared.campaign.Round.TheVariants as rounds_of
 use Rattle.mc_campaign.specs.declared.rounds.Both.{Both}
 use Rattle.mc_campaign.specs.declared.rounds.OnWay.{OnWay}
 use Rattle.mc_campaign.specs.declared.rounds.OnWay.TheVariants as ways
 use Rattle.mc_campaign.proofs.Ways.{at_begin, at_first, at_next, between, between_left, child, first_at, first_child, later_at, later_child, later_early, same_start, width}
-use Rattle.mc_boot.specs.PowerOn.{power_on}
+use Rattle.mc_boot.specs.Plan.{power_on}
 
 -- ---- the room of two rounds
 

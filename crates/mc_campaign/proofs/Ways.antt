@@ -1,26 +1,24 @@
 -- From one place in two rounds to another.
 use Rattle.std.specs.Prelude.{◌≡◌, ℕ, ◌+◌, ◌<◌, Bool, length, Option, Some, refl}
 use Rattle.std.proofs.Common.{arith, sym, ap, subst, ◌∙◌}
-use Rattle.mc_tree.specs.Twice.{Place, first, second, twice_child, twice_width}
+use Rattle.mc_tree.specs.Tree.{Place, first, second, twice_child, twice_width}
 use Rattle.mc_tree.specs.facts.Rounds.{child_first, child_second}
-use Rattle.mc_flash.specs.Content.{Content}
+use Rattle.mc_flash.specs.Flash.{Content}
 use Rattle.mc_flash.specs.Geometry.{Geometry}
-use Rattle.mc_flash.specs.Seen.{Seen}
+use Rattle.mc_flash.specs.Usage.{Seen}
 use Rattle.mc_trailer.specs.declared.tables.Rules.{Rules}
-use Rattle.mc_boot.specs.Confirm.{confirmed_if}
+use Rattle.mc_boot.specs.Restart.{confirmed_if}
 use Rattle.mc_boot.specs.facts.Run.{left_defined}
-use Rattle.mc_boot.specs.Runs.{left_by, ops_of}
+use Rattle.mc_boot.specs.Outcome.{left_by, ops_of}
 use Rattle.mc_boot.specs.declared.boot.Boot.{Boot}
 use Rattle.mc_walk.specs.Kind.{IsAt}
-use Rattle.mc_explore.specs.Boots.{at_cut, boots, content_or}
-use Rattle.mc_explore.specs.Once.{IsTold, once}
+use Rattle.mc_explore.specs.inner.Once.{at_cut, boots, content_or, IsTold, once}
 use Rattle.mc_explore.specs.facts.Occurring.{at_zero}
 use Rattle.mc_explore.specs.facts.Telling.{first_on}
 use Rattle.mc_explore.specs.declared.once.Told.{Told}
-use Rattle.mc_campaign.specs.Boots.{second_start}
-use Rattle.mc_campaign.specs.Twice.{began_at, content_at, IsLater, later_from, later_number, twice_kind}
+use Rattle.mc_campaign.specs.inner.Twice.{second_start, began_at, content_at, IsLater, later_from, later_number, twice_kind}
 use Rattle.mc_campaign.specs.declared.rounds.OnWay.TheVariants as ways
-use Rattle.mc_boot.specs.PowerOn.{power_on}
+use Rattle.mc_boot.specs.Plan.{power_on}
 
 module _ (r : Rules) (g : Geometry) (confirms : Bool) where
   abbrev pub child : Place Content → ℕ → Place Content

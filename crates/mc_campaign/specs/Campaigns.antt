@@ -1,12 +1,41 @@
--- The campaigns that can occur, and their order: this project's own choice.
-use Rattle.std.specs.Prelude.{◌≡◌, ℕ, ◌≤◌, Bool, List, length, Some}
-use Rattle.mc_tree.specs.Twice.{PairsPrecede}
-use Rattle.mc_flash.specs.Content.{Content}
-use Rattle.mc_boot.specs.Confirm.{confirmed_if}
-use Rattle.mc_boot.specs.Runs.{after, left_by}
+-- Campaigns of power cuts in two rounds: which can occur, and what they come to (docs/MODEL.md, "Campaigns of power cuts").
+use Rattle.std.specs.Prelude.{Bool, List, Some, [], if◌then◌else◌, length, ℕ, ⊤, ◌+◌, ◌==◌, ◌∷◌, ◌≡◌, ◌≤◌, ◌⊎◌}
+use Rattle.mc_boot.specs.Outcome.{Report, after, left_by}
+use Rattle.mc_boot.specs.Plan.{PowerOn, again}
+use Rattle.mc_boot.specs.Restart.{confirmed_if}
+use Rattle.mc_campaign.specs.declared.campaign.Round.{Round}
+use Rattle.mc_explore.specs.Schedules.{CannotOccurAt}
+use Rattle.mc_explore.specs.declared.replaying.ReplayError.{ReplayError}
+use Rattle.mc_flash.specs.Flash.{Content}
+use Rattle.mc_tree.specs.Tree.{PairsPrecede}
+use Rattle.mc_explore.specs.declared.replaying.ReplayError.TheVariants as errors
+use Rattle.mc_campaign.specs.declared.campaign.Round.TheVariants as rounds
 use Rattle.mc_explore.specs.Schedules as schedules
-use Rattle.mc_boot.specs.PowerOn.{PowerOn, again}
-use Rattle.mc_campaign.specs.Cuts.{IsInOrder, in_round}
+
+-- Campaigns of power cuts in two rounds.
+
+-- A campaign is one list of cuts: of each its round, and after how many operations of its boot the power is lost. No round is less
+-- than the one before it, of which the first is told, and none is more than 2.
+abbrev pub AscendFrom : ℕ → List (ℕ × ℕ) → Type 0
+AscendFrom round [] = Unit {0}
+AscendFrom round (cut ∷ cuts) = (round ≤ cut.0) × (cut.0 ≤ 2) × AscendFrom cut.0 cuts
+
+-- Rounds of 1 or 2 that never decrease.
+abbrev pub IsInOrder : List (ℕ × ℕ) → Type 0
+IsInOrder cuts = AscendFrom 1 cuts
+
+-- The places of the cuts of a round.
+abbrev pub in_round : ℕ → List (ℕ × ℕ) → List ℕ
+in_round round [] = []
+in_round round (cut ∷ cuts) = if cut.0 == round then cut.1 ∷ in_round round cuts else in_round round cuts
+
+-- The two rounds of a campaign, as callers name them.
+
+abbrev pub number_of : Round → ℕ
+number_of rounds.First = 1
+number_of rounds.Second = 2
+
+-- The campaigns that can occur, and their order: this project's own choice.
 
 -- Rounds of 1 or 2 never decrease. The cuts of the first round can occur, one after another. The uncut boot from the flash that they leave ends the
 -- round; there the image confirms itself or not, and from what is then there the cuts of the second round can occur.
@@ -25,3 +54,26 @@ IsMember x confirms bound c = (length c ≤ bound) × CanOccur x confirms c
 -- A proper prefix comes before a campaign, else the first cut that differs decides, by its round and then by its place.
 abbrev pub Precedes : List (ℕ × ℕ) → List (ℕ × ℕ) → Type 0
 Precedes = PairsPrecede
+
+-- One campaign, round by round.
+
+-- The cuts of the first round can occur, and the uncut boot after them has the outcome `one` and leaves `middle`. So it is
+-- with those of the second round, from what `middle` is once the image has confirmed itself, where it does.
+pub record AreReplayed (x : PowerOn) (confirms : Bool) (c : List (ℕ × ℕ)) (one two : Report) (z : Content) : Type 0 where
+  pub middle : Content
+  pub first : schedules.IsReplayed x (in_round 1 c) one middle
+  pub second : schedules.IsReplayed (again x (confirmed_if confirms x.geometry middle)) (in_round 2 c) two z
+
+-- The first round ends, and the first cut that can't occur is of the second.
+pub record CannotOccurLater (x : PowerOn) (confirms : Bool) (c : List (ℕ × ℕ)) (place : ℕ) : Type 0 where
+  pub one : Report
+  pub middle : Content
+  pub first : schedules.IsReplayed x (in_round 1 c) one middle
+  pub later : ℕ
+  pub second : CannotOccurAt (again x (confirmed_if confirms x.geometry middle)) (in_round 2 c) later
+  pub place_is : place ≡ length (in_round 1 c) + later
+
+-- What is refused: the first cut that can't occur, by its place among those of both rounds, unless memory ran out.
+abbrev pub Refuses : PowerOn → Bool → List (ℕ × ℕ) → ReplayError → Type 0
+Refuses x confirms c (errors.CannotOccur place) = CannotOccurAt x (in_round 1 c) place ⊎ CannotOccurLater x confirms c place
+Refuses x confirms c errors.Memory = ⊤

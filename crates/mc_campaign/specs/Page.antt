@@ -1,11 +1,10 @@
 -- Pages of campaigns, made as those of schedules.
 use Rattle.std.specs.Prelude.{ℕ, Bool, List, Option, []}
-use Rattle.mc_tree.specs.Chain as chains
+use Rattle.mc_tree.specs.Tree as chains
 use Rattle.mc_explore.specs.Pages as pages
-use Rattle.mc_explore.specs.subjects.Rows.{rows_of}
+use Rattle.mc_explore.specs.Subject.{rows_of}
 use Rattle.mc_campaign.specs.Campaigns.{Precedes}
-use Rattle.mc_campaign.specs.Rest.{IsRow, campaigns}
-use Rattle.mc_campaign.specs.State.{State, Told}
+use Rattle.mc_campaign.specs.Rows.{IsRow, campaigns, State, Told}
 
 -- The page of the rows to come is out, or a beginning of it.
 abbrev pub PageIsOut : State → State → ℕ → Option (List ℕ) → Option (List ℕ) → Type 0

@@ -1,9 +1,17 @@
--- The texts of campaigns: this project's own.
-use Rattle.std.specs.Prelude.{◌≡◌, ℕ, ◌<◌, ◌≤◌, ◌^◌, List, [], ◌∷◌, ◌++◌, length, codes, decimal, All, Result, Ok, Err}
-use Rattle.mc_output.specs.Joined.{joined}
-use Rattle.mc_output.specs.Joined as joining
-use Rattle.mc_campaign.specs.Cuts.{IsInOrder}
+-- The texts of campaigns and of their cursors: this project's own.
+use Rattle.std.specs.Prelude.{All, Bool, Err, List, Ok, Result, [], codes, decimal, false, length, true, ℕ, ◌++◌, ◌<◌, ◌^◌, ◌∷◌, ◌≡◌, ◌≤◌}
+use Rattle.mc_boot.specs.Plan.{PowerOn}
+use Rattle.mc_campaign.specs.Campaigns.{IsInOrder}
 use Rattle.mc_campaign.specs.declared.campaign.CampaignError.{CampaignError}
+use Rattle.mc_campaign.specs.declared.cursor.CampaignCursor.{CampaignCursor}
+use Rattle.mc_explore.specs.declared.subject.Fields.{Fields}
+use Rattle.mc_output.specs.Text.{joined}
+use Rattle.mc_start.specs.Cursor.{IsStartField, rules_text, start_text}
+use Rattle.mc_start.specs.Start.{start_digest}
+use Rattle.mc_start.specs.declared.cursor.CursorError.{CursorError}
+use Rattle.mc_output.specs.Text as joining
+
+-- The texts of campaigns: this project's own.
 
 -- At most 16 cuts, with places below 2^32.
 pub record IsCampaign (c : List (ℕ × ℕ)) : Type 0 where
@@ -39,3 +47,36 @@ pub record FitsCut (before : List (ℕ × ℕ)) (cut : ℕ × ℕ) : Type 0 wher
 -- The cut that a text writes stands behind others.
 abbrev pub IsAdded : List (ℕ × ℕ) → List ℕ → List (ℕ × ℕ) → Type 0
 IsAdded = joining.IsAdded cut_text FitsCut
+
+-- Where to go on with an exploration of campaigns.
+
+-- The cursor that goes on behind a campaign.
+abbrev pub cursor_of : PowerOn → Bool → ℕ → List (ℕ × ℕ) → CampaignCursor
+cursor_of start confirms bound c =
+    record { rules = start.rules; confirms = confirms; digest = start_digest start; bound = bound; campaign = c }
+
+-- What a cursor says.
+abbrev pub fields_of : CampaignCursor → Fields Bool (List (ℕ × ℕ))
+fields_of c = record { rules = c.rules; choice = c.confirms; digest = c.digest; bound = c.bound; key = c.campaign }
+
+-- Where to go on with an exploration of campaigns, as text: this project's own.
+
+-- Whether the image confirms itself between the rounds.
+abbrev pub choice_text : Bool → List ℕ
+choice_text false = codes "leave"
+choice_text true = codes "confirm"
+
+-- The rules, the choice, the digest of the start in 64 digits, the most cuts, and the campaign.
+abbrev pub cursor_text : CampaignCursor → List ℕ
+cursor_text c =
+    codes "mc3:" ++ (rules_text c.rules.grain c.rules.profile ++ (choice_text c.confirms ++ (codes ":" ++ start_text c.digest c.bound (campaign_text c.campaign))))
+
+-- A cursor of 32 bytes, at most 16 cuts, and a campaign that can be told.
+pub record IsCursor (c : CampaignCursor) : Type 0 where
+  pub start : IsStartField (record { digest = c.digest; bound = c.bound })
+  pub campaign : IsCampaign c.campaign
+
+-- A text is read as the cursor of that text, and is refused where it is that of none.
+abbrev pub ReadsCursor : List ℕ → Result CampaignCursor CursorError → Type 0
+ReadsCursor text (Ok c) = text ≡ cursor_text c
+ReadsCursor text (Err _) = (c : CampaignCursor) → IsCursor c → text ≡ cursor_text c → ⊥

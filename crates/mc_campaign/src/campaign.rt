@@ -1,7 +1,7 @@
 //! Campaigns of power cuts.
 ghost use Rattle.std.specs.Prelude.{◌≡◌, ℕ, List, ◌+◌, ◌*◌, ◌<◌, ◌≤◌, ◌^◌, [], ◌∷◌, ◌++◌, length, decimal, Some, Ok, IfOk, OnOk, OnErr, MatchResult};
-ghost use Rattle.mc_campaign.specs.Cuts.{IsInOrder, in_round};
-ghost use Rattle.mc_campaign.specs.Rounds.{number_of};
+ghost use Rattle.mc_campaign.specs.Campaigns.{IsInOrder, in_round};
+ghost use Rattle.mc_campaign.specs.Campaigns.{number_of};
 ghost use Rattle.mc_campaign.specs.Texts.{campaign_text, cut_text, FitsCut, IsAdded, IsCampaign, IsCut, ReadsCampaign};
 ghost use Rattle.mc_campaign.specs.facts.Cuts.{last_round};
 
@@ -32,7 +32,7 @@ pub struct Campaign {
 
 impl Model for Campaign {
     ghost use Rattle.std.specs.Prelude.{◌≡◌, ℕ, ◌≤◌, List, ◌++◌, length, take, drop};
-    ghost use Rattle.mc_campaign.specs.Cuts.{IsInOrder};
+    ghost use Rattle.mc_campaign.specs.Campaigns.{IsInOrder};
     ghost use Rattle.mc_campaign.specs.facts.Room.{blanks_after, len_again, room_again};
 
     ghost Value = { List (ℕ × ℕ) };

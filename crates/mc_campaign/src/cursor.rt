@@ -1,7 +1,7 @@
 //! Where to go on with an exploration of campaigns.
 ghost use Rattle.std.specs.Prelude.{◌≡◌, ◌≤◌};
 ghost use Rattle.mc_start.specs.Start.{begun};
-ghost use Rattle.mc_campaign.specs.Cursor.{cursor_of};
+ghost use Rattle.mc_campaign.specs.Texts.{cursor_of};
 
 use crate::Campaign;
 use mc_explore::Start;

@@ -1,6 +1,6 @@
 //! Cursors of campaigns from their text.
 ghost use Rattle.std.specs.Prelude.{◌≡◌, ◌≤◌, Bool, Some, Ok, MatchOption, IfOk, IfSome};
-ghost use Rattle.mc_campaign.specs.CursorText.{choice_text, cursor_text, IsCursor, ReadsCursor};
+ghost use Rattle.mc_campaign.specs.Texts.{choice_text, cursor_text, IsCursor, ReadsCursor};
 ghost use Rattle.mc_campaign.specs.declared.cursor.CampaignCursor.{CampaignCursor};
 
 use crate::campaign::Campaign;

@@ -1,6 +1,6 @@
 //! Cursors of campaigns as text.
 ghost use Rattle.std.specs.Prelude.{◌≡◌, ◌+◌, ◌≤◌, ◌++◌, length, Some};
-ghost use Rattle.mc_campaign.specs.CursorText.{choice_text, cursor_text};
+ghost use Rattle.mc_campaign.specs.Texts.{choice_text, cursor_text};
 
 use crate::cursor::CampaignCursor;
 use mc_explore::{Line, MOST_LINE, RulesField, StartField};

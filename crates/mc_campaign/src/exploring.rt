@@ -1,7 +1,7 @@
 //! Campaigns, as what an explorer goes through.
 ghost use Rattle.std.specs.Prelude.{◌≡◌, ◌≤◌, true, length};
-ghost use Rattle.mc_campaign.specs.Boots.{cuts_along};
-ghost use Rattle.mc_campaign.specs.View.{begun_of};
+ghost use Rattle.mc_campaign.specs.inner.Twice.{cuts_along};
+ghost use Rattle.mc_campaign.specs.inner.View.{begun_of};
 
 use crate::campaign::Campaign;
 use crate::cursor::CampaignCursor;
@@ -37,13 +37,13 @@ fn campaign_at<F: Flash>(walk: &Walk<F, Twice>) -> Campaign
 
 impl Subject for Twice {
     ghost use Rattle.std.specs.Prelude.{◌≡◌, None};
-    ghost use Rattle.mc_tree.specs.facts.Precedence.{pairs_in_order};
-    ghost use Rattle.mc_explore.specs.Once.{begins};
-    ghost use Rattle.mc_boot.specs.PowerOn.{PowerOn};
+    ghost use Rattle.mc_tree.specs.facts.Order.{pairs_in_order};
+    ghost use Rattle.mc_explore.specs.inner.Once.{begins};
+    ghost use Rattle.mc_boot.specs.Plan.{PowerOn};
     ghost use Rattle.mc_start.specs.Start.{start_digest};
-    ghost use Rattle.mc_campaign.specs.Cursor.{cursor_of, fields_of};
-    ghost use Rattle.mc_campaign.specs.Rest.{campaigns};
-    ghost use Rattle.mc_campaign.specs.State as states;
+    ghost use Rattle.mc_campaign.specs.Texts.{cursor_of, fields_of};
+    ghost use Rattle.mc_campaign.specs.Rows.{campaigns};
+    ghost use Rattle.mc_campaign.specs.Rows as states;
     ghost use Rattle.mc_campaign.specs.facts.Keys.{are_campaigns, campaign_costs, campaigns_clear, three_more};
     ghost use Rattle.mc_campaign.specs.facts.Listed.{some_rest};
 

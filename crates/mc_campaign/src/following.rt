@@ -1,12 +1,12 @@
 //! A walk along the path of a campaign.
 ghost use Rattle.std.specs.Prelude.{◌≡◌, ℕ, Bool, [], true, IfOk, IfErr, OnOk};
-ghost use Rattle.mc_tree.specs.Twice.{Place};
-ghost use Rattle.mc_flash.specs.Content.{Content};
+ghost use Rattle.mc_tree.specs.Tree.{Place};
+ghost use Rattle.mc_flash.specs.Flash.{Content};
 ghost use Rattle.mc_flash.specs.Geometry.{Geometry, IsLayout};
 ghost use Rattle.mc_trailer.specs.declared.tables.Rules.{Rules};
-ghost use Rattle.mc_campaign.specs.Twice.{AreTold};
-ghost use Rattle.mc_campaign.specs.View.{FollowsCampaign, HasChildOf};
-ghost use Rattle.mc_explore.specs.subjects.Follow.{IsCalm};
+ghost use Rattle.mc_campaign.specs.inner.Twice.{AreTold};
+ghost use Rattle.mc_campaign.specs.inner.View.{FollowsCampaign, HasChildOf};
+ghost use Rattle.mc_explore.specs.inner.Exploring.{IsCalm};
 
 use crate::campaign::{Campaign, Round};
 use crate::rounds::{Both, Twice};

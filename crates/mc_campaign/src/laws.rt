@@ -1,16 +1,15 @@
 //! The laws of campaigns, as the contracts of functions that do nothing.
 ghost use Rattle.std.specs.Prelude.{◌≡◌, ◌<◌, ◌↔◌, ℕ, Bool, false, List, ◌∷◌, ◌++◌, length, take, All, []};
-ghost use Rattle.mc_tree.specs.Chain.{JoinUp};
+ghost use Rattle.mc_tree.specs.Tree.{JoinUp};
 ghost use Rattle.mc_tree.specs.Tree as tree;
-ghost use Rattle.mc_tree.specs.Twice.{first};
-ghost use Rattle.mc_tree.specs.Paths as paths;
+ghost use Rattle.mc_tree.specs.Tree.{first};
 ghost use Rattle.mc_campaign.specs.Page.{Chain, last_campaign, state_past};
-ghost use Rattle.mc_campaign.specs.Rest.{IsRest};
-ghost use Rattle.mc_campaign.specs.Resume.{behind};
-ghost use Rattle.mc_campaign.specs.State.{State, Told, moved_to};
+ghost use Rattle.mc_campaign.specs.Rows.{IsRest};
+ghost use Rattle.mc_campaign.specs.Rows.{behind};
+ghost use Rattle.mc_campaign.specs.Rows.{State, Told, moved_to};
 ghost use Rattle.mc_campaign.specs.Campaigns.{IsMember, Precedes};
-ghost use Rattle.mc_boot.specs.PowerOn.{PowerOn};
-ghost use Rattle.mc_campaign.specs.Boots.{IsPathOf, rounds};
+ghost use Rattle.mc_boot.specs.Plan.{PowerOn};
+ghost use Rattle.mc_campaign.specs.inner.Twice.{IsPathOf, rounds};
 
 /// The campaigns that can occur are the paths of the tree of two rounds: each of at most so many cuts is that of a path of at
 /// most so many steps, and each such path is that of such a campaign. The order of campaigns is that of their paths.
@@ -22,7 +21,7 @@ pub fn campaigns_are_paths()
         → (c : List (ℕ × ℕ)) × IsPathOf x confirms bound path c }
     ensures order { (x : PowerOn) (confirms : Bool) (bound : ℕ) (path other : List ℕ)
         (c d : List (ℕ × ℕ)) → IsPathOf x confirms bound path c → IsPathOf x confirms bound other d
-        → Precedes c d ↔ paths.Precedes path other }
+        → Precedes c d ↔ tree.Precedes path other }
 {}
 
 /// Past each position there is one ascending list of rows of campaigns, and no other. After its first row the others are to

@@ -1,7 +1,7 @@
 //! Pages: several rows at a time, as text.
 ghost use Rattle.std.specs.Prelude.{◌≡◌, ◌+◌, ◌*◌, ◌≤◌, ◌⊎◌, IfErr, OnOk, OnErr, IsErrOf};
-ghost use Rattle.mc_explore.specs.subjects.State.{Explores};
-ghost use Rattle.mc_campaign.specs.Bounds.{most_for_row};
+ghost use Rattle.mc_explore.specs.Subject.{Explores};
+ghost use Rattle.mc_campaign.specs.Rows.{most_for_row};
 ghost use Rattle.mc_campaign.specs.Page.{PageIsOut, PageBegan};
 
 use crate::exploring::CampaignExplorer;

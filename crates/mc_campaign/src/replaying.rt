@@ -1,19 +1,19 @@
 //! One campaign of power cuts, replayed.
 ghost use Rattle.std.specs.Prelude.{◌≡◌, ◌+◌, ◌≤◌, true, false, length, IfOk, IfErr, IsErr, OnOk, MatchResult};
-ghost use Rattle.mc_flash.specs.Content.{size_of};
-ghost use Rattle.mc_flash.specs.Seen.{Keeps};
-ghost use Rattle.mc_flash.specs.Spends.{Allows, LeaveRoom};
+ghost use Rattle.mc_flash.specs.Flash.{size_of};
+ghost use Rattle.mc_flash.specs.Usage.{Keeps};
+ghost use Rattle.mc_flash.specs.Usage.{Allows, LeaveRoom};
 ghost use Rattle.mc_flash.specs.Usage.{limits_for, no_counts};
 ghost use Rattle.mc_flash.specs.declared.op.Slot.TheVariants.{Primary, Secondary};
-ghost use Rattle.mc_boot.specs.Confirm.{confirmed_if, one_write};
+ghost use Rattle.mc_boot.specs.Restart.{confirmed_if, one_write};
 ghost use Rattle.mc_boot.specs.Outcome.{shown};
-ghost use Rattle.mc_walk.specs.Stack.{most_at};
-ghost use Rattle.mc_explore.specs.Once as trees;
-ghost use Rattle.mc_explore.specs.Replay as replays;
+ghost use Rattle.mc_walk.specs.inner.Stack.{most_at};
+ghost use Rattle.mc_explore.specs.inner.Once as trees;
+ghost use Rattle.mc_explore.specs.Schedules as replays;
 ghost use Rattle.mc_start.specs.Start.{begun};
-ghost use Rattle.mc_explore.specs.View.{begun_with};
-ghost use Rattle.mc_campaign.specs.Replay.{AreReplayed, Refuses};
-ghost use Rattle.mc_campaign.specs.Restarts.{Restarts};
+ghost use Rattle.mc_explore.specs.inner.View.{begun_with};
+ghost use Rattle.mc_campaign.specs.Campaigns.{AreReplayed, Refuses};
+ghost use Rattle.mc_campaign.specs.Rows.{Restarts};
 
 use crate::campaign::{Campaign, Round};
 use crate::rounds::go_between;

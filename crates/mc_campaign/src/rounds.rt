@@ -1,10 +1,10 @@
 //! Two rounds of boots, one behind the other.
 ghost use Rattle.std.specs.Prelude.{◌≡◌, ◌+◌, IfOk, IfErr, OnOk};
-ghost use Rattle.mc_tree.specs.Twice.{first};
+ghost use Rattle.mc_tree.specs.Tree.{first};
 ghost use Rattle.mc_flash.specs.Usage.{no_counts};
-ghost use Rattle.mc_flash.specs.Seen.{Keeps};
-ghost use Rattle.mc_flash.specs.Spends.{Allows, HasRoom, LeaveRoom, Spends, Stays, plus};
-ghost use Rattle.mc_boot.specs.Confirm.{confirmed_if, one_write};
+ghost use Rattle.mc_flash.specs.Usage.{Keeps};
+ghost use Rattle.mc_flash.specs.Usage.{Allows, HasRoom, LeaveRoom, Spends, Stays, plus};
+ghost use Rattle.mc_boot.specs.Restart.{confirmed_if, one_write};
 
 use crate::campaign::Round;
 use mc_boot::{Boot, confirm};
@@ -59,8 +59,8 @@ pub(crate) fn go_between<F: Flash>(confirms: bool, flash: &mut F) -> Result<(), 
 }
 
 impl Twice {
-    ghost use Rattle.mc_explore.specs.Once.{BeginsOn};
-    ghost use Rattle.mc_campaign.specs.Twice.{AreTold, most_of_both};
+    ghost use Rattle.mc_explore.specs.inner.Once.{BeginsOn};
+    ghost use Rattle.mc_campaign.specs.inner.Twice.{AreTold, most_of_both};
 
     // Runs the boot at power-on to its end, and then that of the second round.
     fn run<F: Flash>(&self, flash: &mut F, boot: Boot, start: &Start) -> Result<Both, FlashError>

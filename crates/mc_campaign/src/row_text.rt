@@ -1,7 +1,7 @@
 //! Rows of campaigns as text.
 ghost use Rattle.std.specs.Prelude.{◌≡◌, ◌<◌, [], length, Some};
-ghost use Rattle.mc_campaign.specs.RowText.{row_text};
-ghost use Rattle.mc_campaign.specs.State.{told};
+ghost use Rattle.mc_campaign.specs.Rows.{row_text};
+ghost use Rattle.mc_campaign.specs.Rows.{told};
 
 use crate::row::CampaignRow;
 use mc_explore::{Labels, Line, MOST_LINE, put_outcome, put_slots};

@@ -7,9 +7,9 @@ use mc_flash::{Flash, FlashError};
 use mc_walk::Branches;
 
 impl Branches for Twice {
-    ghost use Rattle.mc_tree.specs.Twice.{Place};
-    ghost use Rattle.mc_flash.specs.Content.{Content};
-    ghost use Rattle.mc_campaign.specs.Twice.{twice_kind};
+    ghost use Rattle.mc_tree.specs.Tree.{Place};
+    ghost use Rattle.mc_flash.specs.Flash.{Content};
+    ghost use Rattle.mc_campaign.specs.inner.Twice.{twice_kind};
 
     ghost Node = { Place Content };
 
@@ -23,9 +23,9 @@ impl Branches for Twice {
     /// The start, which knows its images.
     type Known = Start;
 
-    ghost use Rattle.mc_tree.specs.Twice as trees;
-    ghost use Rattle.mc_explore.specs.Boots.{boots};
-    ghost use Rattle.mc_campaign.specs.Boots.{second_start};
+    ghost use Rattle.mc_tree.specs.Tree as trees;
+    ghost use Rattle.mc_explore.specs.inner.Once.{boots};
+    ghost use Rattle.mc_campaign.specs.inner.Twice.{second_start};
 
     ghost kind = { λ t. twice_kind t.once.rules t.once.layout t.confirms };
 

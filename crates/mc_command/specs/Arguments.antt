@@ -8,15 +8,15 @@ use Rattle.mc_command.specs.Numbers.{TellsNumber, MayTellNumber, IsUnit}
 use Rattle.mc_command.specs.declared.numbers.NumberOption.TheVariants as numbers
 use Rattle.mc_flash.specs.Geometry.{Geometry}
 use Rattle.mc_flash.specs.declared.layout.LayoutError.{LayoutError}
-use Rattle.mc_start.specs.CursorText.{cursor_text, IsCursor}
-use Rattle.mc_campaign.specs.CursorText as campaigns
+use Rattle.mc_start.specs.Cursor.{cursor_text, IsCursor}
+use Rattle.mc_campaign.specs.Texts as campaigns
 use Rattle.mc_campaign.specs.declared.cursor.CampaignCursor.{CampaignCursor}
-use Rattle.mc_start.specs.Texts.{schedule_text, IsSchedule}
+use Rattle.mc_start.specs.Start.{schedule_text, IsSchedule}
 use Rattle.mc_boot.specs.declared.kind.Kind.{Kind}
 use Rattle.mc_boot.specs.declared.kind.Kind.TheVariants as kinds
-use Rattle.mc_flash.specs.Texts.{grain_text}
+use Rattle.mc_flash.specs.Flash.{grain_text}
 use Rattle.mc_trailer.specs.declared.tables.Rules.{Rules}
-use Rattle.mc_trailer.specs.Texts.{profile_text}
+use Rattle.mc_trailer.specs.Tables.{profile_text}
 use Rattle.mc_command.specs.declared.options.ExploreOptions.{ExploreOptions}
 use Rattle.mc_command.specs.declared.options.FlashOptions.{FlashOptions}
 use Rattle.mc_command.specs.declared.options.RangeOptions.{RangeOptions}

@@ -1,10 +1,9 @@
 -- The explorations of campaigns that the words of a command tell.
 use Rattle.std.specs.Prelude.{◌≡◌, ℕ, Bool, List, Option, Some, None, Result, Ok, Err, codes}
 use Rattle.clap.specs.declared.parser.matches.Found.{Found}
-use Rattle.mc_boot.specs.PowerOn.{PowerOn}
+use Rattle.mc_boot.specs.Plan.{PowerOn}
 use Rattle.mc_campaign.specs.Page.{PageIsOut}
-use Rattle.mc_campaign.specs.Resume.{Resumes}
-use Rattle.mc_campaign.specs.State.{Explored, State, at_start}
+use Rattle.mc_campaign.specs.Rows.{Resumes, Explored, State, at_start}
 use Rattle.mc_campaign.specs.declared.cursor.CampaignCursor.{CampaignCursor}
 use Rattle.mc_explore.specs.declared.error.ExploreError.{ExploreError}
 use Rattle.mc_explore.specs.declared.error.ExploreError.TheVariants as errors

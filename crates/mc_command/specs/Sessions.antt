@@ -1,17 +1,16 @@
 -- The starts and the explorations that the words of a command tell.
 use Rattle.std.specs.Prelude.{◌≡◌, ℕ, List, Option, Some, None, Result, Ok, Err}
 use Rattle.clap.specs.declared.parser.matches.Found.{Found}
-use Rattle.mc_boot.specs.PowerOn.{PowerOn}
+use Rattle.mc_boot.specs.Plan.{PowerOn}
 use Rattle.mc_explore.specs.Census.{IsCensus}
-use Rattle.mc_explore.specs.Resume.{Resumes}
-use Rattle.mc_explore.specs.State.{Explored, State, at_start}
+use Rattle.mc_explore.specs.Rows.{Resumes, Explored, State, at_start}
 use Rattle.mc_explore.specs.Survey.{SurveysUntil}
-use Rattle.mc_explore.specs.Until.{ShownIsOut}
+use Rattle.mc_explore.specs.Page.{ShownIsOut}
 use Rattle.mc_explore.specs.declared.census.Census.{Census}
 use Rattle.mc_explore.specs.declared.surveying.Tally.{Tally}
 use Rattle.mc_explore.specs.declared.error.ExploreError.{ExploreError}
 use Rattle.mc_explore.specs.declared.error.ExploreError.TheVariants as errors
-use Rattle.mc_start.specs.CursorText.{cursor_of}
+use Rattle.mc_start.specs.Cursor.{cursor_of}
 use Rattle.mc_start.specs.declared.cursor.Cursor.{Cursor}
 use Rattle.mc_start.specs.Start.{Started, begun}
 use Rattle.mc_command.specs.Arguments.{TellsExtent, TellsFlash, TellsRange}

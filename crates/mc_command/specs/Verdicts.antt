@@ -1,6 +1,6 @@
 -- How a survey and a census end.
 use Rattle.std.specs.Prelude.{◌≡◌, Bool, true, List, Result, Ok, Err}
-use Rattle.mc_explore.specs.State.{Told}
+use Rattle.mc_explore.specs.Rows.{Told}
 use Rattle.mc_explore.specs.Survey.{AllBoot}
 use Rattle.mc_command.specs.declared.refusal.Refusal.{Refusal}
 use Rattle.mc_command.specs.declared.refusal.Refusal.TheVariants as refusals

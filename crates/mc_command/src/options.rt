@@ -6,8 +6,8 @@ ghost use Rattle.mc_command.specs.Numbers.{TellsNumber, IsUnit};
 ghost use Rattle.mc_flash.specs.Geometry.{Geometry, refusal_of};
 ghost use Rattle.mc_command.specs.Arguments.{TellsCreate, TellsLayout, Judges, TellsSource, RefusesSource, is_source, kind_text};
 ghost use Rattle.mc_command.specs.Arguments.{TellsRules, TellsFlash, TellsExtent, TellsRange, HasTexts, MayTellSchedule, MayTellCampaign, tells_both};
-ghost use Rattle.mc_start.specs.Texts.{IsSchedule};
-ghost use Rattle.mc_campaign.specs.CursorText.{IsCursor};
+ghost use Rattle.mc_start.specs.Start.{IsSchedule};
+ghost use Rattle.mc_campaign.specs.Texts.{IsCursor};
 
 use crate::numbers::NumberOption;
 use crate::refusal::Refusal;

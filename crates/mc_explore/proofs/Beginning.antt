@@ -2,23 +2,17 @@
 use Rattle.std.specs.Prelude.{◌≡◌, ◌≤◌, ℕ, Bool, true, false, List, []}
 use Rattle.std.proofs.Common.{arith, sym, ap, subst, ◌∙◌}
 use Rattle.mc_tree.specs.Tree as tree
-use Rattle.mc_tree.specs.Paths.{After, Lost}
-use Rattle.mc_flash.specs.Content.{Content}
+use Rattle.mc_tree.specs.Tree.{After, Lost}
+use Rattle.mc_flash.specs.Flash.{Content}
 use Rattle.mc_flash.specs.Geometry.{IsLayout}
-use Rattle.mc_flash.specs.Usage.{Limits}
-use Rattle.mc_flash.specs.Spends.{Spent}
+use Rattle.mc_flash.specs.Usage.{Limits, Spent}
 use Rattle.mc_walk.specs.Kind.{Kind}
-use Rattle.mc_walk.specs.Walks.{Walked, Begins, origin_of}
-use Rattle.mc_walk.specs.Tours.{position_of}
+use Rattle.mc_walk.specs.Walks.{Walked, Begins, origin_of, position_of}
 use Rattle.mc_walk.specs.declared.tour.Phase.TheVariants as phases
 use Rattle.mc_start.specs.Start.{start_digest}
-use Rattle.mc_boot.specs.PowerOn.{PowerOn}
-use Rattle.mc_explore.specs.subjects.Follow.{FollowsKey, IsCalm, IsCheapFor}
-use Rattle.mc_explore.specs.subjects.Loads.{IsLoaded}
-use Rattle.mc_explore.specs.subjects.Keys.{AreKeys}
-use Rattle.mc_explore.specs.subjects.State.{State, behind}
-use Rattle.mc_explore.specs.Subject.{Subject}
-use Rattle.mc_explore.specs.subjects.View.{IsOurs, IsSound, Rowed, begun_of, state_of}
+use Rattle.mc_boot.specs.Plan.{PowerOn}
+use Rattle.mc_explore.specs.inner.Exploring.{FollowsKey, IsCalm, IsCheapFor, IsLoaded, AreKeys, IsOurs, IsSound, Rowed, begun_of, state_of}
+use Rattle.mc_explore.specs.Subject.{State, behind, Subject}
 use Rattle.mc_explore.proofs.Visiting.{carried, ours_there, same_begun, same_key, same_state}
 
 module _ {B C K R U N A T : Type 0} (x : Subject C K R U) (kind : B → Kind N A T) (begins : B → Content → PowerOn) (choice : B → C) (key_of : B → Content → List ℕ → K)

@@ -1,5 +1,6 @@
 -- Which bytes stand in the texts of schedules, rows and cursors.
-use Rattle.std.specs.Prelude.{◌≡◌, ◌≢◌, ℕ, zero, suc, ◌+◌, ◌/◌, ◌%◌, ◌==◌, ◌≤◌, ◌<◌, nat_lt, Bool, true, false, not, if◌then◌else◌, List, [], ◌∷◌, ◌++◌, take, flat_map, slice_index, codes, decimal}
+use Rattle.std.specs.Prelude.{◌≡◌, ◌≢◌, ℕ, zero, suc, ◌+◌, ◌/◌, ◌%◌, ◌==◌, ◌≤◌, ◌<◌, nat_lt, Bool, true, false, not, if◌then◌else◌, List, [], ◌∷◌, ◌++◌, take, flat_map, slice_index, codes}
+use Rattle.std.specs.Prelude.{decimal}
 use Rattle.std.specs.Prelude.{All, Option, Some, None, refl}
 use Rattle.std.specs.Fmt.{digits, digits_onto, digit_glyph}
 use Rattle.std.specs.List.{list_all}
@@ -15,18 +16,17 @@ use Rattle.hex.specs.Hex.{encode_lower, encode_with, lower_digits}
 use Rattle.mc_flash.specs.declared.flash.Grain.{Grain}
 use Rattle.mc_flash.specs.declared.flash.Grain.TheVariants as grains
 use Rattle.mc_image.specs.Valid.{Identity}
-use Rattle.mc_trailer.specs.Texts.{type_text}
+use Rattle.mc_trailer.specs.Tables.{type_text}
 use Rattle.mc_trailer.specs.declared.tables.Profile.{Profile}
 use Rattle.mc_trailer.specs.declared.tables.Profile.TheVariants as profiles
 use Rattle.mc_trailer.specs.declared.tables.SwapType.{SwapType}
 use Rattle.mc_trailer.specs.declared.tables.SwapType.TheVariants as types
-use Rattle.mc_boot.specs.Texts.{result_text}
+use Rattle.mc_boot.specs.Outcome.{result_text}
 use Rattle.mc_boot.specs.declared.outcome.BootResult.{BootResult}
 use Rattle.mc_boot.specs.declared.outcome.BootResult.TheVariants as results
-use Rattle.mc_start.specs.CursorText.{head_text, cursor_text}
-use Rattle.mc_explore.specs.RowText.{slot_text, row_text}
-use Rattle.mc_explore.specs.State.{Told}
-use Rattle.mc_start.specs.Texts.{schedule_text}
+use Rattle.mc_start.specs.Cursor.{head_text, cursor_text}
+use Rattle.mc_explore.specs.Rows.{slot_text, row_text, Told}
+use Rattle.mc_start.specs.Start.{schedule_text}
 use Rattle.mc_start.specs.declared.cursor.Cursor.{Cursor}
 
 abbrev pub IsBetween : ℕ → ℕ → ℕ → Type 0

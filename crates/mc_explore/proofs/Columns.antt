@@ -3,35 +3,29 @@ use Rattle.std.proofs.Common.{◌≡◌, ℕ, ◌+◌, ◌-◌, ◌*◌, ◌<◌
 use Rattle.std.proofs.lemmas.List.{length-append}
 use Rattle.std.proofs.lemmas.Option.{slice_get_within}
 use Rattle.std.proofs.Math.Nat.{mul-le-mul_right}
-use Rattle.mc_boot.specs.After.{IsCut}
-use Rattle.mc_boot.specs.Boot.{begun, progress}
-use Rattle.mc_boot.specs.Bounds.{left_of}
-use Rattle.mc_boot.specs.Outcome.{Report, shown}
-use Rattle.mc_boot.specs.Plan.{plan}
+use Rattle.mc_boot.specs.Joins.{IsCut}
+use Rattle.mc_boot.specs.Boot.{begun, progress, left_of}
+use Rattle.mc_boot.specs.Outcome.{Report, shown, ops_of}
+use Rattle.mc_boot.specs.Plan.{plan, power_on, powered}
 use Rattle.mc_boot.specs.Rejoin.{IsRejoined}
-use Rattle.mc_boot.specs.Runs.{ops_of}
 use Rattle.mc_boot.specs.declared.rejoining.Rejoin.{Rejoin}
 use Rattle.mc_boot.specs.declared.boot.Boot.{Boot}
-use Rattle.mc_flash.specs.Content.{Content}
+use Rattle.mc_flash.specs.Flash.{Content}
 use Rattle.mc_flash.specs.Geometry.{Geometry}
-use Rattle.mc_flash.specs.Usage.{Counts, Limits}
-use Rattle.mc_flash.specs.Seen.{Keeps, Seen, marked, checkpoint_of, went_back}
-use Rattle.mc_flash.specs.Spends.{Allows, HasRoom, LeaveRoom, Stays, plus}
+use Rattle.mc_flash.specs.Usage.{Counts, Limits, Keeps, Seen, marked, checkpoint_of, went_back, Allows, HasRoom, LeaveRoom, Stays, plus}
 use Rattle.mc_flash.specs.facts.Spends.{keeps_both, keeps_none, spent_back, stays_back}
 use Rattle.mc_trailer.specs.declared.tables.Rules.{Rules}
 use Rattle.mc_walk.specs.Kind.{IsAt, TellsChild}
-use Rattle.mc_explore.specs.Boots.{at_cut}
-use Rattle.mc_explore.specs.Once.{IsTold, most_of, once}
-use Rattle.mc_explore.specs.Table.{ArePositions, HasRoomFor, IsColumn, IsPosition, StaysSo, own_totals, told_totals}
-use Rattle.mc_explore.specs.Totals.{report_totals}
+use Rattle.mc_explore.specs.inner.Once.{at_cut, IsTold, most_of, once}
+use Rattle.mc_explore.specs.inner.Table.{ArePositions, HasRoomFor, IsColumn, IsPosition, StaysSo, own_totals, told_totals}
+use Rattle.mc_explore.specs.Census.{report_totals}
 use Rattle.mc_explore.specs.declared.census.Census.{Census}
 use Rattle.mc_explore.specs.declared.once.Told.{Told}
 use Rattle.mc_explore.specs.declared.table.Position.{Position}
 use Rattle.mc_explore.specs.facts.Occurring.{at_zero}
 use Rattle.mc_explore.specs.facts.Telling.{first_left, first_on, width_is}
 use Rattle.mc_explore.proofs.Onwards.{cut_here}
-use Rattle.mc_explore.proofs.Tables.{each_more}
-use Rattle.mc_boot.specs.PowerOn.{power_on, powered}
+use Rattle.mc_explore.proofs.Counting.{each_more}
 
 one_more : (b n : ℕ) → (b + 1) * n ≡ b * n + n
 one_more b n = omega arith

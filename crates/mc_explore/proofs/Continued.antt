@@ -1,11 +1,8 @@
 -- The list of schedules, and pages that are continued from their cursors.
 use Rattle.std.proofs.Common.{◌≡◌, ℕ, ◌<◌, Bool, false, List, [], ◌∷◌, ◌++◌, length, take, inl, inr, ap, subst, ◌∙◌, arith}
-use Rattle.mc_tree.specs.Paths.{After, Precedes}
-use Rattle.mc_explore.specs.Chain.{last_schedule}
-use Rattle.mc_explore.specs.Page.{state_past}
-use Rattle.mc_explore.specs.Rest.{IsRest, schedules}
-use Rattle.mc_explore.specs.Resume.{behind}
-use Rattle.mc_explore.specs.State.{State, Told, moved_to}
+use Rattle.mc_tree.specs.Tree.{After, Precedes}
+use Rattle.mc_explore.specs.Page.{last_schedule, state_past}
+use Rattle.mc_explore.specs.Rows.{IsRest, schedules, behind, State, Told, moved_to}
 use Rattle.mc_explore.specs.facts.Listed.{schedules_are_lawful}
 use Rattle.mc_explore.specs.facts.Listings.{in_order, past_page}
 

@@ -1,19 +1,25 @@
--- The rows of a survey, as they are counted one after another.
-use Rattle.std.proofs.Common.{◌≡◌, ℕ, suc, ◌+◌, ◌-◌, ◌<◌, ◌≤◌, List, [], ◌∷◌, ◌++◌, length, Some, None, Option, true, false, refl, sym, ap, subst, ◌∙◌, arith}
+-- The rows of a survey, counted one after another, and whether each ends in a boot.
+use Rattle.std.proofs.Common.{List, None, Option, Some, [], ap, arith, cond, false, is_some, length, refl, subst, suc, sym, true, ℕ, ◌++◌, ◌+◌, ◌-◌, ◌<◌, ◌∙◌, ◌∷◌, ◌≡◌, ◌≤◌}
 use Rattle.std.proofs.lemmas.List.{length-append}
-use Rattle.mc_tree.specs.Paths.{After}
-use Rattle.mc_explore.specs.Chain.{last_schedule}
+use Rattle.std.proofs.lemmas.List.Sums.{count_by-le-length, sum_by-cons}
+use Rattle.std.specs.List.{AllByRecursion}
+use Rattle.mc_boot.specs.declared.outcome.BootResult.{BootResult}
+use Rattle.mc_explore.proofs.PageRows.{AreSoFar, cursor_is, none_so_far, one_more, page_full, page_short, page_with}
+use Rattle.mc_explore.proofs.PageText.{last_on}
+use Rattle.mc_explore.specs.Census.{first_not_boot}
+use Rattle.mc_explore.specs.Page.{last_schedule}
 use Rattle.mc_explore.specs.Pages.{FindsBefore}
-use Rattle.mc_explore.specs.Rest.{schedules}
-use Rattle.mc_start.specs.CursorText.{cursor_of}
-use Rattle.mc_explore.specs.State.{State, Told}
-use Rattle.mc_explore.specs.Survey.{Surveys, SurveysUntil, tally_of, tally_so_far}
-use Rattle.mc_start.specs.declared.cursor.Cursor.{Cursor}
+use Rattle.mc_explore.specs.Rows.{State, Told, schedules}
+use Rattle.mc_explore.specs.Survey.{Surveys, SurveysUntil, is_boot, rows_with, tally_of, tally_so_far}
 use Rattle.mc_explore.specs.declared.surveying.Tally.{Tally}
 use Rattle.mc_explore.specs.facts.Listed.{schedules_are_lawful}
 use Rattle.mc_explore.specs.facts.Whole.{whole_taken}
-use Rattle.mc_explore.proofs.PageRows.{AreSoFar, cursor_is, none_so_far, one_more, page_short, page_full, page_with}
-use Rattle.mc_explore.proofs.PageText.{last_on}
+use Rattle.mc_start.specs.Cursor.{cursor_of}
+use Rattle.mc_start.specs.declared.cursor.Cursor.{Cursor}
+use Rattle.mc_tree.specs.Tree.{After}
+use Rattle.mc_boot.specs.declared.outcome.BootResult.TheVariants as results
+
+-- The rows of a survey, as they are counted one after another.
 
 module _ (until : Option (List ℕ)) (old : State) (limit : ℕ) where
   -- These rows were taken and counted, and behind the last of them one has come.
@@ -78,3 +84,48 @@ pub surveyed_whole : (old new : State) (limit : ℕ) (tally : Tally) → Surveys
 surveyed_whole old new limit tally (page, taken, is) =
     let w = whole_taken schedules old new limit page taken in
     record { rows = w.rows; rest = w.rest; tally_is = is ∙ ap tally_of w.page_is; left = w.left; past = w.past }
+
+-- Whether each of some rows ends in a boot, by their tally and by their census.
+
+abbrev Boots : Told → Type 0
+Boots row = row.outcome.result ≡ results.Boot
+
+abbrev pub AllBoots : List Told → Type 0
+AllBoots rows = AllByRecursion Boots rows
+
+module _ (row : Told) (rows : List Told) where
+  few : rows_with is_boot rows ≤ length rows
+  few = count_by-le-length (λ (r : Told). is_boot r.outcome.result) rows
+
+  first : (r : BootResult) → row.outcome.result ≡ r → rows_with is_boot (row ∷ rows) ≡ cond (is_boot r) 1 0 + rows_with is_boot rows
+  first r is = sum_by-cons (λ (r : Told). cond (is_boot r.outcome.result) 1 0) row rows ∙ ap (λ r. cond (is_boot r) 1 0 + rows_with is_boot rows) is
+
+  more : (r : BootResult) → row.outcome.result ≡ r → (rows_with is_boot rows ≡ length rows → AllBoots rows)
+      → rows_with is_boot (row ∷ rows) ≡ suc (length rows) → AllBoots (row ∷ rows)
+  more results.Boot is rest e = (is, rest (omega (arith, e, first results.Boot is)))
+  more results.None is rest e = absurd (omega (arith, e, first results.None is, few))
+  more results.Panic is rest e = absurd (omega (arith, e, first results.Panic is, few))
+  more results.Fault is rest e = absurd (omega (arith, e, first results.Fault is, few))
+
+  found : (r : BootResult) → row.outcome.result ≡ r → (is_some (first_not_boot rows) ≡ false → AllBoots rows)
+      → is_some (first_not_boot (row ∷ rows)) ≡ false → AllBoots (row ∷ rows)
+  found results.Boot is rest e = (is, rest (rw is at e))
+  found results.None is rest e = absurd (let no = rw is at e in cc)
+  found results.Panic is rest e = absurd (let no = rw is at e in cc)
+  found results.Fault is rest e = absurd (let no = rw is at e in cc)
+
+pub counted : (rows : List Told) → rows_with is_boot rows ≡ length rows → AllBoots rows
+counted [] e = tt
+counted (row ∷ rows) e = more row rows row.outcome.result refl (counted rows) e
+
+pub all_counted : (rows : List Told) → AllBoots rows → rows_with is_boot rows ≡ length rows
+all_counted [] all = refl
+all_counted (row ∷ rows) all = omega (arith, first row rows results.Boot all.0, all_counted rows all.1)
+
+pub none_found : (rows : List Told) → is_some (first_not_boot rows) ≡ false → AllBoots rows
+none_found [] e = tt
+none_found (row ∷ rows) e = found row rows row.outcome.result refl (none_found rows) e
+
+pub all_found : (rows : List Told) → AllBoots rows → is_some (first_not_boot rows) ≡ false
+all_found [] all = refl
+all_found (row ∷ rows) all = rw all.0 (all_found rows all.1)

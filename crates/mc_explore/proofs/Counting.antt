@@ -1,29 +1,211 @@
--- What the one list of rows comes to is what the tree of boots does.
-use Rattle.std.proofs.Common.{◌≡◌, ℕ, ◌+◌, ◌≤◌, max, Bool, true, false, not, if◌then◌else◌, List, [], ◌∷◌, length, map, take, Option, Some, None, option_map, refl, sym, ap, ◌∙◌, arith}
-use Rattle.std.specs.Prelude.{Contains}
-use Rattle.std.specs.List.{find, fold}
-use Rattle.std.proofs.lemmas.List.{take_all}
+-- Totals that are cut off, one after another; what the one list of rows comes to is what the tree of boots does.
+use Rattle.std.proofs.Common.{Bool, List, None, Option, Some, [], ap, arith, false, if◌then◌else◌, length, map, max, nat_le, not, option_map, refl, subst, suc, sym, take, true, zero, ℕ, ◌++◌}
+use Rattle.std.proofs.Common.{◌+◌, ◌-◌, ◌<◌, ◌∙◌, ◌∷◌, ◌≡◌, ◌≤◌}
+use Rattle.std.proofs.lemmas.Bool.Decides.{nat_tests}
+use Rattle.std.proofs.lemmas.List.{take-take, take_all}
 use Rattle.std.proofs.lemmas.List.Recursion.{is_count_by}
+use Rattle.std.proofs.lemmas.Option.{same_Some}
+use Rattle.std.specs.List.{find, fold, slice_get}
 use Rattle.std.specs.Option.{option_or}
-use Rattle.mc_boot.specs.Outcome.{Report}
+use Rattle.std.specs.Prelude.{Contains}
+use Rattle.mc_boot.specs.Outcome.{Report, ops_of}
+use Rattle.mc_boot.specs.Plan.{PowerOn, power_on}
+use Rattle.mc_boot.specs.Rejoin.{IsRejoined, place_of}
+use Rattle.mc_boot.specs.declared.rejoining.Rejoin.{Rejoin}
 use Rattle.mc_boot.specs.facts.Run.{outcome_defined}
-use Rattle.mc_flash.specs.Content.{Content}
-use Rattle.mc_flash.specs.Geometry.{Geometry}
-use Rattle.mc_trailer.specs.declared.tables.Rules.{Rules}
-use Rattle.mc_tree.specs.Weights.{total}
-use Rattle.mc_tree.specs.facts.Existence.{all_from}
-use Rattle.mc_tree.specs.facts.Lists as lists
-use Rattle.mc_tree.specs.facts.Weighed.{AreWeighed, rows_weigh}
-use Rattle.mc_explore.specs.Boots.{at_cut, boots}
-use Rattle.mc_explore.specs.Census.{IsCensus, census_of, first_not_boot}
-use Rattle.mc_boot.specs.PowerOn.{PowerOn, power_on}
-use Rattle.mc_explore.specs.State.{Told}
-use Rattle.mc_explore.specs.Survey.{is_boot, is_none, is_panic, is_fault, most_ops_of, rows_with}
-use Rattle.mc_explore.specs.Table.{own_totals, told_totals, weigh}
-use Rattle.mc_explore.specs.Totals.{Totals, count_if, cut_off, row_totals, totals}
+use Rattle.mc_explore.specs.Census.{IsCensus, Totals, both, census_of, count_if, cut_off, first_not_boot, no_totals, row_totals, totals}
+use Rattle.mc_explore.specs.Rows.{Told}
+use Rattle.mc_explore.specs.Survey.{is_boot, is_fault, is_none, is_panic, most_ops_of, rows_with}
 use Rattle.mc_explore.specs.declared.census.Census.{Census}
 use Rattle.mc_explore.specs.facts.Listed.{all_rows, row_at}
-use Rattle.mc_explore.proofs.Weighing.{totals_weigh}
+use Rattle.mc_explore.specs.facts.Occurring.{at_is, lands_at}
+use Rattle.mc_explore.specs.inner.Once.{at_cut, boots}
+use Rattle.mc_explore.specs.inner.Table.{AreCutOff, AreSums, IsInside, IsLevel, own_totals, told_totals, weigh, weigh_fewer}
+use Rattle.mc_flash.specs.Flash.{Content}
+use Rattle.mc_flash.specs.Geometry.{Geometry}
+use Rattle.mc_start.specs.Start.{lowered}
+use Rattle.mc_trailer.specs.declared.tables.Rules.{Rules}
+use Rattle.mc_tree.specs.facts.Existence.{all_from}
+use Rattle.mc_tree.specs.facts.Weighed.{AreWeighed, from_more, placed_weight, rows_weigh}
+use Rattle.mc_tree.specs.inner.Weights.{IsPlaced, IsWeighing, from, placed_below, total}
+use Rattle.mc_tree.specs.facts.Lists as lists
+
+-- Totals that are cut off, one after another.
+
+-- The census with another first schedule.
+abbrev pub with_schedule : Census → Option (List ℕ) → Census
+with_schedule c first = record c { first_not_boot = first }
+
+-- The first ones of the first ones.
+take_front : (i : ℕ) (xs : List ℕ) → take 16 (i ∷ take 16 xs) ≡ take 16 (i ∷ xs)
+take_front i xs = ap (λ (l : List ℕ). i ∷ l) (take-take 15 16 xs (omega arith))
+
+take_lowered : (j : ℕ) (xs : List ℕ) → lowered j (take 16 xs) ≡ take 16 (lowered j xs)
+take_lowered j [] = refl
+take_lowered j (x ∷ xs) = refl
+
+behind_first : (i : ℕ) (o : Option (List ℕ)) → option_map (λ l. take 16 (i ∷ l)) (option_map (take 16) o) ≡ option_map (take 16) (option_map (λ l. i ∷ l) o)
+behind_first i None = refl
+behind_first i (Some l) = ap (λ (x : List ℕ). Some x) (take_front i l)
+
+back_first : (j : ℕ) (o : Option (List ℕ)) → option_map (lowered j) (option_map (take 16) o) ≡ option_map (take 16) (option_map (lowered j) o)
+back_first j None = refl
+back_first j (Some l) = ap (λ (x : List ℕ). Some x) (take_lowered j l)
+
+pub cut_behind : (i : ℕ) (c : Census) (a : Totals) → c ≡ cut_off a → with_schedule c (option_map (λ l. take 16 (i ∷ l)) c.first_not_boot) ≡ cut_off (totals.behind i a)
+unfolding cut_off
+cut_behind i c a is =
+    ap (λ (x : Census). with_schedule x (option_map (λ l. take 16 (i ∷ l)) x.first_not_boot)) is ∙ ap (with_schedule (cut_off a)) (behind_first i a.first)
+
+pub cut_back : (j : ℕ) (c : Census) (a : Totals) → c ≡ cut_off a → with_schedule c (option_map (lowered j) c.first_not_boot) ≡ cut_off (totals.back j a)
+unfolding cut_off
+cut_back j c a is =
+    ap (λ (x : Census). with_schedule x (option_map (lowered j) x.first_not_boot)) is ∙ ap (with_schedule (cut_off a)) (back_first j a.first)
+
+-- The totals of rows are weights.
+
+same_totals : (x y : Totals) → x.schedules ≡ y.schedules → x.boot ≡ y.boot → x.none ≡ y.none → x.panic ≡ y.panic → x.fault ≡ y.fault → x.most ≡ y.most → x.first ≡ y.first → x ≡ y
+same_totals x y a b c d e f h =
+    let same : ◌≡◌ {A = Totals} (record { schedules = x.schedules; boot = x.boot; none = x.none; panic = x.panic; fault = x.fault; most = x.most; first = x.first })
+    (record { schedules = y.schedules; boot = y.boot; none = y.none; panic = y.panic; fault = y.fault; most = y.most; first = y.first }) = cc in
+    same
+
+module _ {X : Type 0} where
+  or_none : (o : Option X) → option_or o None ≡ o
+  or_none None = refl
+  or_none (Some x) = refl
+
+  or_joined : (a b c : Option X) → option_or (option_or a b) c ≡ option_or a (option_or b c)
+  or_joined None b c = refl
+  or_joined (Some x) b c = refl
+
+  or_mapped : (f : X → X) (a b : Option X) → option_map f (option_or a b) ≡ option_or (option_map f a) (option_map f b)
+  or_mapped f None b = refl
+  or_mapped f (Some x) b = refl
+
+back_front : (j i : ℕ) (o : Option (List ℕ)) → option_map (lowered j) (option_map (λ l. (j + i) ∷ l) o) ≡ option_map (λ l. i ∷ l) o
+back_front j i None = refl
+back_front j i (Some l) = let e : (j + i) - j ≡ i = omega arith in ap (λ n. Some (n ∷ l)) e
+
+pub totals_weigh : IsWeighing totals
+totals_weigh = record {
+  left = λ a. same_totals (both no_totals a) a (omega arith) (omega arith) (omega arith) (omega arith) (omega arith) (omega arith) refl;
+  right = λ a. same_totals (both a no_totals) a (omega arith) (omega arith) (omega arith) (omega arith) (omega arith) (omega arith) (or_none a.first);
+  joined = λ a b c. same_totals (both (both a b) c) (both a (both b c)) (omega arith) (omega arith) (omega arith) (omega arith) (omega arith) (omega arith) (or_joined a.first b.first c.first);
+  behind_none = λ i. refl;
+  behind_both = λ i a b. same_totals (totals.behind i (both a b)) (both (totals.behind i a) (totals.behind i b)) refl refl refl refl refl refl (or_mapped (λ l. i ∷ l) a.first b.first);
+  back_none = λ j. refl;
+  back_both = λ j a b. same_totals (totals.back j (both a b)) (both (totals.back j a) (totals.back j b)) refl refl refl refl refl refl (or_mapped (lowered j) a.first b.first);
+  back_behind = λ j i a. same_totals (totals.back j (totals.behind (j + i) a)) (totals.behind i a) refl refl refl refl refl refl (back_front j i a.first);
+}
+
+-- Those of no rows.
+from_none : (n i : ℕ) → from totals (λ x. no_totals) n i ≡ no_totals
+from_none zero i = refl
+from_none (suc n) i = ap (both no_totals) (from_none n (i + 1))
+
+module _ (r : Rules) (g : Geometry) where
+  -- All schedules from a content: the one of no cuts, and those behind each first cut.
+  pub weigh_is : (d : ℕ) (s : Content) → weigh r g d s ≡ both (own_totals r g s) (from totals (λ c. weigh_fewer r g d (at_cut (power_on r g s) c)) (length (ops_of (power_on r g s))) 0)
+  weigh_is zero s = sym (ap (both (own_totals r g s)) (from_none (length (ops_of (power_on r g s))) 0) ∙ totals_weigh.right (own_totals r g s))
+  weigh_is (suc d) s = refl
+
+  module _ (s u : Content) (x : Rejoin) (joined : IsRejoined (power_on r g s) u x) where
+    pub inside : IsInside x (length (ops_of (power_on r g s)))
+    inside = record {
+      late = omega (arith, joined.width, joined.few);
+      early = λ i lt. joined.within i (omega (arith, lt, joined.few));
+    }
+
+    late_place : (i : ℕ) → x.erases ≤ i → place_of x i ≡ x.kept + i
+    late_place i le =
+        let test : nat_le x.erases i ≡ true = grind (arith, nat_tests) in
+        ap (λ b. if b then x.kept + i else (if nat_le x.done (x.kept + x.erases) then max x.done (x.kept + i) else if nat_le i x.only then x.done else x.kept + x.erases)) test
+
+    pub placed_at : (i : ℕ) → i < length (ops_of (power_on r g u)) → at_cut (power_on r g u) i ≡ at_cut (power_on r g s) (place_of x i)
+    placed_at i lt = lands_at (power_on r g s) (at_cut (power_on r g u) i) (place_of x i) (sym (joined.same i lt) ∙ at_is (power_on r g u) i)
+
+    placed : IsPlaced (boots r g) s u x.kept x.erases (place_of x)
+    placed = record {
+      width = joined.width;
+      few = joined.few;
+      early = λ i lt. placed_at i (omega (arith, lt, joined.few));
+      late = λ i le lt. placed_at i lt ∙ ap (at_cut (power_on r g s)) (late_place i le);
+    }
+
+    -- All schedules from a content whose boot goes on with that of another.
+    pub rejoined_weigh : (d : ℕ) → weigh r g d u ≡ both (own_totals r g u)
+        (placed_below totals (λ c. weigh_fewer r g d (at_cut (power_on r g s) c)) (length (ops_of (power_on r g s))) x.kept x.erases (place_of x))
+    rejoined_weigh (suc d) = placed_weight totals totals_weigh (boots r g) (own_totals r g) s u x.kept x.erases (place_of x) d placed
+    rejoined_weigh zero =
+        let rest : ℕ = length (ops_of (power_on r g s)) - (x.kept + x.erases) in
+        let early = from_none x.erases 0 in
+        let late = ap (totals.back x.kept) (from_none rest (x.kept + x.erases)) in
+        sym (ap (λ a. both (own_totals r g u) (both a (totals.back x.kept (from totals (λ c. no_totals) rest (x.kept + x.erases))))) early
+        ∙ ap (λ a. both (own_totals r g u) (both no_totals a)) late
+        ∙ totals_weigh.right (own_totals r g u))
+
+-- Lists of totals that are cut off.
+
+-- What holds of each element of a list, and of one more behind them, holds of each of those.
+pub each_more : {X : Type 0} (P : ℕ → X → Type 0) (xs : List X) (x : X) → ((i : ℕ) (y : X) → slice_get xs i ≡ Some y → P i y) → P (length xs) x
+    → (i : ℕ) (y : X) → slice_get (xs ++ x ∷ []) i ≡ Some y → P i y
+each_more P [] x are last zero y is = subst (P 0) (same_Some x y is) last
+each_more P [] x are last (suc i) y is = absurd cc
+each_more P (z ∷ xs) x are last zero y is = are 0 y is
+each_more P (z ∷ xs) x are last (suc i) y is = each_more (λ i. P (suc i)) xs x (λ i. are (suc i)) last i y is
+
+-- One more.
+one_cut_off : (under : ℕ → Totals) (xs : List Census) (y : Census) → AreCutOff under xs → y ≡ cut_off (under (length xs)) → AreCutOff under (xs ++ y ∷ [])
+one_cut_off under [] y are is zero lt = ap (λ (c : Census). Some c) is
+one_cut_off under [] y are is (suc i) lt = absurd (omega (arith, lt))
+one_cut_off under (x ∷ xs) y are is zero lt = are 0 (omega arith)
+one_cut_off under (x ∷ xs) y are is (suc i) lt = one_cut_off (λ i. under (suc i)) xs y (λ i lt. are (suc i) (omega (arith, lt))) is i (omega (arith, lt))
+
+pub more_cut_off : (under : ℕ → Totals) (xs all : List Census) (y : Census) (n : ℕ) → all ≡ xs ++ y ∷ [] → length xs ≡ n → AreCutOff under xs → y ≡ cut_off (under n) → AreCutOff under all
+more_cut_off under xs all y n pushed many are is = subst (AreCutOff under) (sym pushed) (one_cut_off under xs y are (is ∙ ap (λ k. cut_off (under k)) (sym many)))
+
+module _ (under : ℕ → Totals) where
+  -- The sums of one more of the last ones.
+  pub more_sums : (n later number : ℕ) → number + 1 + later ≡ n → both (totals.behind number (under number)) (from totals under later (n - later)) ≡ from totals under (later + 1) (n - (later + 1))
+  more_sums n later number e =
+      let one : later + 1 ≡ suc later = omega arith in
+      let first : n - (later + 1) ≡ number = omega (arith, e) in
+      let second : n - later ≡ number + 1 = omega (arith, e) in
+      ap (λ i. both (totals.behind number (under number)) (from totals under later i)) second
+      ∙ ap (λ i. from totals under (suc later) i) (sym first)
+      ∙ ap (λ k. from totals under k (n - (later + 1))) (sym one)
+
+  -- And of one more of the first ones.
+  pub more_first : (n : ℕ) → both (from totals under n 0) (totals.behind n (under n)) ≡ from totals under (n + 1) 0
+  more_first n =
+      let at : 0 + n ≡ n = omega arith in
+      let one : n + 1 ≡ suc n = omega arith in
+      sym (ap (λ k. from totals under k 0) one ∙ from_more totals totals_weigh under n 0 ∙ ap (λ i. both (from totals under n 0) (totals.behind i (under i))) at)
+
+-- All schedules of at most d cuts, by the positions of the boot, of which there are n.
+pub one_weighed : (x : PowerOn) (d n : ℕ) → n ≡ length (ops_of x)
+    → both (own_totals x.rules x.geometry x.content) (from totals (λ c. weigh_fewer x.rules x.geometry d (at_cut x c)) n (n - n)) ≡ weigh x.rules x.geometry d x.content
+one_weighed x d n e =
+    let g = x.geometry in
+    let s = x.content in
+    let under : ℕ → Totals = λ c. weigh_fewer x.rules g d (at_cut x c) in
+    let at : n - n ≡ 0 = omega arith in
+    ap (λ i. both (own_totals x.rules g s) (from totals under n i)) at ∙ ap (λ k. both (own_totals x.rules g s) (from totals under k 0)) e ∙ sym (weigh_is x.rules g d s)
+
+-- The census of a content for one bound more, by the sums of all positions for that bound.
+pub entry_is : (x : PowerOn) (own sum one : Census) (d count : ℕ) (level sums : List Census)
+    → ((under : ℕ → Totals) → AreCutOff under level → count ≡ length level → AreSums under count sums)
+    → ((under : ℕ → Totals) → AreCutOff under sums → count < length sums → sum ≡ cut_off (under count))
+    → ((a b : Totals) → own ≡ cut_off a → sum ≡ cut_off b → one ≡ cut_off (both a b))
+    → own ≡ cut_off (own_totals x.rules x.geometry x.content) → count ≡ length (ops_of x) → IsLevel x.rules x.geometry x.content d level → one ≡ cut_off (weigh x.rules x.geometry d x.content)
+entry_is x own sum one d count level sums summed last together own_is all is_level =
+    let under : ℕ → Totals = λ c. weigh_fewer x.rules x.geometry d (at_cut x c) in
+    let are = summed under is_level.1 (all ∙ sym is_level.0) in
+    let sum_is = last (λ k. from totals under k (count - k)) are.1 (omega (arith, are.0)) in
+    together (own_totals x.rules x.geometry x.content) (from totals under count (count - count)) own_is sum_is ∙ ap cut_off (one_weighed x d count all)
+
+-- What the one list of rows comes to is what the tree of boots does.
 
 -- ---- the rows of a list
 

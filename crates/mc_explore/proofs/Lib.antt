@@ -1,21 +1,14 @@
 mod Bytes
-mod TornPages
 mod Onwards
-mod Loaded
-mod Going
+pub mod Walks
+mod TornPages
 mod Restarts
 mod PageRows
 mod PageText
-mod Censuses
-mod Weighing
-mod Tables
+pub mod Counting
 mod Columns
-mod Counting
-mod Counted
 mod Continued
-pub mod LastRows
-pub mod Rowing
-mod Verdicts
 mod Visiting
-mod Along
 mod Beginning
+pub mod Rowing
+pub mod Counted

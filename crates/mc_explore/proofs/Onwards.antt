@@ -1,34 +1,27 @@
 -- From one cut of a boot to the next, and what is told of the flash there.
 use Rattle.std.specs.Prelude.{◌≡◌, ℕ, ◌+◌, ◌<◌, ◌≤◌, List, [], ◌∷◌, length, Some, Result, Ok, Err, IfErr, refl}
 use Rattle.std.proofs.Common.{arith, sym, ap, subst, ◌∙◌}
-use Rattle.mc_flash.specs.Content.{Content, IsSized}
+use Rattle.mc_flash.specs.Flash.{Content, IsSized}
 use Rattle.mc_flash.specs.Geometry.{Geometry}
-use Rattle.mc_flash.specs.Usage.{most_operations, most_saved}
-use Rattle.mc_flash.specs.Seen.{Seen, Keeps}
-use Rattle.mc_flash.specs.Spends.{Spends, LeaveRoom, plus, room_of}
+use Rattle.mc_flash.specs.Usage.{most_operations, most_saved, Seen, Keeps, Spends, LeaveRoom, plus, room_of}
 use Rattle.mc_flash.specs.declared.op.Op.{Op}
 use Rattle.mc_flash.specs.declared.flash.FlashError.{FlashError}
 use Rattle.mc_flash.specs.declared.flash.FlashError.TheVariants as errors
 use Rattle.mc_trailer.specs.declared.tables.Rules.{Rules}
-use Rattle.mc_image.specs.Bytes.{IsBytes}
-use Rattle.mc_boot.specs.After.{IsCut, IsStopped}
-use Rattle.mc_boot.specs.Boot.{Progress, IsBootOf, StepsAlong, Steps, all_of, begun, progress}
-use Rattle.mc_boot.specs.Bounds.{IsBounded, left_of}
-use Rattle.mc_boot.specs.Outcome.{outcome_of, shown}
-use Rattle.mc_boot.specs.Plan.{plan}
-use Rattle.mc_boot.specs.Run.{HasCome}
+use Rattle.mc_image.specs.Image.{IsBytes}
+use Rattle.mc_boot.specs.Joins.{IsCut, IsStopped}
+use Rattle.mc_boot.specs.Boot.{Progress, IsBootOf, StepsAlong, Steps, all_of, begun, progress, IsBounded, left_of, HasCome}
+use Rattle.mc_boot.specs.Outcome.{outcome_of, shown, left_by, ops_of}
+use Rattle.mc_boot.specs.Plan.{plan, PowerOn, again, power_on, powered}
 use Rattle.mc_boot.specs.facts.Run.{come_begun, come_left, come_ops}
-use Rattle.mc_boot.specs.Runs.{left_by, ops_of}
 use Rattle.mc_boot.specs.facts.Steps.{refused_here, step_counts, step_ran_out, step_spends, stepped_here}
 use Rattle.mc_boot.specs.declared.boot.Boot.{Boot}
 use Rattle.mc_boot.specs.declared.outcome.Outcome.{Outcome}
 use Rattle.mc_walk.specs.Kind.{IsAt, HasNext, GoesOn}
-use Rattle.mc_explore.specs.Boots.{at_cut}
-use Rattle.mc_explore.specs.Once.{CanPass, IsBegun, IsTold, Passes, most_of, once}
-use Rattle.mc_explore.specs.Replay.{EndsWith}
+use Rattle.mc_explore.specs.inner.Once.{at_cut, CanPass, IsBegun, IsTold, Passes, most_of, once}
+use Rattle.mc_explore.specs.Schedules.{EndsWith}
 use Rattle.mc_explore.specs.declared.once.Told.{Told}
 use Rattle.mc_explore.specs.facts.Occurring.{at_zero, come_lands}
-use Rattle.mc_boot.specs.PowerOn.{PowerOn, again, power_on, powered}
 
 -- At most one operation is done.
 step_once : (p q : Progress) (old new : Seen) (result : Result (Unit {0}) FlashError) → (result ≡ Err errors.Memory → ⊥) → Steps p old result q new → length p.to_come ≤ length q.to_come + 1

@@ -5,13 +5,11 @@ use Rattle.std.proofs.lemmas.Bool.{cases_lt}
 use Rattle.std.proofs.lemmas.Bool.Decides.{nat_tests}
 use Rattle.std.proofs.lemmas.List.{take_all, take_at, length-append}
 use Rattle.std.proofs.lemmas.List.Elements.{All-nil, All-cons, All-head, All-tail, All-same, All-weaker, All-contains_itself}
-use Rattle.mc_tree.specs.Chain.{last_key}
-use Rattle.mc_tree.specs.Rows.{Ascends}
+use Rattle.mc_tree.specs.Tree.{last_key, Ascends}
 use Rattle.mc_tree.specs.facts.Lists.{pairs_behind, pairs_front}
-use Rattle.mc_tree.specs.facts.Precedence.{cases_of}
+use Rattle.mc_tree.specs.facts.Order.{cases_of}
 use Rattle.mc_explore.specs.facts.Listings.{rest_next, rest_over}
-use Rattle.mc_explore.specs.Listing.{Listing, IsLawful, IsRest, FindsRow}
-use Rattle.mc_explore.specs.Pages.{Page, IsBefore, AreBefore, Shown, rows_taken, TakesPage, FindsBefore, page_at, state_past}
+use Rattle.mc_explore.specs.Pages.{Listing, IsLawful, IsRest, FindsRow, Page, IsBefore, AreBefore, Shown, rows_taken, TakesPage, FindsBefore, page_at, state_past}
 
 -- ---- how many rows are taken
 

@@ -5,12 +5,10 @@ use Rattle.std.proofs.lemmas.List.{take_at, take-append-drop}
 use Rattle.std.proofs.lemmas.List.Concat.{flat_map-append}
 use Rattle.std.proofs.Math.Seq.{take-append-add}
 use Rattle.std.specs.Io.KnownBytes.{Appends}
-use Rattle.mc_tree.specs.Chain.{last_key}
-use Rattle.mc_tree.specs.Paths.{After}
-use Rattle.mc_explore.specs.Listing.{Listing, IsLawful}
-use Rattle.mc_explore.specs.Pages.{TakesPage, ShownIsOut, ShownBegan, FindsBefore, page_at, page_text, last_line, row_line}
+use Rattle.mc_tree.specs.Tree.{last_key, After}
+use Rattle.mc_explore.specs.Pages.{Listing, IsLawful, TakesPage, ShownIsOut, ShownBegan, FindsBefore, page_at, page_text, last_line, row_line}
 use Rattle.mc_explore.proofs.PageRows.{AreSoFar, cursor_is, next_of, none_so_far, one_more, page_short, page_full, page_with, some_shown}
-use Rattle.mc_output.specs.Fronts.{AppendsFront}
+use Rattle.mc_output.specs.Text.{AppendsFront}
 use Rattle.std.proofs.KnownBytes.{Appends-trans}
 
 -- ---- texts that are out

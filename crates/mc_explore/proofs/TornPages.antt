@@ -1,5 +1,6 @@
 -- The whole row lines of a page of which only a beginning is there.
-use Rattle.std.specs.Prelude.{◌≡◌, ◌⊎◌, ℕ, suc, ◌+◌, ◌-◌, ◌<◌, ◌≤◌, ◌^◌, List, [], ◌∷◌, ◌++◌, length, take, map, flat_map, codes, decimal, All, Contains, Option, Some, None, Result, Ok, Err, IfNone}
+use Rattle.std.specs.Prelude.{◌≡◌, ◌⊎◌, ℕ, suc, ◌+◌, ◌-◌, ◌<◌, ◌≤◌, ◌^◌, List, [], ◌∷◌, ◌++◌, length, take, map, flat_map, codes, decimal, All, Contains, Option, Some, None, Result, Ok, Err}
+use Rattle.std.specs.Prelude.{IfNone}
 use Rattle.std.specs.Prelude.{refl}
 use Rattle.std.specs.Result.{result_ok}
 use Rattle.std.specs.Str.Iter.{LacksByte}
@@ -11,30 +12,26 @@ use Rattle.std.proofs.Math.Seq.{take-append-add}
 use Rattle.std.proofs.lemmas.Fmt.{decimal_injective}
 use Rattle.mc_flash.specs.Geometry.{IsLayout}
 use Rattle.mc_flash.specs.facts.Usage.{few_operations}
-use Rattle.mc_trailer.specs.Texts.{type_text}
+use Rattle.mc_trailer.specs.Tables.{type_text}
 use Rattle.mc_tree.specs.Tree.{Allowed}
 use Rattle.mc_tree.specs.facts.Lists.{at_front, behind}
-use Rattle.mc_boot.specs.Runs.{ops_of}
-use Rattle.mc_boot.specs.Texts.{result_text}
-use Rattle.mc_explore.specs.Boots.{at_cut, boots}
-use Rattle.mc_start.specs.CursorText.{cursor_text}
+use Rattle.mc_boot.specs.Outcome.{ops_of, result_text}
+use Rattle.mc_explore.specs.inner.Once.{at_cut, boots}
+use Rattle.mc_start.specs.Cursor.{cursor_text}
 use Rattle.mc_explore.specs.Page.{row_line, last_line}
-use Rattle.mc_explore.specs.Rest.{IsRest}
-use Rattle.mc_explore.specs.RowText.{row_text, slot_text}
-use Rattle.mc_explore.specs.State.{State, Told, moved_to}
-use Rattle.mc_start.specs.Texts.{IsSchedule, schedule_text}
-use Rattle.mc_explore.specs.Torn.{AreLines, IsRowLine, AreRowLines, HasRows, IsOfLast, IsLastRow, Continues}
+use Rattle.mc_explore.specs.Rows.{IsRest, row_text, slot_text, State, Told, moved_to, schedules}
+use Rattle.mc_start.specs.Start.{IsSchedule, schedule_text}
+use Rattle.mc_explore.specs.Survey.{AreLines, IsRowLine, AreRowLines, HasRows, IsOfLast, IsLastRow, Continues}
 use Rattle.mc_start.specs.declared.cursor.Cursor.{Cursor}
 use Rattle.mc_explore.proofs.Bytes.{IsBetween, NoFeed, literal, and, feedless_front, schedule_between, lacks_feed, lacks_literal, row_feedless, cursor_feedless, no_space}
-use Rattle.mc_explore.proofs.Going.{few_ops}
+use Rattle.mc_explore.proofs.Walks.{few_ops}
 use Rattle.mc_explore.specs.facts.Listed.{schedules_are_lawful}
 use Rattle.mc_explore.specs.facts.Listings.{rest_tail}
-use Rattle.mc_explore.specs.Rest.{schedules}
 use Rattle.mc_explore.specs.facts.Occurring.{path_of}
 use Rattle.mc_output.specs.facts.Parting.{Lacks, lacks_each, one_part, no_part, lacks_decimal}
 use Rattle.mc_output.specs.facts.Reading.{dash}
 use Rattle.mc_start.specs.facts.Reading.{point_no_digit, points, spelling}
-use Rattle.mc_boot.specs.PowerOn.{PowerOn, again}
+use Rattle.mc_boot.specs.Plan.{PowerOn, again}
 
 lacks : (byte : ℕ) (xs : List ℕ) → LacksByte byte xs → Lacks byte xs
 lacks byte xs none = lacks_each byte xs none

@@ -2,23 +2,17 @@
 use Rattle.std.specs.Prelude.{◌≡◌, ◌≢◌, ℕ, Bool, List, [], refl}
 use Rattle.std.proofs.Common.{arith, sym, ap, subst, ◌∙◌, None, Option, Some}
 use Rattle.mc_tree.specs.Tree as tree
-use Rattle.mc_tree.specs.Paths as paths
-use Rattle.mc_tree.specs.Paths.{After, IsNextIn, IsOverIn, IsPastIn, Position}
-use Rattle.mc_flash.specs.Content.{Content}
+use Rattle.mc_tree.specs.Tree.{After, IsNextIn, IsOverIn, IsPastIn, Position}
+use Rattle.mc_flash.specs.Flash.{Content}
 use Rattle.mc_flash.specs.Usage.{Limits}
 use Rattle.mc_walk.specs.Kind.{Kind}
-use Rattle.mc_walk.specs.Tours.{position_of}
-use Rattle.mc_walk.specs.Walks.{Walked, IsPath, IsSame, origin_of}
+use Rattle.mc_walk.specs.Walks.{position_of, Walked, IsPath, IsSame, origin_of}
 use Rattle.mc_walk.specs.declared.tour.Phase.{Phase}
 use Rattle.mc_walk.specs.declared.tour.Phase.TheVariants as phases
-use Rattle.mc_boot.specs.PowerOn.{PowerOn}
-use Rattle.mc_explore.specs.subjects.Keys.{AreKeys}
-use Rattle.mc_explore.specs.subjects.State as states
-use Rattle.mc_explore.specs.subjects.State.{Finds, moved_to}
-use Rattle.mc_explore.specs.Subject.{Subject}
-use Rattle.mc_explore.specs.subjects.Rowing.{FindsRow}
-use Rattle.mc_explore.specs.subjects.Rows.{IsRowAt}
-use Rattle.mc_explore.specs.subjects.View.{IsBehind, IsOurs, IsSound, Rowed, begun_of, state_of}
+use Rattle.mc_boot.specs.Plan.{PowerOn}
+use Rattle.mc_explore.specs.inner.Exploring.{AreKeys, FindsRow, IsBehind, IsOurs, IsSound, Rowed, begun_of, state_of}
+use Rattle.mc_explore.specs.Subject as states
+use Rattle.mc_explore.specs.Subject.{Finds, moved_to, Subject, IsRowAt}
 
 module _ {B C K R U N A T : Type 0} (x : Subject C K R U) (kind : B → Kind N A T) (begins : B → Content → PowerOn) (choice : B → C) (key_of : B → Content → List ℕ → K)
     (keys : (b : B) (c : Content) → AreKeys x (kind b).tree ((kind b).root c) (begins b c) (choice b) (key_of b c)) where
@@ -26,20 +20,20 @@ module _ {B C K R U N A T : Type 0} (x : Subject C K R U) (kind : B → Kind N A
 
   module _ (b : B) (c : Content) (bound : ℕ) (path : List ℕ) (m : tree.IsMember (kind b).tree ((kind b).root c) bound path) where
     past_there : (p : Phase) (l : List ℕ) → tree.IsMember (kind b).tree ((kind b).root c) bound l → IsPastIn x.Before (position_of p (key_of b c path)) (key_of b c l)
-        → paths.IsPast (position_of p path) l
+        → tree.IsPast (position_of p path) l
     past_there phases.Fresh l n past = tt
     past_there phases.Going l n past = ((keys b c).order bound path l m n).0 past
     past_there phases.Done l n past = ((keys b c).order bound path l m n).0 past
     past_there phases.Broken l n past = absurd past
 
-    past_here : (p : Phase) (l : List ℕ) → tree.IsMember (kind b).tree ((kind b).root c) bound l → paths.IsPast (position_of p path) l
+    past_here : (p : Phase) (l : List ℕ) → tree.IsMember (kind b).tree ((kind b).root c) bound l → tree.IsPast (position_of p path) l
         → IsPastIn x.Before (position_of p (key_of b c path)) (key_of b c l)
     past_here phases.Fresh l n past = tt
     past_here phases.Going l n past = ((keys b c).order bound path l m n).1 past
     past_here phases.Done l n past = ((keys b c).order bound path l m n).1 past
     past_here phases.Broken l n past = absurd past
 
-    pub next_key : (p : Phase) (l : List ℕ) → paths.IsNext (tree.IsMember (kind b).tree ((kind b).root c) bound) (position_of p path) l
+    pub next_key : (p : Phase) (l : List ℕ) → tree.IsNext (tree.IsMember (kind b).tree ((kind b).root c) bound) (position_of p path) l
         → IsNextIn x.Before (x.IsListed (begins b c) (choice b) bound) (position_of p (key_of b c path)) (key_of b c l)
     next_key p l n = record {
       listed = (keys b c).listed bound l n.listed;
@@ -50,7 +44,7 @@ module _ {B C K R U N A T : Type 0} (x : Subject C K R U) (kind : B → Kind N A
           (((keys b c).order bound there.0 l there.1 n.listed).0 (subst (λ z. x.Before z (key_of b c l)) (sym there.2) before));
     }
 
-    pub over_key : (p : Phase) → paths.IsOver (tree.IsMember (kind b).tree ((kind b).root c) bound) (position_of p path)
+    pub over_key : (p : Phase) → tree.IsOver (tree.IsMember (kind b).tree ((kind b).root c) bound) (position_of p path)
         → IsOverIn x.Before (x.IsListed (begins b c) (choice b) bound) (position_of p (key_of b c path))
     over_key p over = λ k listed past.
         let there = (keys b c).path_of bound k listed in
@@ -147,7 +141,7 @@ module _ {B C K R U N A T : Type 0} (x : Subject C K R U) (kind : B → Kind N A
         where
           by : (p : Phase) → old.phase ≡ p → After last ≡ position_of p last
           by phases.Fresh is =
-              let over = subst (λ q. paths.IsOver (IsPath (kind w.branches) w) (position_of q old.last)) is f.finds.0 in
+              let over = subst (λ q. tree.IsOver (IsPath (kind w.branches) w) (position_of q old.last)) is f.finds.0 in
               absurd (over [] (omega arith, tt) tt)
           by phases.Going is = refl
           by phases.Done is = refl

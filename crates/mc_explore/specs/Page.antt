@@ -1,9 +1,12 @@
--- Pages of schedules.
-use Rattle.std.specs.Prelude.{ℕ, List, Option}
-use Rattle.mc_explore.specs.Pages as pages
-use Rattle.mc_explore.specs.Rest.{schedules}
-use Rattle.mc_explore.specs.State.{State, Told}
+-- Pages of schedules: up to a schedule, too, and continued from their cursors.
+use Rattle.std.specs.Prelude.{Bool, List, Option, [], ℕ}
+use Rattle.mc_explore.specs.Rows.{IsRow, State, Told, schedules}
 use Rattle.mc_start.specs.declared.cursor.Cursor.{Cursor}
+use Rattle.mc_tree.specs.Tree.{Precedes}
+use Rattle.mc_tree.specs.Tree as chains
+use Rattle.mc_explore.specs.Pages as pages
+
+-- Pages of schedules.
 
 abbrev pub Page : Type 0
 Page = pages.Page Told Cursor
@@ -30,3 +33,32 @@ PageIsOut = pages.PageIsOut schedules
 
 abbrev pub PageBegan : State → ℕ → Option (List ℕ) → Option (List ℕ) → Type 0
 PageBegan = pages.PageBegan schedules
+
+-- Pages of the rows before a schedule.
+
+-- The rows to come, and those of them before the schedule.
+abbrev pub Shown : Option (List ℕ) → State → Type 0
+Shown = pages.Shown schedules
+
+-- The rows of that page are taken; it is out; or a beginning of it is.
+abbrev pub TakesPage : Option (List ℕ) → State → State → ℕ → Page → Type 0
+TakesPage = pages.TakesPage schedules
+
+abbrev pub ShownIsOut : Option (List ℕ) → State → State → ℕ → Option (List ℕ) → Option (List ℕ) → Type 0
+ShownIsOut = pages.ShownIsOut schedules
+
+abbrev pub ShownBegan : Option (List ℕ) → State → ℕ → Option (List ℕ) → Option (List ℕ) → Type 0
+ShownBegan = pages.ShownBegan schedules
+
+-- Pages that are continued from their cursors.
+
+-- The schedule of the last row, which a full page's cursor names.
+abbrev pub last_schedule : List ℕ → List Told → List ℕ
+last_schedule = chains.last_key (λ row. row.schedule)
+
+-- The rows of the pages of a chain, joined. The first page begins at the state, and each further one behind the schedule that
+-- the cursor of the page before it names, where an explorer that goes on from that cursor begins. A page that is not full says
+-- `end`, and is the last.
+abbrev pub Chain : State → List ℕ → Bool → List Told → Type 0
+Chain state limits ended rows =
+    chains.Chain Precedes (λ row. row.schedule) [] (IsRow state.start state.bound) state.position limits ended rows

@@ -1,8 +1,21 @@
--- What is explored, of whatever kind: which keys can occur from a start under a choice, in which order, and what is told of each.
-use Rattle.std.specs.Prelude.{ℕ, List}
+-- What is explored, of whatever kind: which keys can occur from a start, where an explorer has come to, its rows, and where a cursor serves.
+use Rattle.std.specs.Prelude.{Bool, Err, List, None, Ok, Option, Result, Some, false, refl, ℕ, ◌≡◌, ◌≢◌, ◌⊎◌}
+use Rattle.mc_boot.specs.Plan.{PowerOn}
+use Rattle.mc_explore.specs.Explores.{ExploresOn}
+use Rattle.mc_explore.specs.Pages.{IsLawful, IsRest, Listing}
+use Rattle.mc_explore.specs.declared.error.ExploreError.{ExploreError}
+use Rattle.mc_explore.specs.declared.subject.Fields.{Fields}
+use Rattle.mc_flash.specs.Flash.{Content}
 use Rattle.mc_flash.specs.Geometry.{Geometry}
+use Rattle.mc_flash.specs.Usage.{Usage}
+use Rattle.mc_start.specs.Start.{start_digest}
 use Rattle.mc_trailer.specs.declared.tables.Rules.{Rules}
-use Rattle.mc_boot.specs.PowerOn.{PowerOn}
+use Rattle.mc_tree.specs.Tree.{After, AtStart, Lost, Position}
+use Rattle.mc_tree.specs.facts.Order.{IsOrder}
+use Rattle.mc_explore.specs.declared.error.ExploreError.TheVariants as errors
+use Rattle.mc_tree.specs.Tree as paths
+
+-- What is explored, of whatever kind: which keys can occur from a start under a choice, in which order, and what is told of each.
 
 -- Of a choice, a key, a row and a cursor.
 pub record Subject (C K R U : Type 0) : Type 1 where
@@ -22,3 +35,141 @@ pub record Subject (C K R U : Type 0) : Type 1 where
   -- where to go on behind a key, with so many cuts at most, and its text
   pub cursor : PowerOn → C → ℕ → K → U
   pub cursor_text : U → List ℕ
+
+-- Where an explorer has come to, and the row that comes next.
+
+-- The start, the choice and the most cuts of a key; where the explorer has come to: it gave no row yet, or last that of a key, or it
+-- failed; and whether its flash was refused memory at some time.
+pub record State (C K : Type 0) : Type 0 where
+  pub start : PowerOn
+  pub choice : C
+  pub bound : ℕ
+  pub position : Position K
+  pub failed : Bool
+
+-- The state after the row of a key, at the start, and behind a key.
+abbrev pub moved_to : {C K : Type 0} → State C K → K → State C K
+moved_to state k =
+    record { start = state.start; choice = state.choice; bound = state.bound; position = After k; failed = state.failed }
+
+abbrev pub at_start : {C K : Type 0} → PowerOn → C → ℕ → State C K
+at_start start choice bound =
+    record { start = start; choice = choice; bound = bound; position = AtStart; failed = false }
+
+abbrev pub behind : {C K : Type 0} → PowerOn → C → ℕ → K → State C K
+behind start choice bound k =
+    record { start = start; choice = choice; bound = bound; position = After k; failed = false }
+
+-- What callers see of an explorer: its state; the content of its flash and the usage; and how many contents are marked there.
+pub record Explored (C K : Type 0) : Type 0 where
+  pub state : State C K
+  pub content : Content
+  pub usage : Usage
+  pub marked : ℕ
+
+module _ {C K R U : Type 0} (x : Subject C K R U) where
+  -- One of the keys to go through, the first past the position, and that none is.
+  abbrev pub IsListed : State C K → K → Type 0
+  IsListed state k = x.IsListed state.start state.choice state.bound k
+
+  abbrev pub IsNext : State C K → K → Type 0
+  IsNext state k = paths.IsNextIn x.Before (IsListed state) state.position k
+
+  abbrev pub IsOver : State C K → Type 0
+  IsOver state = paths.IsOverIn x.Before (IsListed state) state.position
+
+  -- The next row with its outcomes, or none where no key is past the position.
+  abbrev pub Finds : State C K → Option R → Type 0
+  Finds state (Some row) = IsNext state (x.key row) × x.HasOutcome state.start state.choice row
+  Finds state None = IsOver state
+
+  -- The state after that answer.
+  abbrev pub state_after : State C K → Option R → State C K
+  state_after state (Some row) = moved_to state (x.key row)
+  state_after state None = state
+
+  -- The restart theorem for that row.
+  abbrev pub Restarts : State C K → Option R → Type 0
+  Restarts state (Some row) = x.Restarts state.start state.choice row
+  Restarts state None = Unit {0}
+
+  -- An explorer goes on behind a key that is one of those to go through; or it is none; or memory is wanted.
+  abbrev pub GoesOnBehind : PowerOn → C → ℕ → K → Result (Explored C K) ExploreError → Type 0
+  GoesOnBehind start choice bound k (Ok explorer) = x.IsListed start choice bound k × (explorer.state ≡ behind start choice bound k)
+  GoesOnBehind start choice bound k (Err e) = (e ≡ errors.Memory) ⊎ ((e ≡ errors.CannotOccur) × (x.IsListed start choice bound k → ⊥))
+
+  -- So many operations for a call that finds one, and none for a call that finds none.
+  abbrev pub row_cost : State C K → Option R → ℕ
+  row_cost state (Some row) = x.most_for_row state.start.rules state.start.geometry
+  row_cost state None = 0
+
+-- It goes on, and after an error it has failed.
+abbrev pub Explores : {C K A : Type 0} → Bool → Explored C K → Result A ExploreError → Explored C K → Type 0
+Explores = ExploresOn (λ explorer. explorer.usage) (λ explorer. explorer.state.position ≡ Lost)
+
+-- The rows of a subject, as they are listed.
+
+-- A row is that of a path, with its outcomes.
+abbrev pub IsRowAt : {B C K R U : Type 0} → Subject C K R U → (B → Content → PowerOn) → (B → C) → (B → Content → List ℕ → K) → B → Content → List ℕ → R → Type 0
+IsRowAt x begins choice key_of b c path row = (x.key row ≡ key_of b c path) × x.HasOutcome (begins b c) (choice b) row
+
+module _ {C K R U : Type 0} (x : Subject C K R U) where
+  -- A row of the whole list: one of the keys to go through, with its outcomes.
+  pub record IsRow (start : PowerOn) (choice : C) (bound : ℕ) (row : R) : Type 0 where
+    pub listed : x.IsListed start choice bound (x.key row)
+    pub outcome : x.HasOutcome start choice row
+
+  abbrev pub rows_of : Listing (State C K) K R U
+  rows_of = record {
+    IsRow = λ state. IsRow state.start state.choice state.bound;
+    key = x.key;
+    Before = x.Before;
+    row_text = x.row_text;
+    position = λ state. state.position;
+    moved_to = moved_to;
+    cursor = λ state. x.cursor state.start state.choice state.bound;
+    cursor_text = x.cursor_text;
+    no_key = x.no_key;
+  }
+
+  -- They are lawful where the keys have an order, and there is a list of the rows to come.
+  pub are_lawful : IsOrder x.Before → ((state : State C K) → (rows : List R) × IsRest rows_of state rows) → IsLawful rows_of
+  are_lawful order some_rest = record {
+    order = order;
+    some_rest = some_rest;
+    position_is = λ state k. refl;
+    rows_stay = λ state k row is. is;
+    rows_stayed = λ state k row is. is;
+    cursor_stays = λ state k m. refl;
+    moved_again = λ state k m. refl;
+  }
+
+-- Where a cursor serves to go on, and the first reason why it does not.
+
+-- What the cursor behind a key says.
+abbrev pub fields_of : {C K : Type 0} → PowerOn → C → ℕ → K → Fields C K
+fields_of start choice bound k = record { rules = start.rules; choice = choice; digest = start_digest start; bound = bound; key = k }
+
+module _ {C K R U : Type 0} (x : Subject C K R U) (start : PowerOn) (choice : C) (bound : ℕ) (c : Fields C K) where
+  -- The cursor names this start, its rules, this choice and this bound.
+  pub record Names : Type 0 where
+    pub digest_is : c.digest ≡ start_digest start
+    pub rules_are : c.rules ≡ start.rules
+    pub choice_is : c.choice ≡ choice
+    pub bound_is : c.bound ≡ bound
+
+  -- Why it is refused: another start; else other rules, or another choice; else another bound; else its key is none of those to go
+  -- through. Memory is wanted only for a cursor that names them all.
+  abbrev pub Refuses : ExploreError → Type 0
+  Refuses errors.OtherStart = c.digest ≢ start_digest start
+  Refuses errors.OtherRules = (c.digest ≡ start_digest start) × ((c.rules ≢ start.rules) ⊎ (c.choice ≢ choice))
+  Refuses errors.OtherBound = (c.digest ≡ start_digest start) × (c.rules ≡ start.rules) × (c.choice ≡ choice) × (c.bound ≢ bound)
+  Refuses errors.CannotOccur = Names × (x.IsListed start choice bound c.key → ⊥)
+  Refuses errors.Memory = Names
+  Refuses errors.Failed = ⊥
+  Refuses errors.Write = ⊥
+
+  -- An explorer that goes on behind the cursor's key, or the first reason why there is none.
+  abbrev pub Resumes : Result (Explored C K) ExploreError → Type 0
+  Resumes (Ok explorer) = Names × x.IsListed start choice bound c.key × (explorer.state ≡ behind start choice bound c.key)
+  Resumes (Err e) = Refuses e

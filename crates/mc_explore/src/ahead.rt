@@ -1,6 +1,6 @@
 //! Rows that are told without the flash.
 ghost use Rattle.std.specs.Prelude.{◌≡◌, ◌<◌, Some, IfSome, MatchOption};
-ghost use Rattle.mc_explore.specs.subjects.Ahead.{IsSpent};
+ghost use Rattle.mc_explore.specs.inner.Exploring.{IsSpent};
 
 /// The rows of the children of a node, the last of their path, that are told without the flash.
 #[derive(Clone, Copy)]

@@ -1,11 +1,11 @@
 //! What all schedules of power cuts come to.
 ghost use Rattle.std.specs.Prelude.{◌≡◌, ◌↔◌, true, List};
 ghost use Rattle.mc_boot.specs.Outcome.{shown};
-ghost use Rattle.mc_start.specs.Cuts.{lowered};
+ghost use Rattle.mc_start.specs.Start.{lowered};
 ghost use Rattle.mc_explore.specs.Census.{census_of};
-ghost use Rattle.mc_explore.specs.State.{Told};
+ghost use Rattle.mc_explore.specs.Rows.{Told};
 ghost use Rattle.mc_explore.specs.Survey.{AllBoot};
-ghost use Rattle.mc_explore.specs.Totals.{Totals, both, cut_off, no_totals, report_totals, totals, with_first};
+ghost use Rattle.mc_explore.specs.Census.{Totals, both, cut_off, no_totals, report_totals, totals, with_first};
 
 use mc_boot::{BootResult, Outcome};
 use mc_start::Schedule;
@@ -31,7 +31,7 @@ pub struct Census {
 
 impl Census {
     /// Of no schedules.
-    #[tactic(auto, unfolding(crate::specs::Totals::cut_off, crate::specs::Census::cut_number))]
+    #[tactic(auto, unfolding(crate::specs::Census::cut_off, crate::specs::Census::cut_number))]
     pub(crate) fn new() -> Census
         ensures { result ≡ cut_off no_totals }
     {
@@ -47,7 +47,7 @@ impl Census {
     }
 
     /// Of the schedule of no cuts, which has that outcome.
-    #[tactic(auto, unfolding(crate::specs::Totals::cut_off, crate::specs::Census::cut_number))]
+    #[tactic(auto, unfolding(crate::specs::Census::cut_off, crate::specs::Census::cut_number))]
     pub(crate) fn of(outcome: &Outcome) -> Census
         ensures { result ≡ cut_off (report_totals (shown outcome.now)) }
     {
@@ -69,7 +69,7 @@ impl Census {
     }
 
     /// Of these schedules and of others, which come after them.
-    #[tactic(auto, unfolding(crate::specs::Totals::cut_off, crate::specs::Census::cut_number))]
+    #[tactic(auto, unfolding(crate::specs::Census::cut_off, crate::specs::Census::cut_number))]
     pub(crate) fn both(&self, later: &Census) -> Census
         ensures { (a b : Totals) → self.now ≡ cut_off a → later.now ≡ cut_off b
             → result ≡ cut_off (both a b) }

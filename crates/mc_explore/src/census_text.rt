@@ -1,6 +1,6 @@
 //! Censuses as text.
 ghost use Rattle.std.specs.Prelude.{Some};
-ghost use Rattle.mc_explore.specs.CensusText.{census_text, count_text, first_text};
+ghost use Rattle.mc_explore.specs.Census.{census_text, count_text, first_text};
 
 use crate::census::Census;
 use mc_start::Schedule;

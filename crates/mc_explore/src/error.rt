@@ -1,7 +1,7 @@
 //! Why an explorer gives up.
 ghost use Rattle.std.specs.Prelude.{◌≡◌};
 ghost use Rattle.mc_explore.specs.declared.error.ExploreError.TheVariants.{Memory};
-ghost use Rattle.mc_explore.specs.Want.{failure_of};
+ghost use Rattle.mc_explore.specs.Explores.{failure_of};
 
 use mc_flash::FlashError;
 use mc_walk::TourError;

@@ -1,16 +1,16 @@
 //! Goes through the schedules of power cuts, one after another.
 ghost use Rattle.std.specs.Prelude.{◌≡◌, ℕ, List, option_map, ◌+◌, ◌*◌, ◌≤◌, true, length, IfOk, IfErr, IfSome, ◌⊎◌};
 ghost use Rattle.mc_flash.specs.Usage.{limits_for, most_operations};
-ghost use Rattle.mc_start.specs.CursorText.{cursor_of};
+ghost use Rattle.mc_start.specs.Cursor.{cursor_of};
 ghost use Rattle.mc_start.specs.Start.{begun};
-ghost use Rattle.mc_tree.specs.Paths.{After};
-ghost use Rattle.mc_explore.specs.Bounds.{most_for_row, row_cost};
-ghost use Rattle.mc_explore.specs.subjects.State.{Explores};
-ghost use Rattle.mc_explore.specs.Rest.{Finds, schedules, state_after};
+ghost use Rattle.mc_tree.specs.Tree.{After};
+ghost use Rattle.mc_explore.specs.Rows.{most_for_row, row_cost};
+ghost use Rattle.mc_explore.specs.Subject.{Explores};
+ghost use Rattle.mc_explore.specs.Rows.{Finds, schedules, state_after};
 ghost use Rattle.mc_explore.specs.Pages.{FindsBefore};
-ghost use Rattle.mc_explore.specs.Restarts.{RowRestarts};
-ghost use Rattle.mc_explore.specs.Resume.{Resumes};
-ghost use Rattle.mc_explore.specs.State.{told, at_start};
+ghost use Rattle.mc_explore.specs.Rows.{RowRestarts};
+ghost use Rattle.mc_explore.specs.Rows.{Resumes};
+ghost use Rattle.mc_explore.specs.Rows.{told, at_start};
 
 use crate::error::ExploreError;
 use crate::once::Once;
@@ -30,7 +30,7 @@ pub struct Explorer<'a, F: Flash> {
 }
 
 impl<'a, F: Flash> Model for Explorer<'a, F> {
-    ghost use Rattle.mc_explore.specs.State.{Explored};
+    ghost use Rattle.mc_explore.specs.Rows.{Explored};
 
     ghost Value = { Explored };
 

@@ -1,7 +1,7 @@
 //! What rows print of the images of a start, put together once.
 ghost use Rattle.std.specs.Prelude.{◌≡◌, ◌≤◌, length, Some, IfSome};
-ghost use Rattle.mc_boot.specs.Image.{identity_of};
-ghost use Rattle.mc_explore.specs.RowText.{slot_text};
+ghost use Rattle.mc_boot.specs.Plan.{identity_of};
+ghost use Rattle.mc_explore.specs.Rows.{slot_text};
 
 use crate::row_text::put_image;
 use arrayvec::ArrayString;

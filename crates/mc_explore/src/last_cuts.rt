@@ -1,10 +1,10 @@
 //! The schedules of the most cuts: the outcomes behind their last cuts are found among those at the cuts of another boot.
 ghost use Rattle.std.specs.Prelude.{◌≡◌, ℕ, List, ◌+◌, ◌∷◌, ◌++◌, [], ◌<◌, ◌≤◌, ◌^◌, length, slice_get, Some, IfOk, IfSome, MatchOption, true};
 ghost use Rattle.mc_boot.specs.Outcome.{outcome_of, shown};
-ghost use Rattle.mc_boot.specs.PowerOn.{PowerOn, again};
+ghost use Rattle.mc_boot.specs.Plan.{PowerOn, again};
 ghost use Rattle.mc_boot.specs.Rejoin.{place_of};
-ghost use Rattle.mc_explore.specs.LastCuts.{flash_at, AreAtCuts, AreLastCuts};
-ghost use Rattle.mc_explore.specs.Once.{begun_of};
+ghost use Rattle.mc_explore.specs.inner.LastCuts.{flash_at, AreAtCuts, AreLastCuts};
+ghost use Rattle.mc_explore.specs.inner.Once.{begun_of};
 
 use crate::ahead::RowsAhead;
 use crate::once::Once;

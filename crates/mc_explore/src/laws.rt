@@ -1,12 +1,12 @@
 //! What holds of the rows to come.
 ghost use Rattle.std.specs.Prelude.{◌≡◌, ◌<◌, ℕ, Bool, false, List, [], ◌∷◌, ◌++◌, length, take, All};
-ghost use Rattle.mc_tree.specs.Chain.{JoinUp};
-ghost use Rattle.mc_explore.specs.Chain.{Chain, last_schedule};
+ghost use Rattle.mc_tree.specs.Tree.{JoinUp};
+ghost use Rattle.mc_explore.specs.Page.{Chain, last_schedule};
 ghost use Rattle.mc_explore.specs.Page.{state_past};
-ghost use Rattle.mc_explore.specs.Resume.{behind};
-ghost use Rattle.mc_tree.specs.Paths.{Precedes};
-ghost use Rattle.mc_explore.specs.State.{State, Told, moved_to};
-ghost use Rattle.mc_explore.specs.Rest.{IsRest};
+ghost use Rattle.mc_explore.specs.Rows.{behind};
+ghost use Rattle.mc_tree.specs.Tree.{Precedes};
+ghost use Rattle.mc_explore.specs.Rows.{State, Told, moved_to};
+ghost use Rattle.mc_explore.specs.Rows.{IsRest};
 
 /// Past each position there is one ascending list of rows, and no other. After its first row the others are to come. Its
 /// order is that of the cuts, and not of how many they are.

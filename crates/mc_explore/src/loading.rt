@@ -1,10 +1,10 @@
 //! The walk from a start.
 ghost use Rattle.std.specs.Prelude.{◌≡◌, ◌+◌, ◌≤◌, true, length, IfOk, IfErr, OnOk};
-ghost use Rattle.mc_flash.specs.Content.{size_of};
+ghost use Rattle.mc_flash.specs.Flash.{size_of};
 ghost use Rattle.mc_flash.specs.declared.op.Slot.TheVariants.{Primary, Secondary};
 ghost use Rattle.mc_flash.specs.Usage.{limits_for};
 ghost use Rattle.mc_start.specs.Start.{begun};
-ghost use Rattle.mc_explore.specs.View.{IsLoaded, begun_with};
+ghost use Rattle.mc_explore.specs.inner.View.{IsLoaded, begun_with};
 
 use crate::once::Once;
 use mc_flash::{Flash, FlashError};

@@ -1,6 +1,6 @@
 //! The tree of boots that are cut: a node is what a flash contains, and its child of a number is what the boot from there
 //! leaves that is cut before its operation of that number.
-ghost use Rattle.mc_image.specs.Bytes.{IsBytes};
+ghost use Rattle.mc_image.specs.Image.{IsBytes};
 
 use mc_boot::{Boot, Outcome, outcome_after};
 use mc_flash::{Flash, FlashError, Layout, Slot};
@@ -30,10 +30,10 @@ fn bytes_stand(bytes: &[u8])
 impl Once {
     ghost use Rattle.std.specs.Prelude.{◌≡◌, Some, IfOk, IfErr, OnOk};
     ghost use Rattle.mc_flash.specs.Usage.{most_operations};
-    ghost use Rattle.mc_flash.specs.Seen.{Keeps};
-    ghost use Rattle.mc_flash.specs.Spends.{Allows, HasRoom, Spends, Stays};
+    ghost use Rattle.mc_flash.specs.Usage.{Keeps};
+    ghost use Rattle.mc_flash.specs.Usage.{Allows, HasRoom, Spends, Stays};
     ghost use Rattle.mc_walk.specs.Kind.{IsChild, TellsChild};
-    ghost use Rattle.mc_explore.specs.Once.{begins, once, most_of, BeginsOn, CanPass, CountsAtMost, HasRun, IsBegun, IsTold, LeavesAlike, Passes};
+    ghost use Rattle.mc_explore.specs.inner.Once.{begins, once, most_of, BeginsOn, CanPass, CountsAtMost, HasRun, IsBegun, IsTold, LeavesAlike, Passes};
 
     /// The boot at power-on from a flash. The secondary's image is hashed where it is none that the start is known to hold.
     pub fn boot<F: Flash>(&self, flash: &F, start: &Start) -> Boot
@@ -129,8 +129,8 @@ impl Once {
 }
 
 impl Branches for Once {
-    ghost use Rattle.mc_flash.specs.Content.{Content};
-    ghost use Rattle.mc_explore.specs.Once.{once};
+    ghost use Rattle.mc_flash.specs.Flash.{Content};
+    ghost use Rattle.mc_explore.specs.inner.Once.{once};
 
     ghost Node = { Content };
 

@@ -1,7 +1,7 @@
 //! Text, written whole and without memory.
 ghost use Rattle.std.specs.Prelude.{◌≡◌, IfErr, OnOk, OnErr};
 ghost use Rattle.std.specs.Io.KnownBytes.{Appends};
-ghost use Rattle.mc_output.specs.Fronts.{AppendsFront};
+ghost use Rattle.mc_output.specs.Text.{AppendsFront};
 
 use crate::error::ExploreError;
 use mc_output::WriteFailed;

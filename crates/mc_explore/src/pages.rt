@@ -1,12 +1,12 @@
 //! Pages: several rows at a time, as text.
 ghost use Rattle.std.specs.Prelude.{◌≡◌, ◌+◌, ◌*◌, ◌≤◌, ◌⊎◌, IfErr, OnOk, OnErr, IsErrOf};
-ghost use Rattle.mc_tree.specs.Paths.{Lost};
-ghost use Rattle.mc_explore.specs.Bounds.{most_for_row};
+ghost use Rattle.mc_tree.specs.Tree.{Lost};
+ghost use Rattle.mc_explore.specs.Rows.{most_for_row};
 ghost use Rattle.mc_explore.specs.Page.{PageIsOut, PageBegan};
 ghost use Rattle.mc_explore.specs.Pages as pages;
-ghost use Rattle.mc_explore.specs.Until.{ShownIsOut, ShownBegan};
+ghost use Rattle.mc_explore.specs.Page.{ShownIsOut, ShownBegan};
 ghost use Rattle.mc_explore.specs.Explores.{ExploresOn, GoesOn};
-ghost use Rattle.mc_explore.specs.subjects.State.{Explores};
+ghost use Rattle.mc_explore.specs.Subject.{Explores};
 
 use crate::error::ExploreError;
 use crate::explorer::Explorer;

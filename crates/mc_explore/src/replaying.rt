@@ -1,16 +1,16 @@
 //! One schedule of power cuts, replayed or followed to its last cut.
 ghost use Rattle.std.specs.Prelude.{◌≡◌, ◌+◌, ◌≤◌, true, false, length, Some, IfOk, IfErr, IsErrOf, MatchResult};
-ghost use Rattle.mc_flash.specs.Spends.{LeaveRoom};
+ghost use Rattle.mc_flash.specs.Usage.{LeaveRoom};
 ghost use Rattle.mc_flash.specs.Usage.{limits_for, no_counts};
 ghost use Rattle.mc_boot.specs.Outcome.{shown};
-ghost use Rattle.mc_boot.specs.Runs.{after};
-ghost use Rattle.mc_walk.specs.Stack.{most_at};
+ghost use Rattle.mc_boot.specs.Outcome.{after};
+ghost use Rattle.mc_walk.specs.inner.Stack.{most_at};
 ghost use Rattle.mc_walk.specs.Walks.{IsThere};
-ghost use Rattle.mc_explore.specs.Once.{once};
-ghost use Rattle.mc_explore.specs.Replay.{IsReplayed, Refuses, Restarts};
+ghost use Rattle.mc_explore.specs.inner.Once.{once};
+ghost use Rattle.mc_explore.specs.Schedules.{IsReplayed, Refuses, Restarts};
 ghost use Rattle.mc_start.specs.Start.{begun};
-ghost use Rattle.mc_explore.specs.View.{Followed, IsLoaded};
-ghost use Rattle.mc_explore.specs.Once.{begun_of};
+ghost use Rattle.mc_explore.specs.inner.View.{Followed, IsLoaded};
+ghost use Rattle.mc_explore.specs.inner.Once.{begun_of};
 
 use crate::loading::load;
 use crate::once::{Once, Told};

@@ -1,9 +1,9 @@
 //! Rows as text.
 ghost use Rattle.std.specs.Prelude.{◌≡◌, ◌+◌, ◌<◌, ◌≤◌, ◌++◌, [], length, Some, option_map};
-ghost use Rattle.mc_boot.specs.Image.{identity_of};
+ghost use Rattle.mc_boot.specs.Plan.{identity_of};
 ghost use Rattle.mc_boot.specs.Outcome.{shown};
-ghost use Rattle.mc_explore.specs.RowText.{slot_text, outcome_text, slots_text, row_text};
-ghost use Rattle.mc_explore.specs.State.{told};
+ghost use Rattle.mc_explore.specs.Rows.{slot_text, outcome_text, slots_text, row_text};
+ghost use Rattle.mc_explore.specs.Rows.{told};
 
 use crate::labels::Labels;
 use crate::row::Row;

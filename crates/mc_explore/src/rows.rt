@@ -1,9 +1,9 @@
 //! The rows of an exploration, one after another.
 ghost use Rattle.std.specs.Prelude.{◌≡◌, ℕ, List, ◌≤◌, [], true, option_map, IfOk};
-ghost use Rattle.mc_tree.specs.Paths.{Position};
-ghost use Rattle.mc_walk.specs.Tours.{Costs, Visits};
+ghost use Rattle.mc_tree.specs.Tree.{Position};
+ghost use Rattle.mc_walk.specs.Walks.{Costs, Visits};
 ghost use Rattle.mc_walk.specs.Walks.{IsFresh, origin_of};
-ghost use Rattle.mc_explore.specs.subjects.Rowing.{CostsRow, FindsRow, StandsFor};
+ghost use Rattle.mc_explore.specs.inner.Exploring.{CostsRow, FindsRow, StandsFor};
 
 use crate::ahead::{RowsAhead, still_to_come};
 use crate::subject::Subject;
@@ -24,9 +24,9 @@ pub struct Rows<F: Flash, X: Subject> {
 }
 
 impl<F: Flash, X: Subject> Model for Rows<F, X> {
-    ghost use Rattle.mc_explore.specs.subjects.Ahead.{last_of};
-    ghost use Rattle.mc_explore.specs.subjects.Rowing.{IsRowing};
-    ghost use Rattle.mc_explore.specs.subjects.View.{Rowed};
+    ghost use Rattle.mc_explore.specs.inner.Exploring.{last_of};
+    ghost use Rattle.mc_explore.specs.inner.Exploring.{IsRowing};
+    ghost use Rattle.mc_explore.specs.inner.Exploring.{Rowed};
 
     ghost Value = { Rowed X };
 

@@ -16,14 +16,14 @@ const MOST_KEPT: u64 = 0x1_0000;
 
 impl Subject for Once {
     ghost use Rattle.std.specs.Prelude.{◌≡◌};
-    ghost use Rattle.mc_boot.specs.PowerOn.{PowerOn};
-    ghost use Rattle.mc_start.specs.CursorText.{cursor_of};
+    ghost use Rattle.mc_boot.specs.Plan.{PowerOn};
+    ghost use Rattle.mc_start.specs.Cursor.{cursor_of};
     ghost use Rattle.mc_start.specs.Start.{start_digest};
-    ghost use Rattle.mc_tree.specs.facts.Precedence.{paths_in_order};
-    ghost use Rattle.mc_explore.specs.LastCuts.{AreAtCuts, AreLastCuts};
-    ghost use Rattle.mc_explore.specs.Once.{begins};
-    ghost use Rattle.mc_explore.specs.Rest.{fields_of, subject};
-    ghost use Rattle.mc_explore.specs.State as states;
+    ghost use Rattle.mc_tree.specs.facts.Order.{paths_in_order};
+    ghost use Rattle.mc_explore.specs.inner.LastCuts.{AreAtCuts, AreLastCuts};
+    ghost use Rattle.mc_explore.specs.inner.Once.{begins};
+    ghost use Rattle.mc_explore.specs.Rows.{fields_of, subject};
+    ghost use Rattle.mc_explore.specs.Rows as states;
     ghost use Rattle.mc_explore.specs.facts.Keys.{are_schedules, one_more, schedule_costs, schedules_clear};
     ghost use Rattle.mc_explore.specs.facts.Listed.{some_rest};
 

@@ -8,10 +8,10 @@ pub trait RowSource {
     ghost use Rattle.std.specs.Prelude.{◌≡◌, ℕ, Bool, Option, Some, ◌+◌, ◌≤◌, ◌⊎◌, IfOk, IfErr, OnOk, OnErr, option_map};
     ghost use Rattle.std.specs.Io.KnownBytes.{Appends};
     ghost use Rattle.mc_flash.specs.Usage.{Usage};
-    ghost use Rattle.mc_output.specs.Fronts.{AppendsFront};
-    ghost use Rattle.mc_tree.specs.Paths.{After, Lost};
+    ghost use Rattle.mc_output.specs.Text.{AppendsFront};
+    ghost use Rattle.mc_tree.specs.Tree.{After, Lost};
     ghost use Rattle.mc_explore.specs.Explores.{ExploresOn};
-    ghost use Rattle.mc_explore.specs.Listing.{Listing, IsLawful};
+    ghost use Rattle.mc_explore.specs.Pages.{Listing, IsLawful};
     ghost use Rattle.mc_explore.specs.Pages.{FindsBefore, row_line, last_line};
 
     ghost State: { Type 0 };

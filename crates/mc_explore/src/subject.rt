@@ -21,23 +21,23 @@ pub struct Fields<C, K> {
 pub trait Subject: Branches<Known = Start> {
     ghost use Rattle.std.specs.Prelude.{◌≡◌, ◌≢◌, ◌↔◌, ℕ, ◌+◌, ◌<◌, ◌≤◌, Bool, ◌^◌, List, [], ◌∷◌, length, ◌++◌, Option, true, false, IfOk, IfErr, IfSome, OnOk};
     ghost use Rattle.mc_tree.specs.Tree.{Allowed};
-    ghost use Rattle.mc_tree.specs.facts.Precedence.{IsOrder};
-    ghost use Rattle.mc_flash.specs.Content.{Content};
+    ghost use Rattle.mc_tree.specs.facts.Order.{IsOrder};
+    ghost use Rattle.mc_flash.specs.Flash.{Content};
     ghost use Rattle.mc_flash.specs.Geometry.{IsLayout};
-    ghost use Rattle.mc_flash.specs.Seen.{Seen};
-    ghost use Rattle.mc_boot.specs.PowerOn.{PowerOn};
+    ghost use Rattle.mc_flash.specs.Usage.{Seen};
+    ghost use Rattle.mc_boot.specs.Plan.{PowerOn};
     ghost use Rattle.mc_start.specs.Start.{begun, start_digest};
     ghost use Rattle.mc_walk.specs.Walks.{IsClear, IsPath, origin_of};
-    ghost use Rattle.mc_explore.specs.Listing.{IsRest};
+    ghost use Rattle.mc_explore.specs.Pages.{IsRest};
     ghost use Rattle.mc_explore.specs.Pages.{IsBefore};
     ghost use Rattle.mc_explore.specs.Subject as subjects;
     ghost use Rattle.mc_explore.specs.declared.subject.Fields.{Fields as FieldsOf};
-    ghost use Rattle.mc_explore.specs.subjects.Follow.{FollowsKey, IsCalm, IsCheapFor};
-    ghost use Rattle.mc_explore.specs.subjects.Keys.{AreKeys};
-    ghost use Rattle.mc_explore.specs.subjects.Loads.{LoadsFor};
-    ghost use Rattle.mc_explore.specs.subjects.Rowing.{AreFresh};
-    ghost use Rattle.mc_explore.specs.subjects.Rows.{IsRowAt, rows_of};
-    ghost use Rattle.mc_explore.specs.subjects.State.{State};
+    ghost use Rattle.mc_explore.specs.inner.Exploring.{FollowsKey, IsCalm, IsCheapFor};
+    ghost use Rattle.mc_explore.specs.inner.Exploring.{AreKeys};
+    ghost use Rattle.mc_explore.specs.inner.Exploring.{LoadsFor};
+    ghost use Rattle.mc_explore.specs.inner.Exploring.{AreFresh};
+    ghost use Rattle.mc_explore.specs.Subject.{IsRowAt, rows_of};
+    ghost use Rattle.mc_explore.specs.Subject.{State};
 
     ghost Shown: { Type 0 };
 

@@ -1,10 +1,10 @@
 //! What the rows of an exploration come to.
 ghost use Rattle.std.specs.Prelude.{◌≡◌, ◌+◌, ◌-◌, ◌*◌, ◌^◌, ◌<◌, ◌≤◌, ◌⊎◌, ◌↔◌, true, List, ◌∷◌, ◌++◌, [], Some, IfOk, IfErr, OnOk, OnErr, IsErrOf, length};
-ghost use Rattle.mc_explore.specs.Bounds.{most_for_row};
-ghost use Rattle.mc_explore.specs.State.{Told, told};
+ghost use Rattle.mc_explore.specs.Rows.{most_for_row};
+ghost use Rattle.mc_explore.specs.Rows.{Told, told};
 ghost use Rattle.mc_explore.specs.Page.{Page};
 ghost use Rattle.mc_explore.specs.Survey.{AllBoot, Surveys, SurveysUntil, tally_of, tally_so_far, tally_text};
-ghost use Rattle.mc_explore.specs.subjects.State.{Explores};
+ghost use Rattle.mc_explore.specs.Subject.{Explores};
 
 use crate::error::ExploreError;
 use crate::explorer::Explorer;

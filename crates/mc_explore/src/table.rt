@@ -1,15 +1,15 @@
 //! The censuses of the flashes on the way of one boot, for one bound after another.
 ghost use Rattle.std.specs.Prelude.{◌≡◌, ℕ, ◌+◌, ◌<◌, ◌≤◌, ◌^◌, length, IfOk};
-ghost use Rattle.mc_flash.specs.Content.{Content};
+ghost use Rattle.mc_flash.specs.Flash.{Content};
 ghost use Rattle.mc_flash.specs.Geometry.{Geometry};
 ghost use Rattle.mc_trailer.specs.declared.tables.Rules.{Rules};
-ghost use Rattle.mc_boot.specs.PowerOn.{power_on};
+ghost use Rattle.mc_boot.specs.Plan.{power_on};
 ghost use Rattle.mc_boot.specs.Rejoin.{IsRejoined, place_of};
-ghost use Rattle.mc_boot.specs.Runs.{ops_of};
-ghost use Rattle.mc_tree.specs.Weights.{from, placed_below};
-ghost use Rattle.mc_explore.specs.Boots.{at_cut};
-ghost use Rattle.mc_explore.specs.Table.{AreCutOff, ArePositions, AreSums, IsColumn, IsInside, IsLevel, IsPosition, own_totals, weigh, weigh_fewer};
-ghost use Rattle.mc_explore.specs.Totals.{Totals, both, cut_off, totals};
+ghost use Rattle.mc_boot.specs.Outcome.{ops_of};
+ghost use Rattle.mc_tree.specs.inner.Weights.{from, placed_below};
+ghost use Rattle.mc_explore.specs.inner.Once.{at_cut};
+ghost use Rattle.mc_explore.specs.inner.Table.{AreCutOff, ArePositions, AreSums, IsColumn, IsInside, IsLevel, IsPosition, own_totals, weigh, weigh_fewer};
+ghost use Rattle.mc_explore.specs.Census.{Totals, both, cut_off, totals};
 
 use crate::census::Census;
 use mc_boot::Rejoin;

@@ -2,8 +2,8 @@
 ghost use Rattle.std.specs.Prelude.{◌≡◌, ◌+◌, ◌≤◌, false, IfOk, IfErr, IsErrOf, OnOk};
 ghost use Rattle.mc_explore.specs.Census.{IsCensus};
 ghost use Rattle.mc_start.specs.Start.{begun};
-ghost use Rattle.mc_explore.specs.Table.{HasRoomFor, weigh};
-ghost use Rattle.mc_explore.specs.Totals.{cut_off};
+ghost use Rattle.mc_explore.specs.inner.Table.{HasRoomFor, weigh};
+ghost use Rattle.mc_explore.specs.Census.{cut_off};
 
 use crate::census::Census;
 use crate::error::{CensusError, ExploreError};
@@ -16,7 +16,7 @@ use mc_walk::Branches;
 use std::alloc::Global;
 
 impl Once {
-    ghost use Rattle.mc_explore.specs.Table.{IsColumn, IsToldHere, StaysSo};
+    ghost use Rattle.mc_explore.specs.inner.Table.{IsColumn, IsToldHere, StaysSo};
 
     // The censuses of a flash, of which that is told, for each bound up to that one. The flash stays. Of a boot that goes on with
     // the one that was cut the positions of that one are enough; only another one is stepped through by itself.

@@ -3,10 +3,10 @@ ghost use Rattle.std.specs.Prelude.{◌≡◌, ℕ, ◌≤◌, List, ◌∷◌, 
 ghost use Rattle.std.specs.Str.Iter.{LacksByte};
 ghost use Rattle.mc_flash.specs.Geometry.{IsLayout};
 ghost use Rattle.mc_explore.specs.Page.{page_at, page_text};
-ghost use Rattle.mc_explore.specs.Rest.{IsRest};
-ghost use Rattle.mc_explore.specs.State.{State, Told};
-ghost use Rattle.mc_explore.specs.Torn.{IsRowLine, IsLastRow, Continues};
-ghost use Rattle.mc_explore.specs.Until.{Shown};
+ghost use Rattle.mc_explore.specs.Rows.{IsRest};
+ghost use Rattle.mc_explore.specs.Rows.{State, Told};
+ghost use Rattle.mc_explore.specs.Survey.{IsRowLine, IsLastRow, Continues};
+ghost use Rattle.mc_explore.specs.Page.{Shown};
 
 use mc_start::Schedule;
 use std::str;

@@ -2,9 +2,9 @@
 ghost use Rattle.std.specs.Prelude.{◌≡◌, ◌+◌, ◌≤◌, true, length, option_map, IfOk, IfErr, ◌⊎◌};
 ghost use Rattle.mc_flash.specs.Usage.{limits_for};
 ghost use Rattle.mc_start.specs.Start.{begun};
-ghost use Rattle.mc_tree.specs.Paths.{After};
-ghost use Rattle.mc_explore.specs.subjects.Resume.{Resumes};
-ghost use Rattle.mc_explore.specs.subjects.State.{Explores, Finds, GoesOnBehind, Restarts, at_start, row_cost, state_after};
+ghost use Rattle.mc_tree.specs.Tree.{After};
+ghost use Rattle.mc_explore.specs.Subject.{Resumes};
+ghost use Rattle.mc_explore.specs.Subject.{Explores, Finds, GoesOnBehind, Restarts, at_start, row_cost, state_after};
 
 use crate::error::ExploreError;
 use crate::labels::Labels;
@@ -35,10 +35,10 @@ pub struct TreeExplorer<'a, F: Flash, X: Subject> {
 
 impl<'a, F: Flash, X: Subject> Model for TreeExplorer<'a, F, X> {
     ghost use Rattle.mc_start.specs.Start.{begun};
-    ghost use Rattle.mc_explore.specs.View.{IsDigestOf};
-    ghost use Rattle.mc_walk.specs.Tours.{position_of};
-    ghost use Rattle.mc_explore.specs.subjects.State.{Explored};
-    ghost use Rattle.mc_explore.specs.subjects.View.{explored, IsSound};
+    ghost use Rattle.mc_explore.specs.inner.View.{IsDigestOf};
+    ghost use Rattle.mc_walk.specs.Walks.{position_of};
+    ghost use Rattle.mc_explore.specs.Subject.{Explored};
+    ghost use Rattle.mc_explore.specs.inner.Exploring.{explored, IsSound};
 
     ghost Value = { Explored X.Choice X.Key };
 
@@ -211,8 +211,8 @@ impl<'a, F: Flash + Drop, X: Subject> TreeExplorer<'a, F, X> {
 
 impl<'a, F: Flash + Drop, X: Subject> RowSource for TreeExplorer<'a, F, X> {
     ghost use Rattle.std.specs.Prelude.{refl};
-    ghost use Rattle.mc_explore.specs.subjects.Rows.{are_lawful, rows_of};
-    ghost use Rattle.mc_explore.specs.subjects.State as states;
+    ghost use Rattle.mc_explore.specs.Subject.{are_lawful, rows_of};
+    ghost use Rattle.mc_explore.specs.Subject as states;
 
     ghost State = { states.State X.Choice X.Key };
 

@@ -2,8 +2,8 @@
 ghost use Rattle.std.specs.Prelude.{◌≡◌, ◌+◌, ◌≤◌, true, IfOk, IfErr, OnOk};
 ghost use Rattle.mc_flash.specs.Usage.{limits_for};
 ghost use Rattle.mc_start.specs.Start.{begun};
-ghost use Rattle.mc_explore.specs.subjects.Loads.{IsLoaded};
-ghost use Rattle.mc_explore.specs.subjects.Resume.{Names, Refuses};
+ghost use Rattle.mc_explore.specs.inner.Exploring.{IsLoaded};
+ghost use Rattle.mc_explore.specs.Subject.{Names, Refuses};
 
 use crate::error::ExploreError;
 use crate::subject::{Fields, Subject};

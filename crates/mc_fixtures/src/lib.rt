@@ -3,7 +3,7 @@
 #![tactic(auto)]
 
 ghost use Rattle.std.specs.Prelude.{◌≡◌, IfOk};
-ghost use Rattle.mc_flash.specs.Worked.{worked};
+ghost use Rattle.mc_flash.specs.inner.Worked.{worked};
 
 mod changes;
 mod failing;

@@ -1,15 +1,44 @@
--- A test of all the lanes of a vector, and a test of a list in groups of one length.
-use Rattle.std.proofs.Common.{◌≡◌, ℕ, zero, suc, ◌+◌, ◌*◌, ◌/◌, ◌^◌, ◌≤◌, ◌<◌, ◌&&◌, Bool, true, false, cond, eqb}
-use Rattle.std.proofs.Common.{List, [], ◌∷◌, length, map, take, drop, inl, inr, refl, sym, ap, ◌∙◌, arith}
-use Rattle.std.specs.List.{list_all}
-use Rattle.std.specs.Simd.{first_chunks}
-use Rattle.std.proofs.Math.Nat.{two-pow-succ}
+-- A test of all lanes of a vector, of the bytes of a word, and of a list in groups of one length.
+use Rattle.std.proofs.Common.{Bool, List, [], ap, arith, cond, drop, eqb, false, get_or, inl, inr, length, map, refl, suc, sym, take, true, zero, ℕ, ◌&&◌, ◌*◌, ◌+◌, ◌/◌, ◌<◌, ◌^◌, ◌∙◌, ◌∷◌, ◌≡◌}
+use Rattle.std.proofs.Common.{◌≤◌}
 use Rattle.std.proofs.Math.Bool.{and_assoc}
-use Rattle.std.proofs.lemmas.Bool.{eq-eqb, ne_eqb, and_parts, and_cases, cases_Bool, true≢false}
-use Rattle.std.proofs.lemmas.List.{take-append-drop, drop-drop, length-map}
+use Rattle.std.proofs.Math.Nat.{two-pow-succ}
+use Rattle.std.proofs.lemmas.Bool.{and_cases, and_parts, cases_Bool, eq-eqb, eqb-true, ne_eqb, true≢false}
+use Rattle.std.proofs.lemmas.List.{drop-drop, length-map, take-append-drop}
 use Rattle.std.proofs.lemmas.List.Folds.{list_all-append}
+use Rattle.std.proofs.lemmas.Nat.{le_bytes_8}
 use Rattle.std.proofs.lemmas.Simd.{mask_l-lt}
+use Rattle.std.specs.Int.{from_le_bytes, to_le_bytes, w64}
+use Rattle.std.specs.List.{list_all}
+use Rattle.std.specs.Prelude.{replicate}
+use Rattle.std.specs.Simd.{first_chunks}
 use lib.Lanes.{mask_l}
+
+-- A word of bytes that are all 0xff.
+
+-- Bytes that are all alike.
+alike : (b : ℕ) (bytes : List ℕ) → list_all (λ x. eqb x b) bytes ≡ true → bytes ≡ replicate (length bytes) b
+alike b [] all = refl
+alike b (x ∷ xs) all =
+    let both = and_parts (eqb x b) (list_all (λ y. eqb y b) xs) all in
+    ap (λ y. y ∷ xs) (eqb-true x b both.0) ∙ ap (λ ys. b ∷ ys) (alike b xs both.1)
+
+-- The greatest word has those bytes alone.
+pub blank_is_greatest : (bytes : List ℕ) (word : ℕ) → length bytes ≡ 8 → ((i : ℕ) → get_or bytes i 0 < 256) → word ≡ from_le_bytes w64 bytes
+    → eqb word 18446744073709551615 ≡ list_all (λ b. eqb b 255) bytes
+blank_is_greatest bytes word long small is =
+    elim (cases_Bool (list_all (λ b. eqb b 255) bytes)) [
+      | inl all ↦
+          let filled = alike 255 bytes all ∙ ap (λ n. replicate n 255) long in
+          eq-eqb word 18446744073709551615 (is ∙ ap (from_le_bytes w64) filled) ∙ sym all
+      | inr some ↦
+          ne_eqb word 18446744073709551615 (λ same.
+          let back = sym (le_bytes_8 bytes word long small is) ∙ ap (to_le_bytes w64) same in
+          let all : list_all (λ b. eqb b 255) bytes ≡ true = ap (list_all (λ b. eqb b 255)) back in
+          absurd (cc)) ∙ sym some
+    ]
+
+-- A test of all the lanes of a vector, and a test of a list in groups of one length.
 
 at_most_one : (b : Bool) → cond b 1 0 ≤ 1
 at_most_one true = omega arith

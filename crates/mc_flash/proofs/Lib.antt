@@ -1,9 +1,5 @@
-mod Counts
-mod Limits
 mod Worked
-mod Undo
-mod Kept
-mod Popped
-mod Lanes
-mod Words
+pub mod Limits
 mod Copies
+pub mod Lanes
+pub mod Undo

@@ -1,20 +1,29 @@
--- What a journal takes back.
-use Rattle.std.proofs.Common.{◌≡◌, ℕ, zero, suc, ◌+◌, ◌<◌, ◌≤◌, Bool, true, List, [], ◌∷◌, ◌++◌, length, length-append, map, take, drop, get_or, refl, sym, ap, ◌∙◌, arith}
-use Rattle.std.specs.Prelude.{◌==◌, ◌&&◌, replicate}
-use Rattle.std.specs.List.{between}
+-- A journal: taking one entry back, and what a new entry and an old one leave of the checkpoints.
+use Rattle.std.proofs.Common.{Bool, List, [], ap, arith, drop, false, get_or, inl, inr, length, length-append, map, refl, subst, sym, take, true, ℕ, ◌++◌, ◌+◌, ◌-◌, ◌<◌, ◌∙◌, ◌∷◌, ◌≡◌, ◌≤◌}
+use Rattle.std.proofs.Math.Seq.{drop-append-add, drop-append_seam, take-append_seam}
 use Rattle.std.proofs.lemmas.Bool.Decides.{nat_tests}
-use Rattle.std.proofs.lemmas.List.{take-append-le, take_all, drop_all, drop-append-le, length-take-le, length-drop}
+use Rattle.std.proofs.lemmas.List.{drop-append-le, drop_all, length-drop, length-map, length-take-le, map-append, take-append-drop, take-append-le, take-map, take_all}
 use Rattle.std.proofs.lemmas.List.Edits.{length-between, split_between}
-use Rattle.std.proofs.Math.Seq.{take-append_seam, drop-append_seam, drop-append-add}
-use Rattle.mc_flash.specs.Blank.{is_blank}
-use Rattle.mc_flash.specs.Content.{Content, bytes_of, with_bytes, put}
-use Rattle.mc_flash.specs.Usage.{Checkpoint}
-use Rattle.mc_flash.specs.Journal.{Change, changes, taken_back, all_taken_back, saved_by, all_saved, Journal, checkpoint_after, Ascend}
+use Rattle.std.proofs.lemmas.Option.{slice_get-get_or, slice_get-map}
+use Rattle.std.specs.List.{AllByRecursion, between}
+use Rattle.std.specs.Prelude.{Err, IsSome, None, Ok, Some, if◌then◌else◌, min, option_map, replicate, slice_get, suc, zero, ◌&&◌, ◌==◌, ◌^◌}
+use Rattle.mc_flash.specs.Flash.{Content, apply, bytes_of, erased, in_slot, is_blank, put, with_bytes}
+use Rattle.mc_flash.specs.Geometry.{Geometry}
+use Rattle.mc_flash.specs.Usage.{Checkpoint, Does, IsFull, IsWithin, Limits, Seen, Usage, marked, no_checkpoint, saves, went_back}
+use Rattle.mc_flash.specs.declared.entry.Entry.{Entry}
+use Rattle.mc_flash.specs.declared.entry.Entry.TheVariants.{Erased, Written}
+use Rattle.mc_flash.specs.declared.op.Op.{Op}
 use Rattle.mc_flash.specs.declared.op.Slot.{Slot}
 use Rattle.mc_flash.specs.declared.op.Slot.TheVariants.{Primary, Secondary}
-use Rattle.mc_flash.specs.declared.entry.Entry.{Entry}
-use Rattle.mc_flash.specs.declared.entry.Entry.TheVariants.{Written, Erased}
-use Rattle.mc_flash.specs.Changes.{and_true}
+use Rattle.mc_flash.specs.declared.reserve.Reserve.{Reserve}
+use Rattle.mc_flash.specs.facts.Changes.{and_true}
+use Rattle.mc_flash.specs.facts.Done.{done_as, done_not}
+use Rattle.mc_flash.specs.inner.Journal.{Ascend, Change, IsInside, IsJournal, IsSound, IsUndoneTo, Journal, all_saved, all_taken_back, changes, checkpoint_after, journal_with, limits_of}
+use Rattle.mc_flash.specs.inner.Journal.{saved_by, seen_of, taken_back}
+use Rattle.mc_flash.specs.declared.flash.FlashError.TheVariants as errors
+use Rattle.mc_flash.specs.declared.op.Op.TheVariants as ops
+
+-- What a journal takes back.
 
 -- blank bytes are all 0xff
 blank_head : (x : ℕ) (rest : Bool) → ((x == 255) && rest) ≡ true → (x ≡ 255)
@@ -170,3 +179,237 @@ same_checkpoints f g low (n ∷ ns) top a h =
     let e : f n ≡ g n = h n (ascend_top n ns top a.1) in
     let r : map f ns ≡ map g ns = same_checkpoints f g n ns top a.1 h in
     cc
+
+-- What a journal keeps: its room, the order of its checkpoints, and the marked contents.
+
+inside_push : (g : Geometry) (es : List Entry) (e : Entry) → AllByRecursion (IsInside g) es → IsInside g e → AllByRecursion (IsInside g) (es ++ e ∷ [])
+inside_push g [] e all one = (one, tt)
+inside_push g (x ∷ es) e all one = (all.0, inside_push g es e all.1 one)
+
+pub inside_front : (g : Geometry) (es : List Entry) (n : ℕ) → AllByRecursion (IsInside g) es → AllByRecursion (IsInside g) (take n es)
+inside_front g [] zero all = tt
+inside_front g [] (suc n) all = tt
+inside_front g (x ∷ es) zero all = tt
+inside_front g (x ∷ es) (suc n) all = (all.0, inside_front g es n all.1)
+
+pub inside_pop : (g : Geometry) (es : List Entry) (e : Entry) → AllByRecursion (IsInside g) (es ++ e ∷ []) → AllByRecursion (IsInside g) es × IsInside g e
+inside_pop g [] e all = (tt, all.0)
+inside_pop g (x ∷ es) e all = let rest = inside_pop g es e all.1 in ((all.0, rest.0), rest.1)
+
+-- The entries of a checkpoint are among all.
+pub checkpoint_below : (es : List Entry) (checkpoints : List ℕ) (place count : ℕ) → Ascend 0 checkpoints (length es) → count ≡ get_or checkpoints place count → place < length checkpoints
+    → count ≤ length es
+checkpoint_below es checkpoints place count order is below = omega (arith, (ascend_take 0 checkpoints (length es) place count order below).1, is)
+
+fewer_saved : (n : ℕ) (es : List Entry) → all_saved (take n es) ≤ all_saved es
+fewer_saved zero es = omega arith
+fewer_saved (suc n) [] = omega arith
+fewer_saved (suc n) (e ∷ es) = omega (arith, fewer_saved n es)
+
+-- A sound journal stays sound.
+module _ (g : Geometry) (limits taken : Limits) (j : Journal) (checkpoints : List ℕ) (sound : IsSound g limits taken j checkpoints) where
+  within : (taken' : Limits) → IsWithin taken taken' → IsWithin limits taken'
+  within taken' more =
+      let old = sound.room in
+      record { entries = omega (arith, old.entries, more.entries); saved = omega (arith, old.saved, more.saved); checkpoints = omega (arith, old.checkpoints, more.checkpoints) }
+
+  -- with one entry more
+  pub sound_grown : (g' : Geometry) (taken' : Limits) (j' : Journal) (e : Entry) (c : Change) → Grown j j' e c → g' ≡ g → IsWithin taken taken' → length j.entries < limits.entries
+      → length j.saved + saved_by e ≤ limits.saved → IsInside g e → IsSound g' limits taken' j' checkpoints
+  sound_grown g' taken' j' e c grown same more below little fits =
+      let n = one_more j j' e c grown in
+      subst (λ (x : Geometry). IsSound x limits taken' j' checkpoints) (sym same) (record {
+        layout = sound.layout;
+        room = within taken' more;
+        few = record { entries = omega (arith, n, below); saved = omega (arith, grown.saved, little); checkpoints = sound.few.checkpoints };
+        journal = record {
+          saved_for = omega (arith, grown.saved, sound.journal.saved_for, ap all_saved grown.entries, saves_push j.entries e);
+          inside = subst (AllByRecursion (IsInside g)) (sym grown.entries) (inside_push g j.entries e sound.journal.inside fits);
+        };
+        ascend = ascend_grow 0 checkpoints (length j.entries) (length j'.entries) sound.ascend (omega (arith, n));
+      })
+
+  -- with one checkpoint more
+  pub sound_marked : (taken' : Limits) (checkpoints' : List ℕ) → checkpoints' ≡ checkpoints ++ length j.entries ∷ [] → IsWithin taken taken' → length checkpoints < limits.checkpoints
+      → IsSound g limits taken' j checkpoints'
+  sound_marked taken' checkpoints' more wider below =
+      let n : length checkpoints' ≡ length checkpoints + 1 = ap length more ∙ length-append checkpoints (length j.entries ∷ []) in
+      record {
+        layout = sound.layout;
+        room = within taken' wider;
+        few = record { entries = sound.few.entries; saved = sound.few.saved; checkpoints = omega (arith, n, below) };
+        journal = sound.journal;
+        ascend = subst (λ z. Ascend 0 z (length j.entries)) (sym more) (ascend_push 0 checkpoints (length j.entries) sound.ascend);
+      }
+
+  -- back at a checkpoint
+  pub sound_back : (g' : Geometry) (taken' : Limits) (s t : Content) (j' : Journal) (checkpoints' : List ℕ) (place count : ℕ) → IsUndoneTo count j s j' t → checkpoints' ≡ take place checkpoints
+      → count ≡ get_or checkpoints place count → place < length checkpoints → g' ≡ g → IsWithin taken taken' → IsSound g' limits taken' j' checkpoints'
+  sound_back g' taken' s t j' checkpoints' place count undone front is below same wider =
+      let order = ascend_take 0 checkpoints (length j.entries) place count sound.ascend below in
+      let early = checkpoint_below j.entries checkpoints place count sound.ascend is below in
+      let n : length j'.entries ≡ count = ap length undone.left ∙ length-take-le count j.entries early in
+      let m : length checkpoints' ≡ place = ap length front ∙ length-take-le place checkpoints (omega (arith, below)) in
+      let few = sound.few in
+      subst (λ (x : Geometry). IsSound x limits taken' j' checkpoints') (sym same) (record {
+        layout = sound.layout;
+        room = within taken' wider;
+        few = record {
+          entries = omega (arith, n, early, few.entries);
+          saved = omega (arith, few.saved, sound.journal.saved_for, undone.saved_for, ap all_saved undone.left, fewer_saved count j.entries);
+          checkpoints = omega (arith, m, below, few.checkpoints);
+        };
+        journal = record { saved_for = undone.saved_for; inside = subst (AllByRecursion (IsInside g)) (sym undone.left) (inside_front g j.entries count sound.journal.inside) };
+        ascend = subst (λ z. Ascend 0 z (length j'.entries)) (sym front) (subst (Ascend 0 (take place checkpoints)) (sym (n ∙ is)) order.0);
+      })
+
+-- a copy, by whether its target is blank
+copy_is : (g : Geometry) (s : Content) (from to : Slot) (at offset len : ℕ) → at + len ≤ length (bytes_of s from)
+    → apply g (ops.Copy from at to offset len) s ≡ in_slot s to (if is_blank (between offset (offset + len) (bytes_of s to)) then Some
+    (put (bytes_of s to) offset (between at (at + len) (bytes_of s from))) else None)
+unfolding apply
+copy_is g s from to at offset len fits =
+    let new : List ℕ = between at (at + len) (bytes_of s from) in
+    let n : length new ≡ len = omega (arith, length-between (bytes_of s from) at (at + len) fits) in
+    ap (λ (k : ℕ). in_slot s to (if is_blank (between offset (offset + k) (bytes_of s to)) then Some (put (bytes_of s to) offset new) else None)) n
+
+module _ (g : Geometry) (s t : Content) (from to : Slot) (at offset len : ℕ) (fits : at + len ≤ length (bytes_of s from)) where
+  pub copy_done : is_blank (between offset (offset + len) (bytes_of s to)) ≡ true → t ≡ with_bytes s to (put (bytes_of s to) offset (between at (at + len) (bytes_of s from)))
+      → apply g (ops.Copy from at to offset len) s ≡ Some t
+  copy_done blank is = copy_is g s from to at offset len fits ∙ rw (blank, is) refl
+
+  pub copy_refused : is_blank (between offset (offset + len) (bytes_of s to)) ≡ false → apply g (ops.Copy from at to offset len) s ≡ None
+  copy_refused other = copy_is g s from to at offset len fits ∙ rw other refl
+
+at_place : (checkpoints : List Checkpoint) (place : ℕ) (checkpoint : Checkpoint) → slice_get checkpoints place ≡ Some checkpoint → get_or checkpoints place no_checkpoint ≡ checkpoint
+at_place [] place checkpoint is = absurd cc
+at_place (m ∷ ms) zero checkpoint is = cc
+at_place (m ∷ ms) (suc place) checkpoint is = at_place ms place checkpoint is
+
+abbrev seen_with : Geometry → Content → List Checkpoint → Usage → Seen
+seen_with g t checkpoints usage = record { geometry = g; content = t; checkpoints = checkpoints; usage = usage }
+
+seen_is : (g : Geometry) (s t : Content) (ms ns : List Checkpoint) (k l : Usage) → s ≡ t → ms ≡ ns → k ≡ l → seen_with g s ms k ≡ seen_with g t ns l
+seen_is g s t ms ns k l p q r = cc
+
+abbrev counted_at : Limits → ℕ → ℕ → ℕ → Usage
+counted_at limits e s a = record { counts = record { entries = e; saved = s }; limits = limits; applied = a; failed = false }
+
+usage_is : (limits : Limits) (e e' s s' a a' : ℕ) → e ≡ e' → s ≡ s' → a ≡ a' → counted_at limits e s a ≡ counted_at limits e' s' a'
+usage_is limits e e' s s' a a' p q r = cc
+
+-- What a call does to a journal that is seen so, by its answer.
+module _ (g : Geometry) (s : Content) (r : Reserve) (j : Journal) (checkpoints : List ℕ) (applied : ℕ) (old : Seen) (seen : seen_of g s (limits_of r) j checkpoints applied ≡ old) where
+  abbrev before : Seen
+  before = seen_of g s (limits_of r) j checkpoints applied
+
+  module _ (op : Op) where
+    pub refuses : apply g op s ≡ None → Does op old (Err errors.NotErased) old
+    refuses undefined = subst (λ (f : Seen). Does op f (Err errors.NotErased) f) seen (done_not before op undefined, refl)
+
+    pub is_full : (t : Content) → apply g op s ≡ Some t → IsFull g op before.usage → Does op old (Err errors.Memory) old
+    is_full t is full = subst (λ (f : Seen). Does op f (Err errors.Memory) f) seen (subst IsSome (sym (done_as before op t is)) refl, inl (refl, full, refl))
+
+    pub does : (g' : Geometry) (t : Content) (j' : Journal) (applied' : ℕ) (e : Entry) (c : Change) → Grown j j' e c → saved_by e ≡ saves g op → taken_back c t ≡ s
+        → apply g op s ≡ Some t → g' ≡ g → Ascend 0 checkpoints (length j.entries) → applied' ≡ min (applied + 1) (2 ^ 64 - 1) → length j.entries < r.entries
+        → length j.saved + saves g op ≤ r.saved → Does op old (Ok tt) (seen_of g' t (limits_of r) j' checkpoints applied')
+    does g' t j' applied' e c grown entry back is same order on few little =
+        let kept : map (checkpoint_after j s) checkpoints ≡ map (checkpoint_after j' t) checkpoints =
+        sym (same_checkpoints (checkpoint_after j' t) (checkpoint_after j s) 0 checkpoints (length j.entries) order (λ n early. same_earlier j j' e c grown s t n back early)) in
+        let usage = usage_is (limits_of r) (length j.entries + 1) (length j'.entries) (length j.saved + saves g op) (length j'.saved) (min (applied + 1) (2 ^ 64 - 1)) applied'
+        (sym (one_more j j' e c grown)) (omega (arith, grown.saved, entry)) (sym on) in
+        subst (λ (f : Seen). Does op f (Ok tt) (seen_of g' t (limits_of r) j' checkpoints applied')) seen
+        (subst (λ (x : Geometry). Does op before (Ok tt) (seen_of x t (limits_of r) j' checkpoints applied')) (sym same) (
+          done_as before op t is ∙ ap (λ (z : Seen). Some z) (seen_is g t t _ _ _ _ refl kept usage),
+          λ _ full. elim full [ inl x ↦ omega (arith, x, few) | inr x ↦ omega (arith, x, little) ],
+        ))
+
+  pub marks_more : (checkpoints' : List ℕ) → length j.saved ≡ all_saved j.entries → checkpoints' ≡ checkpoints ++ length j.entries ∷ []
+      → seen_of g s (limits_of r) j checkpoints' applied ≡ marked before
+  marks_more checkpoints' whole more =
+      seen_is g s s _ _ _ _ refl (ap (map (checkpoint_after j s)) more
+      ∙ map-append (checkpoint_after j s) checkpoints (length j.entries ∷ [])
+      ∙ ap (λ (z : Checkpoint). map (checkpoint_after j s) checkpoints ++ z ∷ []) (checkpoint_now j s whole)) refl
+
+  pub has_place : (place : ℕ) → place < length old.checkpoints → place < length checkpoints
+  has_place place below = omega (arith, below, ap (λ (f : Seen). length f.checkpoints) seen, length-map checkpoints (checkpoint_after j s))
+
+  -- Back at a checkpoint it is as it was marked there, and the earlier checkpoints are left.
+  pub back : (g' : Geometry) (t : Content) (j' : Journal) (checkpoints' : List ℕ) (place count : ℕ) → IsUndoneTo count j s j' t → checkpoints' ≡ take place checkpoints
+      → count ≡ get_or checkpoints place count → place < length checkpoints → Ascend 0 checkpoints (length j.entries) → g' ≡ g
+      → seen_of g' t (limits_of r) j' checkpoints' applied ≡ went_back place old
+  unfolding went_back
+  back g' t j' checkpoints' place count undone front is below order same =
+      let first = ascend_take 0 checkpoints (length j.entries) place count order below in
+      let n = ap length undone.left ∙ length-take-le count j.entries (checkpoint_below j.entries checkpoints place count order is below) in
+      let there : slice_get (map (checkpoint_after j s) checkpoints) place ≡ Some (record { content = t; counts = record { entries = length j'.entries; saved = length j'.saved } }) =
+      slice_get-map (checkpoint_after j s) checkpoints place
+      ∙ ap (option_map (checkpoint_after j s)) (slice_get-get_or checkpoints place count below)
+      ∙ ap (λ (k : ℕ). Some (checkpoint_after j s k)) (sym is)
+      ∙ ap (λ (x : Checkpoint). Some x) (sym (undone.same count (omega arith)))
+      ∙ ap (λ (k : ℕ). Some (checkpoint_after j' t k)) (sym n)
+      ∙ ap (λ (x : Checkpoint). Some x) (checkpoint_now j' t undone.saved_for) in
+      let earlier : map (checkpoint_after j' t) checkpoints' ≡ take place (map (checkpoint_after j s) checkpoints) =
+      ap (map (checkpoint_after j' t)) front
+      ∙ same_checkpoints (checkpoint_after j' t) (checkpoint_after j s) 0 (take place checkpoints) (get_or checkpoints place count) first.0 (λ k h. undone.same k (omega (arith, h, is)))
+      ∙ sym (take-map (checkpoint_after j s) place checkpoints) in
+      let checkpoint = at_place (map (checkpoint_after j s) checkpoints) place _ there in
+      let usage : Checkpoint → Usage = λ x. record { counts = x.counts; limits = limits_of r; applied = applied; failed = false } in
+      subst (λ (x : Geometry). seen_of x t (limits_of r) j' checkpoints' applied ≡ went_back place old) (sym same)
+      (seen_is g t _ (map (checkpoint_after j' t) checkpoints') _ _ _ (sym (ap (λ (x : Checkpoint). x.content) checkpoint)) earlier (sym (ap usage checkpoint))
+      ∙ ap (went_back place) seen)
+
+module _ (g : Geometry) (s t : Content) (slot : Slot) (at : ℕ) (new : List ℕ) where
+  pub program_done : is_blank (between at (at + length new) (bytes_of s slot)) ≡ true → t ≡ with_bytes s slot (put (bytes_of s slot) at new)
+      → apply g (ops.Program slot at new) s ≡ Some t
+  unfolding apply
+  program_done blank is = rw (blank, is) refl
+
+  pub program_refused : is_blank (between at (at + length new) (bytes_of s slot)) ≡ false → apply g (ops.Program slot at new) s ≡ None
+  unfolding apply
+  program_refused other = rw other refl
+
+pub erase_done : (g : Geometry) (s t : Content) (slot : Slot) (sector : ℕ) → t ≡ with_bytes s slot (erased g.sector sector (bytes_of s slot)) → apply g (ops.Erase slot sector) s ≡ Some t
+unfolding apply
+erase_done g s t slot sector is = ap (λ (z : Content). Some z) (sym is)
+
+-- Taking back the newest entry.
+
+-- The newest entry of a journal, and those before it.
+pub record Newest (g : Geometry) (j : Journal) (before : List Entry) (e : Entry) : Type 0 where
+  pub entries : j.entries ≡ before ++ e ∷ []
+  pub fewer : length j.entries ≡ length before + 1
+  pub saves : length j.saved ≡ all_saved before + saved_by e
+  pub inside_before : AllByRecursion (IsInside g) before
+  pub inside : IsInside g e
+
+pub newest : (g : Geometry) (j : Journal) (before : List Entry) (x e : Entry) → IsJournal g j → j.entries ≡ before ++ x ∷ [] → x ≡ e → Newest g j before e
+newest g j before x e whole popped is =
+    let all : j.entries ≡ before ++ e ∷ [] = popped ∙ ap (λ (z : Entry). before ++ z ∷ []) is in
+    let inside = inside_pop g before e (subst (AllByRecursion (IsInside g)) all whole.inside) in
+    record {
+      entries = all;
+      fewer = ap length all ∙ length-append before (e ∷ []);
+      saves = whole.saved_for ∙ ap all_saved all ∙ saves_push before e;
+      inside_before = inside.0;
+      inside = inside.1;
+    }
+
+module _ (g : Geometry) (j : Journal) (before : List Entry) (e : Entry) (top : Newest g j before e) where
+  pub same_front : (n : ℕ) → n ≤ length before → take n before ≡ take n j.entries
+  same_front n early = sym (ap (take n) top.entries ∙ take-append-le n before (e ∷ []) early)
+
+  -- the bytes that were saved last
+  pub saved_last : (k : ℕ) (bytes : List ℕ) → bytes ≡ j.saved → k + saved_by e ≡ length j.saved
+      → (take (length bytes - k) (drop k bytes) ≡ drop k j.saved) × (length (drop k j.saved) ≡ saved_by e)
+  saved_last k bytes same whole =
+      let n : length (drop k j.saved) ≡ saved_by e = omega (arith, length-drop k j.saved, whole) in
+      (ap (λ (z : List ℕ). take (length z - k) (drop k z)) same ∙ take_all (length j.saved - k) (drop k j.saved) (omega (arith, n, whole)), n)
+
+pub erase_undone : (g : Geometry) (j : Journal) (before : List Entry) (slot : Slot) (at len k : ℕ) (saved' : List ℕ) → Newest g j before (Erased slot at len)
+    → k + len ≡ length j.saved → saved' ≡ take k j.saved
+    → (length saved' ≡ k) × Grown (journal_with before saved') j (Erased slot at len) (record { slot = slot; at = at; old = drop k j.saved })
+erase_undone g j before slot at len k saved' top whole left =
+    let front : length saved' ≡ k = ap length left ∙ length-take-le k j.saved (omega (arith, whole)) in
+    let split : j.saved ≡ saved' ++ drop k j.saved = sym (ap (λ (z : List ℕ). z ++ drop k j.saved) left ∙ take-append-drop k j.saved) in
+    (front, by_erase (journal_with before saved') j slot at len (drop k j.saved) top.entries split (omega (arith, front, whole, top.saves)) (omega (arith, length-drop k j.saved, whole)))

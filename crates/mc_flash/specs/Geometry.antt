@@ -1,10 +1,13 @@
 -- The layout of two slots, from MCUboot's design document ("image trailer", "image swap without scratch"): the trailer
 -- of a slot, and how many sectors of an image can be swapped by moving. Which numbers make a layout, and in which order
 -- they are judged, is this project's own choice.
-use Rattle.std.specs.Prelude.{◌≡◌, ◌⊎◌, ℕ, ◌+◌, ◌-◌, ◌*◌, ◌%◌, ◌^◌, ◌<◌, ◌≤◌, min, ℤ, pos, ◌-ℤ◌, int_le, int_lt, Bool, true, not, ◌||◌, ◌&&◌, ◌==◌, nat_lt, nat_le, if◌then◌else◌, Option, Some, None}
+use Rattle.std.specs.Prelude.{◌≡◌, ◌⊎◌, ℕ, ◌+◌, ◌-◌, ◌*◌, ◌%◌, ◌^◌, ◌<◌, ◌≤◌, min, ℤ, pos, ◌-ℤ◌, int_le, int_lt, Bool, true, not, ◌||◌, ◌&&◌, ◌==◌, nat_lt, nat_le, if◌then◌else◌, Option, Some}
+use Rattle.std.specs.Prelude.{None}
 use Rattle.std.specs.Int.{div_ceil, int_min, is_power_of_two}
 use Rattle.mc_flash.specs.declared.layout.LayoutError.{LayoutError}
 use Rattle.mc_flash.specs.declared.layout.LayoutError.TheVariants as refusals
+use Rattle.mc_flash.specs.declared.flash.Grain.{Grain}
+use Rattle.mc_flash.specs.declared.flash.Grain.TheVariants as grains
 
 -- The six numbers of a layout: the bytes of a sector, of a write unit and of a chunk of a copy; the most sectors that an
 -- image may have; and how many sectors each slot has.
@@ -94,3 +97,8 @@ refusal_of g =
     else if not (are_counts g) then Some refusals.Counts
     else if int_lt (greatest_count g) (pos 1) then Some refusals.NoRoom
     else None
+
+-- Where each unit happens by itself, a sector is copied in units: the chunk is one unit.
+abbrev pub in_pieces : Grain → Geometry → Geometry
+in_pieces grains.Call g = g
+in_pieces grains.Unit g = record { sector = g.sector; unit = g.unit; max_sectors = g.max_sectors; chunk = g.unit; primary = g.primary; secondary = g.secondary }

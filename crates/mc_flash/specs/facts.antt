@@ -3,3 +3,5 @@ pub mod Layouts
 pub mod Usage
 pub mod Done
 pub mod Spends
+pub mod Changes
+pub mod Pieces

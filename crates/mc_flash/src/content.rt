@@ -1,6 +1,6 @@
 //! The bytes of both slots.
 ghost use Rattle.std.specs.Prelude.{◌≡◌, IfOk};
-ghost use Rattle.mc_flash.specs.Content.{bytes_of, IsSized};
+ghost use Rattle.mc_flash.specs.Flash.{bytes_of, IsSized};
 
 use crate::flash::Flash;
 use crate::op::Slot;
@@ -15,7 +15,7 @@ pub struct Content {
 }
 
 impl Model for Content {
-    ghost use Rattle.mc_flash.specs.Content.{Content};
+    ghost use Rattle.mc_flash.specs.Flash.{Content};
 
     ghost Value = { Content };
 

@@ -1,6 +1,6 @@
 //! Bytes as an erase leaves them.
 ghost use Rattle.std.specs.Prelude.{◌≡◌};
-ghost use Rattle.mc_flash.specs.Blank.{is_blank};
+ghost use Rattle.mc_flash.specs.Flash.{is_blank};
 
 use std::simd::prelude::*;
 

@@ -48,9 +48,9 @@ impl<T: Drop> From<AllocFailed<T>> for FlashError {
 
 /// A flash, seen as one value: its layout, its content, the contents that were marked, and its usage: counts, and their limits.
 pub trait Flash: Sized + Drop {
-    ghost use Rattle.mc_flash.specs.Content.{bytes_of, size_of};
-    ghost use Rattle.mc_flash.specs.Apply.{CanTry};
-    ghost use Rattle.mc_flash.specs.Seen.{Seen, Does, Marks, Loads, went_back};
+    ghost use Rattle.mc_flash.specs.Flash.{bytes_of, size_of};
+    ghost use Rattle.mc_flash.specs.Flash.{CanTry};
+    ghost use Rattle.mc_flash.specs.Usage.{Seen, Does, Marks, Loads, went_back};
     ghost use Rattle.mc_flash.specs.declared.op.Op.TheVariants.{Erase, Program, Copy};
     ghost use Rattle.mc_flash.specs.declared.op.Slot.TheVariants.{Primary, Secondary};
 

@@ -2,7 +2,7 @@
 ghost use Rattle.std.specs.Prelude.{◌≡◌, ℕ, ◌≤◌, ◌+◌, [], length, true, take};
 ghost use Rattle.std.specs.Vec.{vec_capacity};
 ghost use Rattle.std.specs.List.{AllByRecursion};
-ghost use Rattle.mc_flash.specs.Journal.{journal_with, IsJournal, IsUndoneTo};
+ghost use Rattle.mc_flash.specs.inner.Journal.{journal_with, IsJournal, IsUndoneTo};
 
 use crate::entry::Entry;
 use crate::flash::{Flash, FlashError, Grain};
@@ -29,10 +29,10 @@ pub struct JournalFlash {
 
 impl Model for JournalFlash {
     ghost use Rattle.std.specs.Vec.{vec_capacity};
-    ghost use Rattle.mc_flash.specs.Reserve.{limits_of};
+    ghost use Rattle.mc_flash.specs.inner.Journal.{limits_of};
     ghost use Rattle.mc_flash.specs.Usage.{room_for};
-    ghost use Rattle.mc_flash.specs.Journal.{journal_with, seen_of, IsSound};
-    ghost use Rattle.mc_flash.specs.Seen.{Seen};
+    ghost use Rattle.mc_flash.specs.inner.Journal.{journal_with, seen_of, IsSound};
+    ghost use Rattle.mc_flash.specs.Usage.{Seen};
 
     ghost Value = { Seen };
 

@@ -19,7 +19,7 @@ pub struct Bytes16 {
 
 impl Model for Bytes16 {
     ghost use Rattle.std.specs.Prelude.{◌≡◌, ℕ, ◌-◌, ◌≤◌, List, ◌++◌, length, take, drop};
-    ghost use Rattle.mc_flash.specs.Room.{zeros_after, len_again, room_again};
+    ghost use Rattle.mc_flash.specs.inner.Room.{zeros_after, len_again, room_again};
 
     ghost Value = { List ℕ };
 

@@ -56,7 +56,7 @@ fn most_saved(layout: &Layout) -> u64
 }
 
 impl Reserve {
-    ghost use Rattle.mc_flash.specs.Reserve.{limits_of};
+    ghost use Rattle.mc_flash.specs.inner.Journal.{limits_of};
 
     /// The room for so many boots.
     #[tactic(auto, unfolding(crate::specs::Usage::limits_for))]

@@ -1,9 +1,9 @@
 //! The bytes of both slots of a layout, and what the operations do to them.
 ghost use Rattle.std.specs.Prelude.{◌≡◌, ℕ, ◌+◌, ◌*◌, ◌<◌, ◌≤◌, length, replicate, ◌⊎◌, IfOk, IfErr};
 ghost use Rattle.std.specs.List.{between};
-ghost use Rattle.mc_flash.specs.Content.{IsSized, bytes_of, with_bytes, put, sectors_of, size_of};
-ghost use Rattle.mc_flash.specs.Apply.{AreApart, CanTry, Becomes, apply, erased};
-ghost use Rattle.mc_flash.specs.Blank.{is_blank};
+ghost use Rattle.mc_flash.specs.Flash.{IsSized, bytes_of, with_bytes, put, sectors_of, size_of};
+ghost use Rattle.mc_flash.specs.Flash.{AreApart, CanTry, Becomes, apply, erased};
+ghost use Rattle.mc_flash.specs.Flash.{is_blank};
 ghost use Rattle.mc_flash.specs.declared.op.Op.TheVariants.{Program, Copy};
 ghost use Rattle.mc_flash.specs.declared.op.Slot.TheVariants.{Primary, Secondary};
 
@@ -184,7 +184,7 @@ impl Slots {
     }
 
     /// Writes bytes where each byte is 0xff.
-    #[tactic(auto, unfolding(crate::specs::Apply::apply))]
+    #[tactic(auto, unfolding(crate::specs::Flash::apply))]
     pub fn program(&mut self, slot: Slot, offset: u32, bytes: &[u8]) -> Result<(), FlashError>
         requires { CanTry self.old.layout (Program slot offset bytes.now) }
         ensures does { Becomes (apply self.old.layout (Program slot offset bytes.now)
@@ -200,7 +200,7 @@ impl Slots {
     }
 
     /// Writes the bytes that stand elsewhere, in the same way.
-    #[tactic(auto, unfolding(crate::specs::Apply::apply))]
+    #[tactic(auto, unfolding(crate::specs::Flash::apply))]
     pub fn copy(
         &mut self,
         from: Slot,

@@ -1,6 +1,6 @@
 //! A flash in memory that keeps a copy of its content for each checkpoint.
 ghost use Rattle.std.specs.Prelude.{◌≡◌, ℕ, ◌+◌, ◌<◌, ◌≤◌, List, [], ◌∷◌, ◌++◌, length, true, false, All, IfOk, IfErr, map};
-ghost use Rattle.mc_flash.specs.Content.{bytes_of, size_of, IsSized};
+ghost use Rattle.mc_flash.specs.Flash.{bytes_of, size_of, IsSized};
 
 use crate::content::Content;
 use crate::flash::{Flash, FlashError, Grain};
@@ -21,7 +21,7 @@ pub struct SnapFlash {
 }
 
 impl Flash for SnapFlash {
-    ghost use Rattle.mc_flash.specs.Snap.{snap_seen};
+    ghost use Rattle.mc_flash.specs.inner.Snap.{snap_seen};
 
     ghost counted = { false };
 
@@ -51,7 +51,7 @@ impl Flash for SnapFlash {
         self.slots.read(slot)
     }
 
-    #[tactic(auto, unfolding(crate::specs::Apply::apply))]
+    #[tactic(auto, unfolding(crate::specs::Flash::apply))]
     fn erase(&mut self, slot: Slot, sector: u32) -> Result<(), FlashError> {
         self.slots.erase(slot, sector);
         Ok(())

@@ -1,7 +1,7 @@
 //! Grains and slots as text.
 ghost use Rattle.std.specs.Prelude.{◌≡◌, ◌≤◌, length, Some, MatchOption};
 ghost use Rattle.mc_flash.specs.declared.flash.Grain.{Grain};
-ghost use Rattle.mc_flash.specs.Texts.{grain_text, slot_text};
+ghost use Rattle.mc_flash.specs.Flash.{grain_text, slot_text};
 
 use crate::flash::Grain;
 use crate::op::Slot;

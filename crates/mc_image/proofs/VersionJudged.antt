@@ -1,5 +1,6 @@
 -- What reading gives for a text, by the form alone.
-use Rattle.std.proofs.Common.{◌≡◌, ℕ, zero, suc, ◌^◌, ◌<◌, ◌≤◌, Bool, true, false, cond, List, [], ◌∷◌, ◌++◌, length, get_or, Some, None, Result, Ok, Err, refl, sym, ap, subst, ◌∙◌, arith, rules, inl}
+use Rattle.std.proofs.Common.{◌≡◌, ℕ, zero, suc, ◌^◌, ◌<◌, ◌≤◌, Bool, true, false, cond, List, [], ◌∷◌, ◌++◌, length, get_or, Some, None, Result, Ok, Err, refl, sym, ap, subst, ◌∙◌, arith, rules}
+use Rattle.std.proofs.Common.{inl}
 use Rattle.std.proofs.Common.{inr, append_assoc}
 use Rattle.std.specs.Prelude.{nat_lt, ◌&&◌, ◌⊎◌, MatchResult, decimal, codes}
 use Rattle.std.specs.Char.{is_ascii_digit}
@@ -9,7 +10,7 @@ use Rattle.std.proofs.lemmas.List.{append-nil}
 use Rattle.std.proofs.lemmas.Str.Parse.{IsNumeralModel, numerals_by_fold}
 use Rattle.std.proofs.lemmas.Fmt.{digits_decimal, digits_value-decimal, decimal_nonempty, first_decimal, decimal_digit}
 use Rattle.mc_image.specs.VersionText.{value_after, IsNumeral, IsForm, AreInRange, version_of, Names, IsRefused, IsVersion, version_line}
-use Rattle.mc_image.specs.VersionReading.{numbers_in, fitted, judged, version_read}
+use Rattle.mc_image.specs.inner.VersionReading.{numbers_in, fitted, judged, version_read}
 use Rattle.mc_image.specs.declared.version.Version.{Version}
 use Rattle.mc_image.specs.declared.error.VersionError.{VersionError}
 use Rattle.mc_image.specs.declared.error.VersionError.TheVariants.{Range}

@@ -9,8 +9,8 @@ use Rattle.std.proofs.lemmas.Bool.{eqb-true, eqb-false, and_parts}
 use Rattle.std.proofs.lemmas.List.{nil_from_length}
 use Rattle.std.proofs.lemmas.Option.{cond_some}
 use Rattle.mc_image.specs.VersionText.{value_after, IsNumeral, Follows, IsForm}
-use Rattle.mc_image.specs.VersionReading.{number_from, numeral_at, part_at, parts_after, numbers_in}
-use Rattle.mc_image.proofs.EntryLemmas.{map_some}
+use Rattle.mc_image.specs.inner.VersionReading.{number_from, numeral_at, part_at, parts_after, numbers_in}
+use Rattle.mc_image.proofs.EntryLaws.{map_some}
 
 -- no digit comes next
 abbrev pub Stops : List ℕ → Type 0

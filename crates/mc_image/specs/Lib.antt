@@ -1,14 +1,6 @@
-pub mod Bytes
-pub mod Entries
 pub mod Image
-pub mod Headers
-pub mod Faults
-pub mod Gathered
 pub mod Valid
-pub mod Judging
-pub mod Listing
-pub mod Walking
 pub mod Writing
 pub mod VersionText
-pub mod VersionReading
+pub mod inner
 pub mod facts

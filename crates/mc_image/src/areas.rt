@@ -1,11 +1,11 @@
 //! The areas of an image, which come in pieces: their heads, and a walk along their entries.
 ghost use Rattle.std.specs.Prelude.{◌≡◌, ℕ, List, ◌+◌, ◌≤◌, ◌<◌, [], ◌++◌, length, is_some, true, MatchResult, IfOk, None, Some, ◌==◌, ◌||◌, not};
-ghost use Rattle.mc_image.specs.Bytes.{u16_at};
-ghost use Rattle.mc_image.specs.Entries.{entries_of, entries_in, digests};
-ghost use Rattle.mc_image.specs.Faults.{digest_fault, is_bad_area};
-ghost use Rattle.mc_image.specs.Gathered.{held};
-ghost use Rattle.mc_image.specs.Headers.{head_fault, entries_fault};
-ghost use Rattle.mc_image.specs.Walking.{IsAt, IsOne, IsEntered, Finds, Reaches, Walks, Follows, Goes};
+ghost use Rattle.mc_image.specs.Image.{u16_at};
+ghost use Rattle.mc_image.specs.Image.{entries_of, entries_in, digests};
+ghost use Rattle.mc_image.specs.Valid.{digest_fault, is_bad_area};
+ghost use Rattle.mc_image.specs.inner.Reading.{held};
+ghost use Rattle.mc_image.specs.inner.Reading.{head_fault, entries_fault};
+ghost use Rattle.mc_image.specs.inner.Reading.{IsAt, IsOne, IsEntered, Finds, Reaches, Walks, Follows, Goes};
 
 use crate::ImageError;
 use crate::entries::{DIGEST, PLAIN_MAGIC, PROTECTED_MAGIC};
@@ -272,7 +272,7 @@ impl Walk {
     }
 
     /// The value of the one entry of the digest's type, of 32 bytes, if entries fill the bytes.
-    #[tactic(auto, unfolding(crate::specs::Headers::entries_fault))]
+    #[tactic(auto, unfolding(crate::specs::inner::Reading::entries_fault))]
     pub(crate) fn digest(&self) -> Result<DigestValue, ImageError>
         ensures len { IfOk result (λ v. length (held v.bytes) ≡ 32) }
         ensures exact { (bytes : List ℕ) → Walks self.now bytes → MatchResult result
@@ -287,7 +287,7 @@ impl Walk {
 }
 
 /// The length of the plain area that the bytes begin with, by its head.
-#[tactic(auto, unfolding(crate::specs::Headers::head_fault))]
+#[tactic(auto, unfolding(crate::specs::inner::Reading::head_fault))]
 pub(crate) fn plain_total(bytes: &[u8]) -> Result<u16, ImageError>
     ensures { MatchResult result (λ n. (head_fault bytes.now ≡ None) × (4 ≤ length bytes.now)
         × (4 ≤ n) × (n ≡ u16_at 2 bytes.now)) (λ e. head_fault bytes.now ≡ Some e) }

@@ -11,10 +11,10 @@ pub(crate) struct Gather<const N: usize> {
 
 impl<const N: usize> Gather<N> {
     ghost use Rattle.std.specs.Prelude.{◌≡◌, ◌-◌, ◌≤◌, [], ◌++◌, length, take, drop, ◌==◌};
-    ghost use Rattle.mc_image.specs.Gathered.{held};
+    ghost use Rattle.mc_image.specs.inner.Reading.{held};
 
     /// No bytes.
-    #[tactic(auto, unfolding(crate::specs::Gathered::held))]
+    #[tactic(auto, unfolding(crate::specs::inner::Reading::held))]
     pub(crate) fn new() -> Gather<N>
         ensures { held result ≡ [] }
     {
@@ -25,7 +25,7 @@ impl<const N: usize> Gather<N> {
     }
 
     /// These bytes and those of a piece, as far as there is room, and the rest of the piece.
-    #[tactic(auto, unfolding(crate::specs::Gathered::held))]
+    #[tactic(auto, unfolding(crate::specs::inner::Reading::held))]
     pub(crate) fn with<'p>(self, piece: &'p [u8]) -> (Gather<N>, &'p [u8])
         ensures held { held result.0 ≡ take N (held self.entry ++ piece.now) }
         ensures rest { result.1.now ≡ drop (N - length (held self.entry)) piece.now }
@@ -39,7 +39,7 @@ impl<const N: usize> Gather<N> {
     }
 
     /// The bytes that are there.
-    #[tactic(auto, unfolding(crate::specs::Gathered::held))]
+    #[tactic(auto, unfolding(crate::specs::inner::Reading::held))]
     pub(crate) fn as_slice(&self) -> &[u8]
         ensures bytes { result.now ≡ held self.now }
         ensures within { length result.now ≤ N }
@@ -48,7 +48,7 @@ impl<const N: usize> Gather<N> {
     }
 
     /// Whether there is no more room.
-    #[tactic(auto, unfolding(crate::specs::Gathered::held))]
+    #[tactic(auto, unfolding(crate::specs::inner::Reading::held))]
     pub(crate) fn is_full(&self) -> bool
         ensures { result ≡ (length (held self.now) == N) }
     {
@@ -56,7 +56,7 @@ impl<const N: usize> Gather<N> {
     }
 
     /// Whether no byte is there.
-    #[tactic(auto, unfolding(crate::specs::Gathered::held))]
+    #[tactic(auto, unfolding(crate::specs::inner::Reading::held))]
     pub(crate) fn is_empty(&self) -> bool
         ensures { result ≡ (length (held self.now) == 0) }
     {
@@ -64,7 +64,7 @@ impl<const N: usize> Gather<N> {
     }
 
     /// How many bytes are there.
-    #[tactic(auto, unfolding(crate::specs::Gathered::held))]
+    #[tactic(auto, unfolding(crate::specs::inner::Reading::held))]
     pub(crate) fn len(&self) -> usize
         ensures { result ≡ length (held self.now) }
     {

@@ -1,8 +1,8 @@
 //! The header's fields and their faults.
 ghost use Rattle.std.specs.Prelude.{◌≡◌, ◌+◌, ◌≤◌, ◌<◌, ◌^◌, length, MatchResult, None, Some};
-ghost use Rattle.mc_image.specs.Bytes.{u16_at};
-ghost use Rattle.mc_image.specs.Faults.{header_fault};
-ghost use Rattle.mc_image.specs.Headers.{IsHeader};
+ghost use Rattle.mc_image.specs.Image.{u16_at};
+ghost use Rattle.mc_image.specs.Valid.{header_fault};
+ghost use Rattle.mc_image.specs.inner.Reading.{IsHeader};
 ghost use Rattle.mc_image.specs.Image.{version_in};
 
 use crate::numbers::{u16_at, u32_at};
@@ -27,7 +27,7 @@ pub(crate) struct Header {
 }
 
 /// The faults of the fields.
-#[tactic(auto, unfolding(crate::specs::Faults::header_fault))]
+#[tactic(auto, unfolding(crate::specs::Valid::header_fault))]
 fn judge_fields(bytes: &[u8]) -> Result<(), ImageError>
     ensures { MatchResult result
         (λ _. (header_fault bytes.now ≡ None) × (32 ≤ length bytes.now) × (32 ≤ u16_at 8 bytes.now))

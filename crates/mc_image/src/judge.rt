@@ -1,12 +1,12 @@
 //! An image judged as its bytes come, in pieces of any length.
 ghost use Rattle.std.specs.Prelude.{◌≡◌, ℕ, List, ◌+◌, ◌≤◌, ◌<◌, ◌^◌, [], ◌++◌, length, None};
 ghost use Rattle.sha2.specs.Hashers.{Holds256};
-ghost use Rattle.mc_image.specs.Bytes.{IsBytes};
-ghost use Rattle.mc_image.specs.Faults.{protected_fault};
-ghost use Rattle.mc_image.specs.Gathered.{held};
+ghost use Rattle.mc_image.specs.Image.{IsBytes};
+ghost use Rattle.mc_image.specs.Valid.{protected_fault};
+ghost use Rattle.mc_image.specs.inner.Reading.{held};
 ghost use Rattle.mc_image.specs.Image.{payload_end, protected_end};
-ghost use Rattle.mc_image.specs.Judging.{verdict, Finishes, HasHeader, IsSealed, IsPlain, Judges};
-ghost use Rattle.mc_image.specs.Walking.{Goes};
+ghost use Rattle.mc_image.specs.inner.Judging.{verdict, Finishes, HasHeader, IsSealed, IsPlain, Judges};
+ghost use Rattle.mc_image.specs.inner.Reading.{Goes};
 
 use crate::areas::{ProtectedArea, Walk, plain_total};
 use crate::gather::Gather;

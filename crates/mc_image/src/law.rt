@@ -1,10 +1,10 @@
 //! Laws of the definitions, each the contract of a function that does nothing.
 ghost use Rattle.std.specs.Prelude.{◌≡◌, ℕ, List, None, Some, true, length, take, ◌↔◌, Result};
 ghost use Rattle.std.specs.List.{concat};
-ghost use Rattle.mc_image.specs.Bytes.{IsBytes};
+ghost use Rattle.mc_image.specs.Image.{IsBytes};
 ghost use Rattle.mc_image.specs.Image.{Image, Begins, image_in, image_text};
-ghost use Rattle.mc_image.specs.Faults.{first_fault};
-ghost use Rattle.mc_image.specs.Judging.{Judges, Finishes};
+ghost use Rattle.mc_image.specs.Valid.{first_fault};
+ghost use Rattle.mc_image.specs.inner.Judging.{Judges, Finishes};
 ghost use Rattle.mc_image.specs.declared.error.ImageError.{ImageError};
 ghost use Rattle.mc_image.specs.declared.judge.Judge.{Judge};
 ghost use Rattle.mc_image.specs.declared.judge.Judged.{Judged};

@@ -1,6 +1,6 @@
 //! A version from its text.
 ghost use Rattle.std.specs.Prelude.{◌≡◌, ◌≤◌, ◌^◌, None, Some, MatchOption, ◌∷◌, []};
-ghost use Rattle.mc_image.specs.VersionReading.{number_from, numeral_at, part_at, numbers_in, version_read};
+ghost use Rattle.mc_image.specs.inner.VersionReading.{number_from, numeral_at, part_at, numbers_in, version_read};
 
 use crate::{Version, VersionError};
 
@@ -17,7 +17,7 @@ struct Numbers {
 }
 
 /// Digits go on: the number with them, and the text after them.
-#[tactic(auto, unfolding(crate::specs::VersionReading::number_from))]
+#[tactic(auto, unfolding(crate::specs::inner::VersionReading::number_from))]
 fn number_from(start: u64, text: &[u8]) -> (u64, &[u8])
     requires { start ≤ 2 ^ 32 }
     ensures { number_from start text.now ≡ (result.0, result.1.now) }
@@ -35,7 +35,7 @@ fn number_from(start: u64, text: &[u8]) -> (u64, &[u8])
 }
 
 /// The number without leading zeros that the text begins with.
-#[tactic(auto, unfolding(crate::specs::VersionReading::numeral_at))]
+#[tactic(auto, unfolding(crate::specs::inner::VersionReading::numeral_at))]
 fn numeral_at(text: &[u8]) -> Option<(u64, &[u8])>
     ensures { MatchOption result (numeral_at text.now ≡ None)
         (λ x. numeral_at text.now ≡ Some (x.0, x.1.now)) }
@@ -53,7 +53,7 @@ fn numeral_at(text: &[u8]) -> Option<(u64, &[u8])>
 }
 
 /// The number after a separator, or 0 at the end of the text.
-#[tactic(auto, unfolding(crate::specs::VersionReading::part_at))]
+#[tactic(auto, unfolding(crate::specs::inner::VersionReading::part_at))]
 fn part_at(separator: u8, text: &[u8]) -> Option<(u64, &[u8])>
     ensures { MatchOption result (part_at separator text.now ≡ None)
         (λ x. part_at separator text.now ≡ Some (x.0, x.1.now)) }
@@ -70,7 +70,7 @@ fn part_at(separator: u8, text: &[u8]) -> Option<(u64, &[u8])>
 }
 
 /// The numbers of a text in the form.
-#[tactic(auto, unfolding(crate::specs::VersionReading::numbers_in, crate::specs::VersionReading::parts_after))]
+#[tactic(auto, unfolding(crate::specs::inner::VersionReading::numbers_in, crate::specs::inner::VersionReading::parts_after))]
 fn numbers_in(text: &[u8]) -> Option<Numbers>
     ensures { MatchOption result (numbers_in text.now ≡ None)
         (λ x. numbers_in text.now ≡ Some (x.major ∷ x.minor ∷ x.revision ∷ x.build ∷ [])) }
@@ -91,7 +91,7 @@ fn numbers_in(text: &[u8]) -> Option<Numbers>
 }
 
 /// The version that a text names.
-#[tactic(auto, unfolding(crate::specs::VersionReading::version_read, crate::specs::VersionReading::fitted))]
+#[tactic(auto, unfolding(crate::specs::inner::VersionReading::version_read, crate::specs::inner::VersionReading::fitted))]
 pub(crate) fn version_read(text: &[u8]) -> Result<Version, VersionError>
     ensures { result ≡ version_read text.now }
 {

@@ -1,11 +1,42 @@
--- An engine's answer at each of its ends.
-use Rattle.std.proofs.Common.{◌≡◌, ℕ, ◌<◌, ◌^◌, List, length, Option, None, Some, Result, Ok, Err, inl, inr, sym, ap, subst, ◌∙◌}
+-- What goes through readers and writers, and each end of an engine.
+use Rattle.std.proofs.Common.{Err, List, None, Ok, Option, Result, Some, [], ap, append-nil, arith, inl, inr, length, length-append, length-take, min, subst, sym, take, ℕ, ◌++◌, ◌+◌, ◌-◌, ◌<◌}
+use Rattle.std.proofs.Common.{◌^◌, ◌∙◌, ◌≡◌, ◌≤◌}
+use Rattle.std.proofs.KnownBytes.{Consumes-trans, Keeps-refl}
+use Rattle.std.specs.Io.KnownBytes.{Consumes}
 use Rattle.std.specs.Prelude.{IfSome, ◌⊎◌}
-use Rattle.std.proofs.KnownBytes.{Keeps-refl}
-use Rattle.mc_imgtool.specs.Engines.{RefusesReading, Refuses}
-use Rattle.mc_output.specs.Fronts.{AppendsFront}
+use Rattle.mc_imgtool.specs.Engines.{Refuses, RefusesReading}
 use Rattle.mc_imgtool.specs.declared.error.ToolError.{ToolError}
-use Rattle.mc_imgtool.specs.declared.error.ToolError.TheVariants.{Image, NotZeros, SlotTooSmall, NeedsSlotSize, InputTooLong, Read, Write, Memory}
+use Rattle.mc_imgtool.specs.declared.error.ToolError.TheVariants.{Image, InputTooLong, Memory, NeedsSlotSize, NotZeros, Read, SlotTooSmall, Write}
+use Rattle.mc_output.specs.Text.{AppendsFront}
+
+-- What two transfers in turn do to known bytes.
+
+-- a read has room
+pub has_room : (most taken room : ℕ) (buffer piece : List ℕ) → taken < most → room ≡ min (most - taken) 4096 → length buffer ≡ 4096 → length piece ≡ length (take room buffer) → 0 < length piece
+has_room most taken room buffer piece below is all e = omega (arith, length-take room buffer, is, e, all, below)
+
+-- a read stays within the limit
+pub within : (most taken room count : ℕ) (buffer piece : List ℕ) → room ≤ most - taken → taken ≤ most → length piece ≡ length (take room buffer) → count ≤ length piece → taken + count ≤ most
+within most taken room count buffer piece fits below e few = omega (arith, length-take room buffer, fits, e, few, below)
+
+-- what was read goes on within the limit
+pub fits_with_more : (most len room count : ℕ) (had buffer piece : List ℕ) → room ≡ min (most - len) 4096 → len ≡ length had → length had ≤ most → length piece ≡ length (take room buffer)
+    → (count ≤ length piece) × (count ≡ length (take count piece)) → length (had ++ take count piece) ≤ most
+fits_with_more most len room count had buffer piece is all below e few =
+    let le = within most (length had) room count buffer piece (omega (arith, is, all)) below e few.0 in
+    omega (arith, length-append had (take count piece), few.1, le)
+
+-- a read that gave nothing took nothing
+pub nothing : (old mid new : Option (List ℕ)) (bytes buf : List ℕ) (count : ℕ) → Consumes old mid bytes → Consumes mid new (take count buf) → count ≡ 0 → Consumes old new bytes
+nothing old mid new bytes buf count p q e = rw append-nil at (Consumes-trans old mid new bytes [] p (rw e at q))
+
+-- more than the limit was read
+pub longer : (old new : Option (List ℕ)) (bytes : List ℕ) (n : ℕ) → Consumes old new bytes → n + 1 ≤ length bytes → IfSome old (λ xs. n < length xs)
+longer None new bytes n taken h = tt
+longer (Some xs) (Some ys) bytes n taken h = let e = ap length taken in omega (arith, e, length-append bytes ys, h)
+longer (Some xs) None bytes n taken h = absurd taken
+
+-- An engine's answer at each of its ends.
 
 -- too long an input is refused as that, and no other refusal is wanted that a writer gives
 pub record IsWanted (wanted : List ℕ → Result (List ℕ) ToolError) : Type 0 where

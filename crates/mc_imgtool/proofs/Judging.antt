@@ -5,11 +5,11 @@ use Rattle.std.specs.Io.KnownBytes.{Appends}
 use Rattle.std.proofs.KnownBytes.{Keeps-refl}
 use Rattle.mc_image.specs.Image.{Image, image_in}
 use Rattle.mc_image.specs.Valid.{image_fault}
-use Rattle.mc_image.specs.Judging.{judged_of, judged_or_fault, verdict}
+use Rattle.mc_image.specs.inner.Judging.{judged_of, judged_or_fault, verdict}
 use Rattle.mc_image.specs.declared.error.ImageError.{ImageError}
 use Rattle.mc_image.specs.declared.judge.Judged.{Judged}
 use Rattle.mc_imgtool.specs.Engines.{Answers, Refuses, Judges}
-use Rattle.mc_output.specs.Fronts.{AppendsFront}
+use Rattle.mc_output.specs.Text.{AppendsFront}
 use Rattle.mc_imgtool.specs.Lines.{good_line, good_text, line_or_fault, verified}
 use Rattle.mc_imgtool.specs.declared.error.ToolError.{ToolError}
 use Rattle.mc_imgtool.specs.declared.error.ToolError.TheVariants.{Image as image_error, NotZeros, SlotTooSmall, NeedsSlotSize, InputTooLong, Read, Write, Memory}

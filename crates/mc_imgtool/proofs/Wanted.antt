@@ -1,18 +1,159 @@
--- What is wanted of each engine.
-use Rattle.std.proofs.Common.{◌≡◌, ℕ, ◌<◌, ◌≤◌, ◌^◌, Bool, true, false, cond, List, length, Option, None, Some, Result, Ok, Err, refl, sym, ap, ◌∙◌}
-use Rattle.std.specs.Prelude.{nat_lt, ◌-◌}
-use Rattle.std.proofs.lemmas.Bool.{lt-ltb, le-ltb}
-use Rattle.mc_image.specs.Image.{Image, image_in, image_text}
-use Rattle.mc_image.specs.Valid.{image_fault}
-use Rattle.mc_image.specs.Writing.{with_digest}
+-- What is wanted of each engine, and what is made.
+use Rattle.std.proofs.Common.{Bool, Err, List, None, Ok, Option, Result, Some, [], ap, append_assoc, arith, cond, drop, false, inl, inr, length, length-drop, refl, replicate, subst, sym, true, ℕ}
+use Rattle.std.proofs.Common.{◌++◌, ◌<◌, ◌^◌, ◌∙◌, ◌≡◌, ◌≤◌}
+use Rattle.std.proofs.lemmas.Bool.{le-ltb, lt-ltb}
+use Rattle.std.specs.Prelude.{IfOk, nat_lt, ◌-◌, ◌⊎◌}
+use Rattle.mc_image.specs.Image.{Entry, Image, image_in, image_text}
+use Rattle.mc_image.specs.Valid.{IsValid, first_fault, image_fault}
+use Rattle.mc_image.specs.Writing.{area_of, image_of, undigested, views, with_digest}
 use Rattle.mc_image.specs.declared.error.ImageError.{ImageError}
-use Rattle.mc_image.specs.Faults.{first_fault}
-use Rattle.mc_imgtool.specs.Lines.{line_or_fault, verified, report, report_or_fault, dumped}
-use Rattle.mc_imgtool.specs.Created.{created, needs_slot_size, lacks_zeros, payload_in, bare_image, is_too_small, slotted}
+use Rattle.mc_image.specs.declared.version.Version.{Version}
+use Rattle.mc_image.specs.declared.writing.ImageParts.{ImageParts}
+use Rattle.mc_imgtool.proofs.Answering.{IsWanted}
+use Rattle.mc_imgtool.specs.Created.{bare_image, counter_area, created, filled_slot, fills_slot, in_slot, is_too_small, lacks_zeros, needs_slot_size, payload_in, slotted}
+use Rattle.mc_imgtool.specs.Engines.{Gives}
+use Rattle.mc_imgtool.specs.Lines.{dumped, line_or_fault, report, report_or_fault, verified}
 use Rattle.mc_imgtool.specs.declared.creation.CreateOptions.{CreateOptions}
 use Rattle.mc_imgtool.specs.declared.error.ToolError.{ToolError}
-use Rattle.mc_imgtool.specs.declared.error.ToolError.TheVariants.{NotZeros, SlotTooSmall, NeedsSlotSize, InputTooLong, Write, Image as image_error}
-use Rattle.mc_imgtool.proofs.Answering.{IsWanted}
+use Rattle.mc_imgtool.specs.declared.error.ToolError.TheVariants.{Image as image_error, InputTooLong, Memory, NeedsSlotSize, NotZeros, SlotTooSmall, Write}
+
+-- The image of the parts that `create` hands on is the created one.
+
+abbrev plain_image : ℕ → Version → ℕ → List ℕ → List ℕ → Option (List Entry) → List Entry → Image
+plain_image load version padding rest payload protected plain = record { load = load; version = version; padding = padding; rest = rest; payload = payload; protected = protected; plain = plain }
+
+same_image : {l l' p p' : ℕ} {v v' : Version} {r r' x x' : List ℕ} {q q' : Option (List Entry)} {e e' : List Entry} → l ≡ l' → v ≡ v' → p ≡ p' → r ≡ r' → x ≡ x' → q ≡ q' → e ≡ e'
+    → plain_image l v p r x q e ≡ plain_image l' v' p' r' x' q' e'
+same_image e1 e2 e3 e4 e5 e6 e7 = cc
+
+pub bare_parts : (p : ImageParts) (o : CreateOptions) (payload : List ℕ) → p.load ≡ 0 → p.version ≡ o.version → p.padding ≡ 0 → p.header_rest.now ≡ replicate (o.header_size - 32) 0
+    → p.payload.now ≡ payload → area_of (views p.protected.now) ≡ counter_area o.security_counter → p.plain.now ≡ []
+    → undigested p ≡ bare_image o payload
+unfolding undigested bare_image
+bare_parts p o payload e1 e2 e3 e4 e5 e6 e7 = same_image e1 e2 e3 e4 e5 e6 (ap views e7)
+
+pub parts_are : (p : ImageParts) (v : Image) → undigested p ≡ v → image_of p ≡ with_digest v
+unfolding image_of
+parts_are p v e = ap with_digest e
+
+pub written_is : (p : ImageParts) (v : Image) (start out : List ℕ) → undigested p ≡ v → start ≡ [] → out ≡ start ++ image_text (image_of p) → out ≡ image_text (with_digest v)
+written_is p v start out bare none e = e ∙ ap (λ (l : List ℕ). l ++ image_text (image_of p)) none ∙ ap image_text (parts_are p v bare)
+
+-- bytes behind a valid image leave it valid
+pub IsValid-more : (b x : List ℕ) → IsValid b → IsValid (b ++ x)
+IsValid-more b x h = record {
+  image = h.image;
+  begins = record { fits = h.begins.fits; front = (h.begins.front.0 ++ x, ap (λ (l : List ℕ). l ++ x) h.begins.front.1 ∙ append_assoc (image_text h.image) h.begins.front.0 x) };
+  good = h.good;
+}
+
+in_slot_valid : (o : CreateOptions) (image : List ℕ) (slot : Option ℕ) → IsValid image → IsValid (in_slot o image slot)
+in_slot_valid o image None h = h
+in_slot_valid o image (Some slot) h =
+    elim (fills_slot o) as (λ b. IsValid (cond b (filled_slot slot o.confirm image) image)) [
+      | true ↦ IsValid-more image _ h
+      | false ↦ h
+    ]
+
+either_valid : (b : Bool) (text : List ℕ) → IsValid text → IfOk (cond b (Err SlotTooSmall) (Ok text)) IsValid
+either_valid true text h = tt
+either_valid false text h = h
+
+pub slotted_valid : (o : CreateOptions) (image : List ℕ) → IsValid image → IfOk (slotted o image) IsValid
+unfolding slotted
+slotted_valid o image h = either_valid (is_too_small o (length image) o.slot_size) _ (in_slot_valid o image o.slot_size h)
+
+-- what is made of a valid image is valid
+pub made_valid : {A : Type 0} (view : A → List ℕ) (o : CreateOptions) (image : List ℕ) (r : Result A ToolError) → IsValid image → Gives view r (slotted o image) → IfOk r (λ x. IsValid (view x))
+made_valid view o image (Err e) h gives = tt
+made_valid view o image (Ok x) h gives = let P : Result (List ℕ) ToolError → Type 0 = λ w. IfOk w IsValid in subst P gives (slotted_valid o image h)
+
+-- no image error is wanted
+slot_no_image : (b : Bool) (text : List ℕ) (e : ImageError) → cond b (Err SlotTooSmall) (Ok text) ≡ Err (image_error e) → ⊥
+slot_no_image true text e h = cc
+slot_no_image false text e h = cc
+
+slotted_no_image : (o : CreateOptions) (image : List ℕ) (e : ImageError) → slotted o image ≡ Err (image_error e) → ⊥
+unfolding slotted
+slotted_no_image o image e h = slot_no_image (is_too_small o (length image) o.slot_size) _ e h
+
+three_no_image : (a b c : Bool) (r : Result (List ℕ) ToolError) (e : ImageError) → (r ≡ Err (image_error e) → ⊥)
+    → cond a (Err NeedsSlotSize) (cond b (Err InputTooLong) (cond c (Err NotZeros) r)) ≡ Err (image_error e) → ⊥
+three_no_image true b c r e h q = cc
+three_no_image false true c r e h q = cc
+three_no_image false false true r e h q = cc
+three_no_image false false false r e h q = h q
+
+no_image : (o : CreateOptions) (xs : List ℕ) (e : ImageError) → created o xs ≡ Err (image_error e) → ⊥
+unfolding created
+no_image o xs e h = three_no_image (needs_slot_size o) (nat_lt (2 ^ 24) (length xs)) (lacks_zeros o xs) _ e (slotted_no_image o _ e) h
+
+not_memory : (e : ImageError) → image_error e ≡ Memory → ⊥
+not_memory e h = cc
+
+never_image : (o : CreateOptions) (xs : List ℕ) (e : ImageError) → (image_error e ≡ Memory) ⊎ (created o xs ≡ Err (image_error e)) → ⊥
+never_image o xs e (inl h) = not_memory e h
+never_image o xs e (inr h) = no_image o xs e h
+
+abbrev failed : ToolError → Result (Unit {0}) ToolError
+failed e = Err e
+
+same_error : (x y : ToolError) → failed x ≡ failed y → x ≡ y
+same_error x y h = cc
+
+-- an error that is made is no image error
+pub never_error : (o : CreateOptions) (xs : List ℕ) (d : ToolError) → (d ≡ Memory) ⊎ (created o xs ≡ Err d) → (e : ImageError) → failed d ≡ failed (image_error e) → ⊥
+never_error o xs d made e h = let P : ToolError → Type 0 = λ x. (x ≡ Memory) ⊎ (created o xs ≡ Err x) in never_image o xs e (subst P (same_error d (image_error e) h) made)
+
+-- once its size is told no slot size is missing
+needs_no_more : (a b c : Bool) (r : Result (List ℕ) ToolError) → a ≡ false → (r ≡ Err NeedsSlotSize → ⊥)
+    → cond a (Err NeedsSlotSize) (cond b (Err InputTooLong) (cond c (Err NotZeros) r)) ≡ Err NeedsSlotSize → ⊥
+needs_no_more true b c r e h q = absurd cc
+needs_no_more false true c r e h q = cc
+needs_no_more false false true r e h q = cc
+needs_no_more false false false r e h q = h q
+
+slot_no_needs : (b : Bool) (text : List ℕ) → cond b (Err SlotTooSmall) (Ok text) ≡ Err NeedsSlotSize → ⊥
+slot_no_needs true text h = cc
+slot_no_needs false text h = cc
+
+slotted_no_needs : (o : CreateOptions) (image : List ℕ) → slotted o image ≡ Err NeedsSlotSize → ⊥
+unfolding slotted
+slotted_no_needs o image h = slot_no_needs (is_too_small o (length image) o.slot_size) _ h
+
+created_no_needs : (o : CreateOptions) (xs : List ℕ) → needs_slot_size o ≡ false → created o xs ≡ Err NeedsSlotSize → ⊥
+unfolding created
+created_no_needs o xs told h = needs_no_more (needs_slot_size o) (nat_lt (2 ^ 24) (length xs)) (lacks_zeros o xs) _ told (slotted_no_needs o _) h
+
+not_memory_needs : NeedsSlotSize ≡ Memory → ⊥
+not_memory_needs h = cc
+
+told_made : (o : CreateOptions) (xs : List ℕ) → needs_slot_size o ≡ false → (NeedsSlotSize ≡ Memory) ⊎ (created o xs ≡ Err NeedsSlotSize) → ⊥
+told_made o xs told (inl h) = not_memory_needs h
+told_made o xs told (inr h) = created_no_needs o xs told h
+
+-- an error that is made says nothing of a slot's size once that is told
+pub told_error : (o : CreateOptions) (xs : List ℕ) (d : ToolError) → needs_slot_size o ≡ false → (d ≡ Memory) ⊎ (created o xs ≡ Err d) → failed d ≡ failed NeedsSlotSize → ⊥
+told_error o xs d told made h = let P : ToolError → Type 0 = λ x. (x ≡ Memory) ⊎ (created o xs ≡ Err x) in told_made o xs told (subst P (same_error d NeedsSlotSize h) made)
+
+-- what is made for its slot is what is wanted
+pub made_slotted : {A : Type 0} (view : A → List ℕ) (o : CreateOptions) (r : Result A ToolError) (wanted : Result (List ℕ) ToolError) (image : List ℕ) → wanted ≡ slotted o image
+    → Gives view r (slotted o image) → Gives view r wanted
+made_slotted view o r wanted image e gives = let P : Result (List ℕ) ToolError → Type 0 = λ w. Gives view r w in subst P (sym e) gives
+
+pub false_true : {b : Bool} → b ≡ false → b ≡ true → ⊥
+false_true e h = cc
+
+taken_short : (b : Bool) (n m : ℕ) (xs : List ℕ) → length xs ≤ m → length (cond b xs (drop n xs)) ≤ m
+taken_short true n m xs h = h
+taken_short false n m xs h = omega (arith, length-drop n xs)
+
+-- the payload is no longer than the input
+pub payload_short : (o : CreateOptions) (xs payload : List ℕ) → payload ≡ payload_in o xs → length xs ≤ 2 ^ 24 → length payload ≤ 2 ^ 24
+unfolding payload_in
+payload_short o xs payload e h = let P : List ℕ → Type 0 = λ l. length l ≤ 2 ^ 24 in subst P (sym e) (taken_short o.pad_header o.header_size (2 ^ 24) xs h)
+
+-- What is wanted of each engine.
 
 line_no_write : (v : Image) (o : Option ImageError) → line_or_fault v o ≡ Err Write → ⊥
 line_no_write v None e = cc

@@ -1,10 +1,10 @@
 -- Created bytes: what `create` makes of options and input (imgtool's documentation, `create`).
-use Rattle.std.specs.Prelude.{ℕ, ◌+◌, ◌-◌, ◌*◌, ◌^◌, Bool, false, List, [], ◌∷◌, ◌++◌, length, take, drop, replicate, nat_lt, ◌==◌, ◌&&◌, ◌||◌, not, is_none, if◌then◌else◌, Option, None, Some, Result}
+use Rattle.std.specs.Prelude.{ℕ, ◌+◌, ◌-◌, ◌*◌, ◌^◌, Bool, false, List, [], ◌∷◌, ◌++◌, length, take, drop, replicate, nat_lt, ◌==◌, ◌&&◌, ◌||◌, not, is_none, if◌then◌else◌, Option, None, Some}
+use Rattle.std.specs.Prelude.{Result}
 use Rattle.std.specs.Prelude.{Ok, Err}
 use Rattle.std.specs.List.{list_all}
 use Rattle.byteorder.specs.Endian.{little_bytes}
-use Rattle.mc_image.specs.Entries.{Entry}
-use Rattle.mc_image.specs.Image.{Image, image_text}
+use Rattle.mc_image.specs.Image.{Entry, Image, image_text}
 use Rattle.mc_image.specs.Writing.{with_digest}
 use Rattle.mc_imgtool.specs.declared.creation.CreateOptions.{CreateOptions}
 use Rattle.mc_imgtool.specs.declared.error.ToolError.{ToolError}

@@ -2,11 +2,11 @@
 -- that are left and that are held are known, or nothing is.
 use Rattle.std.specs.Prelude.{◌≡◌, ℕ, ◌<◌, ◌≤◌, List, length, Option, Result, Ok, Err, IfSome, IsErrAnd, ⊤, ◌⊎◌}
 use Rattle.std.specs.Io.KnownBytes.{Appends, Keeps}
-use Rattle.mc_image.specs.Judging.{verdict}
+use Rattle.mc_image.specs.inner.Judging.{verdict}
 use Rattle.mc_image.specs.declared.judge.Judged.{Judged}
 use Rattle.mc_imgtool.specs.declared.error.ToolError.{ToolError}
 use Rattle.mc_imgtool.specs.declared.error.ToolError.TheVariants.{Image, NotZeros, SlotTooSmall, NeedsSlotSize, InputTooLong, Read, Write, Memory}
-use Rattle.mc_output.specs.Fronts.{AppendsFront}
+use Rattle.mc_output.specs.Text.{AppendsFront}
 
 -- when a reader of at most `limit` bytes gives each refusal: the known input, the limit
 abbrev pub RefusesReading : Option (List ℕ) → ℕ → ToolError → Type 0

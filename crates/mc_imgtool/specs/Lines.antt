@@ -3,12 +3,10 @@ use Rattle.std.specs.Prelude.{ℕ, Bool, ◌-◌, ◌^◌, List, [], ◌∷◌, 
 use Rattle.std.specs.List.{flat_map}
 use Rattle.std.specs.Int.{w16, w32, to_be_bytes}
 use Rattle.hex.specs.Hex.{encode_lower}
-use Rattle.mc_image.specs.Image.{Image, header_text, protected_text, image_in, image_text, digest_of}
-use Rattle.mc_image.specs.Faults.{first_fault}
-use Rattle.mc_image.specs.Listing.{Listed, listing}
+use Rattle.mc_image.specs.Image.{Image, header_text, protected_text, image_in, image_text, digest_of, Listed, listing}
+use Rattle.mc_image.specs.Valid.{first_fault, is_good, image_fault}
 use Rattle.mc_image.specs.declared.entries.Area.{Area}
 use Rattle.mc_image.specs.declared.entries.Area.TheVariants.{Protected, Plain}
-use Rattle.mc_image.specs.Valid.{is_good, image_fault}
 use Rattle.mc_image.specs.VersionText.{version_line}
 use Rattle.mc_image.specs.declared.error.ImageError.{ImageError}
 use Rattle.mc_image.specs.declared.judge.Judged.{Judged}

@@ -1,7 +1,7 @@
 //! Output, written whole.
 ghost use Rattle.std.specs.Prelude.{◌≡◌, IfErr, OnOk};
 ghost use Rattle.std.specs.Io.KnownBytes.{Appends};
-ghost use Rattle.mc_output.specs.Fronts.{AppendsFront};
+ghost use Rattle.mc_output.specs.Text.{AppendsFront};
 
 use crate::ToolError;
 use mc_output::WriteFailed;

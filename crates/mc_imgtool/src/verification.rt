@@ -2,7 +2,7 @@
 ghost use Rattle.std.specs.Prelude.{◌≡◌, ℕ, List, ◌+◌, ◌≤◌, ◌^◌, length, IfErr, OnOk, ◌≢◌};
 ghost use Rattle.std.specs.Io.KnownBytes.{Appends, Consumes, IsAtEnd};
 ghost use Rattle.mc_imgtool.specs.Engines.{Answers, Judges, RefusesAnImage};
-ghost use Rattle.mc_output.specs.Fronts.{AppendsFront};
+ghost use Rattle.mc_output.specs.Text.{AppendsFront};
 ghost use Rattle.mc_imgtool.specs.Lines.{good_text, verified};
 
 use crate::ToolError;

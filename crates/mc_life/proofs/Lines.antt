@@ -2,8 +2,8 @@
 use Rattle.std.specs.Prelude.{◌≡◌, ℕ, suc, ◌+◌, ◌<◌, ◌≤◌, List, [], ◌∷◌, ◌++◌, length, drop, bytes_eq, true, false, if◌then◌else◌, Option, Some, None}
 use Rattle.std.specs.Io.KnownBytes.{Appends}
 use Rattle.std.proofs.Common.{arith, sym, ap, subst, append-nil, get_or, drop-cons, drop_of_length-le, ◌∙◌}
-use Rattle.mc_life.specs.Files.{Named, file_of}
-use Rattle.mc_output.specs.Fronts.{AppendsFront}
+use Rattle.mc_life.specs.Script.{Named, file_of}
+use Rattle.mc_output.specs.Text.{AppendsFront}
 use Rattle.mc_output.specs.facts.Fronts.{IsOut, out_all, out_begun, out_front, out_more}
 
 module _ (a w b : List ℕ) (before mid : Option (List ℕ)) where

@@ -6,7 +6,7 @@ use Rattle.hex.specs.Hex.{IsBytes, decode_sized, encode_lower, lower_digits}
 use Rattle.hex.specs.declared.error.FromHexError.{FromHexError}
 use Rattle.hex.proofs.HexLemmas.{length-encode_with, decode_of-encode_lower, decode_sized-twice}
 use Rattle.mc_output.specs.facts.Parting.{AreParts, no_part, one_part}
-use Rattle.mc_life.specs.Events.{TellsNone, name_of}
+use Rattle.mc_life.specs.Script.{TellsNone, name_of}
 use Rattle.mc_life.specs.declared.event.Event.TheVariants as events
 
 some_is : {A : Type 0} (x y : A) → Some x ≡ Some y → x ≡ y

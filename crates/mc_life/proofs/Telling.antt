@@ -8,17 +8,15 @@ use Rattle.std.proofs.lemmas.List.{length-append}
 use Rattle.mc_boot.specs.Outcome.{Report}
 use Rattle.mc_output.specs.facts.Parting.{AreParts, Lacks}
 use Rattle.mc_start.specs.Start.{Started}
-use Rattle.mc_life.specs.Files.{Named}
-use Rattle.mc_life.specs.Script.{Either, is_skipped, lines_left, lines_of, onto, size_left}
+use Rattle.mc_life.specs.Script.{Named, Either, is_skipped, lines_left, lines_of, onto, size_left}
 use Rattle.mc_boot.specs.Life.{Event as Happening, IsDelivered, LifeLaw, Lives, LivesOn, Moment, resting}
-use Rattle.mc_flash.specs.Content.{Content}
+use Rattle.mc_flash.specs.Flash.{Content}
 use Rattle.mc_flash.specs.Geometry.{Geometry, IsLayout}
 use Rattle.mc_flash.specs.declared.op.Op.{Op}
 use Rattle.mc_trailer.specs.declared.tables.Rules.{Rules}
 use Rattle.mc_life.proofs.Going.{lives_both}
-use Rattle.mc_life.specs.Happens.{happenings, operations}
-use Rattle.mc_life.specs.Standing.{Goes, IsNew, Standing, moment}
-use Rattle.mc_life.specs.Told.{FailsLife, FailsLine, Happens, IsTold, RefusesLine, StopsAt, Tell, life_error, line_text}
+use Rattle.mc_life.specs.Told.{happenings, operations, FailsLife, FailsLine, Happens, IsTold, RefusesLine, StopsAt, Tell, life_error, line_text}
+use Rattle.mc_life.specs.Device.{Goes, IsNew, Standing, moment}
 use Rattle.mc_life.specs.declared.life.LineError.{LineError}
 use Rattle.mc_life.specs.declared.life.LineError.TheVariants as errors_of_line
 use Rattle.mc_life.specs.declared.error.EventError.{EventError}

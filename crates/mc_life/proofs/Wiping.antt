@@ -1,5 +1,6 @@
 -- The secondary, erased sector by sector from its end.
-use Rattle.std.specs.Prelude.{◌≡◌, ℕ, zero, suc, ◌+◌, ◌-◌, ◌*◌, ◌≤◌, List, [], ◌∷◌, ◌++◌, length, take, drop, replicate, Some, None, Result, Ok, Err, OnOk, IfErr, Bool, true, refl, if◌then◌else◌, ◌%◌}
+use Rattle.std.specs.Prelude.{◌≡◌, ℕ, zero, suc, ◌+◌, ◌-◌, ◌*◌, ◌≤◌, List, [], ◌∷◌, ◌++◌, length, take, drop, replicate, Some, None, Result, Ok, Err, OnOk, IfErr, Bool, true, refl, if◌then◌else◌}
+use Rattle.std.specs.Prelude.{◌%◌}
 use Rattle.std.proofs.Common.{append-nil, drop_of_length-le, arith, sym, ap, subst, ◌∙◌}
 use Rattle.std.proofs.lemmas.List.{length-take-le, length-drop, replicate-append-replicate, length-append, length-replicate}
 use Rattle.std.proofs.Math.Seq.{drop-append_seam}
@@ -7,11 +8,9 @@ use Rattle.std.proofs.Math.Nat.{zero-mod}
 use Rattle.std.proofs.lemmas.Slice.{between_from_start}
 use Rattle.std.specs.List.{between}
 use Rattle.std.proofs.lemmas.List.{take_all}
-use Rattle.mc_flash.specs.Apply.{IsRange, apply, in_slot}
-use Rattle.mc_flash.specs.Blank.{is_blank}
-use Rattle.mc_flash.specs.Content.{Content, put, size_of, with_bytes}
+use Rattle.mc_flash.specs.Flash.{IsRange, apply, in_slot, is_blank, Content, put, size_of, with_bytes}
 use Rattle.mc_flash.specs.Geometry.{Geometry, IsLayout}
-use Rattle.mc_flash.specs.Seen.{Does, Seen, done}
+use Rattle.mc_flash.specs.Usage.{Does, Seen, done}
 use Rattle.mc_flash.specs.declared.flash.FlashError.{FlashError}
 use Rattle.mc_flash.specs.declared.flash.FlashError.TheVariants as errors
 use Rattle.mc_flash.specs.declared.op.Slot.{Slot}
@@ -20,8 +19,7 @@ use Rattle.mc_flash.specs.facts.Layouts.{sector_inside, whole_size}
 use Rattle.mc_flash.specs.declared.op.Op.TheVariants.{Erase, Program}
 use Rattle.mc_flash.specs.declared.op.Slot.TheVariants.{Secondary}
 use Rattle.mc_life.proofs.Worn.{worn_both}
-use Rattle.mc_life.specs.Wear.{Counts, worn}
-use Rattle.mc_life.specs.Work.{wiped, wipes}
+use Rattle.mc_life.specs.Device.{Counts, worn, wiped, wipes}
 
 -- From a sector on all is blank, and the primary is as it was.
 pub record IsWiping (old f : Seen) (left : ℕ) : Type 0 where

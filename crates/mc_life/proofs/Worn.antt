@@ -8,7 +8,7 @@ use Rattle.mc_flash.specs.declared.op.Op.{Op}
 use Rattle.mc_flash.specs.declared.op.Op.TheVariants.{Erase}
 use Rattle.mc_flash.specs.declared.op.Slot.{Slot}
 use Rattle.mc_flash.specs.declared.op.Slot.TheVariants.{Primary, Secondary}
-use Rattle.mc_life.specs.Wear.{AreCounts, Counts, worn, worn_from}
+use Rattle.mc_life.specs.Device.{AreCounts, Counts, worn, worn_from}
 
 pub all_erases_both : (slot : Slot) (sector : ℕ) (ops more : List Op) → all_erases slot sector (ops ++ more) ≡ all_erases slot sector ops + all_erases slot sector more
 all_erases_both slot sector [] more = omega arith

@@ -2,7 +2,7 @@
 use Rattle.std.specs.Prelude.{◌≡◌, ℕ, suc, ◌+◌, ◌-◌, ◌^◌, ◌<◌, ◌≤◌, ◌⊎◌, min, List, length, drop, get_or}
 use Rattle.std.proofs.Common.{arith, ap, drop-cons, drop_of_length-le, inl, inr, ◌∙◌}
 use Rattle.std.proofs.lemmas.Bool.Decides.{eqb_tells}
-use Rattle.mc_life.specs.Wear.{IsMost, sum_of, total}
+use Rattle.mc_life.specs.Device.{IsMost, sum_of, total}
 
 -- The most of the first counts.
 pub record IsSoFar (counts : List ℕ) (i sector count : ℕ) : Type 0 where

@@ -1,12 +1,3 @@
-pub mod Wear
-pub mod Standing
-pub mod Work
-pub mod Cuts
-pub mod Refused
-pub mod Events
+pub mod Device
 pub mod Script
-pub mod Files
-pub mod Texts
-pub mod States
-pub mod Happens
 pub mod Told

@@ -1,5 +1,100 @@
+-- The text of a script: a line for each event, and the files that it names (docs/FORMAT.md, "A device's life").
+use Rattle.std.specs.Prelude.{Bool, IfSome, List, None, Option, Some, [], bytes_eq, codes, decimal, false, if◌then◌else◌, length, true, ℕ, ⊤, ◌++◌, ◌+◌, ◌<◌, ◌==◌, ◌^◌, ◌∷◌, ◌≡◌, ◌≤◌}
+use Rattle.hex.specs.Hex.{IsBytes, encode_lower}
+use Rattle.mc_life.specs.declared.event.Event.{Event}
+use Rattle.mc_life.specs.declared.request.Request.{Request}
+use Rattle.mc_output.specs.facts.Parting.{Lacks}
+use Rattle.mc_start.specs.Start.{IsSchedule, schedule_text}
+use Rattle.mc_life.specs.declared.event.Event.TheVariants as events
+use Rattle.mc_life.specs.declared.request.Request.TheVariants as requests
+
+-- The line of a script that tells an event.
+
+abbrev pub request_text : Request → List ℕ
+request_text requests.Test = codes "test"
+request_text requests.Perm = codes "perm"
+
+-- Its first word.
+abbrev pub name_of : Event → List ℕ
+name_of (events.Download file bytes) = codes "download"
+name_of (events.Request request) = codes "request"
+name_of (events.Store file) = codes "store"
+name_of (events.Erase sector) = codes "erase"
+name_of events.Confirm = codes "confirm"
+name_of (events.Mark bytes) = codes "mark"
+name_of (events.Boot cuts) = codes "boot"
+name_of (events.Cut count) = codes "cut"
+
+abbrev pub with_count : List ℕ → Option ℕ → List ℕ
+with_count file None = file
+with_count file (Some count) = file ++ 32 ∷ decimal count
+
+abbrev pub cuts_text : List ℕ → Option (List ℕ)
+cuts_text [] = None
+cuts_text (c ∷ cuts) = Some (schedule_text (c ∷ cuts))
+
+-- What stands behind it, if something does.
+abbrev pub rest_of : Event → Option (List ℕ)
+rest_of (events.Download file bytes) = Some (with_count file.now bytes)
+rest_of (events.Request request) = Some (request_text request)
+rest_of (events.Store file) = Some file.now
+rest_of (events.Erase sector) = Some (decimal sector)
+rest_of events.Confirm = None
+rest_of (events.Mark bytes) = Some (encode_lower bytes)
+rest_of (events.Boot cuts) = cuts_text cuts
+rest_of (events.Cut count) = Some (decimal count)
+
+abbrev pub line_of : List ℕ → Option (List ℕ) → List ℕ
+line_of name None = name
+line_of name (Some rest) = name ++ 32 ∷ rest
+
+-- Its line: one space stands between words.
+abbrev pub event_text : Event → List ℕ
+event_text e = line_of (name_of e) (rest_of e)
+
+-- An event that a line can tell.
+abbrev pub IsEvent : Event → Type 0
+IsEvent (events.Download file bytes) = Lacks 32 file.now × IfSome bytes (λ n. n < 2 ^ 32)
+IsEvent (events.Request request) = ⊤
+IsEvent (events.Store file) = Lacks 32 file.now
+IsEvent (events.Erase sector) = sector < 2 ^ 32
+IsEvent events.Confirm = ⊤
+IsEvent (events.Mark bytes) = (length bytes ≤ 8) × IsBytes bytes
+IsEvent (events.Boot cuts) = IsSchedule cuts
+IsEvent (events.Cut count) = count < 2 ^ 32
+
+-- What a first word and what stands behind it tell.
+pub record Tells (name : List ℕ) (rest : Option (List ℕ)) (e : Event) : Type 0 where
+  pub event : IsEvent e
+  pub name_is : name ≡ name_of e
+  pub rest_is : rest ≡ rest_of e
+
+abbrev pub TellsNone : List ℕ → Option (List ℕ) → Type 0
+TellsNone name rest = (e : Event) → Tells name rest e → ⊥
+
+-- A line tells an event that has this line, and none where there is no such event.
+abbrev pub ReadsEvent : List ℕ → Option Event → Type 0
+ReadsEvent line None = (e : Event) → IsEvent e → line ≡ event_text e → ⊥
+ReadsEvent line (Some e) = IsEvent e × (line ≡ event_text e)
+
+-- The files that a script names.
+
+-- A file by its name: what it holds.
+pub record Named : Type 0 where
+  pub name : List ℕ
+  pub bytes : List ℕ
+
+-- The first of that name.
+abbrev pub file_of : List Named → List ℕ → Option (List ℕ)
+file_of [] name = None
+file_of (f ∷ files) name = if bytes_eq f.name name then Some f.bytes else file_of files name
+
+-- What it holds.
+abbrev pub held : Option (List ℕ) → List ℕ
+held None = []
+held (Some bytes) = bytes
+
 -- The lines of a script.
-use Rattle.std.specs.Prelude.{ℕ, ◌==◌, Bool, true, false, if◌then◌else◌, List, [], ◌∷◌, length, ◌+◌, Option, Some, None}
 
 abbrev pub onto : ℕ → List (List ℕ) → List (List ℕ)
 onto c [] = (c ∷ []) ∷ []

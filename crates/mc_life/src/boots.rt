@@ -1,19 +1,19 @@
 //! One boot of a device, and what it erases.
 ghost use Rattle.std.specs.List.{between};
 ghost use Rattle.std.specs.Prelude.{◌≡◌, ◌⊎◌, ◌+◌, ◌≤◌, true, [], length, take, IfErr, IfOk, IfSome, IsSomeAnd, OnOk, Some, is_some};
-ghost use Rattle.mc_flash.specs.Apply.{CanTry, IsRange, apply};
-ghost use Rattle.mc_flash.specs.Blank.{is_blank};
-ghost use Rattle.mc_flash.specs.Content.{bytes_of};
+ghost use Rattle.mc_flash.specs.Flash.{CanTry, IsRange, apply};
+ghost use Rattle.mc_flash.specs.Flash.{is_blank};
+ghost use Rattle.mc_flash.specs.Flash.{bytes_of};
 ghost use Rattle.mc_boot.specs.Boot.{progress, to_come, IsBootOf};
 ghost use Rattle.mc_boot.specs.Life.{is_boot};
 ghost use Rattle.mc_boot.specs.Outcome.{outcome_of, shown};
 ghost use Rattle.mc_boot.specs.Plan.{plan};
-ghost use Rattle.mc_boot.specs.PowerOn.{powered};
-ghost use Rattle.mc_boot.specs.Run.{HasCome};
-ghost use Rattle.mc_boot.specs.Runs.{after, left_by, ops_of};
-ghost use Rattle.mc_life.specs.Cuts.{Cuts, cut_ops};
-ghost use Rattle.mc_life.specs.Refused.{RefusesCuts};
-ghost use Rattle.mc_life.specs.Wear.{worn};
+ghost use Rattle.mc_boot.specs.Plan.{powered};
+ghost use Rattle.mc_boot.specs.Boot.{HasCome};
+ghost use Rattle.mc_boot.specs.Outcome.{after, left_by, ops_of};
+ghost use Rattle.mc_life.specs.Device.{Cuts, cut_ops};
+ghost use Rattle.mc_life.specs.Device.{RefusesCuts};
+ghost use Rattle.mc_life.specs.Device.{worn};
 
 use crate::error::EventError;
 use crate::wear::Wear;
@@ -40,7 +40,7 @@ fn is_free<F: Flash>(flash: &F, slot: Slot, at: u32, len: u32) -> bool
 }
 
 // Whether the flash would do an operation.
-#[tactic(auto, unfolding(mc_flash::specs::Apply::apply))]
+#[tactic(auto, unfolding(mc_flash::specs::Flash::apply))]
 fn is_defined<F: Flash>(flash: &F, op: Op) -> bool
     requires { CanTry (F.seen flash.now).geometry op }
     ensures { result ≡ is_some (apply (F.seen flash.now).geometry op (F.seen flash.now).content) }

@@ -2,17 +2,17 @@
 ghost use Rattle.std.specs.Prelude.{◌≡◌, ◌≤◌, [], ◌∷◌, length, IfErr, IfOk, OnOk};
 ghost use Rattle.mc_boot.specs.Life.{confirm, cut, mark, store};
 ghost use Rattle.mc_boot.specs.Outcome.{shown};
-ghost use Rattle.mc_boot.specs.PowerOn.{powered};
-ghost use Rattle.mc_boot.specs.Start.{filled};
-ghost use Rattle.mc_flash.specs.Apply.{erased};
-ghost use Rattle.mc_trailer.specs.Fields.{trailer_of};
+ghost use Rattle.mc_boot.specs.Plan.{powered};
+ghost use Rattle.mc_boot.specs.Restart.{filled};
+ghost use Rattle.mc_flash.specs.Flash.{erased};
+ghost use Rattle.mc_trailer.specs.Trailer.{trailer_of};
 ghost use Rattle.mc_trailer.specs.Tables.{is_set};
 ghost use Rattle.mc_flash.specs.declared.op.Op.TheVariants.{Erase};
 ghost use Rattle.mc_flash.specs.declared.op.Slot.TheVariants.{Primary, Secondary};
-ghost use Rattle.mc_life.specs.Cuts.{EndsAs, boot_ops, cut_ops};
-ghost use Rattle.mc_life.specs.Refused.{RefusesConfirm, RefusesCuts, RefusesDownload, RefusesErase, RefusesMark, RefusesRequest, RefusesStore};
-ghost use Rattle.mc_life.specs.Standing.{Goes, IsNew};
-ghost use Rattle.mc_life.specs.Work.{asked, boots, loaded, wipes};
+ghost use Rattle.mc_life.specs.Device.{EndsAs, boot_ops, cut_ops};
+ghost use Rattle.mc_life.specs.Device.{RefusesConfirm, RefusesCuts, RefusesDownload, RefusesErase, RefusesMark, RefusesRequest, RefusesStore};
+ghost use Rattle.mc_life.specs.Device.{Goes, IsNew};
+ghost use Rattle.mc_life.specs.Device.{asked, boots, loaded, wipes};
 
 use crate::error::EventError;
 use crate::request::Request;
@@ -66,7 +66,7 @@ pub struct Device<F: Flash> {
 }
 
 impl<F: Flash> Model for Device<F> {
-    ghost use Rattle.mc_life.specs.Standing.{Standing};
+    ghost use Rattle.mc_life.specs.Device.{Standing};
 
     ghost Value = { Standing };
 

@@ -38,7 +38,7 @@ pub enum EventError {
 }
 
 impl From<FlashError> for EventError {
-    ghost use Rattle.mc_life.specs.Refused.{of_flash};
+    ghost use Rattle.mc_life.specs.Device.{of_flash};
 
     ghost from_gives = { λ error e. e ≡ of_flash error };
 

@@ -1,7 +1,7 @@
 //! What can happen to a device, as a line of a script tells it.
 ghost use Rattle.std.specs.Prelude.{◌≡◌, ℕ, ◌<◌, ◌≤◌, ◌^◌, List, length, codes, decimal, MatchOption, Some, None, true, false};
 ghost use Rattle.hex.specs.Hex.{IsBytes, encode_lower};
-ghost use Rattle.mc_life.specs.Events.{ReadsEvent, Tells, TellsNone};
+ghost use Rattle.mc_life.specs.Script.{ReadsEvent, Tells, TellsNone};
 
 use crate::request::Request;
 use mc_flash::Bytes16;

@@ -1,9 +1,9 @@
 //! The files that a script names.
 ghost use Rattle.std.specs.Prelude.{◌≡◌, ◌≤◌, ◌^◌, length, IfOk, Some, option_map};
-ghost use Rattle.mc_boot.specs.Image.{identity_of};
+ghost use Rattle.mc_boot.specs.Plan.{identity_of};
 ghost use Rattle.mc_image.specs.Valid.{id_of};
-ghost use Rattle.mc_life.specs.Files.{file_of};
-ghost use Rattle.mc_start.specs.Slots.{IsKnown};
+ghost use Rattle.mc_life.specs.Script.{file_of};
+ghost use Rattle.mc_start.specs.Start.{IsKnown};
 
 use mc_boot::{ImageId, KnownImage, known_id};
 use mc_image::ImageView;
@@ -20,8 +20,8 @@ pub struct File {
 
 impl Model for File {
     ghost use Rattle.std.specs.Prelude.{string_bytes};
-    ghost use Rattle.mc_life.specs.Files.{Named};
-    ghost use Rattle.mc_start.specs.Slots.{IsKnown};
+    ghost use Rattle.mc_life.specs.Script.{Named};
+    ghost use Rattle.mc_start.specs.Start.{IsKnown};
 
     ghost Value = { Named };
 

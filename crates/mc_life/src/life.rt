@@ -2,14 +2,14 @@
 ghost use Rattle.std.specs.Prelude.{◌≡◌, ◌<◌, ◌≤◌, ◌^◌, ◌∷◌, Option, length, option_map, IfErr, IfOk, MatchResult, None, Some, OnOk};
 ghost use Rattle.mc_boot.specs.Life.{IsDelivered, LivesOn};
 ghost use Rattle.mc_boot.specs.Outcome.{shown};
-ghost use Rattle.mc_flash.specs.Content.{Content};
-ghost use Rattle.mc_life.specs.Happens.{Ends, Refuses, happenings, operations};
-ghost use Rattle.mc_life.specs.Files.{file_of};
+ghost use Rattle.mc_flash.specs.Flash.{Content};
+ghost use Rattle.mc_life.specs.Told.{Ends, Refuses, happenings, operations};
+ghost use Rattle.mc_life.specs.Script.{file_of};
 ghost use Rattle.mc_boot.specs.Outcome.{Report};
 ghost use Rattle.std.specs.Io.KnownBytes.{Appends};
 ghost use Rattle.mc_life.specs.Script.{is_skipped, lines_left, lines_of, size_left};
 ghost use Rattle.mc_life.specs.Told.{FailsLife, FailsLine, Happens, IsTold, RefusesLine, life_error, line_text};
-ghost use Rattle.mc_life.specs.Standing.{Goes, moment};
+ghost use Rattle.mc_life.specs.Device.{Goes, moment};
 
 use crate::device::Device;
 use crate::error::EventError;

@@ -1,13 +1,13 @@
 //! The state of a device, and the line of an event.
 ghost use Rattle.std.specs.Prelude.{◌≡◌, ◌+◌, ◌≤◌, ◌^◌, ◌++◌, [], ◌∷◌, codes, decimal, length, option_map, OnOk, OnErr};
 ghost use Rattle.std.specs.Io.KnownBytes.{Appends};
-ghost use Rattle.mc_boot.specs.Image.{identity_of};
+ghost use Rattle.mc_boot.specs.Plan.{identity_of};
 ghost use Rattle.mc_boot.specs.Life.{device_state, is_on_trial};
 ghost use Rattle.mc_boot.specs.Outcome.{shown};
-ghost use Rattle.mc_flash.specs.Content.{bytes_of};
-ghost use Rattle.mc_life.specs.States.{stated};
-ghost use Rattle.mc_life.specs.Texts.{event_line, outcome_text, slot_text, state_text, trial_text};
-ghost use Rattle.mc_output.specs.Fronts.{AppendsFront};
+ghost use Rattle.mc_flash.specs.Flash.{bytes_of};
+ghost use Rattle.mc_life.specs.Told.{stated};
+ghost use Rattle.mc_life.specs.Told.{event_line, outcome_text, slot_text, state_text, trial_text};
+ghost use Rattle.mc_output.specs.Text.{AppendsFront};
 
 use crate::files::image_in;
 use mc_boot::{Boot, ImageId, KnownImage, Outcome};

@@ -2,7 +2,7 @@
 ghost use Rattle.std.specs.Prelude.{◌≡◌, [], ◌∷◌, IfOk, replicate};
 ghost use Rattle.mc_flash.specs.declared.op.Op.TheVariants.{Erase};
 ghost use Rattle.mc_flash.specs.declared.op.Slot.{Slot as FlashSlot};
-ghost use Rattle.mc_life.specs.Wear.{AreCounts, counts_of, none_worn, worn, worn_from};
+ghost use Rattle.mc_life.specs.Device.{AreCounts, counts_of, none_worn, worn, worn_from};
 
 use mc_flash::{Layout, Op, Slot};
 use std::alloc::{AllocError, Global};
@@ -16,7 +16,7 @@ pub struct Wear {
 }
 
 impl Model for Wear {
-    ghost use Rattle.mc_life.specs.Wear.{Counts};
+    ghost use Rattle.mc_life.specs.Device.{Counts};
 
     ghost Value = { Counts };
 

@@ -1,7 +1,7 @@
 //! How often sectors were erased, as text.
 ghost use Rattle.std.specs.Prelude.{◌≡◌, ◌≤◌, ◌++◌, codes, decimal, length, OnOk};
 ghost use Rattle.std.specs.Io.KnownBytes.{Appends};
-ghost use Rattle.mc_life.specs.Wear.{IsMost, Most as MostErased, total, wear_text};
+ghost use Rattle.mc_life.specs.Device.{IsMost, Most as MostErased, total, wear_text};
 
 use crate::wear::Wear;
 use mc_flash::Slot;

@@ -1,18 +1,18 @@
 //! What a running image does to the secondary, operation by operation, and what that erases.
 ghost use Rattle.std.specs.Prelude.{◌≡◌, ◌<◌, [], ◌∷◌, ◌≤◌, ◌%◌, length, IfErr, IfOk, OnOk};
 ghost use Rattle.mc_boot.specs.Life.{AreSecondary};
-ghost use Rattle.mc_image.specs.Bytes.{IsBytes};
-ghost use Rattle.mc_flash.specs.Content.{put, sectors_of, size_of, with_bytes};
-ghost use Rattle.mc_flash.specs.Seen.{Does};
+ghost use Rattle.mc_image.specs.Image.{IsBytes};
+ghost use Rattle.mc_flash.specs.Flash.{put, sectors_of, size_of, with_bytes};
+ghost use Rattle.mc_flash.specs.Usage.{Does};
 ghost use Rattle.mc_flash.specs.declared.op.Op.TheVariants.{Erase, Program};
 ghost use Rattle.mc_flash.specs.declared.op.Slot.TheVariants.{Primary, Secondary};
-ghost use Rattle.mc_life.specs.Wear.{worn};
-ghost use Rattle.mc_life.specs.Refused.{AskFails};
-ghost use Rattle.mc_boot.specs.Writes.{image_ok_write};
-ghost use Rattle.mc_trailer.specs.Fields.{one_unit};
-ghost use Rattle.mc_life.specs.Work.{asked, magic_write, marked, wiped, wipes};
-ghost use Rattle.mc_boot.specs.Start.{filled};
-ghost use Rattle.mc_trailer.specs.Places.{before_end, place};
+ghost use Rattle.mc_life.specs.Device.{worn};
+ghost use Rattle.mc_life.specs.Device.{AskFails};
+ghost use Rattle.mc_boot.specs.Plan.{image_ok_write};
+ghost use Rattle.mc_trailer.specs.Trailer.{one_unit};
+ghost use Rattle.mc_life.specs.Device.{asked, magic_write, marked, wiped, wipes};
+ghost use Rattle.mc_boot.specs.Restart.{filled};
+ghost use Rattle.mc_trailer.specs.Trailer.{before_end, place};
 
 use crate::request::Request;
 use crate::wear::Wear;

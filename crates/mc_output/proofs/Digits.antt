@@ -1,5 +1,6 @@
 -- Bytes in hexadecimal digits, one after another.
-use Rattle.std.proofs.Common.{◌≡◌, ℕ, suc, ◌+◌, ◌-◌, ◌*◌, ◌/◌, ◌%◌, ◌<◌, ◌≤◌, List, [], ◌∷◌, ◌++◌, length, get_or, slice_index, drop, sym, ap, ◌∙◌, arith, append_assoc, append-nil, length-append, length-drop, drop-cons, drop_of_length-le}
+use Rattle.std.proofs.Common.{◌≡◌, ℕ, suc, ◌+◌, ◌-◌, ◌*◌, ◌/◌, ◌%◌, ◌<◌, ◌≤◌, List, [], ◌∷◌, ◌++◌, length, get_or, slice_index, drop, sym, ap, ◌∙◌, arith, append_assoc, append-nil, length-append}
+use Rattle.std.proofs.Common.{length-drop, drop-cons, drop_of_length-le}
 use Rattle.hex.proofs.HexLemmas.{length-encode_with}
 use Rattle.hex.specs.Hex.{encode_lower, encode_with, lower_digits}
 

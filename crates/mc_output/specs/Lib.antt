@@ -1,3 +1,2 @@
-pub mod Fronts
-pub mod Joined
+pub mod Text
 pub mod facts

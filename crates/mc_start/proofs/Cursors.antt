@@ -1,5 +1,6 @@
 -- How the text of a cursor is taken apart.
-use Rattle.std.specs.Prelude.{◌≡◌, ◌≢◌, IsSomeAnd, ℕ, suc, ◌*◌, ◌/◌, ◌%◌, ◌<◌, ◌≤◌, List, [], ◌∷◌, ◌++◌, length, slice_index, Option, Some, None, decimal, Result, Ok, Err, MatchResult, true, false}
+use Rattle.std.specs.Prelude.{◌≡◌, ◌≢◌, IsSomeAnd, ℕ, suc, ◌*◌, ◌/◌, ◌%◌, ◌<◌, ◌≤◌, List, [], ◌∷◌, ◌++◌, length, slice_index, Option, Some, None, decimal, Result, Ok, Err, MatchResult, true}
+use Rattle.std.specs.Prelude.{false}
 use Rattle.std.specs.Prelude.{IfSome, is_err, refl}
 use Rattle.std.specs.Str.Parse.{ParsesUnsigned}
 use Rattle.std.proofs.Common.{append_assoc, arith, sym, ap, ◌∙◌}
@@ -8,8 +9,7 @@ use Rattle.hex.specs.Hex.{IsBytes, decode_sized, encode_lower, encode_with, hex_
 use Rattle.hex.specs.declared.error.FromHexError.{FromHexError}
 use Rattle.hex.proofs.HexLemmas.{IsDigits-lower_digits, length-encode_with, decode_of-encode_lower, decode_sized-twice}
 use Rattle.mc_trailer.specs.declared.tables.Rules.{Rules}
-use Rattle.mc_start.specs.CursorFields.{IsStartField}
-use Rattle.mc_start.specs.CursorText.{IsCursor}
+use Rattle.mc_start.specs.Cursor.{IsStartField, IsCursor}
 use Rattle.mc_start.specs.declared.cursor.Cursor.{Cursor}
 use Rattle.mc_start.specs.declared.cursor_fields.StartField.{StartField}
 use Rattle.mc_output.specs.facts.Parting.{Lacks, parted, one_piece, one_part, no_part, lacks_decimal}

@@ -1,5 +1,3 @@
-mod Images
-mod Room
-mod Booted
 mod Preceding
 mod Cursors
+pub mod Starts

@@ -6,7 +6,7 @@ use Rattle.std.proofs.Common.{arith, sym, ap, ◌∙◌, inl, inr}
 use Rattle.std.proofs.lemmas.Bool.{cases_eq, ltb-true, lt-ltb}
 use Rattle.std.proofs.lemmas.Bool.Decides.{nat_tests}
 use Rattle.std.proofs.lemmas.Cmp.{same_from_slice_cmp_tested}
-use Rattle.mc_tree.specs.Paths.{Precedes}
+use Rattle.mc_tree.specs.Tree.{Precedes}
 
 abbrev is_before : List ℕ → List ℕ → Bool
 is_before [] [] = false

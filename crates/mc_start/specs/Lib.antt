@@ -1,7 +1,3 @@
-pub mod Texts
-pub mod Cuts
-pub mod Slots
 pub mod Start
-pub mod CursorFields
-pub mod CursorText
+pub mod Cursor
 pub mod facts

@@ -1,21 +1,56 @@
--- The starts of an exploration: from two images, or from the bytes of both slots.
-use Rattle.std.specs.Prelude.{◌≡◌, ℕ, ◌+◌, ◌&&◌, if◌then◌else◌, List, [], ◌∷◌, ◌++◌, length, take, drop, Option, Some, None, Result, Ok, Err, IsOk, ◌==◌}
-use Rattle.sha2.specs.Sha256.{sha256}
+-- Starts of an exploration, what is refused of them, and the texts of layouts and schedules (docs/MODEL.md, "Start flashes").
+use Rattle.std.specs.Prelude.{All, Err, IfSome, IsOk, List, None, Ok, Option, Result, Some, [], codes, decimal, drop, if◌then◌else◌, length, take, ℕ, ◌&&◌, ◌++◌, ◌+◌, ◌-◌, ◌<◌, ◌==◌, ◌^◌, ◌∷◌}
+use Rattle.std.specs.Prelude.{◌≡◌, ◌≤◌}
+use Rattle.mc_boot.specs.Plan.{PowerOn, identity_of, image_size, plain, power_on}
+use Rattle.mc_boot.specs.Restart.{named, other, start_flash}
+use Rattle.mc_boot.specs.declared.image.ImageId.{ImageId}
+use Rattle.mc_boot.specs.declared.kind.Kind.{Kind}
+use Rattle.mc_flash.specs.Flash.{Content, size_of}
+use Rattle.mc_flash.specs.Geometry.{Geometry, fits}
+use Rattle.mc_flash.specs.declared.op.Slot.TheVariants.{Primary, Secondary}
 use Rattle.mc_image.specs.Valid.{Identity, id_of, image_fault}
 use Rattle.mc_image.specs.declared.error.ImageError.{ImageError}
-use Rattle.mc_flash.specs.Geometry.{Geometry, fits}
-use Rattle.mc_flash.specs.Content.{Content, size_of}
-use Rattle.mc_flash.specs.declared.op.Slot.TheVariants.{Primary, Secondary}
-use Rattle.mc_trailer.specs.declared.tables.Rules.{Rules}
-use Rattle.mc_boot.specs.Image.{image_size}
-use Rattle.mc_boot.specs.Plan.{plain}
-use Rattle.mc_boot.specs.PowerOn.{PowerOn, power_on}
-use Rattle.mc_boot.specs.Start.{start_flash, named, other}
-use Rattle.mc_boot.specs.declared.kind.Kind.{Kind}
-use Rattle.mc_boot.specs.declared.kind.Kind.TheVariants as starts
-use Rattle.mc_start.specs.Texts.{layout_line}
+use Rattle.mc_output.specs.Text.{joined}
+use Rattle.mc_start.specs.declared.schedule.ScheduleError.{ScheduleError}
 use Rattle.mc_start.specs.declared.start.StartError.{StartError}
+use Rattle.mc_trailer.specs.declared.tables.Rules.{Rules}
+use Rattle.sha2.specs.Sha256.{sha256}
 use Rattle.mc_start.specs.declared.start.StartError.TheVariants as errors
+use Rattle.mc_output.specs.Text as joining
+use Rattle.mc_boot.specs.declared.kind.Kind.TheVariants as starts
+
+-- The texts of layouts and schedules: this project's own.
+
+-- The six numbers of a layout.
+abbrev pub layout_line : Geometry → List ℕ
+layout_line g =
+    (codes "sector=" ++ (decimal g.sector ++ (codes " unit=" ++ (decimal g.unit ++ (codes " max=" ++ decimal g.max_sectors)))))
+    ++ (codes " chunk=" ++ (decimal g.chunk ++ (codes " primary=" ++ (decimal g.primary ++ (codes " secondary=" ++ decimal g.secondary)))))
+
+-- `-` for no cut, else the cuts with points between them.
+abbrev pub schedule_text : List ℕ → List ℕ
+schedule_text cuts = joined (codes ".") decimal cuts
+
+-- At most 16 cuts, each below 2^32.
+pub record IsSchedule (l : List ℕ) : Type 0 where
+  pub few : length l ≤ 16
+  pub small : All (λ c. c < 2 ^ 32) l
+
+-- A text is read as the schedule of that text, and is refused where it is that of none.
+abbrev pub ReadsSchedule : List ℕ → Result (List ℕ) ScheduleError → Type 0
+ReadsSchedule text (Ok l) = text ≡ schedule_text l
+ReadsSchedule text (Err _) = (l : List ℕ) → IsSchedule l → text ≡ schedule_text l → ⊥
+
+-- A cut that can be added: there are fewer than 16 before it.
+pub record FitsCut (before : List ℕ) (cut : ℕ) : Type 0 where
+  pub room : length before < 16
+  pub small : cut < 2 ^ 32
+
+-- The cut that a text writes stands behind others.
+abbrev pub IsAdded : List ℕ → List ℕ → List ℕ → Type 0
+IsAdded old text new = joining.IsAdded decimal FitsCut old text new
+
+-- The starts of an exploration: from two images, or from the bytes of both slots.
 
 -- The first refusal of two images, or none: a fault of the first, one of the second, or that one of them does not fit.
 abbrev pub refusal_of : Geometry → List ℕ → List ℕ → Option StartError
@@ -82,3 +117,16 @@ Gives g (Err e) wanted = wanted ≡ Err e
 -- What tells starts apart in a cursor: the digest of the layout's line with its line feed, and then the bytes of both slots.
 abbrev pub start_digest : PowerOn → List ℕ
 start_digest s = sha256 (((layout_line s.geometry ++ 10 ∷ []) ++ s.content.primary) ++ s.content.secondary)
+
+-- What is known of the slots that a start has.
+
+-- Where an identity is told of some bytes, they begin with that valid image.
+abbrev pub IsKnown : List ℕ → Option ImageId → Type 0
+IsKnown bytes id = IfSome id (λ i. id_of bytes ≡ Some (identity_of i))
+
+-- What is done to the cuts of a schedule.
+
+-- The first number so much lower, 0 at the least.
+abbrev pub lowered : ℕ → List ℕ → List ℕ
+lowered by [] = []
+lowered by (x ∷ xs) = (x - by) ∷ xs

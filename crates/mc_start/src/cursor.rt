@@ -1,7 +1,7 @@
 //! Where to go on with an exploration.
 
 ghost use Rattle.std.specs.Prelude.{◌≡◌, ◌≤◌};
-ghost use Rattle.mc_start.specs.CursorText.{cursor_of};
+ghost use Rattle.mc_start.specs.Cursor.{cursor_of};
 ghost use Rattle.mc_start.specs.Start.{begun};
 
 use crate::{Schedule, Start};

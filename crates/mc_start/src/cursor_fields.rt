@@ -3,7 +3,7 @@ ghost use Rattle.std.specs.Prelude.{◌≡◌, ℕ, ◌+◌, ◌≤◌, List, []
 ghost use Rattle.hex.specs.Hex.{IsBytes, encode_lower};
 ghost use Rattle.mc_output.specs.facts.Parting.{Lacks};
 ghost use Rattle.mc_trailer.specs.declared.tables.Rules.{Rules};
-ghost use Rattle.mc_start.specs.CursorFields.{rules_text, start_text, IsRead, IsStartField};
+ghost use Rattle.mc_start.specs.Cursor.{rules_text, start_text, IsRead, IsStartField};
 ghost use Rattle.mc_start.specs.declared.cursor_fields.StartField.{StartField};
 
 use crate::schedule::MOST_CUTS;

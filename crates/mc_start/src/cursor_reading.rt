@@ -1,7 +1,7 @@
 //! Cursors from their text.
 ghost use Rattle.std.specs.Prelude.{◌≡◌, ℕ, ◌≤◌, List, ◌++◌, Ok, IfOk, IfSome};
-ghost use Rattle.mc_start.specs.CursorFields.{IsRead};
-ghost use Rattle.mc_start.specs.CursorText.{head_text, cursor_text, IsCursor, ReadsCursor};
+ghost use Rattle.mc_start.specs.Cursor.{IsRead};
+ghost use Rattle.mc_start.specs.Cursor.{head_text, cursor_text, IsCursor, ReadsCursor};
 ghost use Rattle.mc_trailer.specs.declared.tables.Rules.{Rules};
 
 use crate::cursor::{Cursor, CursorError};

@@ -1,6 +1,6 @@
 //! Cursors as text.
 ghost use Rattle.std.specs.Prelude.{◌≡◌, ◌+◌, ◌≤◌, ◌++◌, length, Some};
-ghost use Rattle.mc_start.specs.CursorText.{head_text, cursor_text};
+ghost use Rattle.mc_start.specs.Cursor.{head_text, cursor_text};
 
 use crate::cursor::Cursor;
 use crate::cursor_fields::{RulesField, StartField};

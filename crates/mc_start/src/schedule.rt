@@ -1,8 +1,8 @@
 //! Schedules of power cuts.
 ghost use Rattle.std.specs.Prelude.{◌≡◌, ◌↔◌, true, ℕ, ◌+◌, ◌<◌, ◌≤◌, ◌^◌, ◌++◌, List, [], ◌∷◌, length, take, decimal, Some, Ok, IfOk, MatchResult, OnOk, OnErr};
-ghost use Rattle.mc_tree.specs.Paths.{Precedes};
-ghost use Rattle.mc_start.specs.Cuts.{lowered};
-ghost use Rattle.mc_start.specs.Texts.{schedule_text, FitsCut, IsSchedule, IsAdded, ReadsSchedule};
+ghost use Rattle.mc_tree.specs.Tree.{Precedes};
+ghost use Rattle.mc_start.specs.Start.{lowered};
+ghost use Rattle.mc_start.specs.Start.{schedule_text, FitsCut, IsSchedule, IsAdded, ReadsSchedule};
 
 use mc_output::{Line, MOST_LINE};
 use std::fmt;
@@ -26,7 +26,7 @@ pub struct Schedule {
 
 impl Model for Schedule {
     ghost use Rattle.std.specs.Prelude.{◌≡◌, ℕ, ◌≤◌, List, ◌++◌, length, take, drop};
-    ghost use Rattle.mc_flash.specs.Room.{zeros_after, len_again, room_again};
+    ghost use Rattle.mc_flash.specs.inner.Room.{zeros_after, len_again, room_again};
 
     ghost Value = { List ℕ };
 

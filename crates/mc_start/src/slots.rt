@@ -1,12 +1,12 @@
 //! The bytes of the slots that a start has.
 ghost use Rattle.std.specs.Prelude.{◌≡◌, ℕ, ◌≤◌, List, [], ◌∷◌, length, IfOk, IfErr, Some};
-ghost use Rattle.mc_flash.specs.Content.{size_of, put, IsSized};
+ghost use Rattle.mc_flash.specs.Flash.{size_of, put, IsSized};
 ghost use Rattle.mc_flash.specs.declared.op.Slot.TheVariants.{Primary, Secondary};
-ghost use Rattle.mc_trailer.specs.Places.{place, magic_bytes};
+ghost use Rattle.mc_trailer.specs.Trailer.{place, magic_bytes};
 ghost use Rattle.mc_boot.specs.Plan.{plain};
-ghost use Rattle.mc_boot.specs.PowerOn.{power_on};
-ghost use Rattle.mc_boot.specs.Runs.{left_by};
-ghost use Rattle.mc_boot.specs.Start.{image_bytes, filled, placed, test_flash, perm_flash, start_flash};
+ghost use Rattle.mc_boot.specs.Plan.{power_on};
+ghost use Rattle.mc_boot.specs.Outcome.{left_by};
+ghost use Rattle.mc_boot.specs.Restart.{image_bytes, filled, placed, test_flash, perm_flash, start_flash};
 
 use mc_boot::{Boot, Kind, KnownImage};
 use mc_flash::{Content, Flash, FlashError, Layout, Slot, SnapFlash};
@@ -145,7 +145,7 @@ fn revert_slots(
 /// # Errors
 ///
 /// `Memory` where an allocation failed.
-#[tactic(auto, unfolding(mc_boot::specs::Start::start_flash))]
+#[tactic(auto, unfolding(mc_boot::specs::Restart::start_flash))]
 pub(crate) fn start_slots(
     alloc: Global,
     layout: &Layout,

@@ -4,12 +4,12 @@ ghost use Rattle.sha2.specs.Sha256.{sha256};
 ghost use Rattle.mc_image.specs.Image.{image_text};
 ghost use Rattle.mc_image.specs.Valid.{identity, id_of, image_fault};
 ghost use Rattle.mc_flash.specs.Geometry.{IsLayout};
-ghost use Rattle.mc_flash.specs.Content.{size_of};
+ghost use Rattle.mc_flash.specs.Flash.{size_of};
 ghost use Rattle.mc_flash.specs.declared.op.Slot.TheVariants.{Primary, Secondary};
-ghost use Rattle.mc_boot.specs.Image.{image_size, identity_of};
-ghost use Rattle.mc_boot.specs.Start.{image_bytes};
-ghost use Rattle.mc_start.specs.Texts.{layout_line};
-ghost use Rattle.mc_start.specs.Slots.{IsKnown};
+ghost use Rattle.mc_boot.specs.Plan.{image_size, identity_of};
+ghost use Rattle.mc_boot.specs.Restart.{image_bytes};
+ghost use Rattle.mc_start.specs.Start.{layout_line};
+ghost use Rattle.mc_start.specs.Start.{IsKnown};
 ghost use Rattle.mc_start.specs.Start.{Starts, Gives, begun, in_order, of_flash, start_digest};
 
 use crate::slots::start_slots;
@@ -80,12 +80,12 @@ pub struct Start {
 impl Model for Start {
     ghost use Rattle.mc_start.specs.Start.{Started};
     ghost use Rattle.std.specs.Prelude.{option_map};
-    ghost use Rattle.mc_boot.specs.Image.{identity_of};
+    ghost use Rattle.mc_boot.specs.Plan.{identity_of};
     ghost use Rattle.std.specs.Prelude.{◌≡◌, ◌++◌, ◌∷◌, [], length, string_bytes};
     ghost use Rattle.mc_flash.specs.Geometry.{IsLayout};
-    ghost use Rattle.mc_flash.specs.Content.{IsSized};
-    ghost use Rattle.mc_start.specs.Slots.{IsKnown};
-    ghost use Rattle.mc_start.specs.Texts.{layout_line};
+    ghost use Rattle.mc_flash.specs.Flash.{IsSized};
+    ghost use Rattle.mc_start.specs.Start.{IsKnown};
+    ghost use Rattle.mc_start.specs.Start.{layout_line};
 
     ghost Value = { Started };
 

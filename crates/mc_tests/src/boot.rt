@@ -41,7 +41,7 @@ fn told<F: Flash>(flash: &mut F, rules: Rules) -> Outcome
 }
 
 /// What a boot tells, and what the same boot tells that was kept beside a checkpoint.
-#[tactic(auto, unfolding(mc_flash::specs::Seen::went_back))]
+#[tactic(auto, unfolding(mc_flash::specs::Usage::went_back))]
 fn told_again(flash: &mut SnapFlash) -> Result<[Outcome; 2], FlashError> {
     let mut boot = Boot::cold(flash, Rules::PLAIN);
     run(flash, &mut boot, 7);

@@ -1,6 +1,6 @@
 //! The worked layout, the limits of a layout, and both flashes through the trait.
 ghost use Rattle.std.specs.Prelude.{◌≡◌, ◌≤◌, [], IfOk, length};
-ghost use Rattle.mc_flash.specs.Worked.{worked};
+ghost use Rattle.mc_flash.specs.inner.Worked.{worked};
 
 use crate::common::{have_texts, same, same_at, with_an_erased_sector};
 use mc_fixtures::worked;
@@ -213,7 +213,7 @@ fn is_copied<F: Flash>(flash: &mut F) -> Result<[bool; 3], FlashError>
 
 /// Whether a sector is erased behind a checkpoint, and given back. The places of the checkpoints before it, behind it, and behind
 /// the way back.
-#[tactic(auto, using(mc_flash::specs::facts::Done::does_keep), unfolding(mc_flash::specs::Seen::went_back))]
+#[tactic(auto, using(mc_flash::specs::facts::Done::does_keep), unfolding(mc_flash::specs::Usage::went_back))]
 fn is_given_back<F: Flash>(flash: &mut F) -> Result<([bool; 2], [usize; 3]), FlashError>
     requires geometry { (F.seen flash.old).geometry ≡ worked }
     requires checkpoints { (F.seen flash.old).checkpoints ≡ [] }

@@ -1,6 +1,6 @@
 //! The flash with a journal: its limits, its counts, and what it takes back.
 ghost use Rattle.std.specs.Prelude.{◌≡◌, [], length, ◌<◌, ◌≤◌, IfOk};
-ghost use Rattle.mc_flash.specs.Worked.{worked};
+ghost use Rattle.mc_flash.specs.inner.Worked.{worked};
 
 use crate::common::{same, with_an_erased_sector};
 use mc_fixtures::worked;
@@ -59,7 +59,7 @@ fn operated(flash: &mut JournalFlash) -> Result<Operated, FlashError>
 }
 
 /// Goes back to a checkpoint, and returns the counts then.
-#[tactic(auto, unfolding(mc_flash::specs::Seen::went_back))]
+#[tactic(auto, unfolding(mc_flash::specs::Usage::went_back))]
 fn counts_back(flash: &mut JournalFlash, place: usize) -> [u64; 4]
     requires { place < length flash.old.checkpoints }
     ensures { length flash.new.checkpoints ≡ place }

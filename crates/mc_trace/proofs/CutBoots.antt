@@ -2,20 +2,18 @@
 use Rattle.std.specs.Prelude.{◌≡◌, ℕ, zero, suc, ◌-◌, ◌<◌, ◌≤◌, ◌⊎◌, Bool, true, false, if◌then◌else◌, List, [], ◌∷◌, ◌++◌, length, take, drop, slice_get, Option, Some, None, refl}
 use Rattle.std.specs.Io.KnownBytes.{Appends}
 use Rattle.std.proofs.Common.{arith, inl, inr, sym, ap, subst, append-nil, ◌∙◌}
-use Rattle.mc_flash.specs.Content.{Content}
+use Rattle.mc_flash.specs.Flash.{Content}
 use Rattle.mc_flash.specs.Geometry.{Geometry}
 use Rattle.mc_flash.specs.declared.op.Op.{Op}
 use Rattle.mc_output.specs.facts.Fronts.{IsOut, out_all, out_begun, out_front, out_more}
-use Rattle.mc_output.specs.Fronts.{AppendsFront}
+use Rattle.mc_output.specs.Text.{AppendsFront}
 use Rattle.mc_trailer.specs.declared.tables.SwapType.{SwapType}
-use Rattle.mc_boot.specs.Boot.{Progress, begun}
-use Rattle.mc_boot.specs.Plan.{plan}
-use Rattle.mc_boot.specs.Run.{HasCome}
+use Rattle.mc_boot.specs.Boot.{Progress, begun, HasCome}
+use Rattle.mc_boot.specs.Plan.{plan, PowerOn}
 use Rattle.mc_boot.specs.facts.Run.{come_at, come_count, come_front, come_ops}
-use Rattle.mc_boot.specs.Runs.{happening, ops_of}
-use Rattle.mc_explore.specs.Boots.{at_cut, content_or}
+use Rattle.mc_boot.specs.Outcome.{happening, ops_of}
+use Rattle.mc_explore.specs.inner.Once.{at_cut, content_or}
 use Rattle.mc_trace.specs.Trace.{told, up_to, head_line, cut_line, cut_text, last_text}
-use Rattle.mc_boot.specs.PowerOn.{PowerOn}
 
 get_dropped : (ops : List Op) (n : ℕ) → slice_get (drop n ops) 0 ≡ slice_get ops n
 get_dropped [] zero = refl

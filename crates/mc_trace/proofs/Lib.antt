@@ -2,5 +2,4 @@ mod Telling
 mod CutBoots
 mod Tracing
 mod Pictured
-pub mod LayoutOut
-mod SlotsOut
+pub mod Out

@@ -4,21 +4,18 @@ use Rattle.std.specs.Io.KnownBytes.{Appends}
 use Rattle.std.proofs.Common.{arith, sym, ap, subst, append_assoc, append-nil, ◌∙◌}
 use Rattle.mc_flash.specs.facts.Done.{did, undefined}
 use Rattle.mc_flash.specs.Geometry.{Geometry}
-use Rattle.mc_flash.specs.Seen.{Seen}
+use Rattle.mc_flash.specs.Usage.{Seen}
 use Rattle.mc_flash.specs.declared.flash.FlashError.{FlashError}
 use Rattle.mc_flash.specs.declared.flash.FlashError.TheVariants as errors
 use Rattle.mc_flash.specs.declared.op.Op.{Op}
-use Rattle.mc_boot.specs.Boot.{Progress, StepsAlong, Steps, progress}
-use Rattle.mc_boot.specs.Bounds.{CountsOn, left_of}
-use Rattle.mc_boot.specs.Goes.{GoesOn, goes_further}
+use Rattle.mc_boot.specs.Boot.{Progress, StepsAlong, Steps, progress, CountsOn, left_of, GoesOn, goes_further}
 use Rattle.mc_boot.specs.declared.boot.Boot.{Boot}
 use Rattle.mc_output.specs.facts.Fronts.{IsOut, out_front, out_more}
-use Rattle.mc_output.specs.Fronts.{AppendsFront}
-use Rattle.mc_trace.specs.Boots.{CountsUpTo, GoesUpTo, Tells}
+use Rattle.mc_output.specs.Text.{AppendsFront}
+use Rattle.mc_trace.specs.inner.Boots.{CountsUpTo, GoesUpTo, Tells}
 use Rattle.mc_trace.specs.declared.error.TraceError.{TraceError}
 use Rattle.mc_trace.specs.declared.error.TraceError.TheVariants as traces
-use Rattle.mc_trace.specs.Operations.{numbered_text}
-use Rattle.mc_trace.specs.Trace.{told, told_first, up_to}
+use Rattle.mc_trace.specs.Trace.{numbered_text, told, told_first, up_to}
 
 -- What is still to be told of a boot that has come to p.
 abbrev pub left_to_tell : Option ℕ → Seen → Progress → List ℕ

@@ -4,23 +4,17 @@ use Rattle.std.specs.Io.KnownBytes.{Appends}
 use Rattle.std.proofs.Common.{arith, inl, inr, sym, ap, subst, get_or, drop-cons, drop_of_length-le, append-nil, ◌∙◌}
 use Rattle.std.proofs.Math.Nat.{mul-le-mul_right}
 use Rattle.std.proofs.lemmas.Bool.Decides.{nat_tests}
-use Rattle.mc_flash.specs.Content.{Content}
+use Rattle.mc_flash.specs.Flash.{Content}
 use Rattle.mc_flash.specs.Geometry.{Geometry}
-use Rattle.mc_flash.specs.Seen.{Seen}
-use Rattle.mc_flash.specs.Spends.{LeaveRoom, plus, room_of, times}
-use Rattle.mc_flash.specs.Usage.{Counts, IsWithin, Limits, limits_for, most_operations, most_saved, no_counts}
+use Rattle.mc_flash.specs.Usage.{Seen, LeaveRoom, plus, room_of, times, Counts, IsWithin, Limits, limits_for, most_operations, most_saved, no_counts}
 use Rattle.mc_trailer.specs.declared.tables.Rules.{Rules}
 use Rattle.mc_start.specs.facts.Room.{limits_are}
-use Rattle.mc_explore.specs.Once.{most_of}
+use Rattle.mc_explore.specs.inner.Once.{most_of, at_cut, content_or}
 use Rattle.mc_output.specs.facts.Fronts.{IsOut, out_all, out_begun, out_front, out_more}
-use Rattle.mc_output.specs.Fronts.{AppendsFront}
-use Rattle.mc_boot.specs.Outcome.{Report, outcome_of}
-use Rattle.mc_boot.specs.Texts.{outcome_text}
-use Rattle.mc_boot.specs.Runs.{after, at, ops_of}
-use Rattle.mc_explore.specs.Boots.{at_cut, content_or}
-use Rattle.mc_boot.specs.PowerOn.{PowerOn, again, power_on, powered}
-use Rattle.mc_trace.specs.Refused.{RefusesTrace}
-use Rattle.mc_trace.specs.Trace.{boots_text, cut_text, last_text, outcome_lines, trace_text}
+use Rattle.mc_output.specs.Text.{AppendsFront}
+use Rattle.mc_boot.specs.Outcome.{Report, outcome_of, outcome_text, after, at, ops_of}
+use Rattle.mc_boot.specs.Plan.{PowerOn, again, power_on, powered}
+use Rattle.mc_trace.specs.Trace.{RefusesTrace, boots_text, cut_text, last_text, outcome_lines, trace_text}
 use Rattle.mc_trace.specs.declared.error.TraceError.{TraceError}
 use Rattle.mc_trace.specs.declared.error.TraceError.TheVariants as errors
 

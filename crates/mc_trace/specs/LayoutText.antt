@@ -3,16 +3,16 @@ use Rattle.std.specs.Prelude.{ℕ, ◌-◌, ◌*◌, List, ◌++◌, codes, deci
 use Rattle.mc_flash.specs.Geometry.{Geometry, trailer_bytes, trailer_sectors, greatest_sectors}
 use Rattle.mc_flash.specs.Largest.{largest_image}
 use Rattle.mc_flash.specs.Usage.{most_operations}
-use Rattle.mc_flash.specs.Texts.{grain_text, slot_text}
+use Rattle.mc_flash.specs.Flash.{grain_text, slot_text}
 use Rattle.mc_flash.specs.declared.flash.Grain.{Grain}
 use Rattle.mc_flash.specs.declared.flash.Grain.TheVariants as grains
 use Rattle.mc_flash.specs.declared.op.Slot.{Slot}
 use Rattle.mc_flash.specs.declared.op.Slot.TheVariants.{Primary, Secondary}
-use Rattle.mc_trailer.specs.Places.{place, entry_place}
+use Rattle.mc_trailer.specs.Trailer.{place, entry_place}
 use Rattle.mc_trailer.specs.declared.places.Field.{Field}
 use Rattle.mc_trailer.specs.declared.places.Field.TheVariants as fields
 use Rattle.mc_boot.specs.WholeSwap.{swap_operations}
-use Rattle.mc_trace.specs.Operations.{part_text}
+use Rattle.mc_trace.specs.Trace.{part_text}
 use Rattle.mc_trace.specs.declared.layout.Place.{Place}
 use Rattle.mc_trace.specs.declared.operation.Part.TheVariants as parts
 

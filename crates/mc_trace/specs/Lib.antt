@@ -1,8 +1,4 @@
-pub mod Operations
 pub mod Trace
-pub mod Refused
-pub mod Sectors
-pub mod Pictures
 pub mod LayoutText
-pub mod Slots
-pub mod Boots
+pub mod Sectors
+pub mod inner

@@ -1,12 +1,22 @@
--- What lies where in a flash: this project's own picture of its sectors.
-use Rattle.std.specs.Prelude.{ℕ, zero, suc, ◌+◌, ◌*◌, List, [], ◌∷◌, ◌++◌, codes, decimal, bytes_eq, if◌then◌else◌, Option, Some, None}
+-- A flash as bytes: the primary slot, and then the secondary.
+use Rattle.std.specs.Io.KnownBytes.{Appends, Keeps}
 use Rattle.std.specs.List.{between}
-use Rattle.mc_flash.specs.Blank.{is_blank}
-use Rattle.mc_flash.specs.Content.{Content, sectors_of}
+use Rattle.std.specs.Prelude.{Err, List, None, Ok, Option, Result, Some, [], bytes_eq, codes, decimal, if◌then◌else◌, suc, zero, ℕ, ⊤, ◌*◌, ◌++◌, ◌+◌, ◌∷◌, ◌≡◌}
+use Rattle.mc_boot.specs.Outcome.{after}
+use Rattle.mc_boot.specs.Plan.{PowerOn}
+use Rattle.mc_explore.specs.Schedules.{CannotOccurAt}
+use Rattle.mc_flash.specs.Flash.{Content, is_blank, sectors_of, slot_text}
 use Rattle.mc_flash.specs.Geometry.{Geometry}
-use Rattle.mc_flash.specs.Texts.{slot_text}
 use Rattle.mc_flash.specs.declared.op.Slot.{Slot}
 use Rattle.mc_flash.specs.declared.op.Slot.TheVariants.{Primary, Secondary}
+use Rattle.mc_output.specs.Text.{AppendsFront}
+use Rattle.mc_trace.specs.declared.error.TraceError.{TraceError}
+use Rattle.mc_trace.specs.declared.error.TraceError.TheVariants as errors
+
+abbrev pub slots_bytes : Content → List ℕ
+slots_bytes c = c.primary ++ c.secondary
+
+-- What lies where in a flash: this project's own picture of its sectors.
 
 -- The bytes of a sector of a slot.
 abbrev pub sector_of : Geometry → List ℕ → ℕ → List ℕ
@@ -41,3 +51,19 @@ line_of g start bytes slot = slot_text slot ++ (sector_words g start bytes 0 (se
 -- Both slots of a flash, by the sectors of the start.
 abbrev pub picture : Geometry → Content → Content → List ℕ
 picture g start s = line_of g start s.primary Primary ++ line_of g start s.secondary Secondary
+
+-- What a picture of a flash leaves of a writer.
+
+-- The picture of the flash at the last cut is made; else the schedule can't occur from that place on, or an allocation failed.
+abbrev pub PicturesAs : {A : Type 0} → PowerOn → List ℕ → (A → List ℕ) → Result A TraceError → Type 0
+PicturesAs x cuts view (Ok made) = (u : Content) × (after x cuts ≡ Some u) × (view made ≡ picture x.geometry x.content u)
+PicturesAs x cuts view (Err (errors.CannotOccur place)) = CannotOccurAt x cuts place
+PicturesAs x cuts view (Err errors.Memory) = ⊤
+PicturesAs x cuts view (Err errors.Write) = ⊥
+
+-- It is out, or a beginning of it where a write failed; else nothing is written.
+abbrev pub Pictures : {A : Type 0} → PowerOn → List ℕ → Option (List ℕ) → Option (List ℕ) → Result A TraceError → Type 0
+Pictures x cuts old new (Ok _) = (u : Content) × (after x cuts ≡ Some u) × Appends old new (picture x.geometry x.content u)
+Pictures x cuts old new (Err errors.Write) = (u : Content) × (after x cuts ≡ Some u) × AppendsFront old new (picture x.geometry x.content u)
+Pictures x cuts old new (Err (errors.CannotOccur place)) = CannotOccurAt x cuts place × Keeps old new
+Pictures x cuts old new (Err errors.Memory) = Keeps old new

@@ -1,18 +1,80 @@
--- A schedule of power cuts, told boot by boot: this project's own text.
-use Rattle.std.specs.Prelude.{ℕ, ◌+◌, ◌-◌, List, [], ◌∷◌, ◌++◌, take, slice_get, codes, decimal, Option, Some, None}
-use Rattle.mc_flash.specs.Apply.{apply}
-use Rattle.mc_flash.specs.Content.{Content}
-use Rattle.mc_flash.specs.Geometry.{Geometry}
+-- Operations as they are told: this project's own texts.
+use Rattle.std.specs.Prelude.{List, None, Option, Some, [], codes, decimal, if◌then◌else◌, nat_le, slice_get, take, ℕ, ⊤, ◌++◌, ◌+◌, ◌-◌, ◌/◌, ◌∷◌, ◌≡◌}
+use Rattle.hex.specs.Hex.{encode_lower}
+use Rattle.mc_boot.specs.Outcome.{Report, outcome_of, outcome_text}
+use Rattle.mc_boot.specs.Plan.{PowerOn, plan, power_on}
+use Rattle.mc_explore.specs.inner.Once.{at_cut}
+use Rattle.mc_explore.specs.Schedules.{CannotOccurAt}
+use Rattle.mc_explore.specs.declared.replaying.ReplayError.{ReplayError}
+use Rattle.mc_flash.specs.Flash.{Content, apply, size_of, slot_text}
+use Rattle.mc_flash.specs.Geometry.{Geometry, trailer_bytes}
 use Rattle.mc_flash.specs.declared.op.Op.{Op}
-use Rattle.mc_trailer.specs.Texts.{type_text}
+use Rattle.mc_flash.specs.declared.op.Slot.{Slot}
+use Rattle.mc_flash.specs.declared.op.Slot.TheVariants.{Primary, Secondary}
+use Rattle.mc_trace.specs.declared.error.TraceError.{TraceError}
+use Rattle.mc_trace.specs.declared.operation.Part.{Part}
+use Rattle.mc_trailer.specs.Tables.{type_text}
 use Rattle.mc_trailer.specs.declared.tables.Rules.{Rules}
 use Rattle.mc_trailer.specs.declared.tables.SwapType.{SwapType}
-use Rattle.mc_boot.specs.Outcome.{Report, outcome_of}
-use Rattle.mc_boot.specs.Plan.{plan}
-use Rattle.mc_boot.specs.Texts.{outcome_text}
-use Rattle.mc_explore.specs.Boots.{at_cut}
-use Rattle.mc_boot.specs.PowerOn.{PowerOn, power_on}
-use Rattle.mc_trace.specs.Operations.{numbered_text}
+use Rattle.mc_trace.specs.declared.error.TraceError.TheVariants as errors
+use Rattle.mc_trailer.specs.declared.places.Field.TheVariants as fields
+use Rattle.mc_flash.specs.declared.op.Op.TheVariants as ops
+use Rattle.mc_trace.specs.declared.operation.Part.TheVariants as parts
+use Rattle.mc_explore.specs.declared.replaying.ReplayError.TheVariants as replays
+
+-- So many bytes before the end of the primary stands a status entry, or data before the first of them; a secondary has no entries.
+abbrev before_fields : Geometry → Slot → ℕ → Part
+before_fields g Primary left =
+    if nat_le left (trailer_bytes g) then parts.Entry ((trailer_bytes g - left) / g.unit) else parts.Data
+before_fields g Secondary left = parts.Data
+
+-- What stands so many bytes before the end of a slot.
+abbrev pub part_before_end : Geometry → Slot → ℕ → Part
+part_before_end g slot left =
+    if nat_le left 16 then parts.Field fields.Magic
+    else if nat_le left 24 then parts.Field fields.ImageOk
+    else if nat_le left 32 then parts.Field fields.CopyDone
+    else if nat_le left 40 then parts.Field fields.SwapInfo
+    else if nat_le left 48 then parts.Field fields.SwapSize
+    else before_fields g slot left
+
+-- What stands at a place of a slot.
+abbrev pub part_at : Geometry → Slot → ℕ → Part
+part_at g slot place = part_before_end g slot (size_of g slot - place)
+
+abbrev pub part_text : Part → List ℕ
+part_text (parts.Field fields.Magic) = codes "magic"
+part_text (parts.Field fields.ImageOk) = codes "image-ok"
+part_text (parts.Field fields.CopyDone) = codes "copy-done"
+part_text (parts.Field fields.SwapInfo) = codes "swap-info"
+part_text (parts.Field fields.SwapSize) = codes "swap-size"
+part_text (parts.Entry entry) = codes "entry " ++ decimal entry
+part_text parts.Data = codes "data"
+
+-- An erase has its slot and its sector; a write its slot, its place, what stands there and its bytes in hexadecimal digits; a copy the
+-- places from which and to which it goes, and how many bytes.
+abbrev pub erase_text : Slot → ℕ → List ℕ
+erase_text slot sector = codes "erase " ++ (slot_text slot ++ (codes " " ++ decimal sector))
+
+abbrev pub write_text : Slot → ℕ → Part → List ℕ → List ℕ
+write_text slot place part bytes = codes "write " ++ (slot_text slot ++ (codes " " ++ (decimal place ++ (codes " " ++ (part_text part ++ (codes " " ++ encode_lower bytes))))))
+
+abbrev pub source_text : Slot → ℕ → List ℕ
+source_text from place = codes "copy " ++ (slot_text from ++ (codes " " ++ (decimal place ++ codes " to ")))
+
+abbrev pub target_text : Slot → ℕ → ℕ → List ℕ
+target_text to offset len = slot_text to ++ (codes " " ++ (decimal offset ++ (codes " length " ++ decimal len)))
+
+abbrev pub operation_text : Geometry → Op → List ℕ
+operation_text g (ops.Erase slot sector) = erase_text slot sector
+operation_text g (ops.Program slot place bytes) = write_text slot place (part_at g slot place) bytes
+operation_text g (ops.Copy from place to offset len) = source_text from place ++ target_text to offset len
+
+-- With its number in its boot.
+abbrev pub numbered_text : Geometry → ℕ → Op → List ℕ
+numbered_text g number op = decimal number ++ (codes " " ++ operation_text g op)
+
+-- A schedule of power cuts, told boot by boot: this project's own text.
 
 -- An operation that can be applied has its line, and what comes after it. One that can't is refused, and nothing comes after it.
 abbrev pub told_first : Geometry → ℕ → Op → (Content → List ℕ) → Option Content → List ℕ
@@ -59,3 +121,16 @@ boots_text r g boot s (cut ∷ cuts) = cut_text r g boot s cut ++ boots_text r g
 
 abbrev pub trace_text : PowerOn → List ℕ → List ℕ
 trace_text start cuts = boots_text start.rules start.geometry 0 start.content cuts
+
+-- What is refused of a schedule that is to be told.
+
+-- What a replay refuses.
+abbrev pub of_replay : ReplayError → TraceError
+of_replay (replays.CannotOccur place) = errors.CannotOccur place
+of_replay replays.Memory = errors.Memory
+
+-- The first cut that can't occur, and then nothing is written; unless memory or a write failed.
+abbrev pub RefusesTrace : {W : Type 0} → PowerOn → List ℕ → W → W → TraceError → Type 0
+RefusesTrace start cuts old new (errors.CannotOccur place) = CannotOccurAt start cuts place × (new ≡ old)
+RefusesTrace start cuts old new errors.Memory = ⊤
+RefusesTrace start cuts old new errors.Write = ⊤

@@ -1,16 +1,16 @@
 //! One boot, told operation by operation.
 ghost use Rattle.std.specs.Prelude.{◌≡◌, ◌+◌, ◌<◌, ◌≤◌, ◌++◌, ◌⊎◌, [], length, IfErr, IfSome, OnOk, OnErr, Some};
 ghost use Rattle.std.specs.Io.KnownBytes.{Appends};
-ghost use Rattle.mc_output.specs.Fronts.{AppendsFront};
-ghost use Rattle.mc_flash.specs.Spends.{Allows};
-ghost use Rattle.mc_boot.specs.Bounds.{left_of};
-ghost use Rattle.mc_explore.specs.Once.{most_of};
+ghost use Rattle.mc_output.specs.Text.{AppendsFront};
+ghost use Rattle.mc_flash.specs.Usage.{Allows};
+ghost use Rattle.mc_boot.specs.Boot.{left_of};
+ghost use Rattle.mc_explore.specs.inner.Once.{most_of};
 ghost use Rattle.mc_boot.specs.Boot.{progress, to_come, IsBootOf};
-ghost use Rattle.mc_boot.specs.PowerOn.{powered};
-ghost use Rattle.mc_boot.specs.Runs.{ops_of};
-ghost use Rattle.mc_explore.specs.Boots.{at_cut};
-ghost use Rattle.mc_trace.specs.Boots.{CountsUpTo, GoesUpTo, Tells};
-ghost use Rattle.mc_trace.specs.Operations.{numbered_text};
+ghost use Rattle.mc_boot.specs.Plan.{powered};
+ghost use Rattle.mc_boot.specs.Outcome.{ops_of};
+ghost use Rattle.mc_explore.specs.inner.Once.{at_cut};
+ghost use Rattle.mc_trace.specs.inner.Boots.{CountsUpTo, GoesUpTo, Tells};
+ghost use Rattle.mc_trace.specs.Trace.{numbered_text};
 ghost use Rattle.mc_trace.specs.Trace.{told, up_to, head_line, cut_line, cut_text, last_text};
 
 use crate::error::TraceError;

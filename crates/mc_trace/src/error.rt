@@ -31,7 +31,7 @@ impl From<FlashError> for TraceError {
 }
 
 impl From<ReplayError> for TraceError {
-    ghost use Rattle.mc_trace.specs.Refused.{of_replay};
+    ghost use Rattle.mc_trace.specs.Trace.{of_replay};
 
     ghost from_gives = { λ error e. e ≡ of_replay error };
 

@@ -1,7 +1,7 @@
 //! A layout in numbers: what the trailers take, how large an image may be, where each field stands, and how long a boot is.
 ghost use Rattle.std.specs.Prelude.{◌≡◌, ◌<◌, ◌≤◌, ◌+◌, ◌*◌, ◌++◌, length, IfErr, OnOk, OnErr};
 ghost use Rattle.std.specs.Io.KnownBytes.{Appends};
-ghost use Rattle.mc_output.specs.Fronts.{AppendsFront};
+ghost use Rattle.mc_output.specs.Text.{AppendsFront};
 ghost use Rattle.mc_flash.specs.declared.flash.Grain.TheVariants.{Call, Unit};
 ghost use Rattle.mc_trace.specs.LayoutText.{sizes_text, place_of_field, place_of_entry, place_line, fields_text, places_text, operations_text, layout_text};
 

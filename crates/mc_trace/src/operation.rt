@@ -1,7 +1,7 @@
 //! Operations as text.
 ghost use Rattle.std.specs.Prelude.{◌≡◌, ◌+◌, ◌≤◌, ◌++◌, length};
 ghost use Rattle.mc_flash.specs.Geometry.{Geometry};
-ghost use Rattle.mc_trace.specs.Operations.{part_at, part_text, erase_text, write_text, source_text, target_text, numbered_text};
+ghost use Rattle.mc_trace.specs.Trace.{part_at, part_text, erase_text, write_text, source_text, target_text, numbered_text};
 
 use mc_flash::{Layout, Op, Slot};
 use mc_output::{Line, MOST_LINE};

@@ -1,8 +1,8 @@
 //! A picture of a flash: what lies in each sector.
 ghost use Rattle.std.specs.Prelude.{◌≡◌, ◌<◌, ◌++◌, length, IfOk, OnOk, string_bytes};
-ghost use Rattle.mc_flash.specs.Content.{sectors_of, size_of};
+ghost use Rattle.mc_flash.specs.Flash.{sectors_of, size_of};
 ghost use Rattle.mc_start.specs.Start.{begun};
-ghost use Rattle.mc_trace.specs.Pictures.{Pictures, PicturesAs};
+ghost use Rattle.mc_trace.specs.Sectors.{Pictures, PicturesAs};
 ghost use Rattle.mc_trace.specs.Sectors.{first_like, line_of, sector_of, sector_word};
 
 use crate::error::TraceError;

@@ -1,8 +1,8 @@
 //! A flash as bytes.
 ghost use Rattle.std.specs.Prelude.{◌≡◌, IfErr, OnErr, OnOk};
 ghost use Rattle.std.specs.Io.KnownBytes.{Appends};
-ghost use Rattle.mc_output.specs.Fronts.{AppendsFront};
-ghost use Rattle.mc_trace.specs.Slots.{slots_bytes};
+ghost use Rattle.mc_output.specs.Text.{AppendsFront};
+ghost use Rattle.mc_trace.specs.Sectors.{slots_bytes};
 
 use crate::error::TraceError;
 use mc_flash::{Flash, Slot};

@@ -1,11 +1,11 @@
 //! A schedule of power cuts, told boot by boot.
 ghost use Rattle.std.specs.Prelude.{◌≡◌, true, IfErr, IsErrOf, OnOk, OnErr};
 ghost use Rattle.std.specs.Io.KnownBytes.{Appends};
-ghost use Rattle.mc_output.specs.Fronts.{AppendsFront};
+ghost use Rattle.mc_output.specs.Text.{AppendsFront};
 ghost use Rattle.mc_explore.specs.Schedules.{CanOccur};
 ghost use Rattle.mc_start.specs.Start.{begun};
 ghost use Rattle.mc_trace.specs.Trace.{trace_text, outcome_lines, boots_text};
-ghost use Rattle.mc_trace.specs.Refused.{RefusesTrace};
+ghost use Rattle.mc_trace.specs.Trace.{RefusesTrace};
 
 use crate::boots::{write_cut_boot, write_last_boot};
 use crate::error::TraceError;

@@ -1,13 +1,11 @@
 -- What the laws of trailers say.
 use Rattle.std.specs.Prelude.{◌≡◌, ◌≢◌, ◌⊎◌, ◌↔◌, ℕ, ◌+◌, ◌*◌, ◌^◌, ◌<◌, ◌≤◌, true, false, List, length, Some}
 use Rattle.mc_flash.specs.Geometry.{Geometry, IsLayout}
-use Rattle.mc_flash.specs.Content.{Content, IsSized, size_of}
-use Rattle.mc_flash.specs.Changes.{Changed}
+use Rattle.mc_flash.specs.Flash.{Content, IsSized, size_of}
+use Rattle.mc_flash.specs.facts.Changes.{Changed}
 use Rattle.mc_flash.specs.declared.op.Slot.{Slot}
 use Rattle.mc_flash.specs.declared.op.Slot.TheVariants.{Primary}
-use Rattle.mc_trailer.specs.Entries.{highest_entry, is_written}
-use Rattle.mc_trailer.specs.Fields.{one_unit, size_bytes, trailer_of}
-use Rattle.mc_trailer.specs.Places.{entry_place, magic_bytes, place, room}
+use Rattle.mc_trailer.specs.Trailer.{highest_entry, is_written, one_unit, size_bytes, trailer_of, entry_place, magic_bytes, place, room}
 use Rattle.mc_trailer.specs.Tables.{Asks, asks_perm, asks_revert, asks_test, swap_type}
 use Rattle.mc_trailer.specs.declared.places.Field.{Field}
 use Rattle.mc_trailer.specs.declared.places.Field.TheVariants as field

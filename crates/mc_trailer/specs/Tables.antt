@@ -1,20 +1,21 @@
 -- The swap tables, and when a boot goes on with a swap that was cut. The tables are from MCUboot's design document
 -- ("swap types"): each row names some fields of the two trailers, and the others may hold anything. The second profile,
 -- and the rule by which a boot goes on, are this project's own choice.
-use Rattle.std.specs.Prelude.{◌≡◌, Bool, true, false, not, ◌&&◌, if◌then◌else◌}
+use Rattle.std.specs.Prelude.{Bool, List, [], codes, decimal, false, if◌then◌else◌, not, true, ℕ, ◌&&◌, ◌++◌, ◌∷◌, ◌≡◌}
+use Rattle.hex.specs.Hex.{encode_lower}
+use Rattle.mc_flash.specs.Flash.{Content}
 use Rattle.mc_flash.specs.Geometry.{Geometry}
-use Rattle.mc_flash.specs.Content.{Content}
 use Rattle.mc_flash.specs.declared.op.Slot.TheVariants.{Primary, Secondary}
-use Rattle.mc_trailer.specs.Fields.{trailer_of}
-use Rattle.mc_trailer.specs.declared.trailer.Magic.{Magic}
-use Rattle.mc_trailer.specs.declared.trailer.Magic.TheVariants as magics
-use Rattle.mc_trailer.specs.declared.trailer.Flag.{Flag}
-use Rattle.mc_trailer.specs.declared.trailer.Flag.TheVariants as flags
-use Rattle.mc_trailer.specs.declared.trailer.Trailer.{Trailer}
+use Rattle.mc_trailer.specs.Trailer.{trailer_of}
 use Rattle.mc_trailer.specs.declared.tables.Profile.{Profile}
-use Rattle.mc_trailer.specs.declared.tables.Profile.TheVariants as profiles
 use Rattle.mc_trailer.specs.declared.tables.SwapType.{SwapType}
+use Rattle.mc_trailer.specs.declared.trailer.Flag.{Flag}
+use Rattle.mc_trailer.specs.declared.trailer.Magic.{Magic}
+use Rattle.mc_trailer.specs.declared.trailer.Trailer.{Trailer}
+use Rattle.mc_trailer.specs.declared.trailer.Flag.TheVariants as flags
 use Rattle.mc_trailer.specs.declared.tables.SwapType.TheVariants as kinds
+use Rattle.mc_trailer.specs.declared.trailer.Magic.TheVariants as magics
+use Rattle.mc_trailer.specs.declared.tables.Profile.TheVariants as profiles
 
 -- The readings that the rows ask for.
 abbrev pub is_good : Magic → Bool
@@ -81,3 +82,37 @@ table_of profile g s = swap_type profile (trailer_of g s Primary) (trailer_of g 
 
 abbrev pub is_resumed : Geometry → Content → Bool
 is_resumed g s = resumes (trailer_of g s Primary) (trailer_of g s Secondary)
+
+-- How fields, types and profiles are written: this project's own texts.
+
+abbrev pub magic_text : Magic → List ℕ
+magic_text magics.Good = codes "good"
+magic_text magics.Unset = codes "unset"
+magic_text magics.Bad = codes "bad"
+
+abbrev pub flag_text : Flag → List ℕ
+flag_text flags.Set = codes "set"
+flag_text flags.Unset = codes "unset"
+flag_text flags.Bad = codes "bad"
+
+abbrev pub type_text : SwapType → List ℕ
+type_text kinds.None = codes "none"
+type_text kinds.Test = codes "test"
+type_text kinds.Perm = codes "perm"
+type_text kinds.Revert = codes "revert"
+type_text kinds.Fail = codes "fail"
+type_text kinds.Panic = codes "panic"
+
+abbrev pub profile_text : Profile → List ℕ
+profile_text profiles.One = codes "1"
+profile_text profiles.Two = codes "2"
+
+-- The five fields of a trailer: the magic and the flags, then the type and the size of a swap. The type is a byte in two digits.
+abbrev pub flags_text : Trailer → List ℕ
+flags_text t = codes "magic=" ++ (magic_text t.magic ++ (codes " image-ok=" ++ (flag_text t.image_ok ++ (codes " copy-done=" ++ (flag_text t.copy_done ++ codes " ")))))
+
+abbrev pub swap_text : Trailer → List ℕ
+swap_text t = codes "swap-info=0x" ++ (encode_lower (t.swap_info ∷ []) ++ (codes " swap-size=" ++ decimal t.swap_size))
+
+abbrev pub trailer_text : Trailer → List ℕ
+trailer_text t = flags_text t ++ swap_text t

@@ -1,6 +1,6 @@
 //! The status entries of the primary: which steps of a swap were made.
 ghost use Rattle.std.specs.Prelude.{◌≡◌, ℕ, ◌+◌, ◌≤◌, ◌<◌, ◌*◌, true, false};
-ghost use Rattle.mc_trailer.specs.Entries.{IsHighest, is_written, highest_entry};
+ghost use Rattle.mc_trailer.specs.Trailer.{IsHighest, is_written, highest_entry};
 
 use crate::places::entry_place;
 use mc_flash::{Flash, Slot, blank};

@@ -1,9 +1,9 @@
 //! Laws of the definitions, each the contract of a function that does nothing.
 ghost use Rattle.std.specs.Prelude.{◌≡◌, ℕ, Option};
 ghost use Rattle.mc_flash.specs.Geometry.{Geometry};
-ghost use Rattle.mc_flash.specs.Content.{Content};
-ghost use Rattle.mc_trailer.specs.Places.{magic_bytes};
-ghost use Rattle.mc_trailer.specs.Entries.{IsHighest, highest_entry};
+ghost use Rattle.mc_flash.specs.Flash.{Content};
+ghost use Rattle.mc_trailer.specs.Trailer.{magic_bytes};
+ghost use Rattle.mc_trailer.specs.Trailer.{IsHighest, highest_entry};
 ghost use Rattle.mc_trailer.specs.Laws.{ReadsBack, WritesKeep};
 ghost use Rattle.mc_trailer.specs.Laws.{WritesHighest};
 ghost use Rattle.mc_trailer.specs.Laws.{RowsApart, TypesAreRows};

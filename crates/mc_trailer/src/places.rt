@@ -1,9 +1,9 @@
 //! Where the fields and the status entries of a trailer stand.
 ghost use Rattle.std.specs.Prelude.{◌≡◌, ℕ, ◌+◌, ◌≤◌, ◌<◌, ◌*◌, ◌%◌};
-ghost use Rattle.mc_flash.specs.Content.{size_of};
+ghost use Rattle.mc_flash.specs.Flash.{size_of};
 ghost use Rattle.mc_flash.specs.Geometry.{IsLayout};
 ghost use Rattle.mc_flash.specs.declared.op.Slot.TheVariants.{Primary};
-ghost use Rattle.mc_trailer.specs.Places.{place, entry_place, before_end};
+ghost use Rattle.mc_trailer.specs.Trailer.{place, entry_place, before_end};
 
 use mc_flash::{Layout, Slot};
 

@@ -1,7 +1,7 @@
 //! Fields, types and profiles as text.
 ghost use Rattle.std.specs.Prelude.{◌≡◌, ◌+◌, ◌≤◌, ◌++◌, length, Some, MatchOption};
 ghost use Rattle.mc_trailer.specs.declared.tables.Profile.{Profile};
-ghost use Rattle.mc_trailer.specs.Texts.{magic_text, flag_text, type_text, profile_text, flags_text, swap_text, trailer_text};
+ghost use Rattle.mc_trailer.specs.Tables.{magic_text, flag_text, type_text, profile_text, flags_text, swap_text, trailer_text};
 
 use crate::tables::{Profile, SwapType};
 use crate::trailer::{Flag, Magic, Trailer};

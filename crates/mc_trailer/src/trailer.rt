@@ -1,8 +1,8 @@
 //! The fields of a trailer as they are read.
 ghost use Rattle.std.specs.Prelude.{◌≡◌, ℕ, ◌+◌, ◌≤◌, ◌<◌, length};
-ghost use Rattle.mc_flash.specs.Content.{byte};
-ghost use Rattle.mc_trailer.specs.Places.{before_end, place};
-ghost use Rattle.mc_trailer.specs.Fields.{magic_of, flag_of, bytes_at, trailer_of};
+ghost use Rattle.mc_flash.specs.Flash.{byte};
+ghost use Rattle.mc_trailer.specs.Trailer.{before_end, place};
+ghost use Rattle.mc_trailer.specs.Trailer.{magic_of, flag_of, bytes_at, trailer_of};
 
 use crate::places::{Field, place};
 use byteorder::{ByteOrder, LittleEndian};
@@ -96,7 +96,7 @@ fn field_byte<F: Flash>(flash: &F, slot: Slot, field: Field) -> u8
 
 impl Trailer {
     /// The trailer of a slot. It takes no memory.
-    #[tactic(auto, unfolding(crate::specs::Fields::trailer_of))]
+    #[tactic(auto, unfolding(crate::specs::Trailer::trailer_of))]
     pub fn read<F: Flash>(flash: &F, slot: Slot) -> Trailer
         ensures { result ≡ trailer_of (F.seen flash.now).geometry (F.seen flash.now).content slot }
     {

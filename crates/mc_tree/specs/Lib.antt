@@ -1,7 +1,3 @@
 pub mod Tree
-pub mod Paths
-pub mod Rows
-pub mod Twice
-pub mod Chain
-pub mod Weights
+pub mod inner
 pub mod facts

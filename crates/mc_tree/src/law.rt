@@ -1,10 +1,10 @@
 //! The law of the order, as the contract of a function that does nothing.
 ghost use Rattle.std.specs.Prelude.{◌≡◌, ◌⊎◌, ℕ, List};
-ghost use Rattle.mc_tree.specs.Paths.{Precedes};
+ghost use Rattle.mc_tree.specs.Tree.{Precedes};
 
 /// Of two paths that differ one comes before the other, and not the other before it; a path before another, which comes before
 /// a third, comes before the third.
-#[tactic(auto, using(crate::specs::facts::Precedence::paths_in_order))]
+#[tactic(auto, using(crate::specs::facts::Order::paths_in_order))]
 pub fn paths_are_ordered()
     ensures trans { (x y z : List ℕ) → Precedes x y → Precedes y z → Precedes x z }
     ensures never { (x y : List ℕ) → Precedes x y → Precedes y x → ⊥ }

@@ -1,16 +1,62 @@
--- Frames over their checkpoints: one is put on, one is taken off.
-use Rattle.std.proofs.Common.{◌≡◌, ℕ, suc, ◌+◌, ◌*◌, ◌<◌, List, [], ◌∷◌, ◌++◌, length, take, Result, Ok, Err, IfOk, OnOk, refl, sym, ap, subst, ◌∙◌, arith, length-append}
-use Rattle.std.proofs.lemmas.List.{map-append, take_at, get_or_at}
+-- Frames taken off, and frames over their checkpoints.
+use Rattle.std.proofs.Common.{Err, IfOk, List, None, Ok, OnOk, Option, Result, Some, [], ap, append_assoc, arith, length, length-append, option_to_list, refl, slice_get, subst, suc, sym, take}
+use Rattle.std.proofs.Common.{zero, ℕ, ◌*◌, ◌++◌, ◌+◌, ◌-◌, ◌<◌, ◌^◌, ◌∙◌, ◌∷◌, ◌≡◌}
+use Rattle.std.proofs.lemmas.List.{append-nil, get_or_at, map-append, take_at}
+use Rattle.std.proofs.lemmas.Option.{same_Some, slice_get_within}
 use Rattle.std.specs.Prelude.{slice_index_or}
-use Rattle.mc_tree.specs.Tree.{landed, Allowed}
+use Rattle.mc_flash.specs.Flash.{Content}
+use Rattle.mc_flash.specs.Usage.{Checkpoint, Counts, LeaveRoom, Seen, Stays, checkpoint_at, checkpoint_of, marked, no_checkpoint, went_back}
+use Rattle.mc_tree.specs.Tree.{Allowed, landed}
 use Rattle.mc_tree.specs.facts.Order.{AllLast, landed-push}
-use Rattle.mc_flash.specs.Content.{Content}
-use Rattle.mc_flash.specs.Usage.{Counts, Checkpoint}
-use Rattle.mc_flash.specs.Seen.{Seen, no_checkpoint, checkpoint_at, checkpoint_of, went_back, marked}
-use Rattle.mc_flash.specs.Spends.{LeaveRoom, Stays}
-use Rattle.mc_walk.specs.Kind.{Kind, IsAt, IsChild, TellsChild}
-use Rattle.mc_walk.specs.Stack.{path_of, most_at, AreSpent, IsFrame, AreFrames, Stacked, node_of, Stands, Comes}
+use Rattle.mc_walk.specs.Kind.{IsAt, IsChild, Kind, TellsChild}
 use Rattle.mc_walk.specs.declared.frame.Frame.{Frame}
+use Rattle.mc_walk.specs.inner.Stack.{AreFrames, AreOff, AreSpent, Comes, IsFrame, IsLastOpen, IsLeft, IsOpen, IsSpent, Stacked, Stands, most_at, node_of, path_of}
+
+-- Frames that are taken off one after another.
+
+-- The last of a list stands behind the others.
+pub last_of : {X : Type 0} (xs : List X) (n : ℕ) (x : X) → length xs ≡ n + 1 → slice_get xs n ≡ Some x → (before : List X) × (xs ≡ before ++ x ∷ [])
+last_of [] n x len e = absurd cc
+last_of (y ∷ []) zero x len e = ([], ap (λ z. z ∷ []) (same_Some y x e))
+last_of (y ∷ z ∷ zs) zero x len e = absurd (omega (arith, len))
+last_of (y ∷ ys) (suc n) x len e = let r = last_of ys n x (omega (arith, len)) e in (y ∷ r.0, ap (λ w. y ∷ w) r.1)
+
+-- And it is the one that is put there.
+last_at : {X : Type 0} (xs : List X) (x : X) → slice_get (xs ++ x ∷ []) (length xs) ≡ Some x
+last_at [] x = refl
+last_at (y ∷ ys) x = last_at ys x
+
+last_same : {X : Type 0} (all xs : List X) (x f : X) → all ≡ xs ++ x ∷ [] → slice_get all (length all - 1) ≡ Some f → x ≡ f
+last_same all xs x f split last =
+    let place : length all - 1 ≡ length xs = omega (arith, ap length split, length-append xs (x ∷ [])) in
+    same_Some x f (sym (last_at xs x) ∙ ap (λ z. slice_get z (length xs)) (sym split) ∙ ap (slice_get all) (sym place) ∙ last)
+
+module _ {N A T : Type 0} (k : Kind N A T) where
+  pub none_off : (fs : List (Frame A T)) → AreOff k fs fs
+  none_off fs = record { more = []; spent = tt; split = sym (append-nil fs) }
+
+  off_split : (old mid new more : List (Frame A T)) (f : Frame A T) → old ≡ mid ++ more → mid ≡ new ++ f ∷ [] → old ≡ new ++ f ∷ more
+  off_split old mid new more f o m = o ∙ ap (λ z. z ++ more) m ∙ append_assoc new (f ∷ []) more
+
+  one_off : (old mid new : List (Frame A T)) (f : Frame A T) → AreOff k old mid → mid ≡ new ++ f ∷ [] → IsSpent k f → AreOff k old new
+  one_off old mid new f off m last = record { more = f ∷ off.more; spent = (last, off.spent); split = off_split old mid new off.more f off.split m }
+
+  -- The last frame is taken off.
+  pub popped_off : (old mid new : List (Frame A T)) (f : Frame A T) (r : Option (Frame A T)) → AreOff k old mid → slice_get mid (length mid - 1) ≡ Some f
+      → mid ≡ new ++ option_to_list r → IsSpent k f → AreOff k old new
+  popped_off old mid new f None off last m spent = subst (AreOff k old) (m ∙ append-nil new) off
+  popped_off old mid new f (Some x) off last m spent = one_off old mid new x off m (subst (IsSpent k) (sym (last_same mid new x f m last)) spent)
+
+  pub last_open : (old mid new : List (Frame A T)) (f : Frame A T) → AreOff k old mid → mid ≡ new ++ f ∷ [] → IsOpen k f → IsLastOpen k f old new
+  last_open old mid new f off m open_is = record { open_is = open_is; more = off.more; spent = off.spent; split = off_split old mid new off.more f off.split m }
+
+  -- The last frame is open, and stays.
+  pub is_left : (old mid : List (Frame A T)) (f : Frame A T) → AreOff k old mid → slice_get mid (length mid - 1) ≡ Some f → IsOpen k f → f.number + 1 < 2 ^ 32 → IsLeft k old mid
+  is_left old mid f off last open_is small =
+      let split = last_of mid (length mid - 1) f (omega (arith, slice_get_within mid (length mid - 1) f last)) last in
+      record { before = split.0; frame = f; frames_are = split.1; last = last_open old mid split.0 f off split.1 open_is; small = small }
+
+-- Frames over their checkpoints: one is put on, one is taken off.
 
 pub path-push : {A T : Type 0} (fs : List (Frame A T)) (f : Frame A T) → path_of (fs ++ f ∷ []) ≡ path_of fs ++ f.number ∷ []
 path-push fs f = map-append (λ f. f.number) fs (f ∷ [])

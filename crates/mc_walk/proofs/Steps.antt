@@ -5,14 +5,12 @@ use Rattle.std.proofs.Math.Nat.{mul-le-mul_right}
 use Rattle.std.proofs.lemmas.List.{map-append, length-map, get_or_at, set_at}
 use Rattle.mc_tree.specs.Tree.{Allowed}
 use Rattle.mc_tree.specs.facts.Order.{IsNextBeyond, allowed-last, none_beyond, next_beyond}
-use Rattle.mc_flash.specs.Content.{Content}
-use Rattle.mc_flash.specs.Usage.{Counts, Limits, Checkpoint}
-use Rattle.mc_flash.specs.Seen.{Seen, Keeps, no_checkpoint, checkpoint_of, went_back, marked}
-use Rattle.mc_flash.specs.Spends.{Spent, Spends, Stays, HasRoom, LeaveRoom, plus, room_of}
+use Rattle.mc_flash.specs.Flash.{Content}
+use Rattle.mc_flash.specs.Usage.{Counts, Limits, Checkpoint, Seen, Keeps, no_checkpoint, checkpoint_of, went_back, marked, Spent, Spends, Stays, HasRoom, LeaveRoom, plus, room_of}
 use Rattle.mc_flash.specs.facts.Spends.{ran_out_later, spent_back, spent_both, spent_marked, spent_more}
 use Rattle.mc_flash.specs.declared.flash.FlashError.{FlashError}
 use Rattle.mc_walk.specs.Kind.{Kind, owed_there, telling, IsAt, IsNode, IsParent, HasNext, GoesOn, CanReach, Reaches}
-use Rattle.mc_walk.specs.Stack.{path_of, most_at, AreSpent, IsLastOpen, AreFrames, Stacked, node_of, Stands, Comes, CanGoOn, IsLeft, IsOneOn, IsRoomy}
+use Rattle.mc_walk.specs.inner.Stack.{path_of, most_at, AreSpent, IsLastOpen, AreFrames, Stacked, node_of, Stands, Comes, CanGoOn, IsLeft, IsOneOn, IsRoomy}
 use Rattle.mc_walk.specs.Walks.{walked, origin_of, IsFresh, Begins, IsThere, IsGoing, IsLastStep, IsPath, GoesDown, Climbs}
 use Rattle.mc_walk.specs.declared.frame.Frame.{Frame}
 use Rattle.mc_walk.proofs.Stacks.{path-push, no_path, frames_allowed, frames_last, among, node-push, first_is_origin, length-stack, popped}

@@ -1,10 +1,9 @@
 -- The first node that a tour visits.
 use Rattle.std.proofs.Common.{◌≡◌, ◌⊎◌, inl, inr, ℕ, List, [], Bool, true, false, refl, sym, subst, arith}
-use Rattle.mc_tree.specs.Paths.{Position, AtStart, IsNext, IsOver}
+use Rattle.mc_tree.specs.Tree.{Position, AtStart, IsNext, IsOver}
 use Rattle.mc_tree.specs.facts.Order.{next_after_last, none_after_last, none_before_root}
 use Rattle.mc_walk.specs.Kind.{Kind}
-use Rattle.mc_walk.specs.Tours.{Toured, IsBehindLast, StandsAt, StandsBehind, Visits}
-use Rattle.mc_walk.specs.Walks.{Walked, Begins, Climbs, IsPath, root_of}
+use Rattle.mc_walk.specs.Walks.{Toured, IsBehindLast, StandsAt, StandsBehind, Visits, Walked, Begins, Climbs, IsPath, root_of}
 use Rattle.mc_walk.specs.declared.tour.Phase.TheVariants.{Fresh, Going, Done}
 
 module _ {N A T B : Type 0} (k : Kind N A T) (old : Toured B) (told : T) (new : Walked B) (begins : Begins k old.walk told new) where

@@ -5,8 +5,8 @@ use mc_flash::{Flash, FlashError};
 /// told may be derived from what was told of the parent.
 pub trait Branches: Copy {
     ghost use Rattle.std.specs.Prelude.{◌≡◌, ℕ, IfOk, IfErr, OnOk};
-    ghost use Rattle.mc_flash.specs.Seen.{Keeps};
-    ghost use Rattle.mc_flash.specs.Spends.{HasRoom, Spends, Stays};
+    ghost use Rattle.mc_flash.specs.Usage.{Keeps};
+    ghost use Rattle.mc_flash.specs.Usage.{HasRoom, Spends, Stays};
     ghost use Rattle.mc_walk.specs.Kind.{Kind, CanReach, Reaches, HasNext, GoesOn, IsRoot, TellsRoot, IsChild, TellsChild, HasWidth, owed_there, telling};
 
     ghost Node: { Type 0 };

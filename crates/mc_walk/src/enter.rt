@@ -1,9 +1,9 @@
 //! To a child: one level down, and from one child to the next.
 ghost use Rattle.std.specs.Prelude.{◌≡◌, ◌+◌, ◌≤◌, ◌++◌, [], ◌∷◌, IfOk, IfErr, OnOk};
 ghost use Rattle.std.specs.Vec.{vec_capacity};
-ghost use Rattle.mc_flash.specs.Spends.{Spends};
+ghost use Rattle.mc_flash.specs.Usage.{Spends};
 ghost use Rattle.mc_walk.specs.Kind.{telling};
-ghost use Rattle.mc_walk.specs.Stack.{CanGoOn, Enters, IsOneOn, Stands};
+ghost use Rattle.mc_walk.specs.inner.Stack.{CanGoOn, Enters, IsOneOn, Stands};
 ghost use Rattle.mc_walk.specs.Walks.{origin_of};
 
 use crate::Branches;

@@ -1,7 +1,7 @@
 //! The children on the way to the node at which a walk stands.
 ghost use Rattle.std.specs.Prelude.{◌≡◌};
 ghost use Rattle.std.specs.Vec.{vec_capacity};
-ghost use Rattle.mc_walk.specs.Stack.{LeavesOpen};
+ghost use Rattle.mc_walk.specs.inner.Stack.{LeavesOpen};
 
 use crate::Branches;
 

@@ -1,7 +1,7 @@
 //! From a node to one of its children.
 ghost use Rattle.std.specs.Prelude.{◌≡◌, ◌+◌, ◌*◌, length, OnOk, IfErr};
-ghost use Rattle.mc_flash.specs.Seen.{Keeps};
-ghost use Rattle.mc_flash.specs.Spends.{Spends};
+ghost use Rattle.mc_flash.specs.Usage.{Keeps};
+ghost use Rattle.mc_flash.specs.Usage.{Spends};
 ghost use Rattle.mc_walk.specs.Kind.{CanReach, Reaches, IsParent};
 
 use crate::Branches;

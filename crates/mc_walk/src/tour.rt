@@ -1,7 +1,7 @@
 //! The nodes of a tree, one after another.
 ghost use Rattle.std.specs.Prelude.{◌≡◌, ℕ, List, true, IfOk};
-ghost use Rattle.mc_tree.specs.Paths.{Position};
-ghost use Rattle.mc_walk.specs.Tours.{Toured, StandsAt, StandsBehind, Visits, Costs};
+ghost use Rattle.mc_tree.specs.Tree.{Position};
+ghost use Rattle.mc_walk.specs.Walks.{Toured, StandsAt, StandsBehind, Visits, Costs};
 ghost use Rattle.mc_walk.specs.Walks.{IsFresh};
 
 use crate::{Branches, Walk};
@@ -48,7 +48,7 @@ pub struct Tour<F: Flash, B: Branches> {
 }
 
 impl<F: Flash, B: Branches> Model for Tour<F, B> {
-    ghost use Rattle.mc_walk.specs.Tours.{Toured, IsInOrder};
+    ghost use Rattle.mc_walk.specs.Walks.{Toured, IsInOrder};
 
     ghost Value = { Toured B };
 

@@ -2,7 +2,7 @@
 ghost use Rattle.std.specs.Prelude.{◌≡◌, ◌≤◌, [], None, is_some, IfOk, IfErr, IfSome, true, false};
 ghost use Rattle.std.specs.List.{slice_get};
 ghost use Rattle.mc_tree.specs.Tree.{labelled};
-ghost use Rattle.mc_flash.specs.Spends.{Spends, Spent};
+ghost use Rattle.mc_flash.specs.Usage.{Spends, Spent};
 ghost use Rattle.mc_walk.specs.Kind.{telling};
 ghost use Rattle.mc_walk.specs.Walks.{IsClear, IsFresh, IsOf, Begins, GoesDown, Climbs, Advances, Follows, IsThere, IsLastStep, root_of, child_cost, path_cost};
 

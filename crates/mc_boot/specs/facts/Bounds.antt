@@ -9,19 +9,17 @@ use Rattle.std.proofs.lemmas.Bool.Decides.{nat_tests}
 use Rattle.std.proofs.lemmas.List.{length-drop}
 use Rattle.std.proofs.lemmas.List.FromFn.{length-range_with_len}
 use Rattle.mc_flash.specs.Geometry.{Geometry, IsLayout, trailer_sectors, greatest_sectors}
-use Rattle.mc_flash.specs.Content.{Content}
-use Rattle.mc_flash.specs.Apply.{apply}
+use Rattle.mc_flash.specs.Flash.{Content, apply}
 use Rattle.mc_flash.specs.Usage.{saves, most_operations, most_saved}
-use Rattle.mc_flash.specs.Pieces.{in_pieces, pieces_layout}
+use Rattle.mc_flash.specs.Geometry.{in_pieces}
+use Rattle.mc_flash.specs.facts.Pieces.{pieces_layout}
 use Rattle.mc_flash.specs.declared.flash.Grain.{Grain}
 use Rattle.mc_flash.specs.declared.flash.Grain.TheVariants as grains
 use Rattle.mc_flash.specs.declared.op.Slot.{Slot}
 use Rattle.mc_flash.specs.declared.op.Slot.TheVariants.{Primary, Secondary}
 use Rattle.mc_flash.specs.declared.op.Op.{Op}
-use Rattle.mc_trailer.specs.Fields.{size_bytes, trailer_of}
-use Rattle.mc_trailer.specs.Places.{place, magic_bytes}
+use Rattle.mc_trailer.specs.Trailer.{size_bytes, trailer_of, place, magic_bytes, highest_entry}
 use Rattle.mc_trailer.specs.facts.Places.{size_bytes_len}
-use Rattle.mc_trailer.specs.Entries.{highest_entry}
 use Rattle.mc_trailer.specs.Tables.{table_of, is_resumed}
 use Rattle.mc_trailer.specs.declared.places.Field.{Field}
 use Rattle.mc_trailer.specs.declared.places.Field.TheVariants as field
@@ -31,14 +29,12 @@ use Rattle.mc_trailer.specs.declared.tables.SwapType.{SwapType}
 use Rattle.mc_trailer.specs.declared.tables.SwapType.TheVariants as kinds
 use Rattle.mc_boot.specs.declared.image.Images.{Images}
 use Rattle.mc_boot.specs.declared.transfer.Transfer.{Transfer}
-use Rattle.mc_boot.specs.Image.{images_of}
-use Rattle.mc_boot.specs.Transfers.{transfers, moved_up, brought_in, taken_out, copy_of, entry_of, steps}
-use Rattle.mc_boot.specs.Writes.{trailer_erase, trailer_erases, piece, write, write_count, image_ok_write, info_write, marking, is_test, is_revert, preparation_writes, opening_writes}
-use Rattle.mc_boot.specs.Course.{closing, from_transfer, resumed_list, swap_list, new_list}
-use Rattle.mc_boot.specs.Plan.{Plan, nothing, first_left, new_swap, new_plan, resumed_from, resumed_swap, resumed_plan, plan_with, plan}
-use Rattle.mc_boot.specs.Runs.{first_then, happening, ops_of}
-use Rattle.mc_boot.specs.PowerOn.{PowerOn}
-use Rattle.mc_boot.specs.Bounds.{IsBounded, all_saves}
+use Rattle.mc_boot.specs.Plan.{images_of, transfers, moved_up, brought_in, taken_out, copy_of, entry_of, steps}
+use Rattle.mc_boot.specs.Plan.{trailer_erase, trailer_erases, piece, write, write_count, image_ok_write, info_write, marking, is_test, is_revert, preparation_writes, opening_writes}
+use Rattle.mc_boot.specs.Plan.{closing, from_transfer, resumed_list, swap_list, new_list, Plan, nothing, first_left, new_swap, new_plan, resumed_from, resumed_swap, resumed_plan, plan_with, plan}
+use Rattle.mc_boot.specs.Outcome.{first_then, happening, ops_of}
+use Rattle.mc_boot.specs.Plan.{PowerOn}
+use Rattle.mc_boot.specs.Boot.{IsBounded, all_saves}
 
 -- ---- lists
 

@@ -2,25 +2,20 @@
 use Rattle.std.specs.Prelude.{◌≡◌, ◌+◌, ◌&&◌, Bool, true, false, if◌then◌else◌, length, Some, None, Result, Ok, Err, OnOk, IfErr, refl}
 use Rattle.std.specs.List.{between}
 use Rattle.std.proofs.Common.{arith, sym, ap, subst, ◌∙◌, inl, inr}
-use Rattle.mc_flash.specs.Apply.{apply, in_slot}
-use Rattle.mc_flash.specs.Blank.{is_blank}
-use Rattle.mc_flash.specs.Content.{Content, put, with_bytes}
+use Rattle.mc_flash.specs.Flash.{apply, in_slot, is_blank, Content, put, with_bytes}
 use Rattle.mc_flash.specs.facts.Done.{did, does_keep, undefined}
 use Rattle.mc_flash.specs.Geometry.{Geometry, IsLayout}
-use Rattle.mc_flash.specs.Usage.{Counts, IsFull, no_counts}
-use Rattle.mc_flash.specs.Seen.{Seen, Does, GivesUp, Keeps}
-use Rattle.mc_flash.specs.Spends.{Allows, LeaveRoom, Spends, Spent, plus}
+use Rattle.mc_flash.specs.Usage.{Counts, IsFull, no_counts, Seen, Does, GivesUp, Keeps, Allows, LeaveRoom, Spends, Spent, plus}
 use Rattle.mc_flash.specs.facts.Spends.{done_notes, gave_up, spent_more, spent_none}
 use Rattle.mc_flash.specs.declared.flash.FlashError.{FlashError}
 use Rattle.mc_flash.specs.declared.flash.FlashError.TheVariants as errors
 use Rattle.mc_flash.specs.declared.op.Slot.TheVariants.{Primary}
-use Rattle.mc_trailer.specs.Fields.{bytes_at, one_unit, trailer_of}
+use Rattle.mc_trailer.specs.Trailer.{bytes_at, one_unit, trailer_of, place}
 use Rattle.mc_trailer.specs.facts.Places.{one_unit_len}
-use Rattle.mc_trailer.specs.Places.{place}
 use Rattle.mc_trailer.specs.Tables.{is_good, is_set}
 use Rattle.mc_trailer.specs.declared.places.Field.TheVariants as field
-use Rattle.mc_boot.specs.Confirm.{Confirms, confirmed, may_confirm, one_write}
-use Rattle.mc_boot.specs.Writes.{image_ok_write}
+use Rattle.mc_boot.specs.Restart.{Confirms, confirmed, may_confirm, one_write}
+use Rattle.mc_boot.specs.Plan.{image_ok_write}
 
 third : (a b c : Bool) → (a && b && c) ≡ true → c ≡ true
 third true true c is = is

@@ -2,15 +2,12 @@
 use Rattle.std.specs.Prelude.{◌≡◌, ◌+◌, ◌<◌, ◌≤◌, false, List, [], ◌∷◌, length, slice_get, is_some, Option, Result, Ok, Err, refl}
 use Rattle.std.proofs.Common.{arith, inl, inr, sym, ap, subst, ◌∙◌}
 use Rattle.mc_flash.specs.Geometry.{Geometry}
-use Rattle.mc_flash.specs.Usage.{Counts, Limits, IsFull}
-use Rattle.mc_flash.specs.Seen.{Seen, GivesUp}
-use Rattle.mc_flash.specs.Spends.{RanOut, LeaveRoom, Allows, plus, room_of}
+use Rattle.mc_flash.specs.Usage.{Counts, Limits, IsFull, Seen, GivesUp, RanOut, LeaveRoom, Allows, plus, room_of}
 use Rattle.mc_flash.specs.facts.Spends.{Notes, done_notes, gave_up}
 use Rattle.mc_flash.specs.declared.op.Op.{Op}
 use Rattle.mc_flash.specs.declared.flash.FlashError.{FlashError}
 use Rattle.mc_flash.specs.declared.flash.FlashError.TheVariants as errors
-use Rattle.mc_boot.specs.Boot.{Progress, StepsAlong, Steps}
-use Rattle.mc_boot.specs.Bounds.{CountsOn, all_saves, left_of}
+use Rattle.mc_boot.specs.Boot.{Progress, StepsAlong, Steps, CountsOn, all_saves, left_of}
 
 -- Operations done and operations to come are together no more than before, and memory did not fail.
 pub record StepSpends (p q : Progress) (old new : Seen) : Type 0 where

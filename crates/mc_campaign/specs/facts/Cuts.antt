@@ -3,9 +3,8 @@ use Rattle.std.specs.Prelude.{◌≡◌, ℕ, zero, suc, ◌+◌, ◌-◌, ◌<�
 use Rattle.std.proofs.Common.{arith, inl, inr, sym, ap, subst, ◌∙◌, length-append}
 use Rattle.std.proofs.lemmas.Bool.{cases_lt}
 use Rattle.std.proofs.lemmas.List.{length-map}
-use Rattle.mc_tree.specs.Tree.{Tree}
-use Rattle.mc_tree.specs.Twice.{Place, first, second, labels, pairs}
-use Rattle.mc_campaign.specs.Cuts.{AscendFrom, IsInOrder, in_round}
+use Rattle.mc_tree.specs.Tree.{Tree, Place, first, second, labels, pairs}
+use Rattle.mc_campaign.specs.Campaigns.{AscendFrom, IsInOrder, in_round}
 
 pub pairs_length : (front later : List ℕ) → length (pairs front later) ≡ length front + length later
 pairs_length front later =

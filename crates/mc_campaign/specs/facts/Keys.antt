@@ -1,22 +1,18 @@
 -- Campaigns are the paths of the tree of two rounds.
 use Rattle.std.specs.Prelude.{◌≡◌, ◌≤◌, ◌+◌, ◌*◌, ℕ, Bool, refl}
 use Rattle.std.proofs.Common.{arith, ap}
-use Rattle.mc_tree.specs.Twice.{first}
-use Rattle.mc_flash.specs.Content.{Content}
+use Rattle.mc_tree.specs.Tree.{first}
+use Rattle.mc_flash.specs.Flash.{Content}
 use Rattle.mc_flash.specs.Geometry.{Geometry}
-use Rattle.mc_flash.specs.Seen.{Seen}
-use Rattle.mc_flash.specs.Usage.{Usage, most_operations, most_saved}
+use Rattle.mc_flash.specs.Usage.{Seen, Usage, most_operations, most_saved}
 use Rattle.mc_flash.specs.declared.flash.Grain.{Grain}
 use Rattle.mc_flash.specs.declared.flash.Grain.TheVariants as grains
 use Rattle.mc_start.specs.facts.Room.{limits_are}
 use Rattle.mc_walk.specs.Walks.{IsClear}
-use Rattle.mc_explore.specs.Once.{begins}
-use Rattle.mc_explore.specs.subjects.Keys.{AreKeys}
-use Rattle.mc_explore.specs.subjects.Loads.{LoadsFor}
-use Rattle.mc_campaign.specs.Boots.{cuts_along, rounds}
-use Rattle.mc_campaign.specs.Bounds.{most_for_row}
-use Rattle.mc_campaign.specs.Rest.{campaigns}
-use Rattle.mc_campaign.specs.Twice.{twice_kind}
+use Rattle.mc_explore.specs.inner.Once.{begins}
+use Rattle.mc_explore.specs.inner.Exploring.{AreKeys, LoadsFor}
+use Rattle.mc_campaign.specs.inner.Twice.{cuts_along, rounds, twice_kind}
+use Rattle.mc_campaign.specs.Rows.{most_for_row, campaigns}
 use Rattle.mc_campaign.specs.declared.rounds.Twice.{Twice}
 use Rattle.mc_campaign.specs.facts.Paths.{listed_along, path_of, same_order}
 

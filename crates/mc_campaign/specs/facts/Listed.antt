@@ -1,27 +1,22 @@
 -- The rows of campaigns are listed as those of the tree of two rounds.
 use Rattle.std.specs.Prelude.{◌≡◌, ℕ, Bool, List}
 use Rattle.std.proofs.Common.{refl, sym, ap, subst, ◌∙◌}
-use Rattle.mc_tree.specs.Tree.{landed}
-use Rattle.mc_tree.specs.Twice.{first}
+use Rattle.mc_tree.specs.Tree.{landed, first}
 use Rattle.mc_tree.specs.facts.Existence as existence
 use Rattle.mc_tree.specs.facts.Existence.{AreRows}
-use Rattle.mc_tree.specs.facts.Precedence.{pairs_in_order}
-use Rattle.mc_flash.specs.Content.{Content}
-use Rattle.mc_boot.specs.Confirm.{confirmed_if}
-use Rattle.mc_boot.specs.Outcome.{Report, outcome_of}
+use Rattle.mc_tree.specs.facts.Order.{pairs_in_order}
+use Rattle.mc_flash.specs.Flash.{Content}
+use Rattle.mc_boot.specs.Restart.{confirmed_if}
+use Rattle.mc_boot.specs.Outcome.{Report, outcome_of, left_by}
 use Rattle.mc_boot.specs.facts.Run.{outcome_defined}
-use Rattle.mc_boot.specs.Runs.{left_by}
-use Rattle.mc_explore.specs.Boots.{boots}
-use Rattle.mc_explore.specs.Listing.{IsLawful}
-use Rattle.mc_explore.specs.Replay.{IsReplayed}
-use Rattle.mc_explore.specs.subjects.Rows.{are_lawful, rows_of}
-use Rattle.mc_boot.specs.PowerOn.{PowerOn, again}
-use Rattle.mc_campaign.specs.Boots.{cuts_along, rounds, second_start}
-use Rattle.mc_campaign.specs.Campaigns.{CanOccur, Precedes}
-use Rattle.mc_campaign.specs.Cuts.{in_round}
-use Rattle.mc_campaign.specs.Replay.{AreReplayed}
-use Rattle.mc_campaign.specs.Rest.{IsRest, IsRow, campaigns}
-use Rattle.mc_campaign.specs.State.{State, Told, HasOutcomes}
+use Rattle.mc_explore.specs.inner.Once.{boots}
+use Rattle.mc_explore.specs.Pages.{IsLawful}
+use Rattle.mc_explore.specs.Schedules.{IsReplayed}
+use Rattle.mc_explore.specs.Subject.{are_lawful, rows_of}
+use Rattle.mc_boot.specs.Plan.{PowerOn, again}
+use Rattle.mc_campaign.specs.inner.Twice.{cuts_along, rounds, second_start}
+use Rattle.mc_campaign.specs.Campaigns.{CanOccur, Precedes, in_round, AreReplayed}
+use Rattle.mc_campaign.specs.Rows.{IsRest, IsRow, campaigns, State, Told, HasOutcomes}
 use Rattle.mc_campaign.specs.facts.Paths.{are_replayed, listed_along, path_of, same_order, some_same}
 
 -- ---- a campaign has one row

@@ -1,28 +1,23 @@
 -- Campaigns as paths in the tree of two rounds.
 use Rattle.std.specs.Prelude.{◌≡◌, ◌↔◌, ℕ, ◌≤◌, Bool, is_some, List, length, Option, Some}
 use Rattle.std.proofs.Common.{arith, sym, ap, subst, ◌∙◌}
-use Rattle.mc_tree.specs.Tree.{landed, Allowed}
+use Rattle.mc_tree.specs.Tree.{landed, Allowed, first, in_both, pairs, PairsPrecede}
 use Rattle.mc_tree.specs.Tree as tree
-use Rattle.mc_tree.specs.Twice.{first, in_both, pairs, PairsPrecede}
-use Rattle.mc_tree.specs.Paths as paths
 use Rattle.mc_tree.specs.facts.Rounds.{both_allowed, both_labels, both_length, pairs_precede, parts, paths_precede}
 use Rattle.mc_flash.specs.Geometry.{Geometry}
-use Rattle.mc_flash.specs.Content.{Content}
+use Rattle.mc_flash.specs.Flash.{Content}
 use Rattle.mc_trailer.specs.declared.tables.Rules.{Rules}
-use Rattle.mc_boot.specs.Confirm.{confirmed_if}
-use Rattle.mc_boot.specs.Outcome.{Report, outcome_of}
+use Rattle.mc_boot.specs.Restart.{confirmed_if}
+use Rattle.mc_boot.specs.Outcome.{Report, outcome_of, after, left_by}
 use Rattle.mc_boot.specs.facts.Run.{left_defined}
-use Rattle.mc_boot.specs.Runs.{after, left_by}
-use Rattle.mc_explore.specs.Boots.{boots, content_or}
+use Rattle.mc_explore.specs.inner.Once.{boots, content_or}
 use Rattle.mc_explore.specs.facts.Occurring.{allowed_after, allowed_occurs, occurs_allowed}
-use Rattle.mc_explore.specs.Replay.{IsReplayed}
+use Rattle.mc_explore.specs.Schedules.{IsReplayed}
 use Rattle.mc_explore.specs.Schedules as schedules
-use Rattle.mc_campaign.specs.Replay.{AreReplayed}
-use Rattle.mc_campaign.specs.Campaigns.{CanOccur, IsMember, Precedes}
-use Rattle.mc_campaign.specs.Boots.{IsPathOf, cuts_along, rounds, second_start}
+use Rattle.mc_campaign.specs.Campaigns.{AreReplayed, CanOccur, IsMember, Precedes, in_round}
+use Rattle.mc_campaign.specs.inner.Twice.{IsPathOf, cuts_along, rounds, second_start}
 use Rattle.mc_campaign.specs.facts.Cuts.{all_first, all_second, by_rounds, ordered, pairs_length}
-use Rattle.mc_boot.specs.PowerOn.{power_on}
-use Rattle.mc_campaign.specs.Cuts.{in_round}
+use Rattle.mc_boot.specs.Plan.{power_on}
 
 pub some_same : {A : Type 0} (x y : A) → Some x ≡ Some y → x ≡ y
 some_same x y e = cc
@@ -113,7 +108,7 @@ module _ (r : Rules) (g : Geometry) (confirms : Bool) where
     member_of bound c path p = subst (IsMember (power_on r g s) confirms bound) p.cuts_are (listed_along bound path p.member).0
 
     pub same_order : (bound : ℕ) (path other : List ℕ) (c d : List (ℕ × ℕ)) → IsPathOf (power_on r g s) confirms bound path c → IsPathOf (power_on r g s) confirms bound other d
-        → Precedes c d ↔ paths.Precedes path other
+        → Precedes c d ↔ tree.Precedes path other
     same_order bound path other c d p q = (
       λ before.
           paths_precede (boots r g) (second_start r g confirms) (first s) path other

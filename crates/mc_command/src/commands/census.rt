@@ -2,8 +2,8 @@
 ghost use Rattle.std.specs.Prelude.{◌≡◌, List, Err, IfOk};
 ghost use Rattle.std.specs.Io.KnownBytes.{Appends};
 ghost use Rattle.mc_explore.specs.Census.{census_of};
-ghost use Rattle.mc_explore.specs.CensusText.{census_text};
-ghost use Rattle.mc_explore.specs.State.{Told};
+ghost use Rattle.mc_explore.specs.Census.{census_text};
+ghost use Rattle.mc_explore.specs.Rows.{Told};
 ghost use Rattle.clap.specs.Matches.{found_of};
 ghost use Rattle.mc_command.specs.Sessions.{TellsCensus};
 ghost use Rattle.mc_command.specs.Verdicts.{IsVerdict};

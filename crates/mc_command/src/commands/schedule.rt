@@ -1,7 +1,7 @@
 //! A schedule of power cuts and the start that it begins at, as words tell them.
 ghost use Rattle.std.specs.Prelude.{◌≡◌, Some, IfOk, codes};
 ghost use Rattle.clap.specs.Matches.{found_of};
-ghost use Rattle.mc_start.specs.Texts.{schedule_text};
+ghost use Rattle.mc_start.specs.Start.{schedule_text};
 ghost use Rattle.mc_command.specs.Arguments.{MayTellSchedule};
 ghost use Rattle.mc_command.specs.Sessions.{TellsStart};
 

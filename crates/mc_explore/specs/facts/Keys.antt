@@ -1,19 +1,15 @@
 -- Schedules are the paths of the tree of boots.
 use Rattle.std.specs.Prelude.{◌≡◌, ◌≤◌, ◌+◌, ◌*◌, ℕ, Bool, refl}
 use Rattle.std.proofs.Common.{arith, ap}
-use Rattle.mc_flash.specs.Content.{Content}
-use Rattle.mc_flash.specs.Seen.{Seen}
-use Rattle.mc_flash.specs.Usage.{Usage, most_operations, most_saved}
+use Rattle.mc_flash.specs.Flash.{Content}
+use Rattle.mc_flash.specs.Usage.{Seen, Usage, most_operations, most_saved}
 use Rattle.mc_start.specs.facts.Room.{limits_are}
 use Rattle.mc_walk.specs.Walks.{IsClear}
-use Rattle.mc_explore.specs.Boots.{boots}
-use Rattle.mc_explore.specs.Bounds.{most_for_row}
-use Rattle.mc_explore.specs.Once.{begins, once}
-use Rattle.mc_explore.specs.Rest.{subject}
+use Rattle.mc_explore.specs.inner.Once.{boots, begins, once}
+use Rattle.mc_explore.specs.Rows.{most_for_row, subject}
 use Rattle.mc_explore.specs.declared.once.Once.{Once}
 use Rattle.mc_explore.specs.facts.Occurring.{member_of, path_of}
-use Rattle.mc_explore.specs.subjects.Keys.{AreKeys}
-use Rattle.mc_explore.specs.subjects.Loads.{LoadsFor}
+use Rattle.mc_explore.specs.inner.Exploring.{AreKeys, LoadsFor}
 
 pub are_schedules : (o : Once) (c : Content) → AreKeys subject (boots o.rules o.layout) c (begins o c) tt (λ path. path)
 are_schedules o c = record {

@@ -1,19 +1,17 @@
 -- The rows of schedules are listed as those of a tree.
 use Rattle.std.proofs.Common.{◌≡◌, ℕ, List, map, Option, Some, option_and_then, refl, ap, ◌∙◌}
-use Rattle.mc_flash.specs.Content.{Content}
+use Rattle.mc_flash.specs.Flash.{Content}
 use Rattle.mc_boot.specs.facts.Run.{outcome_defined}
 use Rattle.mc_boot.specs.Outcome.{Report, outcome_of}
-use Rattle.mc_tree.specs.Tree.{landed, Allowed}
-use Rattle.mc_tree.specs.Paths.{Precedes}
+use Rattle.mc_tree.specs.Tree.{landed, Allowed, Precedes}
 use Rattle.mc_tree.specs.facts.Existence as existence
 use Rattle.mc_tree.specs.facts.Existence.{AreRows, all_from, all_rest}
-use Rattle.mc_tree.specs.facts.Precedence.{paths_in_order}
-use Rattle.mc_explore.specs.Boots.{boots}
-use Rattle.mc_explore.specs.Listing.{IsLawful}
-use Rattle.mc_explore.specs.Rest.{IsRow, IsRest, schedules, subject}
-use Rattle.mc_explore.specs.subjects.Rows.{are_lawful}
-use Rattle.mc_boot.specs.PowerOn.{PowerOn, again}
-use Rattle.mc_explore.specs.State.{State, Told, HasOutcome, at_start, outcome_after}
+use Rattle.mc_tree.specs.facts.Order.{paths_in_order}
+use Rattle.mc_explore.specs.inner.Once.{boots}
+use Rattle.mc_explore.specs.Pages.{IsLawful}
+use Rattle.mc_explore.specs.Rows.{IsRow, IsRest, schedules, subject, State, Told, HasOutcome, at_start, outcome_after}
+use Rattle.mc_explore.specs.Subject.{are_lawful}
+use Rattle.mc_boot.specs.Plan.{PowerOn, again}
 use Rattle.mc_explore.specs.facts.Occurring.{allowed_after, member_of, path_of}
 
 one_outcome : (a b : List ℕ) (x y : Report) (o : List ℕ → Option Report) → a ≡ b → o a ≡ Some x → o b ≡ Some y → x ≡ y

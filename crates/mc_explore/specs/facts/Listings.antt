@@ -1,13 +1,11 @@
 -- The one list of the rows to come, whatever they are.
 use Rattle.std.specs.Prelude.{All, Bool}
 use Rattle.std.proofs.Common.{◌≡◌, ℕ, zero, suc, ◌<◌, List, [], ◌∷◌, ◌++◌, length, take, None, refl, sym, subst, ap, ◌∙◌, arith}
-use Rattle.mc_tree.specs.Chain.{Chain, JoinUp, last_key}
-use Rattle.mc_tree.specs.Paths.{Position, After, IsPastIn}
-use Rattle.mc_tree.specs.Rows as lists
+use Rattle.mc_tree.specs.Tree.{Chain, JoinUp, last_key, Position, After, IsPastIn}
+use Rattle.mc_tree.specs.Tree as lists
 use Rattle.mc_tree.specs.facts.Joined as joined
 use Rattle.mc_tree.specs.facts.OneList as lists_facts
-use Rattle.mc_explore.specs.Listing.{Listing, IsLawful, IsRest, IsFirst, FindsRow}
-use Rattle.mc_explore.specs.Pages.{state_past}
+use Rattle.mc_explore.specs.Pages.{Listing, IsLawful, IsRest, IsFirst, FindsRow, state_past}
 
 module _ {S K R C : Type 0} (l : Listing S K R C) (laws : IsLawful l) where
   -- Behind a row that was given the others are to come.

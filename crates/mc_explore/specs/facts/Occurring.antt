@@ -2,17 +2,15 @@
 use Rattle.std.specs.Prelude.{◌≡◌, ℕ, ◌<◌, nat_lt, Bool, true, false, is_some, if◌then◌else◌, List, [], ◌∷◌, length, Option, Some, None, option_and_then, refl}
 use Rattle.std.proofs.Common.{arith, sym, ap, ◌∙◌}
 use Rattle.std.proofs.lemmas.Bool.Decides.{nat_tests}
-use Rattle.mc_flash.specs.Content.{Content}
-use Rattle.mc_boot.specs.Plan.{plan}
-use Rattle.mc_boot.specs.Runs.{ops_of, at, cut_at, after}
-use Rattle.mc_boot.specs.Boot.{Progress, begun}
-use Rattle.mc_boot.specs.Run.{HasCome}
+use Rattle.mc_flash.specs.Flash.{Content}
+use Rattle.mc_boot.specs.Plan.{plan, PowerOn, again}
+use Rattle.mc_boot.specs.Outcome.{ops_of, at, cut_at, after}
+use Rattle.mc_boot.specs.Boot.{Progress, begun, HasCome}
 use Rattle.mc_boot.specs.facts.Run.{at_defined, come_begun, come_at}
 use Rattle.mc_explore.specs.Schedules.{CanOccur, IsMember}
 use Rattle.mc_tree.specs.Tree.{landed, Allowed}
 use Rattle.mc_tree.specs.Tree as tree
-use Rattle.mc_explore.specs.Boots.{content_or, at_cut, boots}
-use Rattle.mc_boot.specs.PowerOn.{PowerOn, again}
+use Rattle.mc_explore.specs.inner.Once.{content_or, at_cut, boots}
 
 some_of : (s : Content) (o : Option Content) (t : Content) → o ≡ Some t → o ≡ Some (content_or s o)
 some_of s o t e = e ∙ ap (λ (z : Option Content). Some (content_or s z)) (sym e)

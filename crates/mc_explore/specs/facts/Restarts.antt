@@ -3,21 +3,18 @@ use Rattle.std.specs.Prelude.{◌≡◌, ℕ, nat_lt, Bool, false, if◌then◌e
 use Rattle.std.proofs.Common.{arith, sym, ap, subst, ◌∙◌}
 use Rattle.std.proofs.lemmas.Bool.Decides.{nat_tests}
 use Rattle.mc_flash.specs.Geometry.{Geometry}
-use Rattle.mc_flash.specs.Content.{Content}
+use Rattle.mc_flash.specs.Flash.{Content}
 use Rattle.mc_flash.specs.declared.op.Op.{Op}
 use Rattle.mc_image.specs.Valid.{id_of}
 use Rattle.mc_trailer.specs.declared.tables.Rules.{Rules}
 use Rattle.mc_boot.specs.declared.outcome.BootResult.TheVariants as results
-use Rattle.mc_boot.specs.Outcome.{Report, report, outcome_of}
-use Rattle.mc_boot.specs.Plan.{plan}
-use Rattle.mc_boot.specs.Restart.{EndsIn, IsSwapped}
-use Rattle.mc_boot.specs.Runs.{after, at, left_by, ops_of, happening, is_faulted}
-use Rattle.mc_boot.specs.Start.{named, other}
+use Rattle.mc_boot.specs.Outcome.{Report, report, outcome_of, after, at, left_by, ops_of, happening, is_faulted}
+use Rattle.mc_boot.specs.Plan.{plan, PowerOn, again, power_on}
+use Rattle.mc_boot.specs.Restart.{EndsIn, IsSwapped, named, other}
 use Rattle.mc_boot.specs.declared.kind.Kind.{Kind}
 use Rattle.mc_boot.specs.declared.kind.Kind.TheVariants as starts
-use Rattle.mc_explore.specs.Replay.{IsSwapOutcome}
+use Rattle.mc_explore.specs.Schedules.{IsSwapOutcome}
 use Rattle.mc_explore.specs.facts.Telling.{outcome_ops}
-use Rattle.mc_boot.specs.PowerOn.{PowerOn, again, power_on}
 
 -- Where the boot from u leaves z, the outcome's slots and next type are those of z.
 pub told_slots : (x : PowerOn) (z : Content) (o : Report) → outcome_of x ≡ Some o → left_by x ≡ Some z

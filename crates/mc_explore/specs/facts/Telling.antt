@@ -1,22 +1,17 @@
 -- What is told of a flash, and where the boot from there begins.
 use Rattle.std.specs.Prelude.{◌≡◌, ℕ, length, Option, Some, None, option_map}
 use Rattle.std.proofs.Common.{arith, sym, ap, subst, ◌∙◌}
-use Rattle.mc_flash.specs.Content.{Content}
+use Rattle.mc_flash.specs.Flash.{Content}
 use Rattle.mc_flash.specs.Geometry.{Geometry}
-use Rattle.mc_flash.specs.Usage.{Counts}
-use Rattle.mc_flash.specs.Spends.{LeaveRoom, plus}
+use Rattle.mc_flash.specs.Usage.{Counts, LeaveRoom, plus}
 use Rattle.mc_trailer.specs.declared.tables.Rules.{Rules}
-use Rattle.mc_boot.specs.Boot.{Progress, progress}
-use Rattle.mc_boot.specs.Bounds.{left_of}
-use Rattle.mc_boot.specs.Outcome.{Report, outcome_of, report, shown}
-use Rattle.mc_boot.specs.Plan.{plan}
-use Rattle.mc_boot.specs.Run.{HasCome}
+use Rattle.mc_boot.specs.Boot.{Progress, progress, left_of, HasCome}
+use Rattle.mc_boot.specs.Outcome.{Report, outcome_of, report, shown, is_faulted, ops_of}
+use Rattle.mc_boot.specs.Plan.{plan, PowerOn, power_on}
 use Rattle.mc_boot.specs.facts.Run.{come_begun, left_defined}
-use Rattle.mc_boot.specs.Runs.{is_faulted, ops_of}
-use Rattle.mc_explore.specs.Once.{HasMade, IsTold, most_of}
+use Rattle.mc_explore.specs.inner.Once.{HasMade, IsTold, most_of}
 use Rattle.mc_explore.specs.declared.once.Told.{Told}
 use Rattle.mc_explore.specs.facts.Occurring.{at_zero}
-use Rattle.mc_boot.specs.PowerOn.{PowerOn, power_on}
 
 count_in : Option Report → ℕ
 count_in None = 0

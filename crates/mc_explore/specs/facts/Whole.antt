@@ -5,9 +5,8 @@ use Rattle.std.proofs.lemmas.Bool.{cases_lt}
 use Rattle.std.proofs.lemmas.Bool.Decides.{nat_tests}
 use Rattle.std.proofs.lemmas.List.Elements.{All-head}
 use Rattle.std.specs.Io.KnownBytes.{Appends}
-use Rattle.mc_output.specs.Fronts.{AppendsFront}
-use Rattle.mc_explore.specs.Listing.{Listing, IsRest}
-use Rattle.mc_explore.specs.Pages.{Page, IsBefore, AreBefore, rows_taken, TakesPage, ShownIsOut, ShownBegan, PageIsOut, PageBegan, page_at, page_text, state_past}
+use Rattle.mc_output.specs.Text.{AppendsFront}
+use Rattle.mc_explore.specs.Pages.{Listing, IsRest, Page, IsBefore, AreBefore, rows_taken, TakesPage, ShownIsOut, ShownBegan, PageIsOut, PageBegan, page_at, page_text, state_past}
 
 module _ {S K R C : Type 0} (l : Listing S K R C) where
   pub all_shown : (rows shown : List R) → AreBefore l None rows shown → rows ≡ shown

@@ -9,7 +9,7 @@ use Rattle.std.proofs.lemmas.Grind.{div_ceil_times}
 use Rattle.std.proofs.Math.Nat.{mul-le-mul_right, dvd_of_mod-eq-zero, dvd-add, dvd-sub, dvd-mul_left_of_dvd, dvd-mul_left, dvd_trans, mod-add-div'}
 use Rattle.std.proofs.lemmas.Nat.Gcd.{mod-eq-zero_of_dvd}
 use Rattle.mc_flash.specs.Geometry.{Geometry, IsLayout, trailer_bytes, trailer_sectors, count_beside, greatest_count, greatest_sectors, fits}
-use Rattle.mc_flash.specs.Content.{sectors_of, size_of}
+use Rattle.mc_flash.specs.Flash.{sectors_of, size_of}
 use Rattle.mc_flash.specs.declared.op.Slot.{Slot}
 use Rattle.mc_flash.specs.declared.op.Slot.TheVariants.{Primary, Secondary}
 

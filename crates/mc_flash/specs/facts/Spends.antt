@@ -4,9 +4,8 @@ use Rattle.std.proofs.Common.{arith, inl, inr, sym, ap, subst, ◌∙◌}
 use Rattle.std.proofs.lemmas.List.{get_or_at, take_at}
 use Rattle.mc_flash.specs.facts.Done.{did}
 use Rattle.mc_flash.specs.Geometry.{Geometry}
-use Rattle.mc_flash.specs.Usage.{Usage, Limits, Checkpoint, noted_by, saves}
-use Rattle.mc_flash.specs.Seen.{Seen, GivesUp, HasNoPlace, Keeps, Marks, done, marked, no_checkpoint, checkpoint_at, checkpoint_of, went_back}
-use Rattle.mc_flash.specs.Spends.{Spent, RanOut, Spends, Stays}
+use Rattle.mc_flash.specs.Usage.{Usage, Limits, Checkpoint, noted_by, saves, Seen, GivesUp, HasNoPlace, Keeps, Marks, done, marked, no_checkpoint, checkpoint_at, checkpoint_of, went_back}
+use Rattle.mc_flash.specs.Usage.{Spent, RanOut, Spends, Stays}
 use Rattle.mc_flash.specs.declared.flash.FlashError.{FlashError}
 use Rattle.mc_flash.specs.declared.flash.FlashError.TheVariants as errors
 use Rattle.mc_flash.specs.declared.op.Op.{Op}

@@ -4,7 +4,7 @@ use Rattle.std.specs.Io.KnownBytes.{Appends}
 use Rattle.std.proofs.Common.{sym, ap, subst, ◌∙◌, append_assoc, append-nil, take-append-drop}
 use Rattle.std.proofs.KnownBytes.{Appends-nil, Appends-trans}
 use Rattle.std.proofs.lemmas.List.{take_at}
-use Rattle.mc_output.specs.Fronts.{AppendsFront}
+use Rattle.mc_output.specs.Text.{AppendsFront}
 
 -- Of that text this is still to come.
 pub record IsOut (before now : Option (List ℕ)) (text rest : List ℕ) : Type 0 where

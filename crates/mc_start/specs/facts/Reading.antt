@@ -8,7 +8,7 @@ use Rattle.std.proofs.Math.Seq.{drop-append_seam}
 use Rattle.std.proofs.lemmas.List.Elements.{All-head, All-drop, All-push}
 use Rattle.mc_output.specs.facts.Parting.{lacks_decimal, no_dash}
 use Rattle.mc_output.specs.facts.Reading.{IsSpelling}
-use Rattle.mc_start.specs.Texts.{IsSchedule, FitsCut}
+use Rattle.mc_start.specs.Start.{IsSchedule, FitsCut}
 
 -- A text that writes a number is read as that number.
 pub read_back : {E : Type 0} (n : ℕ) (text : List ℕ) (r : Result ℕ E) → n < 2 ^ 32 → text ≡ decimal n → ParsesUnsigned 32 10 text r → r ≡ Ok n

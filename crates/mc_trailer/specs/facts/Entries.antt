@@ -5,18 +5,14 @@ use Rattle.std.proofs.Math.Nat.{mul-le-mul_right}
 use Rattle.std.proofs.lemmas.Bool.{cases_eq, cases_Bool, cases_order}
 use Rattle.std.proofs.lemmas.Grind.{same_number_lists}
 use Rattle.std.proofs.lemmas.List.Edits.{get_or-between, length-between}
-use Rattle.mc_flash.specs.Blank.{is_blank}
+use Rattle.mc_flash.specs.Flash.{is_blank, Content, IsSized, byte, size_of, apply}
 use Rattle.mc_flash.specs.Geometry.{Geometry, IsLayout, trailer_bytes}
-use Rattle.mc_flash.specs.Content.{Content, IsSized, byte, size_of}
 use Rattle.mc_flash.specs.facts.Layouts.{small_unit}
-use Rattle.mc_flash.specs.Changes.{Changed, changed_sized, blank_range, range_blank, program_changes}
-use Rattle.mc_flash.specs.Apply.{apply}
+use Rattle.mc_flash.specs.facts.Changes.{Changed, changed_sized, blank_range, range_blank, program_changes}
 use Rattle.mc_flash.specs.declared.op.Op.TheVariants as ops
 use Rattle.mc_flash.specs.declared.op.Slot.TheVariants.{Primary}
-use Rattle.mc_trailer.specs.Places.{entry_place}
+use Rattle.mc_trailer.specs.Trailer.{entry_place, bytes_at, one_unit, is_written, IsWritten, IsHighest, greatest, highest_entry}
 use Rattle.mc_trailer.specs.facts.Places.{entry_behind, entry_inside, group_inside, entry_ends, entries_apart, one_unit_len}
-use Rattle.mc_trailer.specs.Fields.{bytes_at, one_unit}
-use Rattle.mc_trailer.specs.Entries.{is_written, IsWritten, IsHighest, greatest, highest_entry}
 use Rattle.mc_trailer.specs.Laws.{WritesHighest}
 
 -- The greatest number below a limit that passes: it passes, and no other above it does.

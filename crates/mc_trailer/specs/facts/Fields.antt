@@ -9,16 +9,12 @@ use Rattle.std.proofs.lemmas.List.Edits.{get_or-between, length-between}
 use Rattle.byteorder.specs.Endian.{little_bytes, little_number}
 use Rattle.byteorder.specs.Numbers.{little_number-reads_back}
 use Rattle.mc_flash.specs.Geometry.{Geometry, IsLayout}
-use Rattle.mc_flash.specs.Content.{Content, IsSized, bytes_of, byte, size_of}
-use Rattle.mc_flash.specs.Changes.{Changed, changed_sized, sized_is, program_changes}
-use Rattle.mc_flash.specs.Apply.{apply}
-use Rattle.mc_flash.specs.Blank.{is_blank}
+use Rattle.mc_flash.specs.Flash.{Content, IsSized, bytes_of, byte, size_of, apply, is_blank}
+use Rattle.mc_flash.specs.facts.Changes.{Changed, changed_sized, sized_is, program_changes}
 use Rattle.mc_flash.specs.declared.op.Op.TheVariants as ops
 use Rattle.mc_flash.specs.declared.op.Slot.{Slot}
-use Rattle.mc_trailer.specs.Places.{place, before_end, magic_bytes}
+use Rattle.mc_trailer.specs.Trailer.{place, before_end, magic_bytes, room, magic_of, flag_of, bytes_at, trailer_of, one_unit, size_bytes}
 use Rattle.mc_trailer.specs.facts.Places.{place_inside, field_ends, fields_apart, room_is, most_before_end, same_or_apart}
-use Rattle.mc_trailer.specs.Places.{room}
-use Rattle.mc_trailer.specs.Fields.{magic_of, flag_of, bytes_at, trailer_of, one_unit, size_bytes}
 use Rattle.mc_trailer.specs.Tables.{is_good}
 use Rattle.mc_trailer.specs.declared.places.Field.{Field}
 use Rattle.mc_trailer.specs.declared.places.Field.TheVariants as field

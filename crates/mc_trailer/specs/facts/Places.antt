@@ -6,13 +6,11 @@ use Rattle.std.proofs.lemmas.Bool.{cases_order}
 use Rattle.std.proofs.lemmas.List.{length-replicate}
 use Rattle.std.proofs.Math.Nat.{mul-le-mul_right, mod_self}
 use Rattle.mc_flash.specs.Geometry.{Geometry, IsLayout, trailer_bytes}
-use Rattle.mc_flash.specs.Content.{size_of}
-use Rattle.mc_flash.specs.Apply.{IsRange}
+use Rattle.mc_flash.specs.Flash.{size_of, IsRange}
 use Rattle.mc_flash.specs.facts.Layouts.{trailer_inside, small_unit, data_end, data_before_trailer, whole_sub, whole_add, whole_size, whole_eights, whole_units}
 use Rattle.mc_flash.specs.declared.op.Slot.{Slot}
 use Rattle.mc_flash.specs.declared.op.Slot.TheVariants.{Primary}
-use Rattle.mc_trailer.specs.Places.{room, place, entry_place, before_end}
-use Rattle.mc_trailer.specs.Fields.{one_unit, size_bytes}
+use Rattle.mc_trailer.specs.Trailer.{room, place, entry_place, before_end, one_unit, size_bytes}
 use Rattle.mc_trailer.specs.declared.places.Field.{Field}
 use Rattle.mc_trailer.specs.declared.places.Field.TheVariants as field
 

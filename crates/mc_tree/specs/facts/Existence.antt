@@ -3,10 +3,8 @@ use Rattle.std.proofs.Common.{◌≡◌, ℕ, suc, zero, ◌<◌, List, [], ◌�
 use Rattle.std.specs.Prelude.{AllPairs, Contains}
 use Rattle.std.proofs.lemmas.Bool.{cases_lt}
 use Rattle.std.proofs.lemmas.List.Elements.{Contains-append_cases, Contains-append_left, Contains-append_right}
-use Rattle.mc_tree.specs.Tree.{Tree, IsMember}
-use Rattle.mc_tree.specs.Paths.{Precedes, Position, AtStart, After, Lost}
-use Rattle.mc_tree.specs.Rows.{Ascends, IsRest}
-use Rattle.mc_tree.specs.facts.Precedence.{IsOrder, cases_of}
+use Rattle.mc_tree.specs.Tree.{Tree, IsMember, Precedes, Position, AtStart, After, Lost, Ascends, IsRest}
+use Rattle.mc_tree.specs.facts.Order.{IsOrder, cases_of}
 use Rattle.mc_tree.specs.facts.Lists.{no_element, at_front, behind, front_or_behind, no_pairs, pairs_behind, pairs_front, more_pairs, pairs_append, in_map, map_in, pairs_mapped}
 
 -- Each path comes before all that stand behind it.

@@ -4,11 +4,9 @@ use Rattle.std.proofs.Common.{inl, inr, arith, sym, ap, subst, ◌∙◌, append
 use Rattle.std.proofs.Math.Seq.{take-add}
 use Rattle.std.proofs.lemmas.List.{length-take, take-append-drop, take_all}
 use Rattle.std.proofs.lemmas.List.Elements.{All-head, All-tail}
-use Rattle.mc_tree.specs.Paths.{Position, After}
-use Rattle.mc_tree.specs.Rows.{IsRest}
-use Rattle.mc_tree.specs.Chain.{last_key, Chain, JoinUp}
+use Rattle.mc_tree.specs.Tree.{Position, After, IsRest, last_key, Chain, JoinUp}
 use Rattle.mc_tree.specs.facts.OneList.{one_rest, rest_tail}
-use Rattle.mc_tree.specs.facts.Precedence.{IsOrder}
+use Rattle.mc_tree.specs.facts.Order.{IsOrder}
 
 module _ {R : Type 0} where
   -- Behind a full page the rest of the chain is a front of the others.

@@ -2,11 +2,9 @@
 use Rattle.std.proofs.Common.{◌≡◌, List, [], ◌∷◌, ◌++◌, ◌⊎◌, inl, inr, refl, sym, ap, subst}
 use Rattle.std.specs.Prelude.{Contains}
 use Rattle.std.proofs.lemmas.List.Elements.{Contains-append_right}
-use Rattle.mc_tree.specs.Paths.{Position, After, IsPastIn}
-use Rattle.mc_tree.specs.Rows.{Ascends, IsRest}
-use Rattle.mc_tree.specs.facts.Precedence.{IsOrder, not_same}
+use Rattle.mc_tree.specs.Tree.{Position, After, IsPastIn, Ascends, IsRest}
+use Rattle.mc_tree.specs.facts.Order.{IsOrder, not_same, past_on}
 use Rattle.mc_tree.specs.facts.Lists.{no_element, at_front, behind, front_or_behind, pairs_behind, pairs_front, pairs_after}
-use Rattle.mc_tree.specs.facts.Past.{past_on}
 
 module _ {K R : Type 0} (Before : K → K → Type 0) (order : IsOrder Before) (key : R → K) where
   abbrev RowsBefore : R → R → Type 0

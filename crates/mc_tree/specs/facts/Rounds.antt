@@ -2,10 +2,8 @@
 use Rattle.std.proofs.Common.{◌≡◌, ℕ, ◌+◌, ◌-◌, ◌<◌, ◌≤◌, Bool, true, false, List, [], ◌∷◌, length, map, inl, inr, refl, sym, ap, subst, ◌∙◌, arith}
 use Rattle.std.specs.Prelude.{nat_lt, if◌then◌else◌}
 use Rattle.std.proofs.lemmas.Bool.Decides.{nat_tests}
-use Rattle.mc_tree.specs.Tree.{Tree, landed, Allowed}
-use Rattle.mc_tree.specs.Paths.{Precedes}
-use Rattle.mc_tree.specs.Twice.{Place, first, second, twice, twice_child, label, labels, in_both, pairs, Before, PairsPrecede}
-use Rattle.mc_tree.specs.facts.Precedence.{not_same, paths_in_order, pairs_in_order}
+use Rattle.mc_tree.specs.Tree.{Tree, landed, Allowed, Precedes, Place, first, second, twice, twice_child, label, labels, in_both, pairs, Before, PairsPrecede}
+use Rattle.mc_tree.specs.facts.Order.{not_same, paths_in_order, pairs_in_order}
 
 -- ---- the order
 

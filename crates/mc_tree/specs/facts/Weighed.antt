@@ -3,7 +3,7 @@ use Rattle.std.specs.Prelude.{◌≡◌, ℕ, zero, suc, ◌+◌, ◌-◌, ◌<�
 use Rattle.std.proofs.Common.{arith, sym, ap, ◌∙◌}
 use Rattle.std.proofs.lemmas.List.{map-append}
 use Rattle.mc_tree.specs.Tree.{Tree}
-use Rattle.mc_tree.specs.Weights.{Weighing, IsWeighing, IsPlaced, from, placed_below, total, weight}
+use Rattle.mc_tree.specs.inner.Weights.{Weighing, IsWeighing, IsPlaced, from, placed_below, total, weight}
 use Rattle.mc_tree.specs.facts.Existence.{all_from, beginning}
 
 module _ {M : Type 0} (w : Weighing M) (is : IsWeighing w) where

@@ -1,7 +1,6 @@
 -- The paths of the same walk, elsewhere.
 use Rattle.std.proofs.Common.{List, ℕ, sym, subst}
-use Rattle.mc_tree.specs.Tree.{IsMember}
-use Rattle.mc_tree.specs.Paths.{Position, IsOver}
+use Rattle.mc_tree.specs.Tree.{IsMember, Position, IsOver}
 use Rattle.mc_walk.specs.Kind.{Kind}
 use Rattle.mc_walk.specs.Walks.{Walked, IsPath, IsSame, origin_of}
 

@@ -1,8 +1,7 @@
 use Rattle.std.proofs.Common.{ℕ, Some, refl, sym, ap, ◌∙◌}
 use Rattle.std.proofs.lemmas.Bool.{ne_eqb}
-use Rattle.mc_boot.specs.Outcome.{Report, outcome_of, shown}
-use Rattle.mc_boot.specs.Runs.{left_by}
-use Rattle.mc_boot.proofs.AfterCut.{at_start, left_follows, outcome_follows}
+use Rattle.mc_boot.specs.Outcome.{Report, outcome_of, shown, left_by}
+use Rattle.mc_boot.proofs.CourseJoins.{at_start, left_follows, outcome_follows}
 use Rattle.mc_boot.proofs.boot.outcome_after.Goals as goal
 
 pub returns-clause-outcome : goal.returns-clause-outcome

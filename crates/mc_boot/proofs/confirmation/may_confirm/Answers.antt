@@ -1,16 +1,16 @@
 use Rattle.std.proofs.Common.{◌≡◌, ℕ, ◌+◌, ◌^◌, ◌≤◌, Bool, false, ◌&&◌, Fits, w64, refl, sym, ap, subst, arith, ◌∙◌}
 use Rattle.std.proofs.lemmas.Bool.{false≢true, and_left, and_right}
-use Rattle.mc_flash.specs.Content.{size_of}
+use Rattle.mc_flash.specs.Flash.{size_of}
 use Rattle.mc_flash.specs.facts.Layouts.{small_unit}
 use Rattle.mc_flash.specs.declared.op.Slot.TheVariants.{Primary}
-use Rattle.mc_trailer.specs.Fields.{trailer_of}
+use Rattle.mc_trailer.specs.Trailer.{trailer_of}
 use Rattle.mc_trailer.specs.Tables.{is_good, is_set}
 use Rattle.mc_trailer.specs.declared.trailer.Trailer.{Trailer}
 use Rattle.mc_trailer.specs.declared.trailer.Magic.{Magic}
 use Rattle.mc_trailer.specs.declared.trailer.Magic.TheVariants as magics
 use Rattle.mc_trailer.specs.declared.trailer.Flag.{Flag}
 use Rattle.mc_trailer.specs.declared.trailer.Flag.TheVariants as flags
-use Rattle.mc_boot.proofs.Can.{slot_small}
+use Rattle.mc_boot.proofs.Courses.{slot_small}
 use Rattle.mc_boot.proofs.confirmation.may_confirm.Goals as goal
 use Rattle.mc_boot.proofs.confirmation.may_confirm.Goals.{in-Good, in_default, then-matches+in-Set, then-matches+in_default-matches, else-matches}
 

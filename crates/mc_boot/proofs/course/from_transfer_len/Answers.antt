@@ -1,5 +1,5 @@
 use Rattle.std.proofs.Common.{sym, arith}
-use Rattle.mc_boot.proofs.Sections.{few_transfers, length-from_transfer}
+use Rattle.mc_boot.proofs.Courses.{few_transfers, length-from_transfer}
 use Rattle.mc_boot.proofs.course.from_transfer_len.Goals as goal
 
 pub overflow_mul-result : goal.overflow_mul-result

@@ -1,8 +1,8 @@
 use Rattle.std.proofs.Common.{◌≡◌, ◌+◌, ◌<◌, ℕ, sym, arith, ◌∙◌}
 use Rattle.std.proofs.Math.Nat.{le-div_iff_mul-le, mod-lt}
 use Rattle.mc_flash.specs.facts.Usage.{few_sectors}
-use Rattle.mc_boot.proofs.Sections.{few_transfers, get_transfer, get_closing}
-use Rattle.mc_boot.proofs.Few.{thrice}
+use Rattle.mc_boot.proofs.Courses.{few_transfers, get_transfer, get_closing}
+use Rattle.mc_boot.proofs.Plans.{thrice}
 use Rattle.mc_boot.proofs.course.from_transfer_op.Goals as goal
 
 pub returns-then-index-width-clause-at : goal.returns-then-index-width-clause-at

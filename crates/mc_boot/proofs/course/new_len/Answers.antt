@@ -1,10 +1,9 @@
 use Rattle.std.proofs.Common.{◌≡◌, ℕ, ◌+◌, ◌≤◌, ◌++◌, true, false, ◌∙◌, sym, arith, length-append, Fits, w32}
 use Rattle.mc_flash.specs.Geometry.{Geometry, IsLayout, trailer_sectors}
 use Rattle.mc_flash.specs.declared.op.Slot.TheVariants.{Secondary}
-use Rattle.mc_boot.specs.Course.{swap_list}
-use Rattle.mc_boot.specs.Writes.{preparation_writes, is_revert}
-use Rattle.mc_boot.proofs.Sections.{length-erases, length-swap_list}
-use Rattle.mc_boot.proofs.Few.{few_told}
+use Rattle.mc_boot.specs.Plan.{swap_list, preparation_writes, is_revert}
+use Rattle.mc_boot.proofs.Courses.{length-erases, length-swap_list}
+use Rattle.mc_boot.proofs.Plans.{few_told}
 use Rattle.mc_boot.proofs.course.new_len.Goals as goal
 
 -- each sum of the parts is small

@@ -1,10 +1,8 @@
 use Rattle.std.proofs.Common.{◌≡◌, ◌-◌, ◌++◌, true, false, sym, ◌∙◌, arith}
 use Rattle.mc_flash.specs.Geometry.{trailer_sectors}
 use Rattle.mc_flash.specs.declared.op.Slot.TheVariants.{Secondary}
-use Rattle.mc_boot.specs.Course.{swap_list}
-use Rattle.mc_boot.specs.Writes.{preparation_writes, is_revert}
-use Rattle.mc_boot.proofs.Places.{get_front, get_behind}
-use Rattle.mc_boot.proofs.Sections.{get_erase, get_after_erases}
+use Rattle.mc_boot.specs.Plan.{swap_list, preparation_writes, is_revert}
+use Rattle.mc_boot.proofs.Courses.{get_front, get_behind, get_erase, get_after_erases}
 use Rattle.mc_boot.proofs.course.new_op.Goals as goal
 
 pub returns-then-index-count-clause-at : goal.returns-then-index-count-clause-at

@@ -1,7 +1,7 @@
 use Rattle.std.proofs.Common.{◌≡◌, ℕ, ◌+◌, ◌≤◌, true, false, ◌∙◌, sym, refl, arith, Fits, w32}
 use Rattle.mc_flash.specs.Geometry.{Geometry, IsLayout, trailer_sectors}
-use Rattle.mc_boot.specs.Writes.{is_revert}
-use Rattle.mc_boot.proofs.Few.{few_told}
+use Rattle.mc_boot.specs.Plan.{is_revert}
+use Rattle.mc_boot.proofs.Plans.{few_told}
 use Rattle.mc_boot.proofs.course.new_setup_len.Goals as goal
 
 -- each sum of the parts is small

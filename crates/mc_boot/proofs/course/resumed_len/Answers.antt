@@ -1,8 +1,8 @@
 use Rattle.std.proofs.Common.{sym, arith}
 use Rattle.mc_flash.specs.declared.op.Slot.TheVariants.{Secondary}
-use Rattle.mc_boot.specs.Course.{from_transfer}
+use Rattle.mc_boot.specs.Plan.{from_transfer}
 use Rattle.mc_flash.specs.facts.Usage.{few_trailer_sectors}
-use Rattle.mc_boot.proofs.Sections.{length-erases}
+use Rattle.mc_boot.proofs.Courses.{length-erases}
 use Rattle.mc_boot.proofs.course.resumed_len.Goals as goal
 
 pub returns-then-erases-clause-few : goal.returns-then-erases-clause-few

@@ -1,7 +1,7 @@
 use Rattle.std.proofs.Common.{sym, ◌∙◌}
 use Rattle.mc_flash.specs.declared.op.Slot.TheVariants.{Secondary}
-use Rattle.mc_boot.specs.Course.{from_transfer}
-use Rattle.mc_boot.proofs.Sections.{get_erase, get_after_erases}
+use Rattle.mc_boot.specs.Plan.{from_transfer}
+use Rattle.mc_boot.proofs.Courses.{get_erase, get_after_erases}
 use Rattle.mc_boot.proofs.course.resumed_op.Goals as goal
 
 pub returns-then-index-count-clause-at : goal.returns-then-index-count-clause-at

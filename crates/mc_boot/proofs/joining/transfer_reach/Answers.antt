@@ -2,7 +2,7 @@ use Rattle.std.proofs.Common.{◌≡◌, ℕ, ◌+◌, ◌-◌, ◌*◌, ◌/◌
 use Rattle.std.proofs.lemmas.Bool.{eq-eqb, ne_eqb}
 use Rattle.mc_flash.specs.Geometry.{Geometry, IsLayout}
 use Rattle.mc_flash.specs.facts.Usage.{few_chunks, few_sectors}
-use Rattle.mc_boot.proofs.Few.{few_told, thrice}
+use Rattle.mc_boot.proofs.Plans.{few_told, thrice}
 use Rattle.mc_boot.proofs.joining.transfer_reach.Goals as goal
 
 -- how many operations a transfer has before its entry, and how many with the erases of a trailer before them

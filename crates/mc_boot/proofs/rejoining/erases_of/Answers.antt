@@ -2,7 +2,7 @@ use Rattle.std.proofs.Common.{◌≡◌, ℕ, ◌+◌, ◌*◌, ◌≤◌, Fits,
 use Rattle.std.proofs.lemmas.Bool.{eq-eqb, ne_eqb}
 use Rattle.mc_flash.specs.Geometry.{Geometry, IsLayout, trailer_sectors}
 use Rattle.mc_flash.specs.facts.Usage.{few_sectors}
-use Rattle.mc_boot.proofs.Few.{few_told, thrice}
+use Rattle.mc_boot.proofs.Plans.{few_told, thrice}
 use Rattle.mc_boot.proofs.rejoining.erases_of.Goals as goal
 
 sum : (t : ℕ) → t ≤ 262144 → (Fits w32 (t + 1)) × (t + 1 ≤ 400000) × (t ≤ 400000)

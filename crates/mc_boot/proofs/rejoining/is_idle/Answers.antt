@@ -1,13 +1,12 @@
 use Rattle.std.proofs.Common.{◌≡◌, ◌+◌, ◌*◌, ◌≤◌, ℕ, Fits, w64, sym, arith, ◌∙◌}
-use Rattle.mc_flash.specs.Apply.{CanTry}
-use Rattle.mc_flash.specs.Content.{size_of}
+use Rattle.mc_flash.specs.Flash.{CanTry, size_of}
 use Rattle.mc_flash.specs.Geometry.{Geometry, IsLayout}
-use Rattle.mc_flash.specs.Pieces.{in_pieces}
+use Rattle.mc_flash.specs.Geometry.{in_pieces}
 use Rattle.mc_flash.specs.declared.op.Op.{Op}
 use Rattle.mc_flash.specs.declared.op.Op.TheVariants.{Erase}
 use Rattle.mc_flash.specs.declared.op.Slot.{Slot}
 use Rattle.mc_boot.specs.declared.course.Course.{Course}
-use Rattle.mc_boot.proofs.Can.{slot_small}
+use Rattle.mc_boot.proofs.Courses.{slot_small}
 use Rattle.mc_boot.proofs.Rejoined.{sector_there}
 use Rattle.mc_boot.proofs.rejoining.is_idle.Goals as goal
 

@@ -1,5 +1,5 @@
-use Rattle.mc_boot.specs.CourseList.{course_list}
-use Rattle.mc_boot.specs.Idle.{AllIdleBut}
+use Rattle.mc_boot.specs.Boot.{course_list}
+use Rattle.mc_boot.specs.inner.Idle.{AllIdleBut}
 use Rattle.mc_boot.proofs.rejoining.only_change.Given as goal
 
 abbrev pub invariant-loop-number : goal.invariant-loop-number

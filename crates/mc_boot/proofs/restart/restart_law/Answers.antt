@@ -1,5 +1,5 @@
 use Rattle.mc_boot.proofs.RestartProof as proof
-use Rattle.mc_boot.proofs.RoundsProof.{rounds_law}
+use Rattle.mc_boot.proofs.RestartProof.{rounds_law}
 use Rattle.mc_boot.proofs.restart.restart_law.Goals as goal
 
 pub returns-clause-starts : goal.returns-clause-starts

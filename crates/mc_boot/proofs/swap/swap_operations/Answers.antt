@@ -1,8 +1,8 @@
-use Rattle.mc_boot.proofs.WholeSwaps.{makes_swap}
+use Rattle.mc_boot.proofs.RestartProof.{makes_swap}
 use Rattle.std.proofs.Common.{◌≡◌, ℕ, ◌≤◌, sym, ap, ◌∙◌, arith}
 use Rattle.mc_flash.specs.Geometry.{greatest_sectors}
 use Rattle.mc_flash.specs.Largest.{largest_image}
-use Rattle.mc_boot.proofs.Grains.{greatest_pieces}
+use Rattle.mc_boot.proofs.Courses.{greatest_pieces}
 use Rattle.mc_boot.proofs.swap.swap_operations.Goals as goal
 
 at_most : (a b : ℕ) → a ≡ b → a ≤ b

@@ -1,4 +1,4 @@
-use Rattle.mc_boot.proofs.Can.{can_copy}
+use Rattle.mc_boot.proofs.Courses.{can_copy}
 use Rattle.mc_boot.proofs.transfer.chunk_copy.Goals as goal
 
 pub returns-clause-inside : goal.returns-clause-inside

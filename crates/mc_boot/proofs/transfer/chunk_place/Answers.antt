@@ -1,5 +1,5 @@
 use Rattle.std.proofs.Common.{arith}
-use Rattle.mc_boot.proofs.Can.{can_chunk, slot_small}
+use Rattle.mc_boot.proofs.Courses.{can_chunk, slot_small}
 use Rattle.mc_boot.proofs.transfer.chunk_place.Goals as goal
 
 pub overflow_mul-result : goal.overflow_mul-result

@@ -1,7 +1,7 @@
 use Rattle.std.proofs.Common.{sym, arith, refl, inl, inr}
-use Rattle.mc_boot.specs.Transfers.{moved_up}
-use Rattle.mc_boot.proofs.TransferPlaces.{get_moved}
-use Rattle.mc_boot.proofs.Highest.{left_after, left_none, left_at_pair}
+use Rattle.mc_boot.specs.Plan.{moved_up}
+use Rattle.mc_boot.proofs.Courses.{get_moved}
+use Rattle.mc_boot.proofs.Transfers.{left_after, left_none, left_at_pair}
 use Rattle.mc_boot.proofs.transfer.first_left.Goals as goal
 use Rattle.mc_boot.proofs.transfer.first_left.Goals.{else-entry-max_sectors-via-then-entry-max_sectors+else-entry-max_sectors-2, else-entry-max_sectors-via-else-entry-max_sectors}
 

@@ -1,5 +1,5 @@
 use Rattle.std.proofs.Common.{◌-◌, ◌/◌, arith}
-use Rattle.mc_boot.proofs.TransferPlaces.{get_moved, get_brought, get_taken}
+use Rattle.mc_boot.proofs.Courses.{get_moved, get_brought, get_taken}
 use Rattle.mc_boot.proofs.transfer.transfer_at.Goals as goal
 
 pub returns-then-index-sectors-clause-at : goal.returns-then-index-sectors-clause-at

@@ -1,5 +1,5 @@
 use Rattle.std.proofs.Common.{refl, arith}
-use Rattle.mc_boot.proofs.TransferPlaces.{get_copy, get_entry}
+use Rattle.mc_boot.proofs.Courses.{get_copy, get_entry}
 use Rattle.mc_boot.proofs.transfer.transfer_op.Goals as goal
 
 pub returns-then-index-eq0-clause-at : goal.returns-then-index-eq0-clause-at

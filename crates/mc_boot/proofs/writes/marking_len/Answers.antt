@@ -1,6 +1,6 @@
 use Rattle.std.proofs.Common.{ℕ, ◌+◌, ◌≤◌, Fits, w32, arith}
 use Rattle.mc_flash.specs.facts.Layouts.{small_unit}
-use Rattle.mc_boot.proofs.Grains.{length-marking, short_size}
+use Rattle.mc_boot.proofs.Courses.{length-marking, short_size}
 use Rattle.mc_boot.proofs.writes.marking_len.Goals as goal
 
 sum : (a b : ℕ) → a ≤ 16 → b ≤ 16 → (Fits w32 (a + b)) × (a + b ≤ 32)

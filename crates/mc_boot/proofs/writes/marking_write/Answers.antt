@@ -1,6 +1,6 @@
 use Rattle.std.proofs.Common.{◌≡◌, length, max, arith, ◌∙◌}
 use Rattle.mc_flash.specs.facts.Layouts.{small_unit}
-use Rattle.mc_boot.proofs.Grains.{get_size, get_magic, length-marking, length-size_bytes, short_size, whole_units}
+use Rattle.mc_boot.proofs.Courses.{get_size, get_magic, length-marking, length-size_bytes, short_size, whole_units}
 use Rattle.mc_boot.proofs.writes.marking_write.Goals as goal
 
 pub returns-else-index-count-clause-at : goal.returns-else-index-count-clause-at

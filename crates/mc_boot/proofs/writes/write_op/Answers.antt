@@ -1,7 +1,6 @@
 use Rattle.std.proofs.Common.{◌≡◌, ◌*◌, length, refl, arith}
-use Rattle.mc_trailer.specs.Places.{before_end}
-use Rattle.mc_boot.proofs.Can.{slot_small}
-use Rattle.mc_boot.proofs.Grains.{get_unit, length-unit, unit_range, unit_within}
+use Rattle.mc_trailer.specs.Trailer.{before_end}
+use Rattle.mc_boot.proofs.Courses.{slot_small, get_unit, length-unit, unit_range, unit_within}
 use Rattle.mc_boot.proofs.writes.write_op.Goals as goal
 
 pub overflow_mul-at : goal.overflow_mul-at

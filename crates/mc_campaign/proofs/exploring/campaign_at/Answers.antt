@@ -1,10 +1,10 @@
 use Rattle.std.proofs.Common.{ℕ, ◌<◌, List, [], ◌∷◌, ◌++◌, length, take, drop, sym, ap, subst, ◌∙◌, arith, ◌+◌, ◌≡◌}
 use Rattle.std.proofs.lemmas.List.{length-take-le, take-append-drop}
-use Rattle.mc_tree.specs.Twice.{first, label}
-use Rattle.mc_explore.specs.Boots.{boots}
-use Rattle.mc_campaign.specs.Boots.{cuts_along, rounds, second_start}
-use Rattle.mc_campaign.specs.Cuts.{IsInOrder}
-use Rattle.mc_campaign.specs.View.{begun_of}
+use Rattle.mc_tree.specs.Tree.{first, label}
+use Rattle.mc_explore.specs.inner.Once.{boots}
+use Rattle.mc_campaign.specs.inner.Twice.{cuts_along, rounds, second_start}
+use Rattle.mc_campaign.specs.Campaigns.{IsInOrder}
+use Rattle.mc_campaign.specs.inner.View.{begun_of}
 use Rattle.mc_campaign.specs.facts.Cuts.{along_ordered, ordered_front}
 use Rattle.mc_campaign.proofs.Along.{labelled-length}
 use Rattle.mc_campaign.proofs.Placing.{is_none, taken_more, taken_whole, taken_within}

@@ -1,6 +1,6 @@
 use Rattle.std.proofs.Common.{◌≡◌, ◌-◌, length, take}
-use Rattle.mc_campaign.specs.Boots.{cuts_along}
-use Rattle.mc_campaign.specs.View.{begun_of}
+use Rattle.mc_campaign.specs.inner.Twice.{cuts_along}
+use Rattle.mc_campaign.specs.inner.View.{begun_of}
 use Rattle.mc_campaign.proofs.exploring.campaign_at.Given as goal
 
 abbrev pub invariant-cuts : goal.invariant-cuts

@@ -4,7 +4,7 @@ use Rattle.mc_flash.specs.Usage.{limits_for}
 use Rattle.mc_trailer.specs.declared.tables.Rules.{Rules}
 use Rattle.mc_boot.specs.Outcome.{shown}
 use Rattle.mc_start.specs.Start.{begun}
-use Rattle.mc_campaign.specs.Replay.{Refuses}
+use Rattle.mc_campaign.specs.Campaigns.{Refuses}
 use Rattle.mc_campaign.proofs.Loaded.{room_for_one}
 use Rattle.mc_campaign.proofs.Placing.{in_round_few}
 use Rattle.mc_campaign.proofs.Replays.{refused_first, refused_later, replayed_both}

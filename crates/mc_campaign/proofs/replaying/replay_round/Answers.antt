@@ -1,6 +1,6 @@
 use Rattle.std.proofs.Common.{length, sym, subst}
-use Rattle.mc_boot.specs.PowerOn.{PowerOn}
-use Rattle.mc_explore.specs.View.{IsLoaded}
+use Rattle.mc_boot.specs.Plan.{PowerOn}
+use Rattle.mc_explore.specs.inner.View.{IsLoaded}
 use Rattle.mc_campaign.proofs.replaying.replay_round.Goals as goal
 
 pub replay_on-requires-clause-loaded : goal.replay_on-requires-clause-loaded

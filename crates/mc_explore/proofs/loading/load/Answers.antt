@@ -1,4 +1,4 @@
-use Rattle.mc_explore.proofs.Loaded.{same_start}
+use Rattle.mc_explore.proofs.Walks.{same_start}
 use Rattle.mc_explore.proofs.loading.load.Goals as goal
 
 pub returns-clause-loaded : goal.returns-clause-loaded

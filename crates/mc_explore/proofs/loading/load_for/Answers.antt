@@ -1,5 +1,5 @@
 use Rattle.std.proofs.Common.{arith}
-use Rattle.mc_explore.proofs.Loaded.{clear}
+use Rattle.mc_explore.proofs.Walks.{clear}
 use Rattle.mc_explore.proofs.loading.load_for.Goals as goal
 
 pub start-requires : goal.start-requires

@@ -1,6 +1,6 @@
 use Rattle.std.proofs.Common.{◌≡◌, ◌-◌, suc, Ok, Err, sym, ap, ◌∙◌, arith}
 use Rattle.std.proofs.lemmas.Result.{err_from_is_err_and}
-use Rattle.mc_tree.specs.Paths.{Lost, After}
+use Rattle.mc_tree.specs.Tree.{Lost, After}
 use Rattle.mc_explore.specs.declared.error.ExploreError.TheVariants as errors
 use Rattle.mc_explore.proofs.PageRows.{row_paid}
 use Rattle.mc_explore.proofs.PageText.{began_before, began_in_row, end_began, end_out, full_began, full_out, last_place, page_on}

@@ -1,5 +1,5 @@
 use Rattle.std.proofs.Common.{◌≡◌, ◌+◌, ◌*◌, ◌<◌, ◌≤◌}
-use Rattle.mc_tree.specs.Paths.{Lost}
+use Rattle.mc_tree.specs.Tree.{Lost}
 use Rattle.mc_explore.proofs.PageText.{AreOut}
 use Rattle.mc_explore.proofs.pages.write_lines.Given as goal
 

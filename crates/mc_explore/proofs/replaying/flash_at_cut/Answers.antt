@@ -1,8 +1,8 @@
 use Rattle.std.proofs.Common.{length, sym, ap, subst, ◌∙◌}
-use Rattle.mc_boot.specs.PowerOn.{PowerOn}
-use Rattle.mc_explore.specs.Once.{begun_of}
-use Rattle.mc_explore.specs.View.{IsLoaded}
-use Rattle.mc_explore.proofs.Going.{cut_here, layout_here}
+use Rattle.mc_boot.specs.Plan.{PowerOn}
+use Rattle.mc_explore.specs.inner.Once.{begun_of}
+use Rattle.mc_explore.specs.inner.View.{IsLoaded}
+use Rattle.mc_explore.proofs.Walks.{cut_here, layout_here}
 use Rattle.mc_explore.proofs.replaying.flash_at_cut.Goals as goal
 
 pub load-requires : goal.load-requires

@@ -1,5 +1,5 @@
 use Rattle.std.proofs.Common.{length, refl, ap, ◌∙◌}
-use Rattle.mc_explore.proofs.Going.{followed, stops}
+use Rattle.mc_explore.proofs.Walks.{followed, stops}
 use Rattle.mc_explore.proofs.replaying.follow.Goals as goal
 
 pub returns-then-not-branch-clause-refused : goal.returns-then-not-branch-clause-refused

@@ -1,7 +1,7 @@
 use Rattle.std.proofs.Common.{length, sym, ap, subst, ◌∙◌}
-use Rattle.mc_boot.specs.PowerOn.{PowerOn}
+use Rattle.mc_boot.specs.Plan.{PowerOn}
 use Rattle.mc_start.specs.Start.{begun}
-use Rattle.mc_explore.specs.View.{IsLoaded}
+use Rattle.mc_explore.specs.inner.View.{IsLoaded}
 use Rattle.mc_explore.proofs.Restarts.{replay_restarts}
 use Rattle.mc_explore.proofs.replaying.replay.Goals as goal
 

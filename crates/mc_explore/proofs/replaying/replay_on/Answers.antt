@@ -1,6 +1,6 @@
 use Rattle.mc_boot.specs.Boot.{progress}
-use Rattle.mc_explore.specs.Once.{begun_of}
-use Rattle.mc_explore.proofs.Going.{replayed, room_here}
+use Rattle.mc_explore.specs.inner.Once.{begun_of}
+use Rattle.mc_explore.proofs.Walks.{replayed, room_here}
 use Rattle.mc_explore.proofs.replaying.replay_on.Goals as goal
 
 pub finish-requires-clause-room : goal.finish-requires-clause-room

@@ -1,8 +1,7 @@
 use Rattle.std.proofs.Common.{◌≡◌, ◌+◌, ◌-◌, ◌*◌, ◌<◌, ◌≤◌, suc, Ok, Err, refl, sym, ap, subst, ◌∙◌, arith}
-use Rattle.mc_explore.specs.Bounds.{most_for_row}
-use Rattle.mc_tree.specs.Paths.{Lost, After}
-use Rattle.mc_boot.specs.PowerOn.{PowerOn}
-use Rattle.mc_explore.specs.State.{State, told}
+use Rattle.mc_explore.specs.Rows.{most_for_row, State, told}
+use Rattle.mc_tree.specs.Tree.{Lost, After}
+use Rattle.mc_boot.specs.Plan.{PowerOn}
 use Rattle.mc_explore.specs.declared.error.ExploreError.TheVariants as errors
 use Rattle.mc_explore.specs.declared.surveying.Tally.{Tally}
 use Rattle.mc_explore.proofs.Counted.{count_begin, count_on, counted_full, counted_short, last_counted, one_counted}

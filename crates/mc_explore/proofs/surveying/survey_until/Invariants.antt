@@ -1,6 +1,6 @@
 use Rattle.std.proofs.Common.{◌≡◌, ◌+◌, ◌-◌, ◌*◌, ◌<◌, ◌≤◌}
-use Rattle.mc_explore.specs.Bounds.{most_for_row}
-use Rattle.mc_tree.specs.Paths.{Lost}
+use Rattle.mc_explore.specs.Rows.{most_for_row}
+use Rattle.mc_tree.specs.Tree.{Lost}
 use Rattle.mc_explore.proofs.Counted.{AreCounted}
 use Rattle.mc_explore.proofs.surveying.survey_until.Given as goal
 

@@ -1,12 +1,12 @@
 use Rattle.std.proofs.Common.{◌≡◌, ℕ, List, [], ◌∷◌, ◌++◌, length, sym, ap, ◌∙◌, arith}
 use Rattle.std.proofs.lemmas.List.{length-append}
-use Rattle.mc_explore.specs.Boots.{at_cut}
-use Rattle.mc_explore.specs.Table.{IsLevel, weigh, weigh_fewer}
+use Rattle.mc_explore.specs.inner.Once.{at_cut}
+use Rattle.mc_explore.specs.inner.Table.{IsLevel, weigh, weigh_fewer}
 use Rattle.mc_explore.specs.declared.census.Census.{Census}
-use Rattle.mc_explore.proofs.Tables.{entry_is, more_cut_off}
+use Rattle.mc_explore.proofs.Counting.{entry_is, more_cut_off}
 use Rattle.mc_explore.proofs.table.column_of.Goals as goal
-use Rattle.mc_explore.specs.Totals.{no_totals}
-use Rattle.mc_boot.specs.PowerOn.{power_on}
+use Rattle.mc_explore.specs.Census.{no_totals}
+use Rattle.mc_boot.specs.Plan.{power_on}
 
 pub loop-fewer-preserved : goal.loop-fewer-preserved
 loop-fewer-preserved c =

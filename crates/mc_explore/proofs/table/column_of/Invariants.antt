@@ -1,12 +1,12 @@
 use Rattle.std.proofs.Common.{◌≡◌, length}
-use Rattle.mc_boot.specs.Runs.{ops_of}
-use Rattle.mc_flash.specs.Content.{Content}
+use Rattle.mc_boot.specs.Outcome.{ops_of}
+use Rattle.mc_flash.specs.Flash.{Content}
 use Rattle.mc_flash.specs.Geometry.{Geometry}
 use Rattle.mc_trailer.specs.declared.tables.Rules.{Rules}
-use Rattle.mc_explore.specs.Table.{AreCutOff, ArePositions, IsLevel, own_totals, weigh}
-use Rattle.mc_explore.specs.Totals.{cut_off, no_totals}
+use Rattle.mc_explore.specs.inner.Table.{AreCutOff, ArePositions, IsLevel, own_totals, weigh}
+use Rattle.mc_explore.specs.Census.{cut_off, no_totals}
 use Rattle.mc_explore.proofs.table.column_of.Given as goal
-use Rattle.mc_boot.specs.PowerOn.{power_on}
+use Rattle.mc_boot.specs.Plan.{power_on}
 
 abbrev pub invariant-loop-position : goal.invariant-loop-position
 invariant-loop-position l = record {

@@ -1,8 +1,8 @@
 use Rattle.std.proofs.Common.{◌≡◌, ℕ, ap, ◌∙◌, arith}
 use Rattle.mc_boot.specs.Rejoin.{place_of}
-use Rattle.mc_tree.specs.Weights.{from}
-use Rattle.mc_explore.specs.Totals.{Totals, cut_off, totals}
-use Rattle.mc_explore.proofs.Tables.{more_first}
+use Rattle.mc_tree.specs.inner.Weights.{from}
+use Rattle.mc_explore.specs.Census.{Totals, cut_off, totals}
+use Rattle.mc_explore.proofs.Counting.{more_first}
 use Rattle.mc_explore.proofs.table.early.Goals as goal
 
 pub loop-number-preserved : goal.loop-number-preserved

@@ -1,8 +1,8 @@
 use Rattle.std.proofs.Common.{◌≡◌, ℕ, length}
 use Rattle.mc_boot.specs.Rejoin.{place_of}
-use Rattle.mc_tree.specs.Weights.{from}
-use Rattle.mc_explore.specs.Table.{AreCutOff, IsInside}
-use Rattle.mc_explore.specs.Totals.{Totals, cut_off, totals}
+use Rattle.mc_tree.specs.inner.Weights.{from}
+use Rattle.mc_explore.specs.inner.Table.{AreCutOff, IsInside}
+use Rattle.mc_explore.specs.Census.{Totals, cut_off, totals}
 use Rattle.mc_explore.proofs.table.early.Given as goal
 
 abbrev pub invariant-loop-number : goal.invariant-loop-number

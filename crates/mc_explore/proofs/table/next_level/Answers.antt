@@ -1,12 +1,12 @@
 use Rattle.std.proofs.Common.{◌≡◌, ℕ, suc, ◌+◌, List, [], ◌∷◌, ◌++◌, length, refl, ap, subst, arith}
 use Rattle.std.proofs.lemmas.List.{length-append}
 use Rattle.std.proofs.lemmas.Option.{slice_get_read}
-use Rattle.mc_explore.specs.Boots.{at_cut}
-use Rattle.mc_explore.specs.Table.{AreCutOff, weigh, weigh_fewer}
+use Rattle.mc_explore.specs.inner.Once.{at_cut}
+use Rattle.mc_explore.specs.inner.Table.{AreCutOff, weigh, weigh_fewer}
 use Rattle.mc_explore.specs.declared.census.Census.{Census}
-use Rattle.mc_explore.proofs.Tables.{more_cut_off}
+use Rattle.mc_explore.proofs.Counting.{more_cut_off}
 use Rattle.mc_explore.proofs.table.next_level.Goals as goal
-use Rattle.mc_boot.specs.PowerOn.{power_on}
+use Rattle.mc_boot.specs.Plan.{power_on}
 
 pub loop-position-preserved : goal.loop-position-preserved
 loop-position-preserved c =

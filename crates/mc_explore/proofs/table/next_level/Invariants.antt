@@ -1,12 +1,12 @@
 use Rattle.std.proofs.Common.{◌≡◌, ℕ, ◌<◌, length}
-use Rattle.mc_boot.specs.Runs.{ops_of}
-use Rattle.mc_flash.specs.Content.{Content}
+use Rattle.mc_boot.specs.Outcome.{ops_of}
+use Rattle.mc_flash.specs.Flash.{Content}
 use Rattle.mc_flash.specs.Geometry.{Geometry}
 use Rattle.mc_trailer.specs.declared.tables.Rules.{Rules}
-use Rattle.mc_explore.specs.Boots.{at_cut}
-use Rattle.mc_explore.specs.Table.{AreCutOff, ArePositions, AreSums, IsLevel, weigh, weigh_fewer}
+use Rattle.mc_explore.specs.inner.Once.{at_cut}
+use Rattle.mc_explore.specs.inner.Table.{AreCutOff, ArePositions, AreSums, IsLevel, weigh, weigh_fewer}
 use Rattle.mc_explore.proofs.table.next_level.Given as goal
-use Rattle.mc_boot.specs.PowerOn.{power_on}
+use Rattle.mc_boot.specs.Plan.{power_on}
 
 abbrev pub invariant-loop-position : goal.invariant-loop-position
 invariant-loop-position l = record {

@@ -1,7 +1,7 @@
 use Rattle.std.proofs.Common.{◌≡◌, ℕ, ◌+◌, ◌-◌, length, ap, ◌∙◌, arith}
 use Rattle.mc_boot.specs.Rejoin.{place_of}
-use Rattle.mc_tree.specs.Weights.{from}
-use Rattle.mc_explore.specs.Totals.{Totals, cut_off, totals}
+use Rattle.mc_tree.specs.inner.Weights.{from}
+use Rattle.mc_explore.specs.Census.{Totals, cut_off, totals}
 use Rattle.mc_explore.proofs.table.rejoined.Goals as goal
 
 pub returns : goal.returns

@@ -1,10 +1,10 @@
 use Rattle.std.proofs.Common.{◌≡◌, ℕ, ◌+◌, ◌-◌, ◌∷◌, ◌++◌, [], length, List, ap, ◌∙◌, arith}
 use Rattle.std.proofs.lemmas.List.{length-append}
-use Rattle.mc_tree.specs.Weights.{from}
-use Rattle.mc_explore.specs.Table.{AreCutOff}
-use Rattle.mc_explore.specs.Totals.{Totals, cut_off, totals}
+use Rattle.mc_tree.specs.inner.Weights.{from}
+use Rattle.mc_explore.specs.inner.Table.{AreCutOff}
+use Rattle.mc_explore.specs.Census.{Totals, cut_off, totals}
 use Rattle.mc_explore.specs.declared.census.Census.{Census}
-use Rattle.mc_explore.proofs.Tables.{more_cut_off, more_sums}
+use Rattle.mc_explore.proofs.Counting.{more_cut_off, more_sums}
 use Rattle.mc_explore.proofs.table.sums.Goals as goal
 
 pub loop-later-preserved : goal.loop-later-preserved

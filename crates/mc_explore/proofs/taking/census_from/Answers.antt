@@ -1,5 +1,5 @@
 use Rattle.std.proofs.Common.{◌+◌, sym, arith}
-use Rattle.mc_explore.specs.Table.{weigh}
+use Rattle.mc_explore.specs.inner.Table.{weigh}
 use Rattle.mc_explore.proofs.Columns.{one_room, still_room}
 use Rattle.mc_explore.proofs.taking.census_from.Goals as goal
 

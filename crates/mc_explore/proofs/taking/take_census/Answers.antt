@@ -1,12 +1,12 @@
 use Rattle.std.proofs.Common.{◌≡◌, ap, ◌∙◌}
 use Rattle.mc_start.specs.Start.{begun}
-use Rattle.mc_boot.specs.PowerOn.{PowerOn}
-use Rattle.mc_explore.specs.Table.{weigh}
-use Rattle.mc_explore.specs.Totals.{cut_off}
-use Rattle.mc_explore.specs.View.{begun_with}
+use Rattle.mc_boot.specs.Plan.{PowerOn}
+use Rattle.mc_explore.specs.inner.Table.{weigh}
+use Rattle.mc_explore.specs.Census.{cut_off}
+use Rattle.mc_explore.specs.inner.View.{begun_with}
 use Rattle.mc_explore.specs.declared.once.Once.{Once}
 use Rattle.mc_explore.proofs.Counting.{is_census}
-use Rattle.mc_explore.proofs.Loaded.{room_for, same_start}
+use Rattle.mc_explore.proofs.Walks.{room_for, same_start}
 use Rattle.mc_explore.proofs.taking.take_census.Goals as goal
 
 pub census_from-requires-clause-room : goal.census_from-requires-clause-room

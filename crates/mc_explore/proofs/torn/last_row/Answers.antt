@@ -1,7 +1,7 @@
 use Rattle.std.proofs.Common.{List, ◌++◌, ap, drop, take, sym, ◌∙◌, append_assoc}
 use Rattle.std.proofs.lemmas.List.{take-append-drop}
 use Rattle.mc_explore.specs.Page.{page_at}
-use Rattle.mc_explore.specs.State.{Told}
+use Rattle.mc_explore.specs.Rows.{Told}
 use Rattle.mc_explore.proofs.TornPages.{row_read, other_read, all_read, continues, rest_told}
 use Rattle.mc_explore.proofs.torn.last_row.Goals as goal
 

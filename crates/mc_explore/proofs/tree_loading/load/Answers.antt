@@ -1,7 +1,7 @@
 use Rattle.std.proofs.Common.{sym, subst, ◌+◌}
-use Rattle.mc_boot.specs.PowerOn.{PowerOn}
+use Rattle.mc_boot.specs.Plan.{PowerOn}
 use Rattle.mc_start.specs.Start.{begun}
-use Rattle.mc_explore.specs.subjects.Loads.{LoadsFor}
+use Rattle.mc_explore.specs.inner.Exploring.{LoadsFor}
 use Rattle.mc_explore.proofs.tree_loading.load.Goals as goal
 
 pub start-requires : goal.start-requires

@@ -1,4 +1,4 @@
-use Rattle.mc_flash.proofs.Words.{blank_is_greatest}
+use Rattle.mc_flash.proofs.Lanes.{blank_is_greatest}
 use Rattle.std.proofs.Common.{rules}
 use Rattle.mc_flash.proofs.erased.blank_word.Goals as goal
 

@@ -1,6 +1,6 @@
 use Rattle.std.proofs.Common.{◌≡◌, ℕ, ◌≤◌, length, take}
 use Rattle.std.specs.Vec.{vec_capacity}
-use Rattle.mc_flash.specs.Journal.{journal_with, IsJournal, checkpoint_after}
+use Rattle.mc_flash.specs.inner.Journal.{journal_with, IsJournal, checkpoint_after}
 use Rattle.mc_flash.proofs.journal.undo_to.Given as goal
 
 abbrev pub invariant-undo : goal.invariant-undo

@@ -1,4 +1,4 @@
-use Rattle.mc_flash.proofs.Counts.{zero_or_positive}
+use Rattle.mc_flash.proofs.Limits.{zero_or_positive}
 use Rattle.mc_flash.proofs.layout.sectors_beside.Goals as goal
 
 pub returns-clause-value : goal.returns-clause-value

@@ -1,5 +1,5 @@
 use Rattle.std.proofs.Common.{◌∙◌, sym, ap}
-use Rattle.mc_image.specs.Judging.{verdict}
+use Rattle.mc_image.specs.inner.Judging.{verdict}
 use Rattle.mc_image.proofs.law.any_cut.Goals as goal
 
 pub returns : goal.returns

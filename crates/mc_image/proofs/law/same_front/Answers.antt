@@ -1,4 +1,4 @@
-use Rattle.mc_image.proofs.ValidLaws.{begins_same, id_same}
+use Rattle.mc_image.proofs.Views.{begins_same, id_same}
 use Rattle.mc_image.proofs.law.same_front.Goals as goal
 
 pub returns-clause-begins : goal.returns-clause-begins

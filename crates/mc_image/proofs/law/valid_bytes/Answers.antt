@@ -1,4 +1,4 @@
-use Rattle.mc_image.proofs.ValidLaws.{valid_true, true_valid, id_valid, id_none, fault_valid, valid_fault}
+use Rattle.mc_image.proofs.Views.{valid_true, true_valid, id_valid, id_none, fault_valid, valid_fault}
 use Rattle.mc_image.proofs.law.valid_bytes.Goals as goal
 
 pub returns-clause-valid : goal.returns-clause-valid

@@ -1,5 +1,5 @@
 use Rattle.std.proofs.Common.{◌≡◌, ◌≤◌, ◌^◌, length}
-use Rattle.mc_image.specs.VersionReading.{number_from}
+use Rattle.mc_image.specs.inner.VersionReading.{number_from}
 use Rattle.mc_image.proofs.reading.number_from.Given as goal
 
 abbrev pub invariant-loop-rest : goal.invariant-loop-rest

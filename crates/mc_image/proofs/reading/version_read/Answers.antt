@@ -1,5 +1,5 @@
 use Rattle.std.proofs.Common.{refl}
-use Rattle.mc_image.specs.VersionReading.{version_read}
+use Rattle.mc_image.specs.inner.VersionReading.{version_read}
 use Rattle.mc_image.proofs.reading.version_read.Goals as goal
 
 pub returns-in_default : goal.returns-in_default

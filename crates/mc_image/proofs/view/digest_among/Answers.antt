@@ -1,6 +1,6 @@
 use Rattle.std.proofs.Common.{◌≡◌, ◌+◌, ◌-◌, arith, [], ◌∷◌, ap, sym, ◌∙◌, take, drop, length}
 use Rattle.std.proofs.lemmas.Result.{err_from_is_err_and}
-use Rattle.mc_image.proofs.PlainLaws.{digest_stands}
+use Rattle.mc_image.proofs.Walks.{digest_stands}
 use Rattle.mc_image.proofs.view.digest_among.Goals as goal
 
 pub returns-in_err-value : goal.returns-in_err-value

@@ -1,10 +1,8 @@
 use Rattle.std.proofs.Common.{◌≤◌, arith, ap, sym, ◌∙◌, take, drop, length}
 use Rattle.std.proofs.lemmas.List.{take_rest}
 use Rattle.std.proofs.lemmas.Result.{err_from_is_err_and}
-use Rattle.mc_image.specs.Bytes.{u16_at}
-use Rattle.mc_image.specs.Entries.{entries_in, digests}
-use Rattle.mc_image.specs.Image.{area_in}
-use Rattle.mc_image.proofs.PlainLaws.{head_first, plain_short, plain_entries, plain_none, behind_error}
+use Rattle.mc_image.specs.Image.{u16_at, entries_in, digests, area_in}
+use Rattle.mc_image.proofs.Walks.{head_first, plain_short, plain_entries, plain_none, behind_error}
 use Rattle.mc_image.proofs.view.plain_of.Goals as goal
 
 pub returns-in_err-total : goal.returns-in_err-total

@@ -1,7 +1,6 @@
 use Rattle.std.proofs.Common.{◌∙◌, ap, length}
 use Rattle.std.proofs.Transfers.{starts_with_trans, starts_with_of_append}
-use Rattle.mc_image.proofs.Appended.{on_ok}
-use Rattle.mc_image.proofs.SizeLaws.{covered-written, protected_size}
+use Rattle.mc_image.proofs.Written.{on_ok, covered-written, protected_size}
 use Rattle.mc_image.proofs.writing.put_covered.Goals as goal
 
 pub put_protected-requires : goal.put_protected-requires

@@ -1,5 +1,5 @@
 use Rattle.std.proofs.Transfers.{starts_with_trans}
-use Rattle.mc_image.proofs.Appended.{appended, extended, on_ok}
+use Rattle.mc_image.proofs.Written.{appended, extended, on_ok}
 use Rattle.mc_image.proofs.writing.put_header.Goals as goal
 
 pub returns-in_err-put_sizes-clause-kept : goal.returns-in_err-put_sizes-clause-kept

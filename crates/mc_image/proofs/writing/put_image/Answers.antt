@@ -3,8 +3,7 @@ use Rattle.std.proofs.Common.{rules, ◌≡◌, ◌∙◌, ◌++◌, ap, length,
 use Rattle.sha2.specs.Sha256.{sha256}
 use Rattle.mc_image.specs.Image.{covered_text}
 use Rattle.mc_image.specs.Writing.{image_of}
-use Rattle.mc_image.proofs.Appended.{on_ok}
-use Rattle.mc_image.proofs.SizeLaws.{image-written, plain_size}
+use Rattle.mc_image.proofs.Written.{on_ok, image-written, plain_size}
 use Rattle.mc_image.proofs.writing.put_image.Goals as goal
 
 pub put_plain-requires : goal.put_plain-requires

@@ -1,6 +1,6 @@
 use Rattle.std.proofs.Transfers.{starts_with_trans}
 use Rattle.std.proofs.Common.{append_assoc}
-use Rattle.mc_image.proofs.Appended.{on_ok}
+use Rattle.mc_image.proofs.Written.{on_ok}
 use Rattle.mc_image.proofs.writing.put_sizes.Goals as goal
 
 pub returns-clause-written : goal.returns-clause-written

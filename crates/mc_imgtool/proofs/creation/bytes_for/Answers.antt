@@ -1,7 +1,6 @@
 use Rattle.std.proofs.Common.{inr, sym, ap, ◌∙◌}
 use Rattle.mc_imgtool.specs.Created.{slotted}
-use Rattle.mc_imgtool.proofs.Wanted.{created_refused, created_made}
-use Rattle.mc_imgtool.proofs.CreatedLaws.{made_slotted, made_valid, payload_short}
+use Rattle.mc_imgtool.proofs.Wanted.{created_refused, created_made, made_slotted, made_valid, payload_short}
 use Rattle.mc_imgtool.proofs.creation.bytes_for.Goals as goal
 
 pub returns-in_default-clause-made : goal.returns-in_default-clause-made

@@ -2,8 +2,7 @@ use Rattle.std.proofs.Common.{◌≡◌, false, sym}
 use Rattle.std.proofs.lemmas.Result.{err_from_is_err_and}
 use Rattle.mc_imgtool.specs.Created.{created, needs_slot_size}
 use Rattle.mc_imgtool.proofs.Answering.{refused_reading, refused_making, refused_unread}
-use Rattle.mc_imgtool.proofs.Wanted.{created_wanted, created_needs}
-use Rattle.mc_imgtool.proofs.CreatedLaws.{never_error, told_error, false_true}
+use Rattle.mc_imgtool.proofs.Wanted.{created_wanted, created_needs, never_error, told_error, false_true}
 use Rattle.mc_imgtool.proofs.creation.create.Goals as goal
 
 pub returns-then-needs_slot_size-clause-answer : goal.returns-then-needs_slot_size-clause-answer

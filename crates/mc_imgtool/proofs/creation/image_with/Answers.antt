@@ -1,6 +1,6 @@
 use Rattle.std.proofs.Common.{refl, ◌∙◌}
 use Rattle.mc_imgtool.specs.Created.{bare_image}
-use Rattle.mc_imgtool.proofs.CreatedLaws.{bare_parts, written_is}
+use Rattle.mc_imgtool.proofs.Wanted.{bare_parts, written_is}
 use Rattle.mc_imgtool.proofs.creation.image_with.Goals as goal
 
 pub returns-in-Ok-clause-made : goal.returns-in-Ok-clause-made

@@ -4,7 +4,7 @@ use Rattle.std.proofs.KnownBytes.{Consumes-nil, Consumes-trans, Consumes-all, Co
 use Rattle.std.proofs.lemmas.List.{take-append-le}
 use Rattle.mc_imgtool.specs.declared.error.ToolError.{ToolError}
 use Rattle.mc_imgtool.specs.declared.error.ToolError.TheVariants.{InputTooLong, Read, Memory}
-use Rattle.mc_imgtool.proofs.Streams.{has_room, fits_with_more, nothing, longer}
+use Rattle.mc_imgtool.proofs.Answering.{has_room, fits_with_more, nothing, longer}
 use Rattle.mc_imgtool.proofs.input.read_bounded.Given.{Over}
 use Rattle.mc_imgtool.proofs.input.read_bounded.Goals as goal
 use Rattle.mc_imgtool.proofs.input.read_bounded.Goals.{Else-is_err}

@@ -2,13 +2,13 @@ use Rattle.std.proofs.Common.{◌≡◌, ℕ, ◌≤◌, ◌^◌, List, [], ◌+
 use Rattle.std.proofs.lemmas.List.{take-append-le}
 use Rattle.std.specs.Result.{IsErrAnd, MatchResult}
 use Rattle.std.proofs.KnownBytes.{Consumes-nil, Consumes-trans, Consumes-all, Consumes-kept}
-use Rattle.mc_image.specs.Judging.{verdict}
+use Rattle.mc_image.specs.inner.Judging.{verdict}
 use Rattle.mc_image.specs.declared.error.ImageError.{ImageError}
 use Rattle.mc_image.specs.declared.judge.Judged.{Judged}
 use Rattle.mc_imgtool.specs.Engines.{Judges}
 use Rattle.mc_imgtool.specs.declared.error.ToolError.{ToolError}
 use Rattle.mc_imgtool.specs.declared.error.ToolError.TheVariants.{Image as image_error}
-use Rattle.mc_imgtool.proofs.Streams.{has_room, within, nothing, longer}
+use Rattle.mc_imgtool.proofs.Answering.{has_room, within, nothing, longer}
 use Rattle.mc_imgtool.proofs.verification.judge_input.Goals as goal
 
 of_all : (known : Option (List ℕ)) (fed : List ℕ) (P : List ℕ → Type 0) → IfSome known (λ xs. fed ≡ xs) → P fed → IfSome known P

@@ -1,12 +1,12 @@
 use Rattle.std.proofs.Common.{◌≡◌, ℕ, take, sym, ap, arith, ◌∙◌}
 use Rattle.mc_boot.specs.Boot.{progress, to_come}
-use Rattle.mc_boot.specs.PowerOn.{powered}
-use Rattle.mc_boot.specs.Runs.{ops_of}
+use Rattle.mc_boot.specs.Plan.{powered}
+use Rattle.mc_boot.specs.Outcome.{ops_of}
 use Rattle.mc_boot.specs.facts.Steps.{none_first}
 use Rattle.mc_flash.specs.Geometry.{Geometry}
-use Rattle.mc_flash.specs.Apply.{apply}
+use Rattle.mc_flash.specs.Flash.{apply}
 use Rattle.std.specs.Option.{is_some}
-use Rattle.mc_life.specs.Wear.{worn}
+use Rattle.mc_life.specs.Device.{worn}
 use Rattle.mc_life.proofs.Booting.{decided, ended, front_is, too_late}
 use Rattle.mc_life.proofs.boots.cut.Goals as goal
 

@@ -1,6 +1,6 @@
 use Rattle.std.proofs.Common.{get_or, ◌+◌, ℕ, true, false, refl, ap, subst, arith}
-use Rattle.mc_boot.specs.PowerOn.{powered}
-use Rattle.mc_life.specs.Cuts.{Cuts}
+use Rattle.mc_boot.specs.Plan.{powered}
+use Rattle.mc_life.specs.Device.{Cuts}
 use Rattle.mc_life.proofs.Booting.{cut_fails, cut_more}
 use Rattle.mc_life.proofs.boots.cut_all.Goals as goal
 

@@ -1,5 +1,5 @@
 use Rattle.std.proofs.Common.{◌≡◌}
-use Rattle.mc_boot.specs.PowerOn.{powered}
+use Rattle.mc_boot.specs.Plan.{powered}
 use Rattle.mc_life.proofs.Booting.{AreCut}
 use Rattle.mc_life.proofs.boots.cut_all.Given as goal
 

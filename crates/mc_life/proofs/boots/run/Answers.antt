@@ -2,9 +2,8 @@ use Rattle.std.proofs.Common.{rules, ◌≡◌, Result, Ok, Err, Some, IfSome, �
 use Rattle.mc_flash.specs.declared.flash.FlashError.{FlashError}
 use Rattle.mc_flash.specs.declared.flash.FlashError.TheVariants as errors
 use Rattle.mc_boot.specs.Boot.{Steps, progress, to_come}
-use Rattle.mc_boot.specs.Plan.{plan}
-use Rattle.mc_life.specs.Wear.{worn}
-use Rattle.mc_boot.specs.PowerOn.{powered}
+use Rattle.mc_boot.specs.Plan.{plan, powered}
+use Rattle.mc_life.specs.Device.{worn}
 use Rattle.mc_boot.specs.facts.Steps.{none_first}
 use Rattle.mc_life.proofs.Booting.{begins_below, begins_worn, below_next, below_same, come_on, count_next, count_refused, worn_next}
 use Rattle.mc_life.proofs.boots.run.Given.{Over}

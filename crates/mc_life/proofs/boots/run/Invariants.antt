@@ -1,9 +1,7 @@
 use Rattle.std.proofs.Common.{◌≡◌, length, take, IfSome, ◌≤◌}
-use Rattle.mc_boot.specs.Boot.{IsBootOf, progress, to_come}
-use Rattle.mc_boot.specs.Plan.{plan}
-use Rattle.mc_boot.specs.PowerOn.{powered}
-use Rattle.mc_boot.specs.Run.{HasCome}
-use Rattle.mc_life.specs.Wear.{worn}
+use Rattle.mc_boot.specs.Boot.{IsBootOf, progress, to_come, HasCome}
+use Rattle.mc_boot.specs.Plan.{plan, powered}
+use Rattle.mc_life.specs.Device.{worn}
 use Rattle.mc_life.proofs.boots.run.Given as goal
 
 abbrev pub invariant-steps : goal.invariant-steps

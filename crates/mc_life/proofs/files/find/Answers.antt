@@ -1,5 +1,5 @@
 use Rattle.std.proofs.Common.{List, ℕ, Some, bytes_eq, sym, ap, ◌∙◌, arith}
-use Rattle.mc_life.specs.Files.{Named}
+use Rattle.mc_life.specs.Script.{Named}
 use Rattle.mc_life.proofs.Lines.{found, none_found, not_here}
 use Rattle.mc_life.proofs.files.find.Goals as goal
 

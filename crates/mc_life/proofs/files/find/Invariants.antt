@@ -1,5 +1,5 @@
 use Rattle.std.proofs.Common.{◌≡◌, drop}
-use Rattle.mc_life.specs.Files.{file_of}
+use Rattle.mc_life.specs.Script.{file_of}
 use Rattle.mc_life.proofs.files.find.Given as goal
 
 abbrev pub invariant-loop-file : goal.invariant-loop-file

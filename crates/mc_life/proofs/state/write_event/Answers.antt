@@ -2,8 +2,7 @@ use Rattle.std.proofs.Common.{option_map, [], ◌∷◌, ◌++◌}
 use Rattle.std.proofs.lemmas.Result.{err_from_is_err_and}
 use Rattle.mc_output.specs.facts.Results.{on_err, on_ok}
 use Rattle.mc_boot.specs.Outcome.{shown}
-use Rattle.mc_life.specs.States.{stated}
-use Rattle.mc_life.specs.Texts.{outcome_text, state_text}
+use Rattle.mc_life.specs.Told.{stated, outcome_text, state_text}
 use Rattle.mc_life.proofs.Lines.{all_out, end_begun, first_begun, words_begun}
 use Rattle.mc_life.proofs.state.write_event.Goals as goal
 

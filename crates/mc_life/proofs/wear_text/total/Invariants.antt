@@ -1,5 +1,5 @@
 use Rattle.std.proofs.Common.{◌≡◌, ◌+◌, ◌-◌, ◌^◌, ◌<◌, min, drop}
-use Rattle.mc_life.specs.Wear.{sum_of, total}
+use Rattle.mc_life.specs.Device.{sum_of, total}
 use Rattle.mc_life.proofs.wear_text.total.Given as goal
 
 abbrev pub invariant-sectors : goal.invariant-sectors

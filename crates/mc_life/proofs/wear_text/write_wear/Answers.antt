@@ -1,7 +1,7 @@
 use Rattle.std.proofs.Common.{subst}
 use Rattle.std.proofs.KnownBytes.{Appends-trans}
 use Rattle.mc_output.specs.facts.Results.{on_ok}
-use Rattle.mc_life.specs.Wear.{IsMost, Most}
+use Rattle.mc_life.specs.Device.{IsMost, Most}
 use Rattle.mc_life.proofs.wear_text.write_wear.Goals as goal
 
 pub returns : goal.returns

@@ -1,6 +1,5 @@
 use Rattle.std.proofs.Common.{◌≡◌}
-use Rattle.mc_life.specs.Wear.{worn}
-use Rattle.mc_life.specs.Work.{wipes}
+use Rattle.mc_life.specs.Device.{worn, wipes}
 use Rattle.mc_life.proofs.Wiping.{IsWiping}
 use Rattle.mc_life.proofs.work.wipe.Given as goal
 

@@ -1,5 +1,5 @@
 use Rattle.std.proofs.Common.{◌≡◌}
-use Rattle.mc_flash.specs.Worked.{worked}
+use Rattle.mc_flash.specs.inner.Worked.{worked}
 use Rattle.mc_tests.proofs.journal.filled.Given as goal
 
 abbrev pub invariant-loop : goal.invariant-loop

@@ -3,7 +3,7 @@ use Rattle.std.proofs.lemmas.Result.{err_from_is_err_and}
 use Rattle.mc_boot.specs.Boot.{progress}
 use Rattle.mc_trace.proofs.CutBoots.{head_begun, cut_begun, cut_out, cut_out_none, cut_line_begun, next_there, left_there}
 use Rattle.mc_trace.proofs.boots.write_cut_boot.Goals as goal
-use Rattle.mc_boot.specs.PowerOn.{powered}
+use Rattle.mc_boot.specs.Plan.{powered}
 
 pub returns-in_err-write_line-clause-front : goal.returns-in_err-write_line-clause-front
 returns-in_err-write_line-clause-front g c =

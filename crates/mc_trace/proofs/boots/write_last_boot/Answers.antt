@@ -4,7 +4,7 @@ use Rattle.mc_trace.proofs.CutBoots.{head_begun, last_begun, last_out}
 use Rattle.mc_output.specs.facts.Results.{on_err, on_ok}
 use Rattle.mc_trace.proofs.Telling.{tells_ok, tells_err}
 use Rattle.mc_trace.proofs.boots.write_last_boot.Goals as goal
-use Rattle.mc_boot.specs.PowerOn.{powered}
+use Rattle.mc_boot.specs.Plan.{powered}
 
 pub returns-in_err-write_line-clause-front : goal.returns-in_err-write_line-clause-front
 returns-in_err-write_line-clause-front g c =

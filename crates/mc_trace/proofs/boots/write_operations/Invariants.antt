@@ -1,8 +1,7 @@
 use Rattle.std.proofs.Common.{◌≡◌, length}
 use Rattle.mc_output.specs.facts.Fronts.{IsOut}
-use Rattle.mc_boot.specs.Boot.{progress, to_come}
-use Rattle.mc_boot.specs.Bounds.{CountsOn}
-use Rattle.mc_trace.specs.Boots.{GoesUpTo}
+use Rattle.mc_boot.specs.Boot.{progress, to_come, CountsOn}
+use Rattle.mc_trace.specs.inner.Boots.{GoesUpTo}
 use Rattle.mc_trace.proofs.Telling.{left_to_tell}
 use Rattle.mc_trace.proofs.boots.write_operations.Given as goal
 

@@ -1,5 +1,5 @@
 use Rattle.std.proofs.lemmas.Result.{err_from_is_err_and}
-use Rattle.mc_trace.proofs.LayoutOut.{all_out, boots_begun, places_begun, sizes_begun}
+use Rattle.mc_trace.proofs.Out.{all_out, boots_begun, places_begun, sizes_begun}
 use Rattle.mc_trace.proofs.layout.write_layout.Goals as goal
 
 pub returns-in_err-write_line-clause-front : goal.returns-in_err-write_line-clause-front

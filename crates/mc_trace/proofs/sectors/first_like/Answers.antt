@@ -1,6 +1,6 @@
 use Rattle.std.proofs.Common.{◌≡◌, arith, sym, ◌∙◌, true, false}
 use Rattle.std.specs.Prelude.{bytes_eq}
-use Rattle.mc_flash.specs.Content.{sectors_of}
+use Rattle.mc_flash.specs.Flash.{sectors_of}
 use Rattle.mc_trace.specs.Sectors.{sector_of}
 use Rattle.mc_trace.proofs.Pictured.{like_here, like_next}
 use Rattle.mc_trace.proofs.sectors.first_like.Goals as goal

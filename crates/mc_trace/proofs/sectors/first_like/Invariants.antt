@@ -1,5 +1,5 @@
 use Rattle.std.specs.Prelude.{◌≡◌, ◌-◌}
-use Rattle.mc_flash.specs.Content.{sectors_of}
+use Rattle.mc_flash.specs.Flash.{sectors_of}
 use Rattle.mc_trace.specs.Sectors.{first_like}
 use Rattle.mc_trace.proofs.sectors.first_like.Given as goal
 

@@ -1,6 +1,5 @@
 use Rattle.std.specs.Prelude.{◌≡◌, ◌-◌, ◌++◌, string_bytes}
-use Rattle.mc_flash.specs.Content.{sectors_of}
-use Rattle.mc_flash.specs.Texts.{slot_text}
+use Rattle.mc_flash.specs.Flash.{sectors_of, slot_text}
 use Rattle.mc_trace.specs.Sectors.{sector_words}
 use Rattle.mc_trace.proofs.sectors.push_slot.Given as goal
 

@@ -1,7 +1,6 @@
 use Rattle.std.specs.Prelude.{◌≡◌, ℕ, List, ◌++◌, codes, decimal, Option, Some, false, IfOk, string_bytes, refl}
 use Rattle.std.proofs.Common.{sym, subst, ◌∙◌}
-use Rattle.mc_flash.specs.Blank.{is_blank}
-use Rattle.mc_flash.specs.Content.{Content}
+use Rattle.mc_flash.specs.Flash.{is_blank, Content}
 use Rattle.mc_flash.specs.Geometry.{Geometry}
 use Rattle.mc_trace.specs.Sectors.{first_like, sector_word}
 use Rattle.mc_trace.proofs.sectors.sector_word.Goals as goal

@@ -1,5 +1,5 @@
 use Rattle.std.proofs.lemmas.Result.{err_from_is_err_and}
-use Rattle.mc_trace.proofs.SlotsOut.{primary_begun, secondary_begun, slots_out}
+use Rattle.mc_trace.proofs.Out.{primary_begun, secondary_begun, slots_out}
 use Rattle.mc_trace.proofs.slots.write_slots.Goals as goal
 
 pub returns-in_err-write_text-clause-front : goal.returns-in_err-write_text-clause-front

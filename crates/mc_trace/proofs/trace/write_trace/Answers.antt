@@ -1,11 +1,10 @@
 use Rattle.std.proofs.Common.{rules, ◌≡◌, ◌+◌, length, List, ℕ, Some, refl, sym, ap, subst, ◌∙◌, arith}
 use Rattle.mc_flash.specs.Usage.{Counts, IsWithin, Limits, Usage, limits_for, no_counts}
 use Rattle.std.proofs.lemmas.Result.{err_from_is_err_and}
-use Rattle.mc_boot.specs.Outcome.{shown}
-use Rattle.mc_boot.specs.Runs.{after}
+use Rattle.mc_boot.specs.Outcome.{shown, after}
 use Rattle.mc_start.specs.Start.{begun}
 use Rattle.std.specs.Io.KnownBytes.{Appends}
-use Rattle.mc_output.specs.Fronts.{AppendsFront}
+use Rattle.mc_output.specs.Text.{AppendsFront}
 use Rattle.mc_trace.specs.Trace.{trace_text}
 use Rattle.mc_trace.proofs.Tracing.{none_told, one_begun, one_told, one_counted, room_left, last_begun, outcome_begun, outcome_told, no_refusal}
 use Rattle.mc_trace.proofs.trace.write_trace.Given.{Over}

@@ -1,7 +1,6 @@
 use Rattle.std.proofs.Common.{◌≡◌}
-use Rattle.mc_flash.specs.Spends.{LeaveRoom, times}
-use Rattle.mc_flash.specs.Usage.{no_counts}
-use Rattle.mc_explore.specs.Once.{most_of}
+use Rattle.mc_flash.specs.Usage.{LeaveRoom, times, no_counts}
+use Rattle.mc_explore.specs.inner.Once.{most_of}
 use Rattle.mc_start.specs.Start.{begun}
 use Rattle.mc_trace.proofs.Tracing.{AreTold}
 use Rattle.mc_trace.proofs.trace.write_trace.Given as goal

@@ -1,6 +1,6 @@
 use Rattle.std.proofs.Common.{ap}
 use Rattle.mc_flash.specs.Geometry.{Geometry}
-use Rattle.mc_trailer.specs.Places.{entry_place}
+use Rattle.mc_trailer.specs.Trailer.{entry_place}
 use Rattle.mc_trailer.proofs.entries.is_written.Goals as goal
 
 pub returns : goal.returns

@@ -1,5 +1,5 @@
 use Rattle.std.proofs.Common.{◌≡◌, ℕ, ◌≤◌, ◌<◌, ◌*◌, false}
-use Rattle.mc_trailer.specs.Entries.{is_written}
+use Rattle.mc_trailer.specs.Trailer.{is_written}
 use Rattle.mc_trailer.proofs.entries.without_blank_end.Given as goal
 
 -- no entry from here on is written

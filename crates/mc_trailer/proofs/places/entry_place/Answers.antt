@@ -1,6 +1,6 @@
 use Rattle.std.proofs.Common.{◌≡◌, ℕ, ◌+◌, ◌-◌, ◌*◌, ◌<◌, ◌≤◌, Fits, w32, arith}
 use Rattle.std.proofs.Math.Nat.{mul-le-mul_right}
-use Rattle.mc_flash.specs.Content.{size_of}
+use Rattle.mc_flash.specs.Flash.{size_of}
 use Rattle.mc_flash.specs.Geometry.{Geometry, IsLayout}
 use Rattle.mc_flash.specs.declared.op.Slot.TheVariants.{Primary}
 use Rattle.mc_flash.specs.facts.Layouts.{trailer_inside}

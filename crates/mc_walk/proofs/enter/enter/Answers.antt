@@ -1,5 +1,5 @@
 use Rattle.std.proofs.Common.{sym, subst}
-use Rattle.mc_flash.specs.Spends.{HasRoom}
+use Rattle.mc_flash.specs.Usage.{HasRoom}
 use Rattle.mc_walk.specs.Kind.{owed_there}
 use Rattle.mc_walk.specs.Walks.{origin_of}
 use Rattle.mc_walk.proofs.Stacks.{child_here, entered_told}

@@ -1,7 +1,6 @@
 use Rattle.std.proofs.Common.{◌≡◌, ℕ, ◌+◌, ◌-◌, ◌<◌, ◌≤◌, List, [], ◌∷◌, ◌++◌, length, length-append, Result, Ok, Err, refl, sym, ap, subst, ◌∙◌, arith}
 use Rattle.std.proofs.lemmas.Result.{err_from_is_err_and}
-use Rattle.mc_flash.specs.Seen.{Seen, Marks, marked}
-use Rattle.mc_flash.specs.Spends.{HasRoom, Spent, Spends}
+use Rattle.mc_flash.specs.Usage.{Seen, Marks, marked, HasRoom, Spent, Spends}
 use Rattle.mc_flash.specs.facts.Spends.{mark_spends, ran_out_later, spent_both, spent_marked, spent_more}
 use Rattle.mc_flash.specs.declared.flash.FlashError.{FlashError}
 use Rattle.mc_flash.specs.declared.flash.FlashError.TheVariants as errors

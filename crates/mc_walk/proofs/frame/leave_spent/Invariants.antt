@@ -1,6 +1,6 @@
 use Rattle.std.proofs.Common.{◌≡◌, vec_len}
 use Rattle.std.specs.Vec.{vec_capacity}
-use Rattle.mc_walk.specs.Stack.{AreOff}
+use Rattle.mc_walk.specs.inner.Stack.{AreOff}
 use Rattle.mc_walk.proofs.frame.leave_spent.Given as goal
 
 abbrev pub invariant-loop-frame : goal.invariant-loop-frame

@@ -1,6 +1,5 @@
 use Rattle.std.proofs.Common.{◌+◌, ◌*◌, ◌<◌}
-use Rattle.mc_flash.specs.Seen.{Keeps}
-use Rattle.mc_flash.specs.Spends.{LeaveRoom, Spent, plus}
+use Rattle.mc_flash.specs.Usage.{Keeps, LeaveRoom, Spent, plus}
 use Rattle.mc_walk.specs.Kind.{IsNode, IsAt}
 use Rattle.mc_walk.proofs.reach.reach.Given as goal
 

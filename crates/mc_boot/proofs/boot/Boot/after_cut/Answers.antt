@@ -1,7 +1,7 @@
 use Rattle.std.proofs.Common.{sym, subst, ◌∙◌}
 use Rattle.mc_flash.specs.Geometry.{Geometry, IsLayout}
-use Rattle.mc_boot.proofs.StillValid.{still_valid}
-use Rattle.mc_boot.proofs.AfterCut.{is_cold}
+use Rattle.mc_boot.proofs.Setup.{still_valid}
+use Rattle.mc_boot.proofs.CourseJoins.{is_cold}
 use Rattle.mc_boot.proofs.boot.Boot.after_cut.Goals as goal
 
 pub read_valid-requires : goal.read_valid-requires

@@ -1,7 +1,7 @@
 use Rattle.std.proofs.Common.{◌∙◌}
 use Rattle.mc_boot.proofs.Plans.{begun_resumed, begun_new}
 use Rattle.mc_boot.proofs.boot.Boot.begin.Goals as goal
-use Rattle.mc_boot.specs.PowerOn.{powered}
+use Rattle.mc_boot.specs.Plan.{powered}
 
 pub returns-then-resumes-clause-progress : goal.returns-then-resumes-clause-progress
 returns-then-resumes-clause-progress g c =

@@ -1,5 +1,5 @@
-use Rattle.mc_flash.specs.Content.{IsSized}
-use Rattle.mc_boot.proofs.AfterCut.{is_cold}
+use Rattle.mc_flash.specs.Flash.{IsSized}
+use Rattle.mc_boot.proofs.CourseJoins.{is_cold}
 use Rattle.mc_boot.proofs.boot.Boot.cold_among.Given.{Over}
 use Rattle.mc_boot.proofs.boot.Boot.cold_among.Goals as goal
 

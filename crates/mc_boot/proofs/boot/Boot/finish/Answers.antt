@@ -1,7 +1,6 @@
 use Rattle.std.proofs.Common.{◌≡◌, Err, refl, ◌∙◌}
 use Rattle.mc_flash.specs.declared.flash.FlashError.TheVariants as errors
-use Rattle.mc_boot.specs.Boot.{progress, to_come}
-use Rattle.mc_boot.specs.Goes.{goes_further}
+use Rattle.mc_boot.specs.Boot.{progress, to_come, goes_further}
 use Rattle.mc_boot.specs.facts.Steps.{counts_on_both, none_first, step_allows, step_counts, step_ran_out, step_spends, step_spends_both}
 use Rattle.mc_boot.proofs.boot.Boot.finish.Goals as goal
 

@@ -1,6 +1,6 @@
 use Rattle.std.proofs.Common.{arith, ap}
 use Rattle.mc_flash.specs.Geometry.{greatest_sectors}
-use Rattle.mc_boot.proofs.Grains.{greatest_pieces}
+use Rattle.mc_boot.proofs.Courses.{greatest_pieces}
 use Rattle.mc_boot.proofs.Plans.{new_begun}
 use Rattle.mc_boot.proofs.boot.Boot.new_swap.Goals as goal
 use Rattle.mc_boot.proofs.boot.Boot.new_swap.Goals.{then-not-images-via-then-not-images, then-not-images-via-else-not-images+then-greatest_sectors-sectors}

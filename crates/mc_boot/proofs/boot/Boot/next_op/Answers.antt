@@ -1,4 +1,4 @@
-use Rattle.mc_boot.proofs.Grains.{can_of}
+use Rattle.mc_boot.proofs.Courses.{can_of}
 use Rattle.mc_boot.proofs.boot.Boot.next_op.Goals as goal
 
 pub returns-then-self-len-clause-inside : goal.returns-then-self-len-clause-inside

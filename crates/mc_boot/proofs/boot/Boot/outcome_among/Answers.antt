@@ -4,7 +4,7 @@ use Rattle.mc_boot.specs.Boot.{progress}
 use Rattle.mc_boot.specs.Outcome.{Report}
 use Rattle.mc_boot.specs.facts.Run.{come_outcome}
 use Rattle.mc_boot.proofs.boot.Boot.outcome_among.Goals as goal
-use Rattle.mc_boot.specs.PowerOn.{power_on}
+use Rattle.mc_boot.specs.Plan.{power_on}
 
 pub returns-clause-end : goal.returns-clause-end
 returns-clause-end g c r s come end =

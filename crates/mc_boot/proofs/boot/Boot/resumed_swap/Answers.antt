@@ -1,6 +1,6 @@
 use Rattle.std.proofs.Common.{arith, sym, ap, ◌∙◌}
 use Rattle.mc_flash.specs.Geometry.{greatest_sectors}
-use Rattle.mc_boot.proofs.Grains.{greatest_pieces}
+use Rattle.mc_boot.proofs.Courses.{greatest_pieces}
 use Rattle.mc_boot.proofs.Plans.{none_of, resumed_begun, resumed_lost, resumed_wide}
 use Rattle.mc_boot.specs.Boot.{begun}
 use Rattle.mc_boot.proofs.boot.Boot.resumed_swap.Goals as goal

@@ -2,7 +2,7 @@ use Rattle.std.proofs.Common.{sym}
 use Rattle.std.specs.Prelude.{Ok}
 use Rattle.mc_flash.specs.facts.Done.{does_keep}
 use Rattle.mc_boot.specs.facts.Run.{come_steps}
-use Rattle.mc_boot.proofs.Stepping.{next_step, refused_step}
+use Rattle.mc_boot.proofs.Plans.{next_step, refused_step}
 use Rattle.mc_boot.proofs.boot.Boot.step.Goals as goal
 
 pub returns-in-Ok-clause-step : goal.returns-in-Ok-clause-step

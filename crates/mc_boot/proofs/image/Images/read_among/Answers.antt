@@ -1,4 +1,4 @@
-use Rattle.mc_boot.proofs.ImageFacts.{images_read}
+use Rattle.mc_boot.proofs.Images.{images_read}
 use Rattle.mc_boot.proofs.image.Images.read_among.Goals as goal
 
 pub returns : goal.returns

@@ -1,4 +1,4 @@
-use Rattle.mc_boot.proofs.ImageFacts.{images_known}
+use Rattle.mc_boot.proofs.Images.{images_known}
 use Rattle.mc_boot.proofs.image.Images.read_valid.Goals as goal
 
 pub returns : goal.returns

@@ -1,6 +1,6 @@
 use Rattle.std.proofs.Common.{◌≡◌, Some}
 use Rattle.mc_image.specs.Valid.{id_of}
-use Rattle.mc_boot.specs.Image.{identity_of}
+use Rattle.mc_boot.specs.Plan.{identity_of}
 use Rattle.mc_boot.proofs.known.KnownImage.id_in.Goals as goal
 
 pub returns-then-begin_alike : goal.returns-then-begin_alike

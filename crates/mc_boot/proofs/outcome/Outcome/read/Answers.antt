@@ -1,9 +1,9 @@
 use Rattle.std.proofs.Common.{ap, ◌∙◌}
 use Rattle.mc_boot.specs.Boot.{Progress}
-use Rattle.mc_boot.proofs.ImageFacts.{images_read}
-use Rattle.mc_boot.proofs.Reports.{told}
+use Rattle.mc_boot.proofs.Images.{images_read}
+use Rattle.mc_boot.proofs.Plans.{told}
 use Rattle.mc_boot.proofs.outcome.Outcome.read.Goals as goal
-use Rattle.mc_boot.specs.PowerOn.{powered}
+use Rattle.mc_boot.specs.Plan.{powered}
 
 pub begin-requires : goal.begin-requires
 begin-requires g c =

@@ -3,7 +3,7 @@ use Rattle.mc_boot.specs.Joins.{erases_of, joins_of}
 use Rattle.mc_boot.proofs.Rejoined.{rejoins_among, rejoins_behind, rejoins_here}
 use Rattle.mc_boot.proofs.rejoining.Rejoin.find.Goals as goal
 use Rattle.mc_boot.proofs.rejoining.Rejoin.find.Goals.{then-done-kept, else-done-kept+in_ok-only}
-use Rattle.mc_boot.specs.PowerOn.{power_on}
+use Rattle.mc_boot.specs.Plan.{power_on}
 
 pub returns-then-done-eq0 : goal.returns-then-done-eq0
 returns-then-done-eq0 g c =

@@ -1,5 +1,5 @@
 use Rattle.std.specs.Prelude.{◌≡◌, ◌≤◌, length, take}
-use Rattle.mc_campaign.specs.Cuts.{in_round}
+use Rattle.mc_campaign.specs.Campaigns.{in_round}
 use Rattle.mc_campaign.proofs.campaign.Campaign.places.Given as goal
 
 abbrev pub invariant-loop-number : goal.invariant-loop-number

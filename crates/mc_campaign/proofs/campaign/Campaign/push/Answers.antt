@@ -1,8 +1,8 @@
 use Rattle.std.proofs.Common.{ℕ, length, ◌<◌, ◌∷◌, ◌++◌, [], sym, subst, arith, ap, ◌∙◌}
 use Rattle.std.proofs.lemmas.List.{length-set, take_more_set}
-use Rattle.mc_campaign.specs.Cuts.{IsInOrder}
+use Rattle.mc_campaign.specs.Campaigns.{IsInOrder}
 use Rattle.mc_campaign.specs.facts.Room.{len_again}
-use Rattle.mc_campaign.proofs.Room.{blanks_behind}
+use Rattle.mc_campaign.proofs.Reading.{blanks_behind}
 use Rattle.mc_campaign.proofs.campaign.Campaign.push.Goals as goal
 
 pub invariant_of-self : goal.invariant_of-self

@@ -1,5 +1,5 @@
 use Rattle.std.proofs.Common.{subst, arith}
-use Rattle.mc_campaign.specs.Cuts.{IsInOrder}
+use Rattle.mc_campaign.specs.Campaigns.{IsInOrder}
 use Rattle.mc_campaign.specs.facts.Cuts.{ordered_at}
 use Rattle.mc_campaign.proofs.campaign.Campaign.put_into.Goals as goal
 

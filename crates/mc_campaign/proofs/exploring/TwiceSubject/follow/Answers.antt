@@ -1,12 +1,12 @@
 use Rattle.std.proofs.Common.{Bool, List, ℕ, true, false}
-use Rattle.mc_explore.specs.Once.{begins}
-use Rattle.mc_explore.specs.subjects.Follow.{FollowsKey}
+use Rattle.mc_explore.specs.inner.Once.{begins}
+use Rattle.mc_explore.specs.inner.Exploring.{FollowsKey}
 use Rattle.mc_walk.specs.Walks.{Walked}
-use Rattle.mc_campaign.specs.Boots.{cuts_along}
-use Rattle.mc_campaign.specs.Rest.{campaigns}
-use Rattle.mc_campaign.specs.View.{FollowsCampaign}
+use Rattle.mc_campaign.specs.inner.Twice.{cuts_along}
+use Rattle.mc_campaign.specs.Rows.{campaigns}
+use Rattle.mc_campaign.specs.inner.View.{FollowsCampaign}
 use Rattle.mc_campaign.specs.declared.rounds.Twice.{Twice}
-use Rattle.mc_campaign.proofs.Outcomes.{kind_of}
+use Rattle.mc_campaign.proofs.Replays.{kind_of}
 use Rattle.mc_campaign.proofs.exploring.TwiceSubject.follow.Goals as goal
 
 follows : (old new : Walked Twice) (k : List (ℕ × ℕ)) (went : Bool) → FollowsCampaign old k went new

@@ -1,11 +1,11 @@
 use Rattle.std.proofs.Common.{List, ℕ, arith, length, ap, refl, sym, subst, ◌∙◌}
 use Rattle.mc_boot.specs.Outcome.{shown}
-use Rattle.mc_boot.specs.PowerOn.{power_on}
-use Rattle.mc_flash.specs.Content.{Content}
+use Rattle.mc_boot.specs.Plan.{power_on}
+use Rattle.mc_flash.specs.Flash.{Content}
 use Rattle.mc_walk.specs.Walks.{origin_of}
-use Rattle.mc_campaign.specs.Boots.{cuts_along}
-use Rattle.mc_campaign.specs.Replay.{AreReplayed}
-use Rattle.mc_campaign.proofs.Outcomes.{outcomes_told}
+use Rattle.mc_campaign.specs.inner.Twice.{cuts_along}
+use Rattle.mc_campaign.specs.Campaigns.{AreReplayed}
+use Rattle.mc_campaign.proofs.Replays.{outcomes_told}
 use Rattle.mc_campaign.proofs.exploring.TwiceSubject.row.Goals as goal
 
 pub campaign_at-campaign-requires-clause-few : goal.campaign_at-campaign-requires-clause-few

@@ -1,8 +1,7 @@
 use Rattle.std.proofs.Common.{◌≡◌, ◌+◌, length, sym, ap, subst, ◌∙◌, arith}
-use Rattle.mc_flash.specs.Seen.{Seen, went_back}
-use Rattle.mc_flash.specs.Spends.{Spent, Stays}
+use Rattle.mc_flash.specs.Usage.{Seen, went_back, Spent, Stays}
 use Rattle.mc_flash.specs.facts.Spends.{spent_back, spent_both, spent_marked, spent_more, stays_back}
-use Rattle.mc_campaign.specs.Twice.{most_of_both}
+use Rattle.mc_campaign.specs.inner.Twice.{most_of_both}
 use Rattle.mc_campaign.proofs.rounds.Twice.tell.Goals as goal
 
 pub returns-clause-stays : goal.returns-clause-stays

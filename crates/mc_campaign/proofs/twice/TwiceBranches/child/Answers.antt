@@ -1,6 +1,6 @@
 use Rattle.std.proofs.Common.{subst}
 use Rattle.mc_walk.specs.Kind.{IsAt, IsChild}
-use Rattle.mc_campaign.specs.Twice.{twice_kind}
+use Rattle.mc_campaign.specs.inner.Twice.{twice_kind}
 use Rattle.mc_campaign.proofs.Steps.{parent_first, told_alike, told_children, told_second}
 use Rattle.mc_campaign.proofs.twice.TwiceBranches.child.Goals as goal
 

@@ -1,10 +1,10 @@
 use Rattle.std.proofs.Common.{subst, sym, arith}
 use Rattle.std.proofs.lemmas.Result.{err_from_is_err_and}
 use Rattle.mc_flash.specs.facts.Spends.{ran_out_later, spent_both}
-use Rattle.mc_flash.specs.Spends.{LeaveRoom, plus}
+use Rattle.mc_flash.specs.Usage.{LeaveRoom, plus}
 use Rattle.mc_walk.specs.Kind.{HasNext, IsAt}
 use Rattle.mc_campaign.specs.declared.rounds.OnWay.TheVariants as ways
-use Rattle.mc_campaign.specs.Twice.{left_of_way, twice_kind}
+use Rattle.mc_campaign.specs.inner.Twice.{left_of_way, twice_kind}
 use Rattle.mc_campaign.proofs.Steps.{counts_between, counts_first, first_passes, next_between, next_first, next_second, room_between, second_passes}
 use Rattle.mc_campaign.proofs.twice.TwiceBranches.next.Goals as goal
 

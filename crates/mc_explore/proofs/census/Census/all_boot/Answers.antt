@@ -1,7 +1,7 @@
 use Rattle.std.proofs.Common.{◌≡◌, false, is_some, not, sym, ap, ◌∙◌, arith}
 use Rattle.std.proofs.lemmas.List.Elements.{All-from_recursion, recursion_from_All}
 use Rattle.mc_explore.specs.declared.census.Census.{Census}
-use Rattle.mc_explore.proofs.Verdicts.{all_found, none_found}
+use Rattle.mc_explore.proofs.Counted.{all_found, none_found}
 use Rattle.mc_explore.proofs.census.Census.all_boot.Goals as goal
 
 pub returns : goal.returns

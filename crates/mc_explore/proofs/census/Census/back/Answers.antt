@@ -1,6 +1,6 @@
 use Rattle.std.proofs.Common.{◌≡◌, List, ℕ, Some, option_map, sym, ap, ◌∙◌}
-use Rattle.mc_start.specs.Cuts.{lowered}
-use Rattle.mc_explore.proofs.Censuses.{cut_back, with_schedule}
+use Rattle.mc_start.specs.Start.{lowered}
+use Rattle.mc_explore.proofs.Counting.{cut_back, with_schedule}
 use Rattle.mc_explore.proofs.census.Census.back.Goals as goal
 use Rattle.mc_explore.proofs.census.Census.back.Goals.{in-Some, in-None}
 

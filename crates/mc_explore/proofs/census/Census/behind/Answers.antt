@@ -1,5 +1,5 @@
 use Rattle.std.proofs.Common.{◌≡◌, List, ℕ, Some, ◌∷◌, take, option_map, sym, ap, ◌∙◌}
-use Rattle.mc_explore.proofs.Censuses.{cut_behind, with_schedule}
+use Rattle.mc_explore.proofs.Counting.{cut_behind, with_schedule}
 use Rattle.mc_explore.proofs.census.Census.behind.Goals as goal
 use Rattle.mc_explore.proofs.census.Census.behind.Goals.{in-Some, in-None}
 

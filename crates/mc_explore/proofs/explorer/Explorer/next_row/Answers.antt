@@ -1,11 +1,9 @@
 use Rattle.std.proofs.Common.{Some, None, Option, option_map, sym}
 use Rattle.std.specs.Prelude.{IfOk, IfSome, Result, Ok, Err}
-use Rattle.mc_explore.specs.Rest.{subject}
-use Rattle.mc_explore.specs.Restarts.{RowRestarts}
-use Rattle.mc_explore.specs.State.{State, told}
+use Rattle.mc_explore.specs.Rows.{subject, RowRestarts, State, told}
 use Rattle.mc_explore.specs.declared.error.ExploreError.{ExploreError}
 use Rattle.mc_explore.specs.declared.row.Row.{Row}
-use Rattle.mc_explore.specs.subjects.State as states
+use Rattle.mc_explore.specs.Subject as states
 use Rattle.mc_explore.proofs.explorer.Explorer.next_row.Goals as goal
 
 by_cases : (r : Result (Option Row) ExploreError) (s : State) → IfOk r (λ found. states.Restarts subject s (option_map told found))

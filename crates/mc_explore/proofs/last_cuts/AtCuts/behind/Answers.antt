@@ -1,5 +1,5 @@
 use Rattle.std.proofs.Common.{rules, ◌≡◌, arith, sym}
-use Rattle.mc_explore.proofs.LastRows.{last_cuts_there}
+use Rattle.mc_explore.proofs.Rowing.{last_cuts_there}
 use Rattle.mc_explore.proofs.last_cuts.AtCuts.behind.Goals as goal
 
 pub returns-clause-cuts : goal.returns-clause-cuts

@@ -1,14 +1,12 @@
 use Rattle.std.proofs.Common.{◌≡◌, ℕ, ◌<◌, ◌≤◌, [], ◌∷◌, ◌++◌, length, List, refl, sym, ap, subst, ◌∙◌, arith}
 use Rattle.std.proofs.lemmas.List.{length-append}
-use Rattle.mc_boot.specs.Boot.{IsBootOf, progress}
-use Rattle.mc_boot.specs.Bounds.{left_of}
-use Rattle.mc_boot.specs.Runs.{ops_of}
-use Rattle.mc_flash.specs.Content.{Content}
+use Rattle.mc_boot.specs.Boot.{IsBootOf, progress, left_of}
+use Rattle.mc_boot.specs.Outcome.{ops_of}
+use Rattle.mc_flash.specs.Flash.{Content}
 use Rattle.mc_flash.specs.Geometry.{Geometry}
-use Rattle.mc_explore.specs.Boots.{at_cut}
-use Rattle.mc_explore.specs.Once.{IsTold}
-use Rattle.mc_explore.specs.Table.{ArePositions, IsBelow, StaysSo, own_totals}
-use Rattle.mc_explore.specs.Totals.{cut_off}
+use Rattle.mc_explore.specs.inner.Once.{at_cut, IsTold}
+use Rattle.mc_explore.specs.inner.Table.{ArePositions, IsBelow, StaysSo, own_totals}
+use Rattle.mc_explore.specs.Census.{cut_off}
 use Rattle.mc_explore.specs.declared.table.Below.{Below}
 use Rattle.mc_explore.specs.declared.table.Position.{Position}
 use Rattle.mc_explore.specs.facts.Telling.{width_is}
@@ -17,7 +15,7 @@ use Rattle.mc_explore.proofs.Columns.{Reached, reached, reached_still, stays_non
 use Rattle.mc_explore.proofs.once.Once.+census_column.Goals as goal
 use Rattle.mc_explore.proofs.once.Once.+census_column.Given.{Over}
 use Rattle.mc_explore.proofs.once.Once.+census_column.Goals.{In_ok-child, Joined-find, in-Some, in-None+in_ok-census_column-in-None}
-use Rattle.mc_boot.specs.PowerOn.{power_on}
+use Rattle.mc_boot.specs.Plan.{power_on}
 
 pub loop-number-init : goal.loop-number-init
 loop-number-init g t c =

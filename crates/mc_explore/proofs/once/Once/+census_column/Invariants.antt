@@ -1,9 +1,8 @@
 use Rattle.std.proofs.Common.{◌≡◌, length}
-use Rattle.mc_boot.specs.Boot.{progress}
-use Rattle.mc_boot.specs.Bounds.{left_of}
+use Rattle.mc_boot.specs.Boot.{progress, left_of}
 use Rattle.mc_walk.specs.Kind.{IsAt}
-use Rattle.mc_explore.specs.Once.{once}
-use Rattle.mc_explore.specs.Table.{ArePositions}
+use Rattle.mc_explore.specs.inner.Once.{once}
+use Rattle.mc_explore.specs.inner.Table.{ArePositions}
 use Rattle.mc_explore.proofs.Columns.{IsUnder}
 use Rattle.mc_explore.proofs.once.Once.+census_column.Given as goal
 

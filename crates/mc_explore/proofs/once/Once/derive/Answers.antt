@@ -1,9 +1,8 @@
 use Rattle.std.proofs.Common.{◌≡◌, Some, arith, subst}
-use Rattle.mc_boot.specs.Outcome.{outcome_of, shown}
-use Rattle.mc_boot.specs.PowerOn.{again}
-use Rattle.mc_boot.specs.Runs.{left_by}
+use Rattle.mc_boot.specs.Outcome.{outcome_of, shown, left_by}
+use Rattle.mc_boot.specs.Plan.{again}
 use Rattle.mc_trailer.specs.declared.tables.Rules.{Rules}
-use Rattle.mc_explore.specs.Once.{IsBegun}
+use Rattle.mc_explore.specs.inner.Once.{IsBegun}
 use Rattle.mc_explore.proofs.Onwards.{cut_so, left_still, stopped_here, told_of, told_still}
 use Rattle.mc_explore.proofs.once.Once.derive.Given.{Over}
 use Rattle.mc_explore.proofs.once.Once.derive.Goals as goal

@@ -1,10 +1,8 @@
 use Rattle.std.proofs.Common.{◌≡◌, ◌+◌, length, sym, ap, subst, ◌∙◌, arith}
-use Rattle.mc_flash.specs.Usage.{most_operations}
-use Rattle.mc_boot.specs.Cold.{IsCold}
-use Rattle.mc_flash.specs.Seen.{Seen, marked, went_back}
-use Rattle.mc_flash.specs.Spends.{Allows, Spent, Stays}
+use Rattle.mc_flash.specs.Usage.{most_operations, Seen, marked, went_back, Allows, Spent, Stays}
+use Rattle.mc_boot.specs.Boot.{IsCold}
 use Rattle.mc_flash.specs.facts.Spends.{spent_back, spent_both, spent_marked, spent_more, stays_back}
-use Rattle.mc_explore.specs.Once.{BeginsOn, most_of}
+use Rattle.mc_explore.specs.inner.Once.{BeginsOn, most_of}
 use Rattle.mc_explore.proofs.once.Once.tell.Goals as goal
 
 pub returns-clause-stays : goal.returns-clause-stays

@@ -2,7 +2,7 @@ use Rattle.std.proofs.Common.{◌∙◌}
 use Rattle.mc_explore.specs.facts.Occurring.{at_zero}
 use Rattle.mc_explore.specs.facts.Telling.{first_left, first_on}
 use Rattle.mc_explore.proofs.once.OnceBranches.first.Goals as goal
-use Rattle.mc_boot.specs.PowerOn.{power_on}
+use Rattle.mc_boot.specs.Plan.{power_on}
 
 pub returns-clause-reaches : goal.returns-clause-reaches
 returns-clause-reaches g c =

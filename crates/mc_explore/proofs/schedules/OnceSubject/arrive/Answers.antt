@@ -1,5 +1,5 @@
 use Rattle.std.proofs.Common.{◌∙◌}
-use Rattle.mc_explore.specs.Once.{begun_of}
+use Rattle.mc_explore.specs.inner.Once.{begun_of}
 use Rattle.mc_explore.proofs.schedules.OnceSubject.arrive.Goals as goal
 
 pub returns-then-path-bound-clause-kept : goal.returns-then-path-bound-clause-kept

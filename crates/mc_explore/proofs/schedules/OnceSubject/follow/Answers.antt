@@ -1,4 +1,4 @@
-use Rattle.mc_explore.proofs.Along.{cheap, follows_schedule}
+use Rattle.mc_explore.proofs.Walks.{cheap, follows_schedule}
 use Rattle.mc_explore.proofs.schedules.OnceSubject.follow.Goals as goal
 
 pub returns-clause-follows : goal.returns-clause-follows

@@ -1,6 +1,6 @@
 use Rattle.std.proofs.Common.{List, ℕ, ap, ◌∙◌}
-use Rattle.mc_explore.specs.Once.{begun_of}
-use Rattle.mc_explore.specs.State.{outcome_after}
+use Rattle.mc_explore.specs.inner.Once.{begun_of}
+use Rattle.mc_explore.specs.Rows.{outcome_after}
 use Rattle.mc_explore.specs.facts.Listed.{lands_told}
 use Rattle.mc_explore.proofs.schedules.OnceSubject.row.Goals as goal
 

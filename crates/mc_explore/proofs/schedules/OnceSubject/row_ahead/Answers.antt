@@ -1,8 +1,8 @@
 use Rattle.std.proofs.Common.{List, ℕ, [], ◌∷◌, ◌++◌, ap, ◌∙◌}
-use Rattle.mc_explore.specs.Once.{begins}
-use Rattle.mc_explore.specs.State.{outcome_after}
+use Rattle.mc_explore.specs.inner.Once.{begins}
+use Rattle.mc_explore.specs.Rows.{outcome_after}
 use Rattle.mc_explore.specs.facts.Listed.{lands_told}
-use Rattle.mc_explore.proofs.LastRows.{outcome_there}
+use Rattle.mc_explore.proofs.Rowing.{outcome_there}
 use Rattle.mc_explore.proofs.schedules.OnceSubject.row_ahead.Goals as goal
 
 pub returns : goal.returns

@@ -3,7 +3,7 @@ use Rattle.std.proofs.lemmas.Grind.{common_steps}
 use Rattle.std.proofs.lemmas.List.Sums.{fold_push}
 use Rattle.mc_boot.specs.declared.outcome.BootResult.{BootResult}
 use Rattle.mc_boot.specs.declared.outcome.BootResult.TheVariants as results
-use Rattle.mc_explore.specs.State.{Told, told}
+use Rattle.mc_explore.specs.Rows.{Told, told}
 use Rattle.mc_explore.specs.Survey.{tally_so_far}
 use Rattle.mc_explore.specs.declared.surveying.Tally.{Tally}
 use Rattle.mc_explore.proofs.surveying.Tally.add.Goals as goal

@@ -2,7 +2,7 @@ use Rattle.std.proofs.Common.{arith, ap}
 use Rattle.std.proofs.lemmas.Bool.Decides.{nat_tests}
 use Rattle.std.proofs.lemmas.List.Elements.{All-from_recursion, recursion_from_All}
 use Rattle.mc_explore.specs.declared.surveying.Tally.{Tally}
-use Rattle.mc_explore.proofs.Verdicts.{all_counted, counted}
+use Rattle.mc_explore.proofs.Counted.{all_counted, counted}
 use Rattle.mc_explore.proofs.surveying.Tally.all_boot.Goals as goal
 
 pub returns : goal.returns

@@ -1,12 +1,12 @@
 use Rattle.std.proofs.Common.{ℕ, length, sym, ap, ◌∙◌, arith}
 use Rattle.mc_boot.specs.Rejoin.{place_of}
-use Rattle.mc_tree.specs.Weights.{placed_below}
-use Rattle.mc_explore.specs.Boots.{at_cut}
-use Rattle.mc_explore.specs.Table.{IsColumn, IsInside, own_totals, weigh, weigh_fewer}
-use Rattle.mc_explore.specs.Totals.{Totals, both, cut_off, totals}
-use Rattle.mc_explore.proofs.Weighing.{inside, rejoined_weigh}
+use Rattle.mc_tree.specs.inner.Weights.{placed_below}
+use Rattle.mc_explore.specs.inner.Once.{at_cut}
+use Rattle.mc_explore.specs.inner.Table.{IsColumn, IsInside, own_totals, weigh, weigh_fewer}
+use Rattle.mc_explore.specs.Census.{Totals, both, cut_off, totals}
+use Rattle.mc_explore.proofs.Counting.{inside, rejoined_weigh}
 use Rattle.mc_explore.proofs.table.Position.census.Goals as goal
-use Rattle.mc_boot.specs.PowerOn.{power_on}
+use Rattle.mc_boot.specs.Plan.{power_on}
 
 pub returns-in-Joined : goal.returns-in-Joined
 returns-in-Joined c = λ r g s u most here level sums lt.

@@ -1,7 +1,7 @@
 use Rattle.std.proofs.Common.{◌∙◌, ap, arith}
 use Rattle.mc_start.specs.Start.{begun}
-use Rattle.mc_walk.specs.Tours.{position_of}
-use Rattle.mc_explore.specs.subjects.View.{Rowed, state_of}
+use Rattle.mc_walk.specs.Walks.{position_of}
+use Rattle.mc_explore.specs.inner.Exploring.{Rowed, state_of}
 use Rattle.mc_explore.proofs.Beginning.{behind_it, cheap, few_there, listed, resumed, stands_there, valid_there}
 use Rattle.mc_explore.proofs.tree_explorer.TreeExplorer.after.Goals as goal
 

@@ -1,6 +1,6 @@
 use Rattle.std.proofs.Common.{ap, ◌∙◌}
 use Rattle.mc_start.specs.Start.{begun}
-use Rattle.mc_explore.specs.subjects.State.{Explored}
+use Rattle.mc_explore.specs.Subject.{Explored}
 use Rattle.mc_explore.proofs.Beginning.{same_digest}
 use Rattle.mc_explore.proofs.tree_explorer.TreeExplorer.resume.Goals as goal
 

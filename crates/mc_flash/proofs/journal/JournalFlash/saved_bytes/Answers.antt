@@ -1,5 +1,5 @@
 use Rattle.std.proofs.Common.{ap, arith}
-use Rattle.mc_flash.specs.Seen.{Seen}
+use Rattle.mc_flash.specs.Usage.{Seen}
 use Rattle.mc_flash.proofs.journal.JournalFlash.saved_bytes.Goals as goal
 
 pub returns-clause-value : goal.returns-clause-value

@@ -1,9 +1,8 @@
 use Rattle.std.proofs.Common.{arith}
 use Rattle.std.specs.Vec.{vec_capacity}
 use Rattle.mc_flash.specs.Usage.{room_for}
-use Rattle.mc_flash.specs.Reserve.{limits_of}
-use Rattle.mc_flash.specs.Journal.{Journal, journal_with}
-use Rattle.mc_flash.proofs.Kept.{checkpoint_below, sound_back, has_place, back}
+use Rattle.mc_flash.specs.inner.Journal.{limits_of, Journal, journal_with}
+use Rattle.mc_flash.proofs.Undo.{checkpoint_below, sound_back, has_place, back}
 use Rattle.mc_flash.proofs.journal.JournalFlashFlash.back_to.Goals as goal
 
 pub undo_to-requires-clause-above : goal.undo_to-requires-clause-above

@@ -4,18 +4,14 @@ use Rattle.std.specs.List.{between}
 use Rattle.std.specs.Vec.{vec_capacity}
 use Rattle.std.proofs.lemmas.List.{length-replicate}
 use Rattle.mc_flash.specs.Geometry.{Geometry}
-use Rattle.mc_flash.specs.Content.{Content, bytes_of, with_bytes, sectors_of}
-use Rattle.mc_flash.specs.Changes.{sized_is}
-use Rattle.mc_flash.specs.Apply.{erased}
+use Rattle.mc_flash.specs.Flash.{Content, bytes_of, with_bytes, sectors_of, erased}
+use Rattle.mc_flash.specs.facts.Changes.{sized_is}
 use Rattle.mc_flash.specs.facts.Layouts.{sector_inside}
-use Rattle.mc_flash.specs.Usage.{room_for}
-use Rattle.mc_flash.specs.Reserve.{limits_of}
-use Rattle.mc_flash.specs.Seen.{Seen}
-use Rattle.mc_flash.specs.Journal.{Journal, journal_with}
+use Rattle.mc_flash.specs.Usage.{room_for, Seen}
+use Rattle.mc_flash.specs.inner.Journal.{limits_of, Journal, journal_with}
 use Rattle.mc_flash.specs.declared.op.Op.TheVariants.{Erase}
 use Rattle.mc_flash.specs.declared.entry.Entry.TheVariants.{Erased}
-use Rattle.mc_flash.proofs.Undo.{by_erase, erase_back}
-use Rattle.mc_flash.proofs.Kept.{sound_grown, is_full, does, erase_done}
+use Rattle.mc_flash.proofs.Undo.{by_erase, erase_back, sound_grown, is_full, does, erase_done}
 use Rattle.mc_flash.proofs.journal.JournalFlashFlash.erase.Goals as goal
 
 pub invariant_of-self-2 : goal.invariant_of-self-2

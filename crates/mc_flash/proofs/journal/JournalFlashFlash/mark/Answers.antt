@@ -2,11 +2,9 @@ use Rattle.std.proofs.Common.{◌++◌, [], ◌∷◌, subst, ap, ◌∙◌, ari
 use Rattle.std.specs.Prelude.{Ok}
 use Rattle.std.specs.Vec.{vec_capacity}
 use Rattle.std.proofs.lemmas.List.{length-map}
-use Rattle.mc_flash.specs.Usage.{room_for}
-use Rattle.mc_flash.specs.Reserve.{limits_of}
-use Rattle.mc_flash.specs.Seen.{Seen, Marks}
-use Rattle.mc_flash.specs.Journal.{Journal, journal_with, seen_of, checkpoint_after}
-use Rattle.mc_flash.proofs.Kept.{sound_marked, marks_more}
+use Rattle.mc_flash.specs.Usage.{room_for, Seen, Marks}
+use Rattle.mc_flash.specs.inner.Journal.{limits_of, Journal, journal_with, seen_of, checkpoint_after}
+use Rattle.mc_flash.proofs.Undo.{sound_marked, marks_more}
 use Rattle.mc_flash.proofs.journal.JournalFlashFlash.mark.Goals as goal
 
 pub invariant_of-self-2 : goal.invariant_of-self-2

@@ -1,14 +1,11 @@
 use Rattle.std.proofs.Common.{◌+◌, ◌≤◌, length, inl, refl, subst, sym, arith}
 use Rattle.std.specs.Vec.{vec_capacity}
-use Rattle.mc_flash.specs.Content.{Content, bytes_of, with_bytes, put, size_of}
-use Rattle.mc_flash.specs.Changes.{sized_is}
-use Rattle.mc_flash.specs.Usage.{room_for}
-use Rattle.mc_flash.specs.Reserve.{limits_of}
-use Rattle.mc_flash.specs.Seen.{Seen}
-use Rattle.mc_flash.specs.Journal.{Journal, journal_with}
+use Rattle.mc_flash.specs.Flash.{Content, bytes_of, with_bytes, put, size_of}
+use Rattle.mc_flash.specs.facts.Changes.{sized_is}
+use Rattle.mc_flash.specs.Usage.{room_for, Seen}
+use Rattle.mc_flash.specs.inner.Journal.{limits_of, Journal, journal_with}
 use Rattle.mc_flash.specs.declared.op.Op.TheVariants.{Program}
-use Rattle.mc_flash.proofs.Undo.{by_write, write_back}
-use Rattle.mc_flash.proofs.Kept.{sound_grown, refuses, is_full, does, program_done, program_refused}
+use Rattle.mc_flash.proofs.Undo.{by_write, write_back, sound_grown, refuses, is_full, does, program_done, program_refused}
 use Rattle.mc_flash.proofs.journal.JournalFlashFlash.program.Goals as goal
 
 pub invariant_of-self-2 : goal.invariant_of-self-2

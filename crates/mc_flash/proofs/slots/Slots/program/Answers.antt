@@ -1,9 +1,8 @@
 use Rattle.std.proofs.Common.{◌≡◌, None, refl, sym}
 use Rattle.std.specs.Prelude.{Option, Err}
-use Rattle.mc_flash.specs.Apply.{Becomes}
-use Rattle.mc_flash.specs.Content.{Content}
+use Rattle.mc_flash.specs.Flash.{Becomes, Content}
 use Rattle.mc_flash.specs.declared.flash.FlashError.TheVariants.{NotErased}
-use Rattle.mc_flash.proofs.Kept.{program_refused}
+use Rattle.mc_flash.proofs.Undo.{program_refused}
 use Rattle.mc_flash.proofs.slots.Slots.program.Goals as goal
 
 refused : (given : Option Content) (s : Content) → given ≡ None → Becomes given (Err NotErased) s s

@@ -1,4 +1,4 @@
-use Rattle.mc_flash.specs.Snap.{copy_seen}
+use Rattle.mc_flash.specs.inner.Snap.{copy_seen}
 use Rattle.std.proofs.Common.{map}
 use Rattle.mc_flash.specs.declared.op.Op.TheVariants.{Copy}
 use Rattle.mc_flash.proofs.Copies.{copies_become}

@@ -1,6 +1,6 @@
 use Rattle.std.proofs.Common.{rules, ◌≡◌, true, false, [], ◌∷◌, ◌++◌, map, refl, ap, ◌∙◌, arith}
 use Rattle.std.specs.Prelude.{is_ok, if◌then◌else◌}
-use Rattle.mc_flash.specs.Snap.{copy_seen}
+use Rattle.mc_flash.specs.inner.Snap.{copy_seen}
 use Rattle.mc_flash.proofs.Copies.{copies_fail, copies_mark}
 use Rattle.mc_flash.proofs.snap.SnapFlashFlash.mark.Goals as goal
 

@@ -1,4 +1,4 @@
-use Rattle.mc_image.proofs.AreaLaws.{follows_more}
+use Rattle.mc_image.proofs.Walks.{follows_more}
 use Rattle.mc_image.proofs.areas.ProtectedArea.along.Goals as goal
 
 pub returns : goal.returns

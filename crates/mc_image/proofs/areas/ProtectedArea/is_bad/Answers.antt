@@ -1,5 +1,5 @@
 use Rattle.std.proofs.Common.{sym}
-use Rattle.mc_image.proofs.AreaLaws.{bad_short, bad_head, bad_entries}
+use Rattle.mc_image.proofs.Walks.{bad_short, bad_head, bad_entries}
 use Rattle.mc_image.proofs.areas.ProtectedArea.is_bad.Goals as goal
 
 pub returns-then-not-is_full : goal.returns-then-not-is_full

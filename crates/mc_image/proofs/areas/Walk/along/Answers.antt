@@ -1,6 +1,6 @@
 use Rattle.std.proofs.Common.{rules, ◌++◌, arith, length, length-append, ap, sym, ◌∙◌}
-use Rattle.mc_image.specs.Walking.{Walks}
-use Rattle.mc_image.proofs.WalkSteps.{gone_on, gone_all}
+use Rattle.mc_image.specs.inner.Reading.{Walks}
+use Rattle.mc_image.proofs.Walks.{gone_on, gone_all}
 use Rattle.mc_image.proofs.areas.Walk.along.Goals as goal
 
 pub step-requires-clause-fits : goal.step-requires-clause-fits

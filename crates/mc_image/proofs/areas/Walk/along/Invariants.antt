@@ -1,5 +1,5 @@
 use Rattle.std.proofs.Common.{◌≡◌, ℕ, ◌++◌, List, length}
-use Rattle.mc_image.specs.Walking.{Walks}
+use Rattle.mc_image.specs.inner.Reading.{Walks}
 use Rattle.mc_image.proofs.areas.Walk.along.Given as goal
 
 abbrev pub invariant-loop-rest : goal.invariant-loop-rest

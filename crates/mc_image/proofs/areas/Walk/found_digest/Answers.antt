@@ -1,5 +1,5 @@
 use Rattle.std.proofs.Common.{◌∙◌}
-use Rattle.mc_image.proofs.WalkSteps.{digest_none, digest_many, digest_one, digest_length}
+use Rattle.mc_image.proofs.Walks.{digest_none, digest_many, digest_one, digest_length}
 use Rattle.mc_image.proofs.areas.Walk.found_digest.Goals as goal
 
 pub returns-in-Nothing-clause-exact : goal.returns-in-Nothing-clause-exact

@@ -1,5 +1,5 @@
 use Rattle.std.proofs.Common.{◌≡◌, arith, min, length}
-use Rattle.mc_image.proofs.WalkSteps.{digest_goes}
+use Rattle.mc_image.proofs.Walks.{digest_goes}
 use Rattle.mc_image.proofs.areas.Walk.in_digest.Goals as goal
 
 pub returns : goal.returns

@@ -1,5 +1,5 @@
 use Rattle.std.proofs.Common.{refl}
-use Rattle.mc_image.proofs.WalkSteps.{head_goes}
+use Rattle.mc_image.proofs.Walks.{head_goes}
 use Rattle.mc_image.proofs.areas.Walk.in_head.Goals as goal
 
 pub returns : goal.returns

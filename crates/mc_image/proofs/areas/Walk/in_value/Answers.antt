@@ -1,5 +1,5 @@
 use Rattle.std.proofs.Common.{◌≡◌, arith, min, length}
-use Rattle.mc_image.proofs.WalkSteps.{value_goes}
+use Rattle.mc_image.proofs.Walks.{value_goes}
 use Rattle.mc_image.proofs.areas.Walk.in_value.Goals as goal
 
 pub returns : goal.returns

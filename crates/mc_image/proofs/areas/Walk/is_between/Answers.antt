@@ -1,5 +1,5 @@
 use Rattle.std.proofs.Common.{◌∙◌, inl, inr}
-use Rattle.mc_image.proofs.WalkSteps.{between_head, between_value, between_digest}
+use Rattle.mc_image.proofs.Walks.{between_head, between_value, between_digest}
 use Rattle.mc_image.proofs.areas.Walk.is_between.Goals as goal
 
 pub returns-in-Head : goal.returns-in-Head

@@ -1,4 +1,4 @@
-use Rattle.mc_image.proofs.WalkSteps.{walk_new}
+use Rattle.mc_image.proofs.Walks.{walk_new}
 use Rattle.mc_image.proofs.areas.Walk.new.Goals as goal
 
 pub returns : goal.returns

@@ -1,4 +1,4 @@
-use Rattle.mc_image.proofs.WalkSteps.{settled_value, settled_digest}
+use Rattle.mc_image.proofs.Walks.{settled_value, settled_digest}
 use Rattle.mc_image.proofs.areas.Walk.settled.Goals as goal
 
 pub returns-else-left-gt0 : goal.returns-else-left-gt0

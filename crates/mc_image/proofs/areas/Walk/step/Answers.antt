@@ -1,4 +1,4 @@
-use Rattle.mc_image.proofs.WalkSteps.{stepped}
+use Rattle.mc_image.proofs.Walks.{stepped}
 use Rattle.mc_image.proofs.areas.Walk.step.Goals as goal
 
 pub returns : goal.returns

@@ -1,6 +1,6 @@
 use Rattle.std.proofs.Common.{arith, ◌≡◌, ◌-◌, min, length}
-use Rattle.mc_image.specs.Gathered.{held}
-use Rattle.mc_image.proofs.Pieces.{gathered}
+use Rattle.mc_image.specs.inner.Reading.{held}
+use Rattle.mc_image.proofs.ByteNumbers.{gathered}
 use Rattle.mc_image.proofs.gather.Gather.with.Goals as goal
 
 pub returns-clause-held : goal.returns-clause-held

@@ -1,7 +1,7 @@
 use Rattle.std.proofs.Common.{arith, sym, ap, ◌∙◌, subst, List, ℕ}
-use Rattle.mc_image.specs.Faults.{header_fault}
-use Rattle.mc_image.specs.Judging.{HasHeader}
-use Rattle.mc_image.proofs.FrontLaws.{header_ends, header_error}
+use Rattle.mc_image.specs.Valid.{header_fault}
+use Rattle.mc_image.specs.inner.Judging.{HasHeader}
+use Rattle.mc_image.proofs.JudgeLaws.{header_ends, header_error}
 use Rattle.mc_image.proofs.judge.Judge.after_fields.Goals as goal
 
 pub returns-in-Err : goal.returns-in-Err

@@ -1,12 +1,10 @@
 use Rattle.std.proofs.Common.{◌++◌, arith, sym, ap, ◌∙◌, subst, append_assoc, List, ℕ}
 use Rattle.std.proofs.lemmas.List.{drop_all}
-use Rattle.mc_image.specs.Bytes.{u16_at}
-use Rattle.mc_image.specs.Headers.{head_fault}
-use Rattle.mc_image.specs.Judging.{verdict}
-use Rattle.mc_image.specs.Walking.{Walks}
-use Rattle.mc_image.proofs.FrontLaws.{plain_error}
-use Rattle.mc_image.proofs.PlainLaws.{head_first}
-use Rattle.mc_image.proofs.VerdictLaws.{head_fault_more}
+use Rattle.mc_image.specs.Image.{u16_at}
+use Rattle.mc_image.specs.inner.Reading.{head_fault, Walks}
+use Rattle.mc_image.specs.inner.Judging.{verdict}
+use Rattle.mc_image.proofs.JudgeLaws.{plain_error, head_fault_more}
+use Rattle.mc_image.proofs.Walks.{head_first}
 use Rattle.mc_image.proofs.judge.Judge.after_head.Goals as goal
 
 pub returns-in-Err : goal.returns-in-Err

@@ -1,5 +1,5 @@
 use Rattle.std.proofs.Common.{arith, sym, ◌∙◌}
-use Rattle.mc_image.proofs.FrontLaws.{header_ends, protected_none}
+use Rattle.mc_image.proofs.JudgeLaws.{header_ends, protected_none}
 use Rattle.mc_image.proofs.judge.Judge.after_payload.Goals as goal
 
 pub returns-then-header-eq0 : goal.returns-then-header-eq0

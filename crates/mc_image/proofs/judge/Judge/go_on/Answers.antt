@@ -1,6 +1,6 @@
 use Rattle.std.proofs.Common.{◌≡◌, arith, refl, ap, ◌∙◌, subst, append_assoc, List, ℕ}
-use Rattle.mc_image.specs.Bytes.{IsBytes}
-use Rattle.mc_image.specs.Judging.{verdict, IsPlain}
+use Rattle.mc_image.specs.Image.{IsBytes}
+use Rattle.mc_image.specs.inner.Judging.{verdict, IsPlain}
 use Rattle.mc_image.proofs.judge.Judge.go_on.Goals as goal
 
 pub returns-then-left-gt0 : goal.returns-then-left-gt0

@@ -1,5 +1,5 @@
 use Rattle.std.proofs.Common.{arith}
-use Rattle.mc_image.proofs.JudgeSteps.{payload_taken}
+use Rattle.mc_image.proofs.JudgeLaws.{payload_taken}
 use Rattle.mc_image.proofs.judge.Judge.in_payload.Goals as goal
 
 pub returns-then-left-taken : goal.returns-then-left-taken

@@ -1,6 +1,6 @@
 use Rattle.std.proofs.Common.{◌-◌, arith, subst, ℕ}
-use Rattle.mc_image.specs.Judging.{IsPlain}
-use Rattle.mc_image.proofs.JudgeSteps.{plain_taken}
+use Rattle.mc_image.specs.inner.Judging.{IsPlain}
+use Rattle.mc_image.proofs.JudgeLaws.{plain_taken}
 use Rattle.mc_image.proofs.judge.Judge.in_plain.Goals as goal
 
 pub returns : goal.returns

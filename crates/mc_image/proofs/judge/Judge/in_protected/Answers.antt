@@ -1,10 +1,9 @@
 use Rattle.std.proofs.Common.{◌≡◌, ◌-◌, ◌++◌, arith, sym, ap, ◌∙◌, length, subst, List, ℕ, false, []}
 use Rattle.std.proofs.lemmas.List.{append-nil}
 use Rattle.mc_image.specs.Image.{protected_end}
-use Rattle.mc_image.specs.Faults.{protected_fault}
-use Rattle.mc_image.specs.Judging.{verdict, HasHeader, IsProtected}
-use Rattle.mc_image.proofs.FrontLaws.{has_header_more, body_ends, protected_bad, protected_tested}
-use Rattle.mc_image.proofs.JudgeSteps.{protected_taken}
+use Rattle.mc_image.specs.Valid.{protected_fault}
+use Rattle.mc_image.specs.inner.Judging.{verdict, HasHeader, IsProtected}
+use Rattle.mc_image.proofs.JudgeLaws.{has_header_more, body_ends, protected_bad, protected_tested, protected_taken}
 use Rattle.mc_image.proofs.judge.Judge.in_protected.Goals as goal
 
 pub returns-then-left-taken : goal.returns-then-left-taken

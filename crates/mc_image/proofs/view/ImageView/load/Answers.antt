@@ -1,5 +1,5 @@
 use Rattle.std.proofs.Common.{arith}
-use Rattle.mc_image.proofs.ViewLaws.{view_long, view_load}
+use Rattle.mc_image.proofs.Views.{view_long, view_load}
 use Rattle.mc_image.proofs.view.ImageView.load.Goals as goal
 
 pub u32_at-requires : goal.u32_at-requires

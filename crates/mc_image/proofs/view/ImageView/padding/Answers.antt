@@ -1,5 +1,5 @@
 use Rattle.std.proofs.Common.{arith}
-use Rattle.mc_image.proofs.ViewLaws.{view_long, view_padding}
+use Rattle.mc_image.proofs.Views.{view_long, view_padding}
 use Rattle.mc_image.proofs.view.ImageView.padding.Goals as goal
 
 pub u32_at-requires : goal.u32_at-requires

@@ -1,5 +1,5 @@
 use Rattle.std.proofs.lemmas.Result.{err_from_is_err_and}
-use Rattle.mc_image.proofs.Checked.{fault_read, id_read}
+use Rattle.mc_image.proofs.Views.{fault_read, id_read}
 use Rattle.mc_image.proofs.view.ImageView.read_valid.Goals as goal
 
 pub returns-in_err-image-clause-exact : goal.returns-in_err-image-clause-exact

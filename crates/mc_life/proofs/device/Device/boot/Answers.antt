@@ -1,6 +1,6 @@
 use Rattle.std.proofs.Common.{refl}
 use Rattle.mc_boot.specs.Outcome.{shown}
-use Rattle.mc_life.specs.Standing.{Standing}
+use Rattle.mc_life.specs.Device.{Standing}
 use Rattle.mc_life.proofs.Going.{boots_to, ends_as}
 use Rattle.mc_life.proofs.device.Device.boot.Goals as goal
 

@@ -1,5 +1,5 @@
 use Rattle.std.proofs.Common.{refl, false}
-use Rattle.mc_life.specs.Standing.{Standing}
+use Rattle.mc_life.specs.Device.{Standing}
 use Rattle.mc_life.proofs.Going.{is_cut}
 use Rattle.mc_life.proofs.device.Device.cut.Goals as goal
 

@@ -1,5 +1,5 @@
 use Rattle.std.proofs.Common.{refl}
-use Rattle.mc_life.specs.Standing.{Standing}
+use Rattle.mc_life.specs.Device.{Standing}
 use Rattle.mc_life.proofs.Going.{erased_content, stored}
 use Rattle.mc_life.proofs.device.Device.erase.Goals as goal
 

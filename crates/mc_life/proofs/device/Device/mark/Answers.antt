@@ -1,5 +1,5 @@
 use Rattle.std.proofs.Common.{refl, sym, ◌∙◌}
-use Rattle.mc_life.specs.Standing.{Standing}
+use Rattle.mc_life.specs.Device.{Standing}
 use Rattle.mc_life.proofs.Going.{marks}
 use Rattle.mc_life.proofs.device.Device.mark.Goals as goal
 

@@ -1,5 +1,5 @@
 use Rattle.std.proofs.Common.{refl}
-use Rattle.mc_life.specs.Standing.{Standing}
+use Rattle.mc_life.specs.Device.{Standing}
 use Rattle.mc_life.proofs.Going.{stored}
 use Rattle.mc_life.proofs.device.Device.store.Goals as goal
 

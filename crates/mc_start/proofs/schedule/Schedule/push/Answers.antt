@@ -1,8 +1,8 @@
 use Rattle.std.specs.Prelude.{length, ◌<◌}
 use Rattle.std.proofs.Common.{arith, ap, ◌∙◌}
 use Rattle.std.proofs.lemmas.List.{length-set}
-use Rattle.mc_flash.specs.Room.{len_again}
-use Rattle.mc_start.proofs.Room.{zeros_behind}
+use Rattle.mc_flash.specs.inner.Room.{len_again}
+use Rattle.mc_start.proofs.Starts.{zeros_behind}
 use Rattle.mc_start.proofs.schedule.Schedule.push.Goals as goal
 
 pub invariant_of-self : goal.invariant_of-self

@@ -1,5 +1,5 @@
 use Rattle.std.specs.Prelude.{◌≡◌, ◌+◌, ◌*◌, ◌≤◌, ◌∷◌, ◌++◌, length, get_or, take}
-use Rattle.mc_start.specs.Texts.{schedule_text}
+use Rattle.mc_start.specs.Start.{schedule_text}
 use Rattle.mc_start.proofs.schedule.Schedule.put_into.Given as goal
 
 abbrev pub invariant-loop-cut : goal.invariant-loop-cut

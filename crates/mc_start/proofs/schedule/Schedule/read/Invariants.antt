@@ -1,6 +1,6 @@
 use Rattle.std.specs.Prelude.{◌≡◌, ℕ, List, ◌++◌, length, decimal}
 use Rattle.std.specs.Str.{IsUtf8}
-use Rattle.mc_start.specs.Texts.{IsSchedule, schedule_text}
+use Rattle.mc_start.specs.Start.{IsSchedule, schedule_text}
 use Rattle.mc_output.specs.facts.Reading.{behind, IsLeft}
 use Rattle.mc_start.proofs.schedule.Schedule.read.Given as goal
 

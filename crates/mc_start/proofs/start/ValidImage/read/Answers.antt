@@ -1,4 +1,4 @@
-use Rattle.mc_start.proofs.Images.{read_size, read_front}
+use Rattle.mc_start.proofs.Starts.{read_size, read_front}
 use Rattle.mc_start.proofs.start.ValidImage.read.Goals as goal
 
 pub returns-clause-value : goal.returns-clause-value

@@ -1,6 +1,6 @@
 use Rattle.std.proofs.Common.{ℕ, List, true, false, subst}
-use Rattle.mc_tree.specs.Paths.{Position}
-use Rattle.mc_walk.specs.Tours.{Toured, StandsBehind, Visits}
+use Rattle.mc_tree.specs.Tree.{Position}
+use Rattle.mc_walk.specs.Walks.{Toured, StandsBehind, Visits}
 use Rattle.mc_walk.specs.declared.tour.Phase.TheVariants.{Going, Done}
 use Rattle.mc_walk.proofs.Touring.{left_on, left_over, stays_behind}
 use Rattle.mc_walk.proofs.tour.Tour.leave.Goals as goal

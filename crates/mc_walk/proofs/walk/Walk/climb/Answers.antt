@@ -1,7 +1,6 @@
 use Rattle.std.proofs.Common.{◌≡◌, ◌+◌, ◌*◌, true, false, Some, None, length, refl, subst, ap, ◌∙◌, arith}
-use Rattle.mc_flash.specs.Seen.{went_back}
-use Rattle.mc_flash.specs.Spends.{Spent}
-use Rattle.mc_walk.specs.Stack.{LeavesOpen}
+use Rattle.mc_flash.specs.Usage.{went_back, Spent}
+use Rattle.mc_walk.specs.inner.Stack.{LeavesOpen}
 use Rattle.mc_walk.specs.Walks.{Walked, walked, Climbs, child_cost}
 use Rattle.mc_walk.proofs.Steps.{Arrives, Leaves, standing, mark_there, can_go_on, arrives_on, climbed, none_on}
 use Rattle.mc_walk.proofs.walk.Walk.climb.Given.{Over}

@@ -1,5 +1,5 @@
 use Rattle.std.proofs.Common.{◌+◌, ◌*◌, true, false, Some, length, refl, subst, ap, ◌∙◌, arith}
-use Rattle.mc_flash.specs.Spends.{Spent}
+use Rattle.mc_flash.specs.Usage.{Spent}
 use Rattle.mc_walk.specs.Walks.{Walked, walked, GoesDown, child_cost}
 use Rattle.mc_walk.specs.declared.frame.Frame.{Frame}
 use Rattle.mc_walk.proofs.Steps.{Ready, Arrives, can_reach, no_child, ready_down, ready_here, ready_room, ready_mark, arrives, gone_down}

@@ -3,7 +3,7 @@ use Rattle.std.proofs.Common.{◌≡◌, arith, length, refl, None, Some, rules,
 use Rattle.std.specs.List.{slice_get}
 use Rattle.mc_tree.specs.Tree.{labelled}
 use Rattle.mc_walk.specs.Walks.{Walked, root_of}
-use Rattle.mc_walk.proofs.Labels.{label_at, no_label}
+use Rattle.mc_walk.proofs.Along.{label_at, no_label}
 use Rattle.mc_walk.proofs.walk.Walk.label.Goals as goal
 
 pub returns-in_err-frame : goal.returns-in_err-frame

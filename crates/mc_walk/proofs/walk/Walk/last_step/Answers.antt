@@ -1,7 +1,7 @@
 use Rattle.std.proofs.Common.{◌≡◌, ◌-◌, Some, length, slice_get, sym, ap, subst, ◌∙◌, arith}
 use Rattle.std.proofs.lemmas.Option.{slice_get_within}
 use Rattle.mc_walk.specs.Walks.{Walked, IsLastStep}
-use Rattle.mc_walk.proofs.Frames.{last_of}
+use Rattle.mc_walk.proofs.Stacks.{last_of}
 use Rattle.mc_walk.proofs.Steps.{last_there, standing}
 use Rattle.mc_walk.proofs.walk.Walk.last_step.Goals as goal
 

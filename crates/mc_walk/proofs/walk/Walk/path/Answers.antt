@@ -1,6 +1,6 @@
 use Rattle.std.proofs.Common.{◌≡◌, ℕ, ◌<◌, ◌≤◌, List, take, length, length-take, ◌++◌, ◌∷◌, [], sym, ap, subst, ◌∙◌, arith}
 use Rattle.std.proofs.lemmas.List.{length-map, take_more}
-use Rattle.mc_walk.specs.Stack.{path_of}
+use Rattle.mc_walk.specs.inner.Stack.{path_of}
 use Rattle.mc_walk.specs.Walks.{Walked}
 use Rattle.mc_walk.specs.declared.frame.Frame.{Frame}
 use Rattle.mc_walk.proofs.Stacks.{path-push}

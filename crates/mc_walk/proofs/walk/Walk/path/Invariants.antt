@@ -1,5 +1,5 @@
 use Rattle.std.proofs.Common.{◌≡◌, take}
-use Rattle.mc_walk.specs.Stack.{path_of}
+use Rattle.mc_walk.specs.inner.Stack.{path_of}
 use Rattle.mc_walk.proofs.walk.Walk.path.Given as goal
 
 abbrev pub invariant-loop-frame : goal.invariant-loop-frame

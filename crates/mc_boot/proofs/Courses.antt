@@ -1,0 +1,328 @@
+-- Operation number k of each list of operations, by either grain.
+use Rattle.std.proofs.Common.{ap, arith, inl, inr, length-append, subst, sym, zero-add, ◌∙◌}
+use Rattle.std.proofs.Math.Nat.{add-mul-mod_self_right, mod-add-div', mod_self, mul-le-mul_left, mul-le-mul_right, zero-mul}
+use Rattle.std.proofs.lemmas.List.{length-drop, length-replicate, length-take}
+use Rattle.std.proofs.lemmas.List.FromFn.{length-map-range_with_len, length-range_with_len}
+use Rattle.std.proofs.lemmas.Nat.{mod_below}
+use Rattle.std.specs.List.{range_with_len}
+use Rattle.std.specs.Prelude.{Bool, IfSome, List, None, Option, Some, [], drop, false, flat_map, length, map, max, refl, replicate, slice_get, suc, take, true, zero, ℕ, ◌%◌, ◌*◌, ◌++◌, ◌+◌, ◌-◌}
+use Rattle.std.specs.Prelude.{◌/◌, ◌<◌, ◌^◌, ◌∷◌, ◌≡◌, ◌≤◌, ◌⊎◌}
+use Rattle.byteorder.specs.Endian.{little_bytes}
+use Rattle.mc_boot.specs.Boot.{IsInside}
+use Rattle.mc_boot.specs.Plan.{brought_in, closing, copy_of, entry_of, from_transfer, marking, moved_up, opening_writes, piece, resumed_list, steps, swap_list, taken_out, trailer_erase}
+use Rattle.mc_boot.specs.Plan.{trailer_erases, transfers, write, write_count}
+use Rattle.mc_boot.specs.declared.transfer.Transfer.{Transfer}
+use Rattle.mc_flash.specs.Flash.{CanTry, IsRange, sectors_of, size_of}
+use Rattle.mc_flash.specs.Geometry.{Geometry, IsLayout, greatest_sectors, in_pieces, trailer_sectors}
+use Rattle.mc_flash.specs.declared.flash.Grain.{Grain}
+use Rattle.mc_flash.specs.declared.op.Op.{Op}
+use Rattle.mc_flash.specs.declared.op.Slot.{Slot}
+use Rattle.mc_flash.specs.declared.op.Slot.TheVariants.{Primary, Secondary}
+use Rattle.mc_flash.specs.facts.Layouts.{chunks_cover, small_unit, whole_add, whole_sector, whole_times}
+use Rattle.mc_flash.specs.facts.Pieces.{pieces_can}
+use Rattle.mc_trailer.specs.Trailer.{magic_bytes, place, size_bytes}
+use Rattle.mc_trailer.specs.declared.places.Field.{Field}
+use Rattle.mc_trailer.specs.declared.tables.SwapType.{SwapType}
+use Rattle.mc_trailer.specs.declared.places.Field.TheVariants as field
+use Rattle.mc_flash.specs.declared.flash.Grain.TheVariants as grains
+
+-- Elements of lists by their place.
+
+pub get_front : {A : Type 0} (xs ys : List A) (k : ℕ) (x : A) → slice_get xs k ≡ Some x → slice_get (xs ++ ys) k ≡ Some x
+get_front [] ys k x h = cc
+get_front (y ∷ xs) ys zero x h = h
+get_front (y ∷ xs) ys (suc k) x h = get_front xs ys k x h
+
+pub get_behind : {A : Type 0} (xs ys : List A) (k j : ℕ) → k ≡ length xs + j → slice_get (xs ++ ys) k ≡ slice_get ys j
+get_behind [] ys k j e = ap (slice_get ys) (omega (arith, e))
+get_behind (x ∷ xs) ys zero j e = absurd (omega (arith, e))
+get_behind (x ∷ xs) ys (suc k) j e = get_behind xs ys k j (omega (arith, e))
+
+pub get_mapped : {A : Type 0} (f : ℕ → A) (a n k : ℕ) → k < n → slice_get (map f (range_with_len a n)) k ≡ Some (f (a + k))
+get_mapped f a zero k h = absurd (omega arith)
+get_mapped f a (suc n) zero h = ap (λ i. Some (f i)) (omega arith)
+get_mapped f a (suc n) (suc k) h = get_mapped f (a + 1) n k (omega arith) ∙ ap (λ i. Some (f i)) (omega arith)
+
+pub get_within : {A : Type 0} (xs ys : List A) (k : ℕ) → k < length xs → slice_get (xs ++ ys) k ≡ slice_get xs k
+get_within [] ys k h = absurd (omega arith)
+get_within (x ∷ xs) ys zero h = refl
+get_within (x ∷ xs) ys (suc k) h = get_within xs ys k (omega arith)
+
+pub get_counted : (n k : ℕ) → k < n → slice_get (range_with_len 0 n) k ≡ Some k
+get_counted n k h = from 0 n k h ∙ ap (λ (i : ℕ). Some i) (zero-add k)
+  where
+    from : (a n k : ℕ) → k < n → slice_get (range_with_len a n) k ≡ Some (a + k)
+    from a zero k h = absurd (omega arith)
+    from a (suc n) zero h = ap (λ (i : ℕ). Some i) (omega arith)
+    from a (suc n) (suc k) h = from (a + 1) n k (omega arith) ∙ ap (λ (i : ℕ). Some i) (omega arith)
+
+-- the j-th of the i-th piece, where all pieces have one length
+pub get_piece : {A B : Type 0} (f : A → List B) (w : ℕ) → ((x : A) → length (f x) ≡ w) → (xs : List A) (k i j : ℕ) (x : A) → slice_get xs i ≡ Some x → j < w → k ≡ i * w + j
+    → slice_get (flat_map f xs) k ≡ slice_get (f x) j
+get_piece f w even [] k i j x h b e = cc
+get_piece f w even (y ∷ xs) k zero j x h b e =
+    let same : y ≡ x = cc in
+    let is : k ≡ j = omega (arith, e) in
+    ap (slice_get (f y ++ flat_map f xs)) is ∙ get_within (f y) (flat_map f xs) j (omega (arith, even y)) ∙ ap (λ z. slice_get (f z) j) same
+get_piece f w even (y ∷ xs) k (suc i) j x h b e =
+    get_behind (f y) (flat_map f xs) k (i * w + j) (omega (arith, e, even y)) ∙ get_piece f w even xs (i * w + j) i j x h b refl
+
+pub get_dropped : {A : Type 0} (i : ℕ) (xs : List A) (k : ℕ) → slice_get (drop i xs) k ≡ slice_get xs (i + k)
+get_dropped zero xs k = ap (slice_get xs) (omega arith)
+get_dropped (suc i) [] k = refl
+get_dropped (suc i) (x ∷ xs) k = get_dropped i xs k ∙ ap (slice_get (x ∷ xs)) (later i k)
+  where
+    later : (i k : ℕ) → suc (i + k) ≡ suc i + k
+    later i k = omega arith
+
+-- what is left, from a place with an element on
+pub drop_at_place : {A : Type 0} (xs : List A) (k : ℕ) (x : A) → slice_get xs k ≡ Some x → drop k xs ≡ x ∷ drop (k + 1) xs
+drop_at_place [] k x h = cc
+drop_at_place (y ∷ xs) zero x h = let e : y ≡ x = cc in ap (λ z. z ∷ xs) e
+drop_at_place (y ∷ xs) (suc k) x h = drop_at_place xs k x h ∙ ap (λ n. x ∷ drop n (y ∷ xs)) (next k)
+  where
+    next : (k : ℕ) → suc (k + 1) ≡ suc k + 1
+    next k = omega arith
+
+pub drop_past_end : {A : Type 0} (xs : List A) (k : ℕ) → slice_get xs k ≡ None → drop k xs ≡ []
+drop_past_end [] zero h = refl
+drop_past_end [] (suc k) h = refl
+drop_past_end (y ∷ xs) zero h = cc
+drop_past_end (y ∷ xs) (suc k) h = drop_past_end xs k h
+
+-- The copies of a transfer are operations that may be tried.
+
+-- the c-th chunk of a sector
+pub can_chunk : (g : Geometry) (slot : Slot) (sector c : ℕ) → IsLayout g → sector < sectors_of g slot → c < g.sector / g.chunk → IsRange g slot (sector * g.sector + c * g.chunk) g.chunk
+can_chunk g slot sector c ok there below =
+    record {
+      inside =
+          let whole : (sector + 1) * g.sector ≤ sectors_of g slot * g.sector = mul-le-mul_right g.sector (omega arith) in
+          let part : (c + 1) * g.chunk ≤ g.sector / g.chunk * g.chunk = mul-le-mul_right g.chunk (omega arith) in
+          let cover = chunks_cover g ok in
+          omega (arith, whole, part, cover);
+      start = whole_add g (sector * g.sector) (c * g.chunk) (whole_times g sector g.sector (whole_sector g ok)) (whole_times g c g.chunk ok.chunk_units);
+      units = ok.chunk_units;
+      some = ok.some_chunk;
+    }
+
+-- in one slot a chunk goes one sector up
+pub chunks_apart : (g : Geometry) (low high c : ℕ) → IsLayout g → low + 1 ≡ high → low * g.sector + c * g.chunk + g.chunk ≤ high * g.sector + c * g.chunk
+chunks_apart g low high c ok next =
+    let up : high * g.sector ≡ (low + 1) * g.sector = ap (λ n. n * g.sector) (sym next) in
+    let cover = chunks_cover g ok in
+    let some : 1 * g.chunk ≤ g.sector / g.chunk * g.chunk = mul-le-mul_right g.chunk (one_chunk (g.sector / g.chunk) cover) in
+    omega (arith, up, some, cover)
+  where
+    one_chunk : (q : ℕ) → q * g.chunk ≡ g.sector → 1 ≤ q
+    one_chunk zero e = let big = ok.least_sector in let none : zero * g.chunk ≡ 0 = zero-mul g.chunk in omega (arith, e, none, big)
+    one_chunk (suc q) e = omega arith
+
+pub slot_small : (g : Geometry) (slot : Slot) → IsLayout g → size_of g slot ≤ 2 ^ 24
+slot_small g Primary ok = ok.size
+slot_small g Secondary ok =
+    let no_more : g.secondary * g.sector ≤ g.primary * g.sector = mul-le-mul_right g.sector (fewer ok.counts) in
+    let small = ok.size in
+    omega (arith, no_more, small)
+  where
+    fewer : (g.primary ≡ g.secondary) ⊎ (g.primary ≡ g.secondary + 1) → g.secondary ≤ g.primary
+    fewer (inl same) = omega (arith, same)
+    fewer (inr more) = omega (arith, more)
+
+-- both ends of a copied chunk
+pub can_copy : (g : Geometry) (t : Transfer) (c : ℕ) → IsLayout g → IsInside g t → c < g.sector / g.chunk → CanTry g (copy_of g t c)
+can_copy g t c ok inside below = (
+  can_chunk g t.from t.from_sector c ok inside.from below,
+  can_chunk g t.to t.to_sector c ok inside.to below,
+  λ same. inl (chunks_apart g t.from_sector t.to_sector c ok (inside.apart same)),
+)
+
+-- What the grain changes: the writes of the larger fields, and the layout that a course has.
+
+pub greatest_pieces : (c : Grain) (g : Geometry) → greatest_sectors (in_pieces c g) ≡ greatest_sectors g
+greatest_pieces grains.Call g = refl
+greatest_pieces grains.Unit g = refl
+
+pub get_unit : (g : Geometry) (slot : Slot) (f : Field) (new : List ℕ) (k : ℕ) → k < length new / g.unit → slice_get (write grains.Unit g slot f new) k ≡ Some (piece g slot (place g slot f) new k)
+get_unit g slot f new k h = get_mapped (piece g slot (place g slot f) new) 0 (length new / g.unit) k h ∙ ap (λ i. Some (piece g slot (place g slot f) new i)) (zero-add k)
+
+-- a unit lies in the bytes
+pub unit_within : (n u k : ℕ) → k < n / u → k * u + u ≤ n
+unit_within n u k h =
+    let row : (k + 1) * u ≤ n / u * u = mul-le-mul_right u (omega (arith, h)) in
+    let parts = mod-add-div' n u in
+    omega (arith, row, parts)
+
+-- the place of unit k of bytes that are written at a place of a slot
+pub unit_range : (g : Geometry) (slot : Slot) (at before n k len : ℕ) → IsLayout g → at + before ≡ size_of g slot → n ≤ before → at % g.unit ≡ 0 → k * g.unit + g.unit ≤ n → len ≡ g.unit
+    → IsRange g slot (at + k * g.unit) len
+unit_range g slot at before n k len ok ends fits start within is =
+    let some = (small_unit g ok).0 in
+    record {
+      inside = omega (arith, ends, fits, within, is);
+      start = add-mul-mod_self_right at k g.unit ∙ start;
+      units = rw is (mod_self g.unit);
+      some = omega (arith, some, is);
+    }
+
+pub length-unit : (new : List ℕ) (at u : ℕ) → at + u ≤ length new → length (take (at + u - at) (drop at new)) ≡ u
+length-unit new at u within = omega (arith, length-take (at + u - at) (drop at new), length-drop at new, within)
+
+-- the size and the magic are of whole units
+pub whole_units : (g : Geometry) → IsLayout g → (max g.unit 4 % g.unit ≡ 0) × (16 % g.unit ≡ 0)
+whole_units g ok = elim ok.unit [
+  | inl one ↦ rw one (refl, refl)
+  | inr (inl two) ↦ rw two (refl, refl)
+  | inr (inr (inl four)) ↦ rw four (refl, refl)
+  | inr (inr (inr eight)) ↦ rw eight (refl, refl)
+]
+
+-- so is the size short
+pub short_size : (u n : ℕ) → n ≡ max u 4 → u ≤ 8 → n ≤ 16
+short_size u n is small = omega arith
+
+pub length-write : (c : Grain) (g : Geometry) (slot : Slot) (f : Field) (new : List ℕ) → length (write c g slot f new) ≡ write_count c g (length new)
+length-write grains.Call g slot f new = refl
+length-write grains.Unit g slot f new = length-map-range_with_len (piece g slot (place g slot f) new) 0 (length new / g.unit)
+
+pub length-size_bytes : (g : Geometry) (size : ℕ) → length (size_bytes g size) ≡ max g.unit 4
+length-size_bytes g size = omega (arith, length-append (little_bytes 4 size) (replicate (g.unit - 4) 255), length-replicate {A = ℕ} (g.unit - 4) 255)
+
+pub length-marking : (c : Grain) (g : Geometry) (slot : Slot) (size : ℕ) → length (marking c g slot size) ≡ write_count c g (max g.unit 4) + write_count c g 16
+length-marking c g slot size =
+    length-append (write c g slot field.SwapSize (size_bytes g size)) (write c g slot field.Magic magic_bytes)
+    ∙ ap (λ n. n + length (write c g slot field.Magic magic_bytes)) (length-write c g slot field.SwapSize (size_bytes g size) ∙ ap (write_count c g) (length-size_bytes g size))
+    ∙ ap (λ n. write_count c g (max g.unit 4) + n) (length-write c g slot field.Magic magic_bytes)
+
+-- the size comes first
+pub get_size : (c : Grain) (g : Geometry) (slot : Slot) (size k : ℕ) (op : Op) → slice_get (write c g slot field.SwapSize (size_bytes g size)) k ≡ Some op
+    → slice_get (marking c g slot size) k ≡ Some op
+get_size c g slot size k op at = get_front (write c g slot field.SwapSize (size_bytes g size)) (write c g slot field.Magic magic_bytes) k op at
+
+-- behind the size comes the magic
+pub get_magic : (c : Grain) (g : Geometry) (slot : Slot) (size k count : ℕ) → count ≡ write_count c g (max g.unit 4) → count ≤ k
+    → slice_get (marking c g slot size) k ≡ slice_get (write c g slot field.Magic magic_bytes) (k - count)
+get_magic c g slot size k count is behind =
+    let len : length (write c g slot field.SwapSize (size_bytes g size)) ≡ count = length-write c g slot field.SwapSize (size_bytes g size) ∙ ap (write_count c g) (length-size_bytes g size) ∙ sym is
+    in
+    get_behind (write c g slot field.SwapSize (size_bytes g size)) (write c g slot field.Magic magic_bytes) k (k - count) (omega (arith, len, behind))
+
+-- what a course of a layout in pieces may try, its flash lets it try
+pub can_of : (c : Grain) (g l : Geometry) (o : Option Op) → l ≡ in_pieces c g → IfSome o (λ op. CanTry l op) → IfSome o (λ op. CanTry g op)
+can_of c g l None e h = h
+can_of c g l (Some op) e h = let E : Geometry → Type 0 = λ x. CanTry x op in pieces_can c g op (subst E e h)
+
+-- The sections of a course by their place.
+
+pub get_erase : (g : Geometry) (slot : Slot) (rest : List Op) (k : ℕ) → k < trailer_sectors g → slice_get (trailer_erases g slot ++ rest) k ≡ Some (trailer_erase g slot k)
+get_erase g slot rest k h =
+    get_front (trailer_erases g slot) rest k (trailer_erase g slot k)
+    (get_mapped (trailer_erase g slot) 0 (trailer_sectors g) k h ∙ ap (λ i. Some (trailer_erase g slot i)) (zero-add k))
+
+pub get_after_erases : (g : Geometry) (slot : Slot) (rest : List Op) (k : ℕ) → trailer_sectors g ≤ k → slice_get (trailer_erases g slot ++ rest) k ≡ slice_get rest (k - trailer_sectors g)
+get_after_erases g slot rest k h =
+    get_behind (trailer_erases g slot) rest k (k - trailer_sectors g) (omega (arith, length-map-range_with_len (trailer_erase g slot) 0 (trailer_sectors g)))
+
+-- how many operations a transfer has
+pub length-steps : (g : Geometry) (t : Transfer) → length (steps g t) ≡ g.sector / g.chunk + 2
+length-steps g t = omega (arith, length-append (map (copy_of g t) (range_with_len 0 (g.sector / g.chunk))) (entry_of g t ∷ []), length-map-range_with_len (copy_of g t) 0 (g.sector / g.chunk))
+
+pub length_pieces : {A B : Type 0} (f : A → List B) (w : ℕ) → ((x : A) → length (f x) ≡ w) → (xs : List A) → length (flat_map f xs) ≡ length xs * w
+length_pieces f w even [] = sym (zero-mul w)
+length_pieces f w even (x ∷ xs) = omega (arith, length-append (f x) (flat_map f xs), even x, length_pieces f w even xs)
+
+pub length-transfers : (g : Geometry) (n : ℕ) → length (transfers g n) ≡ 3 * n
+length-transfers g n =
+    omega (
+      arith,
+      length-append (map (moved_up n) (range_with_len 0 n)) (flat_map (λ i. brought_in g i ∷ taken_out g i ∷ []) (range_with_len 0 n)),
+      length-map-range_with_len (moved_up n) 0 n,
+      length_pieces (λ i. brought_in g i ∷ taken_out g i ∷ []) 2 (λ _. refl) (range_with_len 0 n),
+      length-range_with_len 0 n,
+    )
+
+-- an operation of a transfer
+pub get_transfer : (g : Geometry) (n first : ℕ) (image_ok : Bool) (k : ℕ) (t : Transfer) (op : Op) → slice_get (transfers g n) (first + k / (g.sector / g.chunk + 2)) ≡ Some t
+    → slice_get (steps g t) (k % (g.sector / g.chunk + 2)) ≡ Some op → slice_get (from_transfer g n first image_ok) k ≡ Some op
+get_transfer g n first image_ok k t op at here =
+    let w = g.sector / g.chunk + 2 in
+    let below : k % w < w = mod_below k w (omega arith) in
+    let parts : k ≡ k / w * w + k % w = omega (arith, mod-add-div' k w) in
+    get_front (flat_map (steps g) (drop first (transfers g n))) (closing g image_ok) k op
+    (get_piece (steps g) w (length-steps g) (drop first (transfers g n)) k (k / w) (k % w) t (get_dropped first (transfers g n) (k / w) ∙ at) below parts ∙ here)
+
+-- the finish
+pub get_closing : (g : Geometry) (n first : ℕ) (image_ok : Bool) (k : ℕ) → 3 * n - first ≤ k / (g.sector / g.chunk + 2) → ((3 * n - first) * (g.sector / g.chunk + 2) ≤ k)
+    × (slice_get (from_transfer g n first image_ok) k ≡ slice_get (closing g image_ok) (k - (3 * n - first) * (g.sector / g.chunk + 2)))
+get_closing g n first image_ok k past =
+    let w = g.sector / g.chunk + 2 in
+    let most : (3 * n - first) * w ≤ k / w * w = mul-le-mul_right w past in
+    let parts : k % w + k / w * w ≡ k = mod-add-div' k w in
+    let before : (3 * n - first) * w ≤ k = omega (arith, most, parts) in
+    let count : length (drop first (transfers g n)) ≡ 3 * n - first = length-drop first (transfers g n) ∙ ap (λ m. m - first) (length-transfers g n) in
+    let len : length (flat_map (steps g) (drop first (transfers g n))) ≡ (3 * n - first) * w = length_pieces (steps g) w (length-steps g) (drop first (transfers g n)) ∙ ap (λ m. m * w) count in
+    (before, get_behind (flat_map (steps g) (drop first (transfers g n))) (closing g image_ok) k (k - (3 * n - first) * w) (omega (arith, len, before)))
+
+pub length-from_transfer : (g : Geometry) (n first : ℕ) (image_ok : Bool) → length (from_transfer g n first image_ok) ≡ (3 * n - first) * (g.sector / g.chunk + 2) + length (closing g image_ok)
+length-from_transfer g n first image_ok =
+    let w = g.sector / g.chunk + 2 in
+    let count : length (drop first (transfers g n)) ≡ 3 * n - first = length-drop first (transfers g n) ∙ ap (λ m. m - first) (length-transfers g n) in
+    length-append (flat_map (steps g) (drop first (transfers g n))) (closing g image_ok)
+    ∙ ap (λ m. m + length (closing g image_ok)) (length_pieces (steps g) w (length-steps g) (drop first (transfers g n)) ∙ ap (λ m. m * w) count)
+
+pub length-erases : (g : Geometry) (slot : Slot) (rest : List Op) → length (trailer_erases g slot ++ rest) ≡ trailer_sectors g + length rest
+length-erases g slot rest =
+    length-append (trailer_erases g slot) rest ∙ ap (λ m. m + length rest) (length-map-range_with_len (trailer_erase g slot) 0 (trailer_sectors g))
+
+-- no course is long
+pub few_transfers : (g : Geometry) (n first : ℕ) → IsLayout g → n ≤ greatest_sectors g → (3 * n - first) * (g.sector / g.chunk + 2) ≤ 201332736
+few_transfers g n first ok fits =
+    let w = g.sector / g.chunk + 2 in
+    let few : n ≤ g.max_sectors = omega arith in
+    let most = ok.few_sectors in
+    let rows : (3 * n - first) * w ≤ 3072 * w = mul-le-mul_right w (omega (arith, few, most)) in
+    let wide : g.sector / g.chunk ≤ 65536 = no_wider (g.sector / g.chunk) (chunks_cover g ok) in
+    omega (arith, rows, wide)
+  where
+    no_wider : (q : ℕ) → q * g.chunk ≡ g.sector → q ≤ 65536
+    no_wider q e =
+        let some = ok.some_chunk in
+        let big = ok.greatest_sector in
+        let more : q * 1 ≤ q * g.chunk = mul-le-mul_left q (omega (arith, some)) in
+        omega (arith, more, e, big)
+
+pub length-swap_list : (c : Grain) (g : Geometry) (kind : SwapType) (size n : ℕ) → length (swap_list c g kind size n) ≡ trailer_sectors g +
+    (length (opening_writes c g kind size) + length (resumed_list g n 0 true false))
+length-swap_list c g kind size n =
+    length-erases g Primary (opening_writes c g kind size ++ resumed_list g n 0 true false)
+    ∙ ap (λ m. trailer_sectors g + m) (length-append (opening_writes c g kind size) (resumed_list g n 0 true false))
+
+-- The transfers by their place.
+
+pub get_moved : (g : Geometry) (n t : ℕ) → t < n → slice_get (transfers g n) t ≡ Some (moved_up n t)
+get_moved g n t h =
+    get_front (map (moved_up n) (range_with_len 0 n)) _ t (moved_up n t) (get_mapped (moved_up n) 0 n t h ∙ ap (λ i. Some (moved_up n i)) (zero-add t))
+
+get_pair : (g : Geometry) (n t i j : ℕ) → i < n → j < 2 → t ≡ n + (i * 2 + j) → slice_get (transfers g n) t ≡ slice_get (brought_in g i ∷ taken_out g i ∷ []) j
+get_pair g n t i j h b e =
+    get_behind (map (moved_up n) (range_with_len 0 n)) (flat_map (λ i. brought_in g i ∷ taken_out g i ∷ []) (range_with_len 0 n)) t (i * 2 + j)
+    (omega (arith, e, length-map-range_with_len (moved_up n) 0 n))
+    ∙ get_piece (λ i. brought_in g i ∷ taken_out g i ∷ []) 2 (λ _. refl) (range_with_len 0 n) (i * 2 + j) i j i (get_counted n i h) b refl
+
+pub get_brought : (g : Geometry) (n t i : ℕ) → i < n → t ≡ n + i * 2 → slice_get (transfers g n) t ≡ Some (brought_in g i)
+get_brought g n t i h e = get_pair g n t i 0 h (omega arith) (omega arith)
+
+pub get_taken : (g : Geometry) (n t i : ℕ) → i < n → t ≡ n + (i * 2 + 1) → slice_get (transfers g n) t ≡ Some (taken_out g i)
+get_taken g n t i h e = get_pair g n t i 1 h (omega arith) e
+
+pub get_copy : (g : Geometry) (t : Transfer) (k : ℕ) → 0 < k → k ≤ g.sector / g.chunk → slice_get (steps g t) k ≡ Some (copy_of g t (k - 1))
+get_copy g t zero some below = absurd (omega arith)
+get_copy g t (suc c) some below =
+    get_front (map (copy_of g t) (range_with_len 0 (g.sector / g.chunk))) (entry_of g t ∷ []) c (copy_of g t c)
+    (get_mapped (copy_of g t) 0 (g.sector / g.chunk) c (omega arith) ∙ ap (λ i. Some (copy_of g t i)) (zero-add c))
+    ∙ ap (λ i. Some (copy_of g t i)) (omega arith)
+
+pub get_entry : (g : Geometry) (t : Transfer) (k : ℕ) → k ≡ g.sector / g.chunk + 1 → slice_get (steps g t) k ≡ Some (entry_of g t)
+get_entry g t zero e = absurd (omega arith)
+get_entry g t (suc c) e =
+    get_behind (map (copy_of g t) (range_with_len 0 (g.sector / g.chunk))) (entry_of g t ∷ []) c 0 (omega (arith, e, length-map-range_with_len (copy_of g t) 0 (g.sector / g.chunk)))

@@ -1,0 +1,406 @@
+-- The transfers of a swap: where each reads and writes, its status entry, and the highest entry that is written.
+use Rattle.std.proofs.Common.{add-zero, ap, arith, eq-eqb, inl, inr, subst, sym, zero-add, ◌∙◌}
+use Rattle.std.proofs.lemmas.Bool.{cases_eq, cases_lt}
+use Rattle.std.proofs.lemmas.Bool.Decides.{nat_tests}
+use Rattle.std.proofs.lemmas.Iterator.Adapters.{position_from-zero}
+use Rattle.std.proofs.lemmas.Option.{slice_get_within}
+use Rattle.std.specs.List.{position_from, range_with_len}
+use Rattle.std.specs.Prelude.{Bool, List, None, Option, Some, [], false, flat_map, if◌then◌else◌, length, map, nat_lt, option_map, position, refl, slice_get, suc, take, true, zero, ℕ, ◌%◌, ◌&&◌}
+use Rattle.std.specs.Prelude.{◌*◌, ◌++◌, ◌+◌, ◌-◌, ◌/◌, ◌<◌, ◌==◌, ◌∷◌, ◌≡◌, ◌≤◌, ◌⊎◌}
+use Rattle.mc_boot.proofs.Courses.{get_brought, get_moved, get_taken, length-transfers}
+use Rattle.mc_boot.specs.Boot.{IsInside}
+use Rattle.mc_boot.specs.Plan.{brought_in, first_left, moved_up, taken_out, transfers}
+use Rattle.mc_boot.specs.declared.transfer.Transfer.{Transfer}
+use Rattle.mc_flash.specs.Flash.{Content, IsSized, byte, size_of}
+use Rattle.mc_flash.specs.Geometry.{Geometry, IsLayout, greatest_sectors, trailer_bytes}
+use Rattle.mc_flash.specs.declared.op.Slot.{Slot}
+use Rattle.mc_flash.specs.declared.op.Slot.TheVariants.{Primary, Secondary}
+use Rattle.mc_flash.specs.facts.Changes.{Changed}
+use Rattle.mc_flash.specs.facts.Layouts.{data_sectors, small_unit}
+use Rattle.mc_trailer.specs.Trailer.{entry_place, highest_entry, one_unit}
+use Rattle.mc_trailer.specs.facts.Entries.{blank_entry, entries_same, entry_kept_beside, highest_at, highest_none, written_entry}
+use Rattle.mc_trailer.specs.facts.Places.{entry_ends, entry_inside}
+
+-- Where each sector's bytes come from, after transfers. No byte is in it.
+
+-- a sector: a slot and a number. What is held where: the sector of the start whose bytes stand there
+abbrev pub Held : Type 0
+Held = Slot → ℕ → Slot × ℕ
+
+abbrev pub is_same : Slot → Slot → Bool
+is_same Primary Primary = true
+is_same Primary Secondary = false
+is_same Secondary Primary = false
+is_same Secondary Secondary = true
+
+abbrev pub held_after : Held → Transfer → Held
+held_after f x o i = if is_same o x.to && i == x.to_sector then f x.from x.from_sector else f o i
+
+abbrev pub held_after_all : Held → List Transfer → Held
+held_after_all f [] = f
+held_after_all f (x ∷ xs) = held_after_all (held_after f x) xs
+
+abbrev pub at_start : Held
+at_start o i = (o, i)
+
+-- after the first j moves
+pub record Moved (n j : ℕ) (f : Held) : Type 0 where
+  pub low : (i : ℕ) → i + j ≤ n → f Primary i ≡ (Primary, i)
+  pub high : (i : ℕ) → i < n → n ≤ i + j → f Primary (i + 1) ≡ (Primary, i)
+  pub other : (i : ℕ) → f Secondary i ≡ (Secondary, i)
+
+-- after the first k pairs
+pub record Paired (n k : ℕ) (f : Held) : Type 0 where
+  pub done : (i : ℕ) → i < k → f Primary i ≡ (Secondary, i)
+  pub left : (i : ℕ) → k ≤ i → i < n → f Primary (i + 1) ≡ (Primary, i)
+  pub taken : (i : ℕ) → i < k → f Secondary i ≡ (Primary, i)
+  pub waits : (i : ℕ) → k ≤ i → f Secondary i ≡ (Secondary, i)
+
+same_number : (m n : ℕ) → m ≡ n → (m == n) ≡ true
+same_number m n e = eq-eqb m n e
+
+pub other_number : (m n : ℕ) → (m ≡ n → ⊥) → (m == n) ≡ false
+other_number m n distinct = grind (arith, nat_tests)
+
+move_step : (n j : ℕ) (f : Held) → j < n → Moved n j f → Moved n (j + 1) (held_after f (moved_up n j))
+move_step n j f below m = record {
+  low = λ i h. rw (other_number i (n - j) (λ e. omega (arith, e, h, below))) (m.low i (omega (arith, h)));
+  high = λ i h k. elim (cases_eq (i + 1) (n - j)) [
+    | inl here ↦ rw (same_number (i + 1) (n - j) here) (m.low (n - 1 - j) (omega (arith, below)) ∙ ap (λ (a : ℕ). (Primary, a)) (omega (arith, here)))
+    | inr past ↦ rw (other_number (i + 1) (n - j) past) (m.high i h (omega (arith, k, past, below)))
+  ];
+  other = λ i. m.other i;
+}
+
+pair_step : (g : Geometry) (n k : ℕ) (f : Held) → k < n → Paired n k f → Paired n (k + 1) (held_after (held_after f (brought_in g k)) (taken_out g k))
+pair_step g n k f below p = record {
+  done = λ i h. elim (cases_eq i k) [
+    | inl here ↦ rw (same_number i k here) (p.waits k (omega arith) ∙ ap (λ (a : ℕ). (Secondary, a)) (sym here))
+    | inr past ↦ rw (other_number i k past) (p.done i (omega (arith, h, past)))
+  ];
+  left = λ i h l. rw (other_number (i + 1) k (λ e. omega (arith, e, h))) (p.left i (omega (arith, h)) l);
+  taken = λ i h. elim (cases_eq i k) [
+    | inl here ↦ rw (same_number i k here, other_number (k + 1) k (λ e. omega (arith, e))) (p.left k (omega arith) below ∙ ap (λ (a : ℕ). (Primary, a)) (sym here))
+    | inr past ↦ rw (other_number i k past) (p.taken i (omega (arith, h, past)))
+  ];
+  waits = λ i h. rw (other_number i k (λ e. omega (arith, e, h))) (p.waits i (omega (arith, h)));
+}
+
+pub held_append : (f : Held) (xs ys : List Transfer) → held_after_all f (xs ++ ys) ≡ held_after_all (held_after_all f xs) ys
+held_append f [] ys = refl
+held_append f (x ∷ xs) ys = held_append (held_after f x) xs ys
+
+moves : (n a m : ℕ) (f : Held) → a + m ≡ n → Moved n a f → Moved n n (held_after_all f (map (moved_up n) (range_with_len a m)))
+moves n a zero f whole so = let E : ℕ → Type 0 = λ k. Moved n k f in subst E (omega (arith, whole)) so
+moves n a (suc m) f whole so = moves n (a + 1) m (held_after f (moved_up n a)) (omega (arith, whole)) (move_step n a f (omega (arith, whole)) so)
+
+pairs : (g : Geometry) (n a m : ℕ) (f : Held) → a + m ≡ n → Paired n a f → Paired n n (held_after_all f (flat_map (λ i. brought_in g i ∷ taken_out g i ∷ []) (range_with_len a m)))
+pairs g n a zero f whole so = let E : ℕ → Type 0 = λ k. Paired n k f in subst E (omega (arith, whole)) so
+pairs g n a (suc m) f whole so = pairs g n (a + 1) m (held_after (held_after f (brought_in g a)) (taken_out g a)) (omega (arith, whole)) (pair_step g n a f (omega (arith, whole)) so)
+
+-- All transfers exchange the first n sectors.
+pub exchanged : (g : Geometry) (n : ℕ) → Paired n n (held_after_all at_start (transfers g n))
+exchanged g n =
+    let first : Moved n n (held_after_all at_start (map (moved_up n) (range_with_len 0 n))) =
+    moves n 0 n at_start (omega arith) (record { low = λ i _. refl; high = λ i h k. absurd (omega (arith, h, k)); other = λ i. refl }) in
+    let begin : Paired n 0 (held_after_all at_start (map (moved_up n) (range_with_len 0 n))) =
+    record { done = λ i h. absurd (omega (arith, h)); left = λ i h l. first.high i l (omega arith); taken = λ i h. absurd (omega (arith, h)); waits = λ i h. first.other i } in
+    let E : Held → Type 0 = λ f. Paired n n f in
+    subst E (sym (held_append at_start (map (moved_up n) (range_with_len 0 n)) (flat_map (λ i. brought_in g i ∷ taken_out g i ∷ []) (range_with_len 0 n))))
+    (pairs g n 0 n (held_after_all at_start (map (moved_up n) (range_with_len 0 n))) (omega arith) begin)
+
+-- The status entries of the first k transfers, and the highest of them.
+
+-- the entry of transfer k
+abbrev pub entry_number : Geometry → ℕ → ℕ → ℕ
+entry_number g n k = if nat_lt k n then k else g.max_sectors + (k - n)
+
+pub number_low : (g : Geometry) (n k : ℕ) → k < n → entry_number g n k ≡ k
+number_low g n k h = let e : nat_lt k n ≡ true = grind (arith, nat_tests) in rw e refl
+
+pub number_high : (g : Geometry) (n k : ℕ) → n ≤ k → entry_number g n k ≡ g.max_sectors + (k - n)
+number_high g n k h = let e : nat_lt k n ≡ false = grind (arith, nat_tests) in rw e refl
+
+pub number_up : (g : Geometry) (n j k : ℕ) → n ≤ g.max_sectors → j < k → entry_number g n j < entry_number g n k
+number_up g n j k few before = elim (cases_lt k n) [
+  | inl low ↦ omega (arith, before, number_low g n k low, number_low g n j (omega (arith, low, before)))
+  | inr high ↦
+      elim (cases_lt j n) [
+        | inl below ↦ omega (arith, few, number_high g n k high, number_low g n j below, below)
+        | inr above ↦ omega (arith, before, number_high g n k high, number_high g n j above, above)
+      ]
+]
+
+pub number_below : (g : Geometry) (n k : ℕ) → n ≤ g.max_sectors → k < 3 * n → entry_number g n k < 3 * g.max_sectors
+number_below g n k few below = elim (cases_lt k n) [
+  | inl low ↦ omega (arith, few, below, number_low g n k low)
+  | inr high ↦ omega (arith, few, below, number_high g n k high)
+]
+
+-- The last of the first k entries begins with 1, and all above it are free.
+pub record Entries (g : Geometry) (n k : ℕ) (s : Content) : Type 0 where
+  pub last : 0 < k → byte s Primary (entry_place g (entry_number g n (k - 1))) ≡ 1
+  pub free : (e i : ℕ) → e < 3 * g.max_sectors → (0 < k → entry_number g n (k - 1) < e) → i < g.unit → byte s Primary (entry_place g e + i) ≡ 255
+
+-- the part of the trailer before the fields decides
+pub entries_kept : (g : Geometry) (n k : ℕ) (s t : Content) → IsLayout g → n ≤ g.max_sectors → k ≤ 3 * n
+    → ((i : ℕ) → size_of g Primary ≤ i + trailer_bytes g → i + 48 < size_of g Primary → byte t Primary i ≡ byte s Primary i) → Entries g n k s → Entries g n k t
+entries_kept g n k s t ok few most same en = record {
+  last = λ some.
+      let below : entry_number g n (k - 1) < 3 * g.max_sectors = number_below g n (k - 1) few (omega (arith, some, most)) in
+      let unit = small_unit g ok in
+      same (entry_place g (entry_number g n (k - 1))) (omega (arith, entry_inside g (entry_number g n (k - 1)) ok below)) (omega (arith, unit, entry_ends g (entry_number g n (k - 1)) ok below)) ∙
+      en.last some;
+  free = λ e i below above h. entries_same g s t ok same e below i h ∙ en.free e i below above h;
+}
+
+pub entries_none : (g : Geometry) (n : ℕ) (s : Content) → ((e i : ℕ) → e < 3 * g.max_sectors → i < g.unit → byte s Primary (entry_place g e + i) ≡ 255) → Entries g n 0 s
+entries_none g n s free = record { last = λ some. absurd (omega (arith, some)); free = λ e i below above h. free e i below h }
+
+-- one entry more
+pub entry_step : (g : Geometry) (n k : ℕ) (s t : Content) → IsLayout g → n ≤ g.max_sectors → k < 3 * n → Entries g n k s → Changed s t Primary (entry_place g (entry_number g n k)) (one_unit g 1)
+    → Entries g n (k + 1) t
+entry_step g n k s t ok few below en ch = record {
+  last = λ some.
+      let E : ℕ → Type 0 = λ j. byte t Primary (entry_place g (entry_number g n j)) ≡ 1 in
+      subst E (omega arith) (ap (byte t Primary) (sym (add-zero (entry_place g (entry_number g n k)))) ∙ ch.inside 0 (omega arith));
+  free = λ e i high above h.
+      let over : entry_number g n k < e = (let D : ℕ → Type 0 = λ j. entry_number g n j < e in subst D (omega arith) (above (omega arith))) in
+      entry_kept_beside g s t (entry_number g n k) e 1 ok (number_below g n k few below) high (λ same. absurd (omega (arith, same, over))) ch i h
+      ∙ en.free e i high (λ some. omega (arith, over, number_up g n (k - 1) k few (omega (arith, some)))) h;
+}
+
+-- what is found of them
+pub entries_last : (g : Geometry) (n k : ℕ) (s : Content) → IsLayout g → IsSized g s → n ≤ g.max_sectors → 0 < k → k ≤ 3 * n → Entries g n k s → highest_entry g s ≡ Some (entry_number g n (k - 1))
+entries_last g n k s ok sized few some most en =
+    let below : entry_number g n (k - 1) < 3 * g.max_sectors = number_below g n (k - 1) few (omega (arith, some, most)) in
+    highest_at g s (entry_number g n (k - 1))
+    (written_entry g s (entry_number g n (k - 1)) 1 ok sized below (λ same. absurd (omega (arith, same))) (en.last some))
+    (λ d over under. blank_entry g s d ok sized under (λ i h. en.free d i under (λ _. over) h))
+
+pub entries_not : (g : Geometry) (n : ℕ) (s : Content) → IsLayout g → IsSized g s → Entries g n 0 s → highest_entry g s ≡ None
+entries_not g n s ok sized en = highest_none g s (λ d under. blank_entry g s d ok sized under (λ i h. en.free d i under (λ some. absurd (omega (arith, some))) h))
+
+-- The transfer of an entry.
+
+-- the first place that passes, from i on
+found_from : {A : Type 0} (p : A → Bool) (xs : List A) (i k : ℕ) (x : A) → slice_get xs k ≡ Some x → p x ≡ true → ((j : ℕ) (y : A) → j < k → slice_get xs j ≡ Some y → p y ≡ false)
+    → position_from p i xs ≡ Some (i + k)
+found_from p [] i k x here passes before = cc
+found_from p (y ∷ xs) i zero x here passes before =
+    let same : y ≡ x = cc in
+    rw (ap p same ∙ passes) (ap (λ (n : ℕ). Some n) (omega arith))
+found_from p (y ∷ xs) i (suc k) x here passes before =
+    rw (before 0 y (omega arith) refl) (found_from p xs (i + 1) k x here passes (λ j z below at. before (suc j) z (omega (arith, below)) at) ∙ ap (λ (n : ℕ). Some n) (later i k))
+  where
+    later : (i k : ℕ) → i + 1 + k ≡ i + suc k
+    later i k = omega arith
+
+none_from : {A : Type 0} (p : A → Bool) (xs : List A) (i : ℕ) → ((j : ℕ) (y : A) → slice_get xs j ≡ Some y → p y ≡ false) → position_from p i xs ≡ None
+none_from p [] i fails = refl
+none_from p (y ∷ xs) i fails = rw (fails 0 y refl) (none_from p xs (i + 1) (λ j z at. fails (suc j) z at))
+
+-- the entry of a place
+entry_at : Geometry → ℕ → ℕ → ℕ → Type 0
+entry_at g n k e = ((k < n) × (e ≡ k)) ⊎ ((n ≤ k) × (k < 3 * n) × (e + n ≡ g.max_sectors + k))
+
+entry_of_place : (g : Geometry) (n k : ℕ) (t : Transfer) → slice_get (transfers g n) k ≡ Some t → entry_at g n k t.entry
+unfolding entry_at
+entry_of_place g n k t at = elim (cases_lt k n) [
+  | inl below ↦ inl (below, moved below)
+  | inr above ↦ inr (above, within, swapped above)
+]
+  where
+    within : k < 3 * n
+    within = omega (arith, slice_get_within (transfers g n) k t at, length-transfers g n)
+
+    moved : k < n → t.entry ≡ k
+    moved below = let e : Some t ≡ Some (moved_up n k) = sym at ∙ get_moved g n k below in let same : t ≡ moved_up n k = cc in ap (λ (u : Transfer). u.entry) same
+
+    swapped : n ≤ k → t.entry + n ≡ g.max_sectors + k
+    swapped above = elim (cases_eq ((k - n) % 2) 0) [
+      | inl even ↦
+          let e : Some t ≡ Some (brought_in g ((k - n) / 2)) = sym at ∙ get_brought g n k ((k - n) / 2) (omega (arith, within)) (omega arith) in
+          let same : t ≡ brought_in g ((k - n) / 2) = cc in
+          let entry : t.entry ≡ g.max_sectors + 2 * ((k - n) / 2) = ap (λ (u : Transfer). u.entry) same in
+          omega (arith, entry)
+      | inr odd ↦
+          let e : Some t ≡ Some (taken_out g ((k - n) / 2)) = sym at ∙ get_taken g n k ((k - n) / 2) (omega (arith, within)) (omega arith) in
+          let same : t ≡ taken_out g ((k - n) / 2) = cc in
+          let entry : t.entry ≡ g.max_sectors + 2 * ((k - n) / 2) + 1 = ap (λ (u : Transfer). u.entry) same in
+          omega (arith, entry)
+    ]
+
+-- no two transfers have one entry
+apart : (g : Geometry) (n j k d e : ℕ) → n ≤ g.max_sectors → j < k → entry_at g n j d → entry_at g n k e → d ≡ e → ⊥
+unfolding entry_at
+apart g n j k d e few before (inl low) (inl high) same = omega (arith, low.1, high.1)
+apart g n j k d e few before (inl low) (inr high) same = omega (arith, low.0, low.1, high.2)
+apart g n j k d e few before (inr low) (inl high) same = omega (arith, low.0, high.0)
+apart g n j k d e few before (inr low) (inr high) same = omega (arith, low.2, high.2)
+
+position_is : (p : Transfer → Bool) (xs : List Transfer) → position p xs ≡ position_from p 0 xs
+position_is p xs = position_from-zero p xs
+
+pub left_after : (g : Geometry) (n k e : ℕ) (t : Transfer) → n ≤ g.max_sectors → slice_get (transfers g n) k ≡ Some t → t.entry ≡ e → first_left g n (Some e) ≡ Some (k + 1)
+left_after g n k e t few at is =
+    let p : Transfer → Bool = λ u. u.entry == e in
+    let found : position_from p 0 (transfers g n) ≡ Some (0 + k) =
+    found_from p (transfers g n) 0 k t at (eq-eqb t.entry e is)
+    (λ j y below there. other_number y.entry e (λ same. apart g n j k y.entry t.entry few below (entry_of_place g n j y there) (entry_of_place g n k t at) (same ∙ sym is))) in
+    ap (option_map (λ (i : ℕ). i + 1)) (position_is p (transfers g n) ∙ found ∙ ap (λ (m : ℕ). Some m) (zero-add k))
+
+other_entry : (g : Geometry) (n k d e : ℕ) → entry_at g n k d → n ≤ e → (e < g.max_sectors) ⊎ (g.max_sectors + 2 * n ≤ e) → d ≡ e → ⊥
+unfolding entry_at
+other_entry g n k d e (inl low) above (inl small) same = omega (arith, low.0, low.1)
+other_entry g n k d e (inl low) above (inr great) same = omega (arith, low.0, low.1)
+other_entry g n k d e (inr high) above (inl small) same = omega (arith, high.0, high.1, high.2)
+other_entry g n k d e (inr high) above (inr great) same = omega (arith, high.0, high.1, high.2)
+
+pub left_none : (g : Geometry) (n e : ℕ) → n ≤ e → (e < g.max_sectors) ⊎ (g.max_sectors + 2 * n ≤ e) → first_left g n (Some e) ≡ None
+left_none g n e above other =
+    let p : Transfer → Bool = λ u. u.entry == e in
+    ap (option_map (λ (i : ℕ). i + 1)) (position_is p (transfers g n)
+    ∙ none_from p (transfers g n) 0 (λ j y there. other_number y.entry e (other_entry g n j y.entry e (entry_of_place g n j y there) above other)))
+
+pub left_at_pair : (g : Geometry) (n e : ℕ) → n ≤ g.max_sectors → g.max_sectors ≤ e → e - g.max_sectors < 2 * n → first_left g n (Some e) ≡ Some (n + (e - g.max_sectors) + 1)
+left_at_pair g n e few from below = elim (cases_eq ((e - g.max_sectors) % 2) 0) [
+  | inl even ↦
+      left_after g n (n + (e - g.max_sectors)) e (brought_in g ((e - g.max_sectors) / 2)) few
+      (get_brought g n (n + (e - g.max_sectors)) ((e - g.max_sectors) / 2) (omega arith) (omega arith)) (omega arith)
+  | inr odd ↦
+      left_after g n (n + (e - g.max_sectors)) e (taken_out g ((e - g.max_sectors) / 2)) few
+      (get_taken g n (n + (e - g.max_sectors)) ((e - g.max_sectors) / 2) (omega arith) (omega arith)) (omega arith)
+]
+
+-- What holds of the k-th transfer of a swap that fits.
+
+-- each of the 3n places has a transfer, and there is no other place
+pub there_is : (g : Geometry) (n k : ℕ) → k < 3 * n → (x : Transfer) × (slice_get (transfers g n) k ≡ Some x)
+there_is g n k below = from (slice_get (transfers g n) k) refl
+  where
+    from : (o : Option Transfer) → slice_get (transfers g n) k ≡ o → (x : Transfer) × (slice_get (transfers g n) k ≡ Some x)
+    from (Some x) e = (x, e)
+    from None e = elim (cases_lt k n) [
+      | inl low ↦ (moved_up n k, get_moved g n k low)
+      | inr high ↦ elim (cases_eq ((k - n) % 2) 0) [
+        | inl even ↦ (brought_in g ((k - n) / 2), get_brought g n k ((k - n) / 2) (omega arith) (omega arith))
+        | inr odd ↦ (taken_out g ((k - n) / 2), get_taken g n k ((k - n) / 2) (omega arith) (omega arith))
+      ]
+    ]
+
+pub place_below : (g : Geometry) (n k : ℕ) (x : Transfer) → slice_get (transfers g n) k ≡ Some x → k < 3 * n
+place_below g n k x at = omega (arith, slice_get_within (transfers g n) k x at, length-transfers g n)
+
+-- in the slots' data sectors, with its own entry
+pub record Fits (g : Geometry) (n k : ℕ) (x : Transfer) : Type 0 where
+  pub inside : IsInside g x
+  pub from_data : x.from_sector < data_sectors g x.from
+  pub to_data : x.to_sector < data_sectors g x.to
+  pub entry : x.entry ≡ entry_number g n k
+
+fits_moved : (g : Geometry) (n k : ℕ) → IsLayout g → n ≤ greatest_sectors g → k < n → Fits g n k (moved_up n k)
+fits_moved g n k ok few low = record {
+  inside = record { from = omega arith; to = omega arith; entry = omega arith; apart = λ _. omega (arith, low) };
+  from_data = omega arith;
+  to_data = omega arith;
+  entry = sym (number_low g n k low);
+}
+
+fits_brought : (g : Geometry) (n k i : ℕ) → IsLayout g → n ≤ greatest_sectors g → i < n → k ≡ n + 2 * i → Fits g n k (brought_in g i)
+fits_brought g n k i ok few low is = record {
+  inside = record { from = omega arith; to = omega arith; entry = omega arith; apart = λ same. cc };
+  from_data = omega arith;
+  to_data = omega arith;
+  entry = omega (arith, is, number_high g n k (omega (arith, is)));
+}
+
+fits_taken : (g : Geometry) (n k i : ℕ) → IsLayout g → n ≤ greatest_sectors g → i < n → k ≡ n + 2 * i + 1 → Fits g n k (taken_out g i)
+fits_taken g n k i ok few low is = record {
+  inside = record { from = omega arith; to = omega arith; entry = omega arith; apart = λ same. cc };
+  from_data = omega arith;
+  to_data = omega arith;
+  entry = omega (arith, is, number_high g n k (omega (arith, is)));
+}
+
+pub same_transfer : (x y : Transfer) → Some x ≡ Some y → x ≡ y
+same_transfer x y e = cc
+
+pub fits_at : (g : Geometry) (n k : ℕ) (x : Transfer) → IsLayout g → n ≤ greatest_sectors g → slice_get (transfers g n) k ≡ Some x → Fits g n k x
+fits_at g n k x ok few at = elim (cases_lt k n) [
+  | inl low ↦
+      let same : moved_up n k ≡ x = same_transfer (moved_up n k) x (sym (get_moved g n k low) ∙ at) in
+      let E : Transfer → Type 0 = λ y. Fits g n k y in
+      subst E same (fits_moved g n k ok few low)
+  | inr high ↦ elim (cases_eq ((k - n) % 2) 0) [
+    | inl even ↦
+        let same : brought_in g ((k - n) / 2) ≡ x = same_transfer (brought_in g ((k - n) / 2)) x (sym (get_brought g n k ((k - n) / 2) (omega (arith, within)) (omega arith)) ∙ at) in
+        let E : Transfer → Type 0 = λ y. Fits g n k y in
+        subst E same (fits_brought g n k ((k - n) / 2) ok few (omega (arith, within)) (omega arith))
+    | inr odd ↦
+        let same : taken_out g ((k - n) / 2) ≡ x = same_transfer (taken_out g ((k - n) / 2)) x (sym (get_taken g n k ((k - n) / 2) (omega (arith, within)) (omega arith)) ∙ at) in
+        let E : Transfer → Type 0 = λ y. Fits g n k y in
+        subst E same (fits_taken g n k ((k - n) / 2) ok few (omega (arith, within)) (omega arith))
+  ]
+]
+  where
+    within : k < 3 * n
+    within = place_below g n k x at
+
+-- the transfer after the one with this entry
+pub left_at : (g : Geometry) (n k : ℕ) → IsLayout g → n ≤ greatest_sectors g → 0 < k → k ≤ 3 * n → first_left g n (Some (entry_number g n (k - 1))) ≡ Some k
+left_at g n k ok few some most =
+    let there = there_is g n (k - 1) (omega (arith, some, most)) in
+    let fits = fits_at g n (k - 1) there.0 ok few there.1 in
+    left_after g n (k - 1) (entry_number g n (k - 1)) there.0 (omega arith) there.1 fits.entry ∙ ap (λ (i : ℕ). Some i) (omega (arith, some))
+
+-- where each sector's bytes come from, before transfer k
+pub held_at : Geometry → ℕ → ℕ → Held
+held_at g n k = held_after_all at_start (take k (transfers g n))
+
+take_more : {A : Type 0} (xs : List A) (k : ℕ) (x : A) → slice_get xs k ≡ Some x → take (k + 1) xs ≡ take k xs ++ x ∷ []
+take_more [] k x h = cc
+take_more (y ∷ xs) zero x h = let e : y ≡ x = cc in ap (λ z. z ∷ []) e
+take_more (y ∷ xs) (suc k) x h = ap (λ n. take n (y ∷ xs)) (next k) ∙ ap (λ l. y ∷ l) (take_more xs k x h)
+  where
+    next : (k : ℕ) → suc k + 1 ≡ suc (k + 1)
+    next k = omega arith
+
+pub take_whole : {A : Type 0} (xs : List A) (k : ℕ) → k ≡ length xs → take k xs ≡ xs
+take_whole [] zero e = refl
+take_whole [] (suc k) e = refl
+take_whole (x ∷ xs) zero e = absurd (omega (arith, e))
+take_whole (x ∷ xs) (suc k) e = ap (λ l. x ∷ l) (take_whole xs k (omega (arith, e)))
+
+pub held_next : (g : Geometry) (n k : ℕ) (x : Transfer) → slice_get (transfers g n) k ≡ Some x → held_at g n (k + 1) ≡ held_after (held_at g n k) x
+unfolding held_at
+held_next g n k x at = ap (held_after_all at_start) (take_more (transfers g n) k x at) ∙ held_append at_start (take k (transfers g n)) (x ∷ [])
+
+pub held_begin : (g : Geometry) (n : ℕ) → held_at g n 0 ≡ at_start
+unfolding held_at
+held_begin g n = refl
+
+pub held_end : (g : Geometry) (n : ℕ) → held_at g n (3 * n) ≡ held_after_all at_start (transfers g n)
+unfolding held_at
+held_end g n = ap (held_after_all at_start) (take_whole (transfers g n) (3 * n) (sym (length-transfers g n)))
+
+-- at the target, and elsewhere
+same_is : (o : Slot) → is_same o o ≡ true
+same_is Primary = refl
+same_is Secondary = refl
+
+is_same_tells : (o p : Slot) → is_same o p ≡ true → o ≡ p
+is_same_tells Primary Primary e = refl
+is_same_tells Primary Secondary e = cc
+is_same_tells Secondary Primary e = cc
+is_same_tells Secondary Secondary e = refl
+
+pub held_here : (f : Held) (x : Transfer) → held_after f x x.to x.to_sector ≡ f x.from x.from_sector
+held_here f x = rw (same_is x.to) (rw (eq-eqb x.to_sector x.to_sector refl) refl)
+
+pub held_there : (f : Held) (x : Transfer) (o : Slot) (i : ℕ) → (o ≡ x.to → i ≡ x.to_sector → ⊥) → held_after f x o i ≡ f o i
+held_there f x o i away = by (is_same o x.to) refl
+  where
+    by : (b : Bool) → is_same o x.to ≡ b → held_after f x o i ≡ f o i
+    by false e = rw e refl
+    by true e = rw e (let d : (i == x.to_sector) ≡ false = other_number i x.to_sector (away (is_same_tells o x.to e)) in rw d refl)

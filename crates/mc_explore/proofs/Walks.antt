@@ -1,0 +1,261 @@
+-- A flash that was just loaded, and a walk from there along a schedule.
+use Rattle.std.proofs.Common.{ap, arith, subst, sym, ◌∙◌}
+use Rattle.std.proofs.Math.Nat.{mul-le-mul_right}
+use Rattle.std.proofs.lemmas.List.{length-take-le, take_all}
+use Rattle.std.specs.Prelude.{Bool, List, None, Option, Some, [], false, is_some, length, refl, suc, take, true, ℕ, ◌*◌, ◌++◌, ◌+◌, ◌∷◌, ◌≡◌, ◌≤◌}
+use Rattle.mc_boot.specs.Boot.{HasCome, Progress, left_of, progress}
+use Rattle.mc_boot.specs.Outcome.{after, ops_of, shown}
+use Rattle.mc_boot.specs.Plan.{PowerOn, again, power_on}
+use Rattle.mc_boot.specs.facts.Bounds.{ops_few}
+use Rattle.mc_boot.specs.facts.Run.{come_begun, come_left}
+use Rattle.mc_explore.proofs.Onwards.{ComesOn}
+use Rattle.mc_explore.specs.Rows.{subject}
+use Rattle.mc_explore.specs.Schedules.{CanOccur, CannotOccurAt, IsReplayed}
+use Rattle.mc_explore.specs.declared.once.Once.{Once}
+use Rattle.mc_explore.specs.declared.once.Told.{Told}
+use Rattle.mc_explore.specs.facts.Occurring.{allowed_after, occurs_allowed, path_of}
+use Rattle.mc_explore.specs.inner.Exploring.{FollowsKey}
+use Rattle.mc_explore.specs.inner.Once.{IsTold, at_cut, begins, begun_of, boots, most_of, once}
+use Rattle.mc_explore.specs.inner.Table.{HasRoomFor}
+use Rattle.mc_explore.specs.inner.View.{Followed, IsLoaded, begun_with}
+use Rattle.mc_flash.specs.Flash.{Content}
+use Rattle.mc_flash.specs.Geometry.{Geometry, IsLayout}
+use Rattle.mc_flash.specs.Usage.{Allows, LeaveRoom, Limits, Loads, Seen, Spent, Usage, most_operations, most_saved, room_of}
+use Rattle.mc_flash.specs.declared.op.Op.{Op}
+use Rattle.mc_start.specs.Start.{Started, begun}
+use Rattle.mc_start.specs.facts.Room.{limits_are}
+use Rattle.mc_trailer.specs.declared.tables.Rules.{Rules}
+use Rattle.mc_tree.specs.Tree.{Allowed, landed}
+use Rattle.mc_tree.specs.facts.Order.{allowed_front}
+use Rattle.mc_walk.specs.Kind.{telling}
+use Rattle.mc_walk.specs.Walks.{Begins, Follows, IsClear, IsSame, IsThere, Walked, origin_of, path_cost}
+use Rattle.mc_tree.specs.Tree as tree
+
+-- A flash that was just loaded.
+
+module _ (counted : Bool) (g : Geometry) (primary secondary : List ℕ) (f : Seen) where
+  -- It serves for a walk of fewer cuts than there are boots.
+  pub clear : (r : Rules) (bound boots : ℕ) → bound + 1 ≤ boots → Loads counted g primary secondary r.grain boots f → IsClear (once r g) bound f
+  clear r bound boots few l =
+      let limits = limits_are r.grain g boots f.usage.limits l.room in
+      let entries : (bound + 1) * most_operations r.grain g ≤ boots * most_operations r.grain g = mul-le-mul_right (most_operations r.grain g) few in
+      let saved : (bound + 1) * most_saved g ≤ boots * most_saved g = mul-le-mul_right (most_saved g) few in
+      record {
+        none = l.none;
+        counts = ap (λ (x : Usage). x.counts) l.usage_is;
+        layout_is = l.geometry_is;
+        roomy = record {
+          entries = omega (arith, limits.for_entries, entries);
+          saved = omega (arith, limits.for_saved, saved);
+          checkpoints = omega (arith, limits.for_checkpoints, few);
+        };
+      }
+
+-- It has room for so many boots, and their checkpoints.
+pub room_for : (counted : Bool) (g : Geometry) (primary secondary : List ℕ) (f : Seen) (r : Rules) (boots : ℕ) → Loads counted g primary secondary r.grain boots f → HasRoomFor r g boots f
+room_for counted g primary secondary f r boots l =
+    let limits = limits_are r.grain g boots f.usage.limits l.room in
+    record {
+      allows = record {
+        entries = omega (arith, limits.for_entries, ap (λ (x : Usage). x.counts.entries) l.usage_is);
+        saved = omega (arith, limits.for_saved, ap (λ (x : Usage). x.counts.saved) l.usage_is);
+      };
+      checkpoints = omega (arith, limits.for_checkpoints, ap length l.none);
+    }
+
+-- The start of the same four parts.
+pub same_start : (start : Started) (once : Once) (primary secondary : List ℕ) → once.rules ≡ start.rules → once.layout ≡ start.geometry → primary ≡ start.content.primary
+    → secondary ≡ start.content.secondary → begun_with once primary secondary ≡ begun start
+same_start start once primary secondary rules layout one two =
+    let content : Content = record { primary = start.content.primary; secondary = start.content.secondary } in
+    let same : begun_with once primary secondary ≡ record { rules = start.rules; geometry = start.geometry; content = content } = cc in
+    same
+
+-- A walk that was loaded for a start goes along a schedule.
+
+same_begun : (old new : Walked Once) → IsSame old new → begun_of new ≡ begun_of old
+same_begun old new s = cc (s.branches, s.origin)
+
+-- ---- what a path costs
+
+pub few_ops : (x : PowerOn) → IsLayout x.geometry → length (ops_of x) ≤ most_operations x.rules.grain x.geometry
+few_ops x valid =
+    let few = ops_few x (length (ops_of x)) valid in
+    omega (arith, few, ap (λ (ops : List Op). length ops) (take_all (length (ops_of x)) (ops_of x) (omega arith)))
+
+pub cost_few : (x : PowerOn) (l : List ℕ) → IsLayout x.geometry → Allowed (boots x.rules x.geometry) x.content l
+    → path_cost (once x.rules x.geometry) l ≤ length l * (2 * most_operations x.rules.grain x.geometry)
+cost_few x [] valid a = omega arith
+cost_few x (c ∷ cs) valid a =
+    let g = x.geometry in
+    let rest = cost_few (again x (at_cut x c)) cs valid a.1 in
+    let first = few_ops x valid in
+    let more : suc (length cs) * (2 * most_operations x.rules.grain g) ≡ 2 * most_operations x.rules.grain g + length cs * (2 * most_operations x.rules.grain g) = omega arith in
+    omega (arith, rest, first, a.0, more)
+
+-- ---- the same start
+
+module _ (counted : Bool) (start : PowerOn) (bound : ℕ) (path : List ℕ) (zero_walk one two : Walked Once) (told : Told) (l : IsLoaded counted start bound zero_walk)
+    (b : Begins (once zero_walk.branches.rules zero_walk.branches.layout) zero_walk told one) where
+  one_start : begun_of one ≡ start
+  one_start = same_begun zero_walk one b.same ∙ l.start_is
+
+  one_bound : one.bound ≡ bound
+  one_bound = b.same.bound ∙ l.bound_is
+
+  -- It was at the root.
+  from_root : (l : List ℕ) → one.path ++ l ≡ l
+  from_root l = ap (λ z. z ++ l) b.path
+
+  at_start : (l : List ℕ) → tree.IsMember (boots one.branches.rules one.branches.layout) (origin_of one.seen) one.bound l → tree.IsMember (boots start.rules start.geometry) start.content bound l
+  at_start l m =
+      let P : PowerOn → Type 0 = λ s. tree.IsMember (boots s.rules s.geometry) s.content one.bound l in
+      subst (λ n. tree.IsMember (boots start.rules start.geometry) start.content n l) one_bound (subst P one_start m)
+
+  -- And those of its start are its own.
+  at_one : (l : List ℕ) → tree.IsMember (boots start.rules start.geometry) start.content bound l
+      → tree.IsMember (boots one.branches.rules one.branches.layout) (origin_of one.seen) one.bound (one.path ++ l)
+  at_one l m =
+      let P : PowerOn → Type 0 = λ s. tree.IsMember (boots s.rules s.geometry) s.content one.bound l in
+      let here = subst P (sym one_start) (subst (λ n. tree.IsMember (boots start.rules start.geometry) start.content n l) (sym one_bound) m) in
+      subst (tree.IsMember (boots one.branches.rules one.branches.layout) (origin_of one.seen) one.bound) (sym (from_root l)) here
+
+  -- There.
+  pub followed : (went : Bool) → went ≡ true → Follows (once one.branches.rules one.branches.layout) path one went two
+      → Spent (telling (once zero_walk.branches.rules zero_walk.branches.layout)) zero_walk.seen one.seen
+      → Spent (path_cost (once one.branches.rules one.branches.layout) path) one.seen two.seen → Followed counted start bound path two
+  followed false is f s t = absurd cc
+  followed true is f s t =
+      let path_is : two.path ≡ path = f.0 ∙ from_root path in
+      let allowed = at_start path (subst (tree.IsMember (boots one.branches.rules one.branches.layout) (origin_of one.seen) one.bound) path_is f.1) in
+      let P : PowerOn → Type 0 = λ x. Spent (telling (once x.rules x.geometry)) zero_walk.seen one.seen in
+      let Q : PowerOn → Type 0 = λ x. Spent (path_cost (once x.rules x.geometry) path) one.seen two.seen in
+      let first : Spent (telling (once start.rules start.geometry)) zero_walk.seen one.seen = subst P l.start_is s in
+      let along : Spent (path_cost (once start.rules start.geometry) path) one.seen two.seen = subst Q one_start t in
+      let cost = cost_few start path l.valid allowed.1 in
+      let few : length path * (2 * most_operations start.rules.grain start.geometry) ≤ bound * (2 * most_operations start.rules.grain start.geometry) =
+      mul-le-mul_right (2 * most_operations start.rules.grain start.geometry) allowed.0 in
+      record {
+        start_is = same_begun one two f.2 ∙ one_start;
+        bound_is = f.2.bound ∙ one_bound;
+        path_is = path_is;
+        stands = f.3;
+        allowed = allowed;
+        counted_is = ap (λ (x : Limits). x.counted) (along.limits ∙ first.limits) ∙ l.counted_is;
+        calm = along.failed ∙ first.failed ∙ l.calm;
+        applied = sum (most_operations start.rules.grain start.geometry) bound (path_cost (once start.rules start.geometry) path) (length path * (2 * most_operations start.rules.grain start.geometry))
+            zero_walk.seen.usage.applied one.seen.usage.applied two.seen.usage.applied l.idle first.applied along.applied cost few;
+      }
+    where
+      sum : (most n cost many a b c : ℕ) → a ≡ 0 → b ≤ a + most → c ≤ b + cost → cost ≤ many → many ≤ n * (2 * most) → c ≤ 2 * (n + 1) * most
+      sum most n cost many a b c z first along few all = let e : 2 * (n + 1) * most ≡ n * (2 * most) + 2 * most = omega arith in omega (arith, z, first, along, few, all, e)
+
+  -- And the cut where it stops is the first that can't occur.
+  pub stops : (went : Bool) → went ≡ false → Follows (once one.branches.rules one.branches.layout) path one went two → bound ≡ length path → (place : ℕ) → place ≡ length two.path
+      → CannotOccurAt start path place
+  stops true is f whole place at = absurd cc
+  stops false is f whole place at =
+      let front : two.path ≡ take f.steps path = f.front ∙ from_root (take f.steps path) in
+      let here : place ≡ f.steps = at ∙ ap length front ∙ length-take-le f.steps path (omega (arith, f.inside)) in
+      let member = at_start two.path f.member in
+      subst (CannotOccurAt start path) (sym here) (record {
+        inside = f.inside;
+        cut = landed (boots start.rules start.geometry) start.content two.path;
+        before = ap (after start) (sym front) ∙ allowed_after start two.path member.1;
+        not_there = none (after start (take (f.steps + 1) path)) refl;
+      })
+    where
+      none : (o : Option Content) → after start (take (f.steps + 1) path) ≡ o → after start (take (f.steps + 1) path) ≡ None
+      none None e = e
+      none (Some u) e =
+          let n : ℕ = f.steps + 1 in
+          let occurs : CanOccur start (take n path) = ap (λ (o : Option Content). is_some o) e in
+          let len : length (take n path) ≤ bound = omega (arith, length-take-le n path (omega (arith, f.inside)), f.inside, whole) in
+          absurd (f.no_child (at_one (take n path) (len, occurs_allowed start (take n path) occurs)))
+
+-- ---- a replay
+
+module _ (counted : Bool) (start : PowerOn) (bound : ℕ) (path : List ℕ) (w : Walked Once) (told : Told) (f : Followed counted start bound path w)
+    (there : IsThere (once w.branches.rules w.branches.layout) w told) where
+  abbrev cut : Content
+  cut = landed (boots start.rules start.geometry) start.content path
+
+  node_is : landed (boots w.branches.rules w.branches.layout) (origin_of w.seen) w.path ≡ cut
+  node_is =
+      ap (λ (s : PowerOn). landed (boots s.rules s.geometry) s.content w.path) f.start_is ∙ ap (landed (boots start.rules start.geometry) start.content) f.path_is
+
+  pub told_here : IsTold (again start cut) told
+  told_here =
+      let P : PowerOn → Type 0 = λ s. IsTold (again s (landed (boots w.branches.rules w.branches.layout) (origin_of w.seen) w.path)) told in
+      subst (λ s. IsTold (again start s) told) node_is (subst P f.start_is there.told_is)
+
+  pub layout_here : w.seen.geometry ≡ start.geometry
+  layout_here = there.layout_is ∙ ap (λ (s : PowerOn). s.geometry) f.start_is
+
+  -- The flash is as it was when the last cut fell.
+  pub cut_here : after start path ≡ Some w.seen.content
+  cut_here = allowed_after start path f.allowed.1 ∙ ap (λ (c : Content). Some c) (sym (there.content_is ∙ node_is))
+
+  -- There is room for the boot.
+  pub room_here : Allows (left_of w.seen.geometry (progress told.boot)) w.seen
+  room_here =
+      let t = told_here in
+      let few : LeaveRoom w.seen.usage.counts (left_of start.geometry (progress told.boot)) (room_of w.seen.usage.limits) = record {
+        entries = omega (arith, there.room.allows.entries, t.few.few, ap (λ (p : Progress). length p.to_come) t.boot_is, ap (λ (s : PowerOn). most_operations s.rules.grain s.geometry) f.start_is);
+        saved = omega (
+          arith,
+          there.room.allows.saved,
+          t.few.saves,
+          ap (λ (p : Progress). (left_of start.geometry p).saved) t.boot_is,
+          ap (λ (s : PowerOn). (most_of s.rules s.geometry).saved) f.start_is,
+        );
+      } in
+      subst (λ (x : Geometry). LeaveRoom w.seen.usage.counts (left_of x (progress told.boot)) (room_of w.seen.usage.limits)) (sym layout_here) few
+
+  -- What it leaves is what the replay leaves.
+  pub replayed : (q : Progress) (new : Seen) → ComesOn w.seen (progress told.boot) new q → q.to_come ≡ []
+      → IsReplayed start path (shown told.outcome) new.content
+  replayed q new come end =
+      let t = told_here in
+      let P : Progress → Type 0 = λ p. HasCome (again start cut) p cut in
+      let at : w.seen.content ≡ cut = there.content_is ∙ node_is in
+      let begins : HasCome (again start cut) (progress told.boot) cut = subst P (sym t.boot_is) (come_begun (again start cut)) in
+      let Q : Geometry → Type 0 = λ x. HasCome (power_on start.rules x cut) (progress told.boot) w.seen.content in
+      let R : Geometry → Type 0 = λ x. HasCome (power_on start.rules x cut) q new.content in
+      let ends = subst R layout_here (come start.rules cut (subst Q (sym layout_here) (subst (HasCome (again start cut) (progress told.boot)) (sym at) begins))) in
+      record {
+        cut = cut;
+        occurs = allowed_after start path f.allowed.1;
+        outcome_is = t.outcome_is;
+        left = come_left (again start cut) q new.content ends end;
+      }
+
+-- A walk along a schedule.
+
+module _ (old new : Walked Once) (path : List ℕ) (root : old.path ≡ []) where
+  pub follows_schedule : (went : Bool) → Follows (once old.branches.rules old.branches.layout) path old went new
+      → FollowsKey subject (λ (o : Once). once o.rules o.layout) begins (λ _. tt) (λ _ _ l. l) old path went new
+  follows_schedule true f = (f.1, f.0 ∙ ap (λ z. z ++ path) root, f.2, f.3)
+  follows_schedule false f = λ m.
+      let x = begun_of old in
+      let here = path_of x old.bound path m in
+      let n : ℕ = f.steps + 1 in
+      let len : length (take n path) ≤ old.bound = omega (arith, length-take-le n path (omega (arith, f.inside)), f.inside, here.0) in
+      f.no_child (subst (λ l. tree.IsMember (boots old.branches.rules old.branches.layout) (origin_of old.seen) old.bound (l ++ take n path)) (sym root)
+      (len, allowed_front (boots old.branches.rules old.branches.layout) (origin_of old.seen) path n here.1))
+
+  -- It takes two boots a cut at most, and one to begin with.
+  pub cheap : (went : Bool) → went ≡ true → Follows (once old.branches.rules old.branches.layout) path old went new → IsLayout old.branches.layout
+      → Spent (path_cost (once old.branches.rules old.branches.layout) path) old.seen new.seen → old.seen.usage.applied ≤ most_operations old.branches.rules.grain old.branches.layout
+      → new.seen.usage.applied ≤ 2 * (old.bound + 1) * most_operations old.branches.rules.grain old.branches.layout
+  cheap false is f valid spent begun = absurd cc
+  cheap true is f valid spent begun =
+      let x = begun_of old in
+      let most : ℕ = most_operations old.branches.rules.grain old.branches.layout in
+      let member = subst (tree.IsMember (boots old.branches.rules old.branches.layout) (origin_of old.seen) old.bound) (f.0 ∙ ap (λ z. z ++ path) root) f.1 in
+      let cost = cost_few x path valid member.1 in
+      let few : length path * (2 * most) ≤ old.bound * (2 * most) = mul-le-mul_right (2 * most) member.0 in
+      sum most old.bound (path_cost (once old.branches.rules old.branches.layout) path) (length path * (2 * most)) old.seen.usage.applied new.seen.usage.applied begun spent.applied cost few
+    where
+      sum : (most n cost many a b : ℕ) → a ≤ most → b ≤ a + cost → cost ≤ many → many ≤ n * (2 * most) → b ≤ 2 * (n + 1) * most
+      sum most n cost many a b first along few all = let e : 2 * (n + 1) * most ≡ n * (2 * most) + 2 * most = omega arith in omega (arith, first, along, few, all, e)

@@ -1,0 +1,6 @@
+-- Views, invariants and states of the code's own. No public contract needs them to be believed.
+pub mod Once
+pub mod LastCuts
+pub mod Table
+pub mod View
+pub mod Exploring

@@ -1,0 +1,75 @@
+-- Numbers in bytes, and bytes taken piece by piece.
+use Rattle.std.proofs.Common.{List, [], ap, append_assoc, arith, drop, inl, inr, length, length-append, min, suc, sym, take, zero, ℕ, ◌++◌, ◌+◌, ◌-◌, ◌<◌, ◌^◌, ◌∙◌, ◌∷◌, ◌≡◌, ◌≤◌}
+use Rattle.std.proofs.lemmas.Bool.{cases_lt}
+use Rattle.std.proofs.lemmas.List.{drop-drop, drop_at, get_or-drop, get_or-take, get_or_past, length-drop, length-take, take-append-drop, take_all, take_at, take_min}
+use Rattle.std.proofs.lemmas.Nat.{le_bytes_2, le_bytes_4}
+use Rattle.byteorder.specs.Endian.{little_bytes, little_number}
+use Rattle.byteorder.specs.Numbers.{little_from-lt, little_from-take, little_number-reads_back}
+use Rattle.mc_image.specs.Image.{IsBytes, u16_at, u32_at}
+
+-- Numbers that are read are the numbers that are spelled, and the other way round.
+
+pub IsBytes-drop : (n : ℕ) (bytes : List ℕ) → IsBytes bytes → IsBytes (drop n bytes)
+IsBytes-drop n bytes h i = rw get_or-drop (h (n + i))
+
+pub IsBytes-take : (n : ℕ) (bytes : List ℕ) → IsBytes bytes → IsBytes (take n bytes)
+IsBytes-take n bytes h i =
+    elim (cases_lt i n) [
+      | inl lt ↦ rw (get_or-take n bytes i 0 lt) (h i)
+      | inr le ↦ rw (get_or_past (take n bytes) i 0 (omega (arith, length-take n bytes))) (omega arith)
+    ]
+
+pub u16_at-lt : (i : ℕ) (b : List ℕ) → IsBytes b → u16_at i b < 2 ^ 16
+unfolding u16_at
+u16_at-lt i b h = little_from-lt 0 2 (drop i b) (IsBytes-drop i b h)
+
+pub u32_at-lt : (i : ℕ) (b : List ℕ) → IsBytes b → u32_at i b < 2 ^ 32
+unfolding u32_at
+u32_at-lt i b h = little_from-lt 0 4 (drop i b) (IsBytes-drop i b h)
+
+-- what stands from a place on begins with the spelling of the number there
+number_back : (n i : ℕ) (b : List ℕ) → little_bytes n (little_number n (drop i b)) ≡ take n (drop i b) → drop i b ≡ little_bytes n (little_number n (drop i b)) ++ drop (i + n) b
+number_back n i b back = cc (take-append-drop n (drop i b), drop-drop n i b)
+
+pub u16_back : (i : ℕ) (b : List ℕ) → IsBytes b → i + 2 ≤ length b → drop i b ≡ little_bytes 2 (u16_at i b) ++ drop (i + 2) b
+unfolding u16_at
+u16_back i b h le =
+    let d : List ℕ = drop i b in
+    number_back 2 i b (le_bytes_2 (take 2 d) (little_number 2 d) (omega (arith, length-take 2 d, length-drop i b)) (IsBytes-take 2 d (IsBytes-drop i b h))
+    (omega (arith, little_from-take 0 2 2 d (omega arith))))
+
+pub u32_back : (i : ℕ) (b : List ℕ) → IsBytes b → i + 4 ≤ length b → drop i b ≡ little_bytes 4 (u32_at i b) ++ drop (i + 4) b
+unfolding u32_at
+u32_back i b h le =
+    let d : List ℕ = drop i b in
+    number_back 4 i b (le_bytes_4 (take 4 d) (little_number 4 d) (omega (arith, length-take 4 d, length-drop i b)) (IsBytes-take 4 d (IsBytes-drop i b h))
+    (omega (arith, little_from-take 0 4 4 d (omega arith))))
+
+-- a number behind some bytes
+pub u16_read : (i : ℕ) (front : List ℕ) (x : ℕ) (rest : List ℕ) → length front ≡ i → x < 2 ^ 16 → u16_at i (front ++ (little_bytes 2 x ++ rest)) ≡ x
+unfolding u16_at
+u16_read i front x rest e lt = ap (little_number 2) (drop_at front (little_bytes 2 x ++ rest) i e) ∙ little_number-reads_back 2 x rest lt
+
+-- Fronts and rests of lists that were put together from pieces.
+
+pub take_split : (n : ℕ) (xs ys : List ℕ) → take n (xs ++ ys) ≡ take n xs ++ take (n - length xs) ys
+take_split zero xs ys = ap (λ (k : ℕ). take k ys) (let e : 0 ≡ 0 - length xs = omega arith in e)
+take_split (suc n) [] ys = ap (λ (k : ℕ). take k ys) (let e : suc n ≡ suc n - 0 = omega arith in e)
+take_split (suc n) (x ∷ xs) ys = ap (λ (l : List ℕ). x ∷ l) (take_split n xs ys) ∙ ap (λ (k : ℕ). x ∷ (take n xs ++ take k ys)) (let e : n - length xs ≡ suc n - suc (length xs) = omega arith in e)
+
+pub drop_split : (n : ℕ) (xs ys : List ℕ) → drop n (xs ++ ys) ≡ drop n xs ++ drop (n - length xs) ys
+drop_split zero xs ys = ap (λ (k : ℕ). xs ++ drop k ys) (let e : 0 ≡ 0 - length xs = omega arith in e)
+drop_split (suc n) [] ys = ap (λ (k : ℕ). drop k ys) (let e : suc n ≡ suc n - 0 = omega arith in e)
+drop_split (suc n) (x ∷ xs) ys = drop_split n xs ys ∙ ap (λ (k : ℕ). drop n xs ++ drop k ys) (let e : n - length xs ≡ suc n - suc (length xs) = omega arith in e)
+
+-- what a room of n bytes holds once a piece was put behind its first c
+pub gathered : (n c t : ℕ) (xs p r : List ℕ) → length xs ≡ n → c ≤ n → t ≡ min (n - c) (length p) → take (c + t) (take c xs ++ (take t p ++ r)) ≡ take n (take c xs ++ p)
+gathered n c t xs p r len le is =
+    let l : length (take c xs) ≡ c = omega (arith, length-take c xs) in
+    let m : length (take t p) ≡ t = omega (arith, length-take t p) in
+    let fits : length (take c xs ++ take t p) ≡ c + t = omega (arith, length-append (take c xs) (take t p)) in
+    let left : take (c + t) (take c xs ++ (take t p ++ r)) ≡ take c xs ++ take t p =
+    ap (take (c + t)) (sym (append_assoc (take c xs) (take t p) r)) ∙ take_at (take c xs ++ take t p) r (c + t) fits in
+    let all : take n (take c xs) ≡ take c xs = take_all n (take c xs) (omega arith) in
+    let room : take (n - length (take c xs)) p ≡ take t p = ap (λ (k : ℕ). take (n - k) p) l ∙ sym (take_min (n - c) p) ∙ ap (λ (k : ℕ). take k p) (sym is) in
+    left ∙ sym (take_split n (take c xs) p ∙ ap (λ (a : List ℕ). a ++ take (n - length (take c xs)) p) all ∙ ap (λ (a : List ℕ). take c xs ++ a) room)

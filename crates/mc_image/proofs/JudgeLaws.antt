@@ -1,0 +1,417 @@
+-- What the first bytes of an image say stays said; a judge's answers and steps.
+use Rattle.std.proofs.Common.{Bool, Err, List, None, Ok, Some, [], ap, append_assoc, arith, drop, false, get_or, inl, inr, is_some, length, length-append, min, refl, subst, sym, take, true, ℕ}
+use Rattle.std.proofs.Common.{◌++◌, ◌+◌, ◌-◌, ◌<◌, ◌∙◌, ◌∷◌, ◌≡◌, ◌≢◌, ◌≤◌}
+use Rattle.std.proofs.lemmas.Bool.{cases_lt, le-ltb, lt-ltb, ne_eqb}
+use Rattle.std.proofs.lemmas.List.{append-nil, append_cancel_right, drop-append-le, drop_at, get_or-append_right, get_or_append_left, length-drop, length-take, take-append-drop, take-append-le}
+use Rattle.std.proofs.lemmas.List.{take_all, take_at, take_min}
+use Rattle.std.specs.Prelude.{Result, is_none, nat_lt, not, ◌&&◌, ◌==◌}
+use Rattle.mc_image.proofs.ByteNumbers.{IsBytes-take, take_split}
+use Rattle.mc_image.proofs.ImageLaws.{cut_is, not_some, reading, size_is}
+use Rattle.mc_image.proofs.Views.{fault_read, from_parts}
+use Rattle.mc_image.proofs.Walks.{behind_error, digest_good, late_fault, plain_entries, plain_short, u16_more, u32_more}
+use Rattle.mc_image.proofs.Written.{appended}
+use Rattle.mc_image.specs.Image.{Image, IsBytes, IsGood, after_body, area_in, covered_text, digest_of, digests, entries_in, entries_of, header_end, header_in, header_text, image_in, image_text}
+use Rattle.mc_image.specs.Image.{payload_end, payload_in, protected_end, protected_in, protected_text, u16_at, version_in}
+use Rattle.mc_image.specs.Valid.{body_fault, digest_fault, fault_if, first_fault, header_fault, is_bad_area, plain_fault, protected_fault, ◌<+>◌}
+use Rattle.mc_image.specs.declared.areas.ProtectedArea.{ProtectedArea}
+use Rattle.mc_image.specs.declared.areas.Walk.{Walk}
+use Rattle.mc_image.specs.declared.error.ImageError.{ImageError}
+use Rattle.mc_image.specs.declared.error.ImageError.TheVariants.{BadProtected, BadTlvLength, BadTlvMagic, Truncated, TruncatedBody, WrongDigest}
+use Rattle.mc_image.specs.declared.gather.Gather.{Gather}
+use Rattle.mc_image.specs.declared.header.Header.{Header}
+use Rattle.mc_image.specs.declared.judge.Judge.{Judge}
+use Rattle.mc_image.specs.declared.judge.Judged.{Judged}
+use Rattle.mc_image.specs.declared.judge.Sealed.{Sealed}
+use Rattle.mc_image.specs.declared.judge.Stage.{Stage}
+use Rattle.mc_image.specs.facts.Valid.{good_false, good_true}
+use Rattle.mc_image.specs.inner.Judging.{HasHeader, IsBehind, IsInStage, IsPlain, IsProtected, IsSealed, Judges, judged_or_fault, verdict}
+use Rattle.mc_image.specs.inner.Reading.{Follows, Goes, IsHeader, Walks, entries_fault, head_fault, held}
+use Rattle.sha2.specs.Hashers.{Holds256}
+use Rattle.sha2.specs.Sha256.{sha256}
+use Rattle.sha2.specs.declared.Sha256.{Sha256}
+use Rattle.mc_image.specs.declared.judge.Stage.TheVariants as stages
+
+-- What the first bytes of an image say stays said, whatever follows.
+
+-- a fault is the answer
+pub fault_verdict : (b : List ℕ) (e : ImageError) → first_fault b ≡ Some e → verdict b ≡ Err e
+unfolding verdict
+fault_verdict b e h = ap (judged_or_fault _) (fault_read b e h)
+
+-- ---- the header's fields
+
+module _ (b c : List ℕ) (long : 32 ≤ length b) where
+  longer : 32 ≤ length (b ++ c)
+  longer = omega (arith, length-append b c, long)
+
+  pub header_fault_more : header_fault (b ++ c) ≡ header_fault b
+  unfolding header_fault
+  header_fault_more =
+      let p : nat_lt (length (b ++ c)) 32 ≡ false = le-ltb _ _ longer in
+      let q : nat_lt (length b) 32 ≡ false = le-ltb _ _ long in
+      let m = u32_more 0 b c (omega (arith, long)) in
+      let s = u16_more 8 b c (omega (arith, long)) in
+      let f = u32_more 16 b c (omega (arith, long)) in
+      rw (p, q, m, s, f) refl
+
+  pub payload_end_more : payload_end (b ++ c) ≡ payload_end b
+  unfolding payload_end header_end
+  payload_end_more = omega (arith, u16_more 8 b c (omega (arith, long)), u32_more 12 b c (omega (arith, long)))
+
+  pub protected_end_more : protected_end (b ++ c) ≡ protected_end b
+  unfolding protected_end
+  protected_end_more = omega (arith, payload_end_more, u16_more 10 b c (omega (arith, long)))
+
+  pub version_more : version_in (b ++ c) ≡ version_in b
+  unfolding version_in
+  version_more =
+      let e20 = get_or_append_left b c 0 20 (omega (arith, long)) in
+      let e21 = get_or_append_left b c 0 21 (omega (arith, long)) in
+      let e22 = u16_more 22 b c (omega (arith, long)) in
+      let e24 = u32_more 24 b c (omega (arith, long)) in
+      cc
+
+pub has_header_more : (h : Header) (b c : List ℕ) → HasHeader h b → HasHeader h (b ++ c)
+has_header_more h b c has =
+    let long = has.long in
+    record {
+      none = header_fault_more b c long ∙ has.none;
+      long = omega (arith, length-append b c, long);
+      size = has.size;
+      fields = record {
+        size = has.fields.size ∙ sym (u16_more 8 b c (omega (arith, long)));
+        protected = has.fields.protected ∙ sym (u16_more 10 b c (omega (arith, long)));
+        payload = has.fields.payload ∙ sym (u32_more 12 b c (omega (arith, long)));
+        version = has.fields.version ∙ sym (version_more b c long);
+      };
+    }
+
+pub header_ends : (h : Header) (b : List ℕ) → IsHeader h b → (payload_end b ≡ h.size + h.payload) × (protected_end b ≡ h.size + h.payload + h.protected)
+unfolding payload_end header_end protected_end
+header_ends h b f = (omega (arith, f.size, f.payload), omega (arith, f.size, f.payload, f.protected))
+
+fault_header : (b : List ℕ) (e : ImageError) → header_fault b ≡ Some e → first_fault b ≡ Some e
+unfolding first_fault
+fault_header b e h = behind_error (header_fault b) _ e h
+
+pub header_error : (b c : List ℕ) (e : ImageError) → 32 ≤ length b → header_fault b ≡ Some e → verdict (b ++ c) ≡ Err e
+header_error b c e long h = fault_verdict (b ++ c) e (fault_header (b ++ c) e (header_fault_more b c long ∙ h))
+
+pub fields_short : (b : List ℕ) → length b < 32 → verdict b ≡ Err Truncated
+unfolding header_fault
+fields_short b lt = let t : nat_lt (length b) 32 ≡ true = lt-ltb _ _ lt in fault_verdict b Truncated (fault_header b Truncated (rw t refl))
+
+second_fault : (b : List ℕ) (e : ImageError) → header_fault b ≡ None → body_fault b ≡ Some e → first_fault b ≡ Some e
+unfolding first_fault
+second_fault b e h1 h2 = rw (h1, h2) refl
+
+pub body_short : (b : List ℕ) → header_fault b ≡ None → length b < protected_end b → verdict b ≡ Err TruncatedBody
+unfolding body_fault
+body_short b none lt = let t : nat_lt (length b) (protected_end b) ≡ true = lt-ltb _ _ lt in fault_verdict b TruncatedBody (second_fault b TruncatedBody none (rw t refl))
+
+pub body_whole : (b : List ℕ) → protected_end b ≤ length b → body_fault b ≡ None
+unfolding body_fault
+body_whole b le = let t : nat_lt (length b) (protected_end b) ≡ false = le-ltb _ _ le in rw t refl
+
+third_fault : (b : List ℕ) (e : ImageError) → header_fault b ≡ None → body_fault b ≡ None → protected_fault b ≡ Some e → first_fault b ≡ Some e
+unfolding first_fault
+third_fault b e h1 h2 h3 = rw (h1, h2, h3) refl
+
+-- ---- header, payload and protected area
+
+-- the protected area of a body that ends with it
+pub protected_is : (front rest : List ℕ) → 32 ≤ length front → length front ≡ payload_end front → length rest ≡ u16_at 10 front → (more : List ℕ) → protected_in (front ++ (rest ++ more)) ≡ rest
+unfolding protected_in
+protected_is front rest long len size more =
+    let p = payload_end_more front (rest ++ more) long in
+    let q = u16_more 10 front (rest ++ more) (omega (arith, long)) in
+    ap (λ (n : ℕ). take n (drop (payload_end (front ++ (rest ++ more))) (front ++ (rest ++ more)))) q
+    ∙ ap (take (u16_at 10 front)) (drop_at front (rest ++ more) (payload_end (front ++ (rest ++ more))) (len ∙ sym p))
+    ∙ take_at rest more (u16_at 10 front) size
+
+pub protected_none : (b : List ℕ) → u16_at 10 b ≡ 0 → protected_fault b ≡ None
+unfolding protected_fault
+protected_none b e = rw e refl
+
+by_area : (b : List ℕ) (t : Bool) → u16_at 10 b ≢ 0 → is_bad_area 0x6908 (protected_in b) ≡ t → protected_fault b ≡ fault_if t BadProtected
+unfolding protected_fault
+by_area b t ne is =
+    let z : (u16_at 10 b == 0) ≡ false = ne_eqb _ _ ne in
+    rw (z, is) refl
+
+-- by the test of the area
+module _ (h : Header) (front rest : List ℕ) (has : HasHeader h front) (len : length front ≡ payload_end front) (size : length rest ≡ h.protected) (ne : h.protected ≢ 0) where
+  pub protected_tested : (more : List ℕ) (t : Bool) → t ≡ is_bad_area 0x6908 rest → protected_fault (front ++ (rest ++ more)) ≡ fault_if t BadProtected
+  protected_tested more t is =
+      let long = has.long in
+      let q = has.fields.protected in
+      let m = u16_more 10 front (rest ++ more) (omega (arith, long)) in
+      by_area (front ++ (rest ++ more)) t (λ (z : u16_at 10 (front ++ (rest ++ more)) ≡ 0). ne (q ∙ sym m ∙ z)) (ap (is_bad_area 0x6908) (protected_is front rest long len (size ∙ q) more) ∙ sym is)
+
+  pub body_ends : length (front ++ rest) ≡ protected_end (front ++ rest)
+  body_ends =
+      let e = (header_ends h front has.fields) in
+      omega (arith, length-append front rest, len, size, e.0, e.1, protected_end_more front rest has.long)
+
+  pub protected_bad : (more : List ℕ) → true ≡ is_bad_area 0x6908 rest → verdict ((front ++ rest) ++ more) ≡ Err BadProtected
+  protected_bad more is =
+      let b : List ℕ = front ++ (rest ++ more) in
+      let p = protected_end_more (front ++ rest) more (omega (arith, length-append front rest, has.long)) in
+      let same = append_assoc front rest more in
+      let whole : protected_end b ≤ length b = subst (λ (x : List ℕ). protected_end x ≤ length x) same (omega (arith, body_ends, length-append (front ++ rest) more, p)) in
+      ap verdict same ∙ fault_verdict b BadProtected (third_fault b BadProtected (header_fault_more front (rest ++ more) has.long ∙ has.none) (body_whole b whole) (protected_tested more true is))
+
+-- ---- behind header, payload and protected area
+module _ (s : Sealed) (body : List ℕ) (is : IsSealed s body) (rest : List ℕ) where
+  long : 32 ≤ length body
+  long = is.header.long
+
+  ends : protected_end (body ++ rest) ≡ length body
+  ends = protected_end_more body rest long ∙ sym is.whole
+
+  pub after_is : after_body (body ++ rest) ≡ rest
+  unfolding after_body
+  after_is = drop_at body rest (protected_end (body ++ rest)) (sym ends)
+
+  same_protected : protected_in (body ++ rest) ≡ protected_in body
+  unfolding protected_in protected_end
+  same_protected =
+      let p = payload_end_more body rest long in
+      let q = u16_more 10 body rest (omega (arith, long)) in
+      ap (λ (n : ℕ). take n (drop (payload_end (body ++ rest)) (body ++ rest))) q
+      ∙ ap (λ (n : ℕ). take (u16_at 10 body) (drop n (body ++ rest))) p
+      ∙ ap (take (u16_at 10 body)) (drop-append-le (payload_end body) body rest (omega (arith, is.whole)))
+      ∙ take-append-le (u16_at 10 body) (drop (payload_end body) body) rest (omega (arith, is.whole, length-drop (payload_end body) body))
+
+  same_fault : protected_fault (body ++ rest) ≡ protected_fault body
+  unfolding protected_fault
+  same_fault =
+      let q = u16_more 10 body rest (omega (arith, long)) in
+      ap (λ (n : ℕ). fault_if (not (n == 0) && is_bad_area 0x6908 (protected_in (body ++ rest))) BadProtected) q
+      ∙ ap (λ (x : List ℕ). fault_if (not (u16_at 10 body == 0) && is_bad_area 0x6908 x) BadProtected) same_protected
+
+  -- the first fault is that of what follows
+  pub fault_behind : first_fault (body ++ rest) ≡ (plain_fault rest <+> digest_fault (digests (entries_in (drop 4 (area_in rest)))))
+  fault_behind =
+      late_fault (body ++ rest) (header_fault_more body rest long ∙ is.header.none) (body_whole (body ++ rest) (omega (arith, ends, length-append body rest))) (same_fault ∙ is.protected)
+      ∙ ap (λ (x : List ℕ). plain_fault x <+> digest_fault (digests (entries_in (drop 4 (area_in x))))) after_is
+
+  pub plain_error : (e : ImageError) → plain_fault rest ≡ Some e → verdict (body ++ rest) ≡ Err e
+  plain_error e h = fault_verdict (body ++ rest) e (fault_behind ∙ behind_error (plain_fault rest) _ e h)
+
+-- The answer for a plain area that is whole.
+
+-- a head stays without a fault, whatever follows
+pub head_fault_more : (a more : List ℕ) → 4 ≤ length a → head_fault (a ++ more) ≡ head_fault a
+unfolding head_fault
+head_fault_more a more four =
+    let p : nat_lt (length (a ++ more)) 4 ≡ false = le-ltb _ _ (omega (arith, length-append a more, four)) in
+    let q : nat_lt (length a) 4 ≡ false = le-ltb _ _ four in
+    let m = u16_more 0 a more (omega (arith, four)) in
+    let n = u16_more 2 a more (omega (arith, four)) in
+    rw (p, q, m, n) refl
+
+module _ (s : Sealed) (body : List ℕ) (is : IsSealed s body) (t : ℕ) (walk : Walk) (area : List ℕ) (plain : IsPlain t 0 walk area) (more : List ℕ) where
+  total : u16_at 2 (area ++ more) ≡ length area
+  total = omega (arith, plain.total, plain.left, u16_more 2 area more (omega (arith, plain.head)))
+
+  area_is : area_in (area ++ more) ≡ area
+  unfolding area_in
+  area_is = take_at area more (u16_at 2 (area ++ more)) (sym total)
+
+  first_is : first_fault (body ++ (area ++ more)) ≡ entries_fault (drop 4 area)
+  first_is =
+      fault_behind s body is (area ++ more)
+      ∙ plain_entries (area ++ more) (drop 4 area) (head_fault_more area more plain.head ∙ plain.none) (omega (arith, total, length-append area more)) (ap (drop 4) (sym area_is))
+
+  -- a fault of the entries
+  pub entries_error : (e : ImageError) → entries_fault (drop 4 area) ≡ Some e → verdict (body ++ (area ++ more)) ≡ Err e
+  entries_error e h = fault_verdict (body ++ (area ++ more)) e (first_is ∙ h)
+
+  none_is : (d : List ℕ) → is_some (entries_of (drop 4 area)) ≡ true → digests (entries_in (drop 4 area)) ≡ d ∷ [] → length d ≡ 32 → first_fault (body ++ (area ++ more)) ≡ None
+  unfolding entries_fault
+  none_is d filled one len = first_is ∙ (let t : is_none (entries_of (drop 4 area)) ≡ false = not_some _ filled in rw t (digest_good (digests (entries_in (drop 4 area))) d one len))
+
+  after : after_body (body ++ (area ++ more)) ≡ area ++ more
+  after = after_is s body is (area ++ more)
+
+  digest_is : (d : List ℕ) → digests (entries_in (drop 4 area)) ≡ d ∷ [] → digest_of (image_in (body ++ (area ++ more))) ≡ d
+  unfolding digest_of image_in
+  digest_is d one =
+      ap (λ (x : List ℕ). get_or (digests (entries_in (drop 4 (area_in x)))) 0 []) after
+      ∙ ap (λ (x : List ℕ). get_or (digests (entries_in (drop 4 x))) 0 []) area_is
+      ∙ ap (λ (ds : List (List ℕ)). get_or ds 0 []) one
+
+  version_is : (image_in (body ++ (area ++ more))).version ≡ s.header.version
+  unfolding image_in
+  version_is = version_more body (area ++ more) is.header.long ∙ sym is.header.fields.version
+
+  module _ (h : IsBytes (body ++ (area ++ more))) (d : List ℕ) (filled : is_some (entries_of (drop 4 area)) ≡ true) (one : digests (entries_in (drop 4 area)) ≡ d ∷ []) (len : length d ≡ 32) where
+    whole : protected_end (body ++ (area ++ more)) ≤ length (body ++ (area ++ more))
+    whole = omega (arith, is.whole, protected_end_more body (area ++ more) is.header.long, length-append body (area ++ more))
+
+    covered : covered_text (image_in (body ++ (area ++ more))) ≡ body
+    unfolding covered_text
+    covered =
+        let b : List ℕ = body ++ (area ++ more) in
+        let r = reading b h (none_is d filled one len) in
+        let cut = (cut_is b whole).whole in
+        let split : (header_in b ++ (payload_in b ++ protected_in b)) ++ (area ++ more) ≡ b =
+        append_assoc (header_in b) (payload_in b ++ protected_in b) (area ++ more)
+        ∙ ap (λ (x : List ℕ). header_in b ++ x) (append_assoc (payload_in b) (protected_in b) (area ++ more))
+        ∙ ap (λ (x : List ℕ). header_in b ++ (payload_in b ++ (protected_in b ++ x))) (sym after) ∙ sym cut in
+        ap (λ (x : List ℕ). x ++ ((image_in b).payload ++ protected_text (image_in b))) r.header
+        ∙ ap (λ (x : List ℕ). header_in b ++ (x ++ protected_text (image_in b))) r.payload
+        ∙ ap (λ (x : List ℕ). header_in b ++ (payload_in b ++ x)) r.protected
+        ∙ append_cancel_right (header_in b ++ (payload_in b ++ protected_in b)) body (area ++ more) split
+
+    size : length (image_text (image_in (body ++ (area ++ more)))) ≡ length body + length area
+    unfolding covered_text
+    size =
+        let v : Image = image_in (body ++ (area ++ more)) in
+        let r = reading (body ++ (area ++ more)) h (none_is d filled one len) in
+        let p = ap length (r.plain ∙ ap area_in after ∙ area_is) in
+        omega (arith, size_is v, ap length covered, length-append (header_text v) (v.payload ++ protected_text v), length-append v.payload (protected_text v), p)
+
+    -- another digest
+    pub digest_wrong : (s.digest ≡ d → ⊥) → verdict (body ++ (area ++ more)) ≡ Err WrongDigest
+    unfolding verdict
+    digest_wrong ne =
+        let b : List ℕ = body ++ (area ++ more) in
+        ap (judged_or_fault (image_in b)) (from_parts b false (none_is d filled one len)
+        (good_false (image_in b) (λ (g : IsGood (image_in b)). ne (is.digest ∙ sym (ap sha256 covered) ∙ sym g ∙ digest_is d one))))
+
+    pub digest_right : (n : ℕ) → s.digest ≡ d → n ≡ length body + length area → verdict (body ++ (area ++ more)) ≡ Ok (record { version = s.header.version; size = n; digest = d })
+    unfolding verdict
+    digest_right n same is_size =
+        let b : List ℕ = body ++ (area ++ more) in
+        let good : IsGood (image_in b) = digest_is d one ∙ sym same ∙ is.digest ∙ sym (ap sha256 covered) in
+        ap (judged_or_fault (image_in b)) (from_parts b true (none_is d filled one len) (good_true (image_in b) good))
+        ∙ (λ i. Ok (record { version = version_is i; size = (size ∙ sym is_size) i; digest = digest_is d one i }))
+
+-- the length of a body
+pub sealed_len : (s : Sealed) (body : List ℕ) → IsSealed s body → length body ≡ s.header.size + s.header.payload + s.header.protected
+sealed_len s body is = is.whole ∙ (header_ends s.header body is.header.fields).1
+
+-- a plain area that is not whole
+pub no_magic : (rest : List ℕ) → length rest < 4 → plain_fault rest ≡ Some BadTlvMagic
+unfolding plain_fault
+no_magic rest lt = let t : nat_lt (length rest) 4 ≡ true = lt-ltb _ _ lt in rw t refl
+
+pub no_room : (t n : ℕ) (walk : Walk) (rest : List ℕ) → IsPlain t n walk rest → 0 < n → plain_fault rest ≡ Some BadTlvLength
+no_room t n walk rest p lt = let a = p.total in let b = p.left in plain_short rest p.none (omega (arith, a, b, lt))
+
+-- The steps of a judge.
+
+-- the stage of a judge, by its name
+pub at_stage : {j : Judge} {bytes : List ℕ} (s : Stage) → j.stage ≡ s → Judges j bytes → IsInStage s j.hasher bytes
+at_stage {j} {bytes} s e h = subst (λ (x : Stage). IsInStage x j.hasher bytes) e h.stage
+
+-- bytes of a piece are taken
+takes_bytes : (j k : Judge) (piece taken rest : List ℕ) → piece ≡ taken ++ rest → 0 < length taken → IsBytes piece
+    → ((bytes : List ℕ) → Judges j bytes → IsBytes (bytes ++ taken) → Judges k (bytes ++ taken)) → Goes (Judges j) (Judges k) piece rest
+takes_bytes j k piece taken rest split some are goes = record {
+  taken = taken;
+  split = split;
+  some = some;
+  holds = λ bytes h. goes bytes h (λ i. elim (cases_lt i (length bytes)) [
+    | inl lt ↦ rw (get_or_append_left bytes taken 0 i lt) (h.bytes i)
+    | inr le ↦
+        rw (get_or-append_right bytes taken (length bytes) i 0 refl le, ← take_at taken rest (length taken) refl, ← split) (IsBytes-take (length taken) piece are (i - length bytes))
+  ]);
+}
+
+-- the answer stays, whatever follows
+pub over_goes : (j : Judge) (piece : List ℕ) (answer : Result Judged ImageError) → j.stage ≡ stages.Over answer → 0 < length piece → IsBytes piece → Goes (Judges j) (Judges j) piece []
+over_goes j piece answer e lt are = takes_bytes j j piece piece [] (sym (append-nil piece)) lt are (λ bytes h all. record {
+  bytes = all;
+  stage = subst (λ (x : Stage). IsInStage x j.hasher (bytes ++ piece)) (sym e) (λ more both.
+      let same = append_assoc bytes piece more in
+      ap verdict same ∙ at_stage (stages.Over answer) e h (piece ++ more) (subst (λ (x : List ℕ). IsBytes x) same both));
+})
+
+-- what stands behind a body grows
+behind_more : {k : Judge} {P : List ℕ → Type 0} (s : Sealed) (bytes more : List ℕ) → IsBehind s bytes P → IsBytes (bytes ++ more)
+    → ((body rest : List ℕ) → IsBytes (body ++ (rest ++ more)) → IsSealed s body → P rest → Judges k (body ++ (rest ++ more))) → Judges k (bytes ++ more)
+behind_more {k} s bytes more b all goes =
+    let same = ap (λ (x : List ℕ). x ++ more) b.split ∙ append_assoc b.body b.rest more in
+    subst (λ (x : List ℕ). Judges k x) (sym same) (goes b.body b.rest (subst (λ (x : List ℕ). IsBytes x) same all) b.sealed b.stands)
+
+module _ (j k : Judge) (piece rest : List ℕ) (fed : (bytes : List ℕ) × Judges j bytes) (some : 0 < length piece) (are : IsBytes piece) where
+  -- a room of n bytes takes what it can
+  takes_room : (n : ℕ) (old new : List ℕ) → length old < n → new ≡ take n (old ++ piece) → rest ≡ drop (n - length old) piece
+      → ((bytes taken : List ℕ) → Judges j bytes → IsBytes (bytes ++ taken) → new ≡ old ++ taken → length new ≤ n → take (length piece - length rest) piece ≡ taken → Judges k (bytes ++ taken))
+      → Goes (Judges j) (Judges k) piece rest
+  takes_room n old new lt is_new is_rest goes =
+      let t : ℕ = n - length old in
+      let len : length piece - length rest ≡ min t (length piece) = omega (arith, ap length is_rest, length-drop t piece) in
+      takes_bytes j k piece (take t piece) rest (cc (take-append-drop t piece)) (omega (arith, length-take t piece, lt, some)) are (λ bytes h all. goes bytes (take t piece) h all
+      (is_new ∙ take_split n old piece ∙ ap (λ (x : List ℕ). x ++ take t piece) (take_all n old (omega (arith, lt))))
+      (omega (arith, ap length is_new, length-take n (old ++ piece))) (ap (λ (m : ℕ). take m piece) len ∙ take_min t piece))
+
+  -- of the header's fields
+  pub fields_taken : (hasher : Sha256) (old new : Gather 32) → j.stage ≡ stages.Fields old → held new ≡ take 32 (held old ++ piece) → rest ≡ drop (32 - length (held old)) piece
+      → ((bytes : List ℕ) → Holds256 j.hasher bytes → Holds256 hasher (bytes ++ take (length piece - length rest) piece))
+      → ((bytes : List ℕ) → IsBytes bytes → Holds256 hasher bytes → held new ≡ bytes → length bytes ≤ 32 → Judges k bytes) → Goes (Judges j) (Judges k) piece rest
+  fields_taken hasher old new is is_new is_rest hashed goes =
+      let known = at_stage _ is fed.1 in
+      takes_room 32 (held old) (held new) (let e = ap length known.2 in let lt = known.1 in omega (arith, e, lt)) is_new is_rest (λ bytes taken h all more le count.
+      let s = at_stage _ is h in
+      let same = more ∙ ap (λ (x : List ℕ). x ++ taken) s.2 in
+      goes (bytes ++ taken) all (subst (λ (x : List ℕ). Holds256 hasher (bytes ++ x)) count (hashed bytes s.0)) same (omega (arith, ap length same, le)))
+
+  -- of the head of the plain area
+  pub head_taken : (s : Sealed) (old new : Gather 4) → j.stage ≡ stages.PlainHead s old → held new ≡ take 4 (held old ++ piece) → rest ≡ drop (4 - length (held old)) piece
+      → ((body seen : List ℕ) → IsBytes (body ++ seen) → IsSealed s body → held new ≡ seen → length seen ≤ 4 → Judges k (body ++ seen)) → Goes (Judges j) (Judges k) piece rest
+  head_taken s old new is is_new is_rest goes =
+      let known = (at_stage _ is fed.1).stands in
+      takes_room 4 (held old) (held new) (let e = ap length known.1 in let lt = known.0 in omega (arith, e, lt)) is_new is_rest (λ bytes taken h all more le _.
+      behind_more s bytes taken (at_stage _ is h) all (λ body seen both sealed stands.
+      let same = more ∙ ap (λ (x : List ℕ). x ++ taken) stands.1 in
+      goes body (seen ++ taken) both sealed same (omega (arith, ap length same, le))))
+
+-- a part of a piece, which may be all that is left of a stage
+module _ (j k : Judge) (piece inside rest : List ℕ) (fed : (bytes : List ℕ) × Judges j bytes) (some : 0 < length piece) (are : IsBytes piece) (split : piece ≡ inside ++ rest)
+    (left : ℕ) (len : length inside ≡ min left (length piece)) where
+  -- of a payload
+  pub payload_taken : (hasher : Sha256) (h : Header) → j.stage ≡ stages.Payload h left → ((bytes : List ℕ) → Holds256 j.hasher bytes → Holds256 hasher (bytes ++ inside))
+      → ((bytes : List ℕ) → IsBytes bytes → Holds256 hasher bytes → HasHeader h bytes → length bytes + (left - length inside) ≡ payload_end bytes → Judges k bytes)
+      → Goes (Judges j) (Judges k) piece rest
+  payload_taken hasher h is hashed goes =
+      takes_bytes j k piece inside rest split (omega (arith, len, (at_stage _ is fed.1).3, some)) are (λ bytes judged all.
+      let s = at_stage _ is judged in
+      goes (bytes ++ inside) all (hashed bytes s.0) (has_header_more h bytes inside s.1) (omega (arith, payload_end_more bytes inside s.1.long, length-append bytes inside, s.2, len)))
+
+  -- of a protected area
+  pub protected_taken : (hasher : Sha256) (h : Header) (old new : ProtectedArea) → j.stage ≡ stages.Protected h left old
+      → ((bytes : List ℕ) → Holds256 j.hasher bytes → Holds256 hasher (bytes ++ inside)) → ((seen : List ℕ) → Follows old seen → Follows new (seen ++ inside))
+      → ((bytes : List ℕ) → IsBytes bytes → Holds256 hasher bytes → h.protected ≢ 0 → IsProtected h (left - length inside) new bytes → Judges k bytes) → Goes (Judges j) (Judges k) piece rest
+  protected_taken hasher h old new is hashed along goes =
+      let more = (at_stage _ is fed.1).1 in
+      takes_bytes j k piece inside rest split (omega (arith, len, more, some)) are (λ bytes judged all.
+      let s = at_stage _ is judged in
+      let p = s.2 in
+      goes (bytes ++ inside) all (hashed bytes s.0) (λ z. absurd (omega (arith, z, p.left, more))) (record {
+        front = p.front;
+        rest = p.rest ++ inside;
+        split = appended p.front bytes _ p.rest inside p.split refl;
+        header = p.header;
+        len = p.len;
+        left = omega (arith, length-append p.rest inside, p.left, len);
+        area = along p.rest p.area;
+      }))
+
+  -- of a plain area
+  pub plain_taken : (s : Sealed) (t : ℕ) (old new : Walk) → j.stage ≡ stages.Plain s t left old → ((seen : List ℕ) → Walks old seen → Walks new (seen ++ inside))
+      → ((body area : List ℕ) → IsBytes (body ++ area) → IsSealed s body → IsPlain t (left - length inside) new area → Judges k (body ++ area)) → Goes (Judges j) (Judges k) piece rest
+  plain_taken s t old new is along goes =
+      takes_bytes j k piece inside rest split (omega (arith, len, (at_stage _ is fed.1).0, some)) are (λ bytes judged all.
+      behind_more s bytes inside (at_stage _ is judged).1 all (λ body area both sealed p.
+      let l = length-append area inside in
+      goes body (area ++ inside) both sealed (record {
+        none = head_fault_more area inside p.head ∙ p.none;
+        head = omega (arith, l, p.head);
+        total = p.total ∙ sym (u16_more 2 area inside (omega (arith, p.head)));
+        left = omega (arith, l, p.left, len);
+        walk = subst (λ (x : List ℕ). Walks new x) (sym (drop-append-le 4 area inside p.head)) (along (drop 4 area) p.walk);
+      })))

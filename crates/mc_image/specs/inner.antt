@@ -1,0 +1,4 @@
+-- Views, invariants and states of the code's own. No public contract needs them to be believed.
+pub mod Reading
+pub mod Judging
+pub mod VersionReading

@@ -1,0 +1,244 @@
+-- A device as callers see it, what can happen to it, what is refused of that, and how often its sectors were erased (docs/LIFE.md).
+use Rattle.std.specs.Prelude.{Bool, List, None, Option, Some, [], codes, decimal, false, get_or, length, map, min, replicate, slice_get, suc, take, true, zero, ℕ, ⊤, ◌++◌, ◌+◌, ◌-◌, ◌<◌, ◌^◌}
+use Rattle.std.specs.Prelude.{◌∷◌, ◌≡◌, ◌≢◌, ◌≤◌, ◌⊎◌}
+use Rattle.mc_boot.specs.Life.{Event, Lives, Moment, all_erases, boot, cut}
+use Rattle.mc_boot.specs.Outcome.{Report, after, cut_at, ops_of, outcome_of}
+use Rattle.mc_boot.specs.Plan.{PowerOn, again, image_ok_write}
+use Rattle.mc_flash.specs.Flash.{Content, apply, put, sectors_of, size_of, with_bytes}
+use Rattle.mc_flash.specs.Geometry.{Geometry}
+use Rattle.mc_flash.specs.Usage.{Seen}
+use Rattle.mc_flash.specs.declared.flash.FlashError.{FlashError}
+use Rattle.mc_flash.specs.declared.op.Op.{Op}
+use Rattle.mc_flash.specs.declared.op.Op.TheVariants.{Erase, Program}
+use Rattle.mc_flash.specs.declared.op.Slot.{Slot}
+use Rattle.mc_flash.specs.declared.op.Slot.TheVariants.{Primary, Secondary}
+use Rattle.mc_life.specs.declared.error.EventError.{EventError}
+use Rattle.mc_life.specs.declared.request.Request.{Request}
+use Rattle.mc_start.specs.Start.{Started}
+use Rattle.mc_trailer.specs.Tables.{is_set}
+use Rattle.mc_trailer.specs.Trailer.{magic_bytes, one_unit, place, room, trailer_of}
+use Rattle.mc_trailer.specs.declared.tables.Rules.{Rules}
+use Rattle.mc_life.specs.declared.error.EventError.TheVariants as errors
+use Rattle.mc_trailer.specs.declared.places.Field.TheVariants as field
+use Rattle.mc_flash.specs.declared.flash.FlashError.TheVariants as flashes
+use Rattle.mc_life.specs.declared.request.Request.TheVariants as requests
+
+-- Power cuts, one after another, and the boot behind them.
+
+-- The power is lost after so many operations and leaves t; or the boot makes no more than that.
+abbrev pub Cuts : PowerOn → ℕ → Bool → Content → Type 0
+Cuts x count true t = cut_at x count ≡ Some t
+Cuts x count false t = cut_at x count ≡ None
+
+-- What is told of a boot from there, where something is left.
+abbrev pub from : {A : Type 0} → PowerOn → (PowerOn → List A) → Option Content → List A
+from x behind None = []
+from x behind (Some t) = behind (again x t)
+
+-- The operations of boots that are cut.
+abbrev pub cut_ops : PowerOn → List ℕ → List Op
+cut_ops x [] = []
+cut_ops x (c ∷ cuts) = take c (ops_of x) ++ from x (λ y. cut_ops y cuts) (cut_at x c)
+
+-- And those of the boot behind them.
+abbrev pub boot_ops : PowerOn → List ℕ → List Op
+boot_ops x cuts = cut_ops x cuts ++ from x ops_of (after x cuts)
+
+-- The cuts before that place can occur, one after another, and the one there can't.
+pub record FailsAt (x : PowerOn) (cuts : List ℕ) (place : ℕ) : Type 0 where
+  pub left : Content
+  pub before : after x (take place cuts) ≡ Some left
+  pub cut : ℕ
+  pub there : slice_get cuts place ≡ Some cut
+  pub fails : cut_at (again x left) cut ≡ None
+
+-- The boot behind the cuts has that outcome.
+pub record EndsAs (x : PowerOn) (cuts : List ℕ) (outcome : Report) : Type 0 where
+  pub left : Content
+  pub occurs : after x cuts ≡ Some left
+  pub outcome_is : outcome_of (again x left) ≡ Some outcome
+
+-- How often each sector was erased. Counts stay at the greatest 64-bit number.
+
+-- One count for each sector of a slot.
+pub record Counts : Type 0 where
+  pub primary : List ℕ
+  pub secondary : List ℕ
+
+-- Each count is a 64-bit number.
+abbrev pub AreCounts : List ℕ → Type 0
+AreCounts ns = (i d : ℕ) → i < length ns → get_or ns i d < 2 ^ 64
+
+abbrev pub none_worn : Geometry → Counts
+none_worn g = record { primary = replicate g.primary 0; secondary = replicate g.secondary 0 }
+
+abbrev pub counts_of : Counts → Slot → List ℕ
+counts_of w Primary = w.primary
+counts_of w Secondary = w.secondary
+
+-- The counts of the sectors of a slot from a sector on, after more operations.
+abbrev pub worn_from : Slot → ℕ → List ℕ → List Op → List ℕ
+worn_from slot sector [] ops = []
+worn_from slot sector (n ∷ ns) ops = min (2 ^ 64 - 1) (n + all_erases slot sector ops) ∷ worn_from slot (sector + 1) ns ops
+
+-- All counts after more operations.
+abbrev pub worn : Counts → List Op → Counts
+worn w ops = record { primary = worn_from Primary 0 w.primary ops; secondary = worn_from Secondary 0 w.secondary ops }
+
+-- The most erases of a sector, and the first sector that was erased as often.
+pub record Most : Type 0 where
+  pub count : ℕ
+  pub sector : ℕ
+
+pub record IsMost (counts : List ℕ) (m : Most) : Type 0 where
+  pub value : get_or counts m.sector 0 ≡ m.count
+  pub greatest : (i : ℕ) → i < length counts → get_or counts i 0 ≤ m.count
+  pub first : (i : ℕ) → i < m.sector → get_or counts i 0 < m.count
+
+abbrev pub sum_of : List ℕ → ℕ
+sum_of [] = 0
+sum_of (n ∷ ns) = n + sum_of ns
+
+-- All erases of a slot.
+abbrev pub total : List ℕ → ℕ
+total counts = min (2 ^ 64 - 1) (sum_of counts)
+
+-- A slot's line: the most erases of a sector, that sector, and all erases.
+abbrev pub slot_wear : List ℕ → Most → List ℕ → List ℕ
+slot_wear name m counts =
+    codes "wear " ++ (name ++ (codes " " ++ (decimal m.count ++ (codes " " ++ (decimal m.sector ++ (codes " " ++ (decimal (total counts) ++ codes "\n")))))))
+
+abbrev pub wear_text : Most → Most → Counts → List ℕ
+wear_text p q w = slot_wear (codes "primary") p w.primary ++ slot_wear (codes "secondary") q w.secondary
+
+-- A device as callers see it, and the events that lead from where it stands to where it stands later.
+
+-- Its flash, the rules of its boots, whether an image runs, and how often its sectors were erased.
+pub record Standing : Type 0 where
+  pub seen : Seen
+  pub rules : Rules
+  pub runs : Bool
+  pub wear : Counts
+
+-- A device that was just made of a start: the power is off, and no sector was erased.
+pub record IsNew (s : Started) (d : Standing) : Type 0 where
+  pub geometry : d.seen.geometry ≡ s.geometry
+  pub content : d.seen.content ≡ s.content
+  pub rules : d.rules ≡ s.rules
+  pub runs : d.runs ≡ false
+  pub wear : d.wear ≡ none_worn s.geometry
+
+-- Its moment, where this is what its flash contained when it last rested.
+abbrev pub moment : Standing → Content → Moment
+moment d rested = record { content = d.seen.content; rested = rested; runs = d.runs }
+
+-- These events lead from d to e, whatever d last rested on; and of the operations that happened these are all that erase.
+pub record Goes (d : Standing) (events : List Event) (ops : List Op) (e : Standing) : Type 0 where
+  pub lives : (rested : Content) → (later : Content) × Lives d.rules d.seen.geometry (moment d rested) events (moment e later)
+  pub rules : e.rules ≡ d.rules
+  pub geometry : e.seen.geometry ≡ d.seen.geometry
+  pub wear : e.wear ≡ worn d.wear ops
+
+-- What a running image does to the flash.
+
+-- The erases of so many sectors of the secondary, the last first.
+abbrev pub wipes : ℕ → List Op
+wipes zero = []
+wipes (suc n) = Erase Secondary n ∷ wipes n
+
+-- A secondary all of whose bytes are 0xff.
+abbrev pub wiped : Geometry → List ℕ
+wiped g = replicate (size_of g Secondary) 255
+
+-- What is downloaded of a file: all of it, or as many bytes as come until it is stopped.
+abbrev pub loaded : List ℕ → Option ℕ → List ℕ
+loaded file None = file
+loaded file (Some n) = take n file
+
+-- The secondary once it asks for a test.
+abbrev pub with_magic : Geometry → List ℕ → List ℕ
+with_magic g bytes = put bytes (place g Secondary field.Magic) magic_bytes
+
+-- And once it asks for an upgrade for good.
+abbrev pub with_image_ok : Geometry → List ℕ → List ℕ
+with_image_ok g bytes = put bytes (place g Secondary field.ImageOk) (one_unit g 1)
+
+-- The secondary once that was requested.
+abbrev pub asked : Geometry → Request → List ℕ → List ℕ
+asked g requests.Test bytes = with_magic g bytes
+asked g requests.Perm bytes = with_image_ok g (with_magic g bytes)
+
+-- The write that requests a test.
+abbrev pub magic_write : Geometry → Op
+magic_write g = Program Secondary (place g Secondary field.Magic) magic_bytes
+
+-- These bytes stand at the primary's image-ok.
+abbrev pub marked : Geometry → Content → List ℕ → Content
+marked g s bytes = with_bytes s Primary (put s.primary (place g Primary field.ImageOk) bytes)
+
+-- Boots that are cut, and one that is left alone.
+abbrev pub boots : List ℕ → List Event
+boots cuts = map cut cuts ++ boot ∷ []
+
+-- What is refused of an event, where it can't happen. For want of memory any may be.
+
+-- What a flash refuses.
+abbrev pub of_flash : FlashError → EventError
+of_flash flashes.NotErased = errors.NotErased
+of_flash flashes.Memory = errors.Memory
+
+-- The first cut that can't occur.
+abbrev pub RefusesCuts : PowerOn → List ℕ → EventError → Type 0
+RefusesCuts x cuts (errors.CannotOccur place) = FailsAt x cuts place
+RefusesCuts x cuts errors.Memory = ⊤
+RefusesCuts x cuts _ = ⊥
+
+-- No image runs.
+abbrev pub RefusesConfirm : Standing → EventError → Type 0
+RefusesConfirm d errors.NotRunning = d.runs ≡ false
+RefusesConfirm d errors.Memory = ⊤
+RefusesConfirm d _ = ⊥
+
+-- No image runs; or it does, and the secondary has no such sector.
+abbrev pub RefusesErase : Standing → ℕ → EventError → Type 0
+RefusesErase d sector errors.NotRunning = d.runs ≡ false
+RefusesErase d sector errors.NoSector = (d.runs ≡ true) × (sectors_of d.seen.geometry Secondary ≤ sector)
+RefusesErase d sector errors.Memory = ⊤
+RefusesErase d sector _ = ⊥
+
+-- No image runs; or the bytes are not as many as the secondary has.
+abbrev pub RefusesStore : Standing → List ℕ → EventError → Type 0
+RefusesStore d bytes errors.NotRunning = d.runs ≡ false
+RefusesStore d bytes errors.NotThatLong = (d.runs ≡ true) × (length bytes ≢ size_of d.seen.geometry Secondary)
+RefusesStore d bytes errors.Memory = ⊤
+RefusesStore d bytes _ = ⊥
+
+-- No image runs; or there is more than the secondary holds.
+abbrev pub RefusesDownload : Standing → List ℕ → Option ℕ → EventError → Type 0
+RefusesDownload d file count errors.NotRunning = d.runs ≡ false
+RefusesDownload d file count errors.NotThatLong = (d.runs ≡ true) × (size_of d.seen.geometry Secondary < length (loaded file count))
+RefusesDownload d file count errors.Memory = ⊤
+RefusesDownload d file count _ = ⊥
+
+-- A write of a request is refused: that of the magic, or, for good, that of image-ok behind it.
+abbrev pub AskFails : Geometry → Content → Request → FlashError → Type 0
+AskFails g s request flashes.NotErased =
+    (apply g (magic_write g) s ≡ None)
+    ⊎ ((request ≡ requests.Perm) × (apply g (image_ok_write g Secondary) (with_bytes s Secondary (with_magic g s.secondary)) ≡ None))
+AskFails g s request flashes.Memory = ⊤
+
+-- No image runs; or something is written already where it writes.
+abbrev pub RefusesRequest : Standing → Request → EventError → Type 0
+RefusesRequest d request errors.NotRunning = d.runs ≡ false
+RefusesRequest d request errors.NotErased = (d.runs ≡ true) × AskFails d.seen.geometry d.seen.content request flashes.NotErased
+RefusesRequest d request errors.Memory = ⊤
+RefusesRequest d request _ = ⊥
+
+-- No image runs; or no swap is finished, or there is more than its room.
+abbrev pub RefusesMark : Standing → List ℕ → EventError → Type 0
+RefusesMark d bytes errors.NotRunning = d.runs ≡ false
+RefusesMark d bytes errors.CannotMark =
+    (d.runs ≡ true)
+    × ((is_set (trailer_of d.seen.geometry d.seen.content Primary).copy_done ≡ false) ⊎ (room field.ImageOk < length bytes))
+RefusesMark d bytes errors.Memory = ⊤
+RefusesMark d bytes _ = ⊥
