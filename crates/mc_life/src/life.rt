@@ -158,7 +158,8 @@ fn tell_line<F: Flash, W: Write>(
 
 /// The first line of a text, and what is left behind it, if something is.
 pub fn next_line(text: &str) -> (&str, Option<&str>)
-    ensures lines { lines_of text.now ≡ result.0.now ∷ lines_left (option_map (λ t. t.now) result.1) }
+    ensures lines { lines_of text.now ≡ result.0.now
+        ∷ lines_left (option_map (λ t. t.now) result.1) }
     ensures less { size_left (option_map (λ t. t.now) result.1) ≤ length text.now }
 {
     match text.split_once('\n') {

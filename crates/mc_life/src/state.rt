@@ -122,8 +122,8 @@ fn number_line(number: u32) -> Line
 
 // What stands behind the words of an event.
 fn end_line(outcome: &Option<Outcome>, state: &State) -> Line
-    ensures { result ≡ (outcome_text (option_map shown outcome.now) ++ state_text (stated state.now))
-        ++ 10 ∷ [] }
+    ensures { let told = outcome_text (option_map shown outcome.now) in result
+        ≡ (told ++ state_text (stated state.now)) ++ 10 ∷ [] }
 {
     let mut line = Line::new();
     put_outcome(&mut line, outcome);

@@ -170,7 +170,8 @@ pub fn filled(alloc: Global, layout: &Layout, image: &[u8]) -> Result<Vec<u8>, A
 fn put_image_ok(layout: &Layout, primary: &mut [u8], bytes: &[u8])
     requires len { length primary.old ≡ size_of layout.now Primary }
     requires few { length bytes.now ≤ 8 }
-    ensures value { primary.new ≡ put primary.old (place layout.now Primary Field.ImageOk) bytes.now }
+    ensures value { let at = place layout.now Primary Field.ImageOk in primary.new
+        ≡ put primary.old at bytes.now }
     ensures len { length primary.new ≡ length primary.old }
 {
     let at = place(layout, Slot::Primary, Field::ImageOk) as usize;
