@@ -68,8 +68,15 @@ module _ (d e : Standing) (ops : List Op) (stays : Stays d e ops) where
 
   pub is_cut : (count : ℕ) → after (powered d.rules d.seen) (count ∷ []) ≡ Some e.seen.content → e.runs ≡ false → Goes d (cut count ∷ []) ops e
   is_cut count left off =
-      one_event (cut count) (λ rested. (rested, (e.seen.content, one (cut_at (powered d.rules d.seen) count) left, ap (λ
-          (x : Bool). record { content = e.seen.content; rested = rested; runs = x }) off)))
+      one_event (cut count) (λ rested. (
+        rested,
+        (
+          e.seen.content,
+          one (cut_at (powered d.rules d.seen) count) left,
+          ap (λ
+              (x : Bool). record { content = e.seen.content; rested = rested; runs = x }) off,
+        ),
+      ))
     where
       one : (o : Option Content) → option_and_then (λ z. Some z) o ≡ Some e.seen.content → o ≡ Some e.seen.content
       one None is = absurd cc

@@ -209,9 +209,11 @@ life_first d k e events ops goes life = record {
   lives = λ rested.
       let a = goes.lives rested in
       let b = life.lives a.0 in
-      let P : Rules → Geometry → Type 0 = λ r g. Lives r g (moment k a.0) life.events (moment e b.0) in
-      (b.0, lives_both d.rules d.seen.geometry (moment d rested) (moment k a.0) (moment e b.0) events life.events a.1 (subst (λ g. P d.rules g) goes.geometry (subst
-          (λ r. P r k.seen.geometry) goes.rules b.1)));
+      let P : Rules → Geometry → Type 0 = λ r g. Lives r g (moment k a.0) life.events (moment e b.0) in (
+        b.0,
+        lives_both d.rules d.seen.geometry (moment d rested) (moment k a.0) (moment e b.0) events life.events a.1 (subst (λ g. P d.rules g) goes.geometry (subst
+            (λ r. P r k.seen.geometry) goes.rules b.1)),
+      );
 }
 
 life_by : (b : Bool) (A B : Type 0) (d e : Standing) → (A → IsLife d e) → (B → IsLife d e) → Either b A B → IsLife d e

@@ -37,7 +37,7 @@ from_idle slot sector (n ∷ ns) ops small idle =
     let one : n ≡ min (2 ^ 64 - 1) (n + all_erases slot sector ops) = omega (arith, small 0 0 (omega arith), idle sector (omega arith)) in
     ap (λ (x : ℕ). x ∷ ns) one
     ∙ ap (λ (z : List ℕ). min (2 ^ 64 - 1) (n + all_erases slot sector ops) ∷ z) (from_idle slot (sector + 1) ns ops (λ i d lt. small (suc i) d (omega (arith, lt))) (λ i le. idle i (omega
-        (arith, le))))
+    (arith, le))))
 
 -- Operations that erase nothing.
 pub worn_idle : (w : Counts) (ops : List Op) → AreCounts w.primary → AreCounts w.secondary → Idle Primary ops → Idle Secondary ops → w ≡ worn w ops

@@ -13,6 +13,6 @@ pub returns-clause-none : goal.returns-clause-none
 returns-clause-none c other b len bytes is =
     let read = digits_read b c.args.text.now c.decode_to_slice.new.out c.decode_to_slice.result (length c.args.room.now) len bytes is c.decode_to_slice.ensures.value in
     let same : c.as_str.result.now ≡ c.args.text.now = c.as_str.ensures ∙ c.put_hex.ensures.text ∙ ap (λ
-        (z : List ℕ). z ++ encode_lower c.decode_to_slice.new.out) c.new-digits.ensures ∙ ap encode_lower read.1 ∙ sym is in
+    (z : List ℕ). z ++ encode_lower c.decode_to_slice.new.out) c.new-digits.ensures ∙ ap encode_lower read.1 ∙ sym is in
     let yes : true ≡ false = sym ((bytes_eq-Decides c.as_str.result.now c.args.text.now).1 same) ∙ sym c.eq.ensures ∙ other in
     absurd cc

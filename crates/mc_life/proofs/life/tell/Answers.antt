@@ -10,22 +10,22 @@ pub returns-in-Err-clause-failed : goal.returns-in-Err-clause-failed
 returns-in-Err-clause-failed g c =
     let contents = g.W.Write.contents in
     let here : IsAt c.args.files.now c.args.start.now c.args.script.now (contents c.args.writer.now) (contents c.lines.writer)
-        (Some c.in-Some.text.now) c.lines.number c.lines.line_number c.lines.device =
+    (Some c.in-Some.text.now) c.lines.number c.lines.line_number c.lines.device =
     rw c.in-Some.is at c.lines.invariant in
     rw c.failure.ensures (fails _ _ _ _ _ _ _ _ _ _ here _ _ c.next_line.ensures.lines c.next_line.ensures.less
-        (sym c.is_skipped.ensures ∙ c.if-not-is_skipped.true) c.in-Err.error c.in-Err.ensures.failed)
+    (sym c.is_skipped.ensures ∙ c.if-not-is_skipped.true) c.in-Err.error c.in-Err.ensures.failed)
 
 pub lines-preserved : goal.lines-preserved
 lines-preserved g c =
     let contents = g.W.Write.contents in
     let here : IsAt c.args.files.now c.args.start.now c.args.script.now (contents c.args.writer.now) (contents c.lines.writer)
-        (Some c.in-Some.text.now) c.lines.number c.lines.line_number c.lines.device =
+    (Some c.in-Some.text.now) c.lines.number c.lines.line_number c.lines.device =
     rw c.in-Some.is at c.lines.invariant in
     elim c.if-not-is_skipped.branch [
       | then-not-is_skipped+in-Ok-tell_line w ↦
           (let told = w.in-Ok-tell_line.ensures.told in
           rw (w.writer-is, w.device-is, w.number-is) (tells _ _ _ _ _ _ _ _ _ here _ _ c.next_line.ensures.lines c.next_line.ensures.less
-              (sym c.is_skipped.ensures ∙ w.if-not-is_skipped.true) _ told.0 _ told.1 told.2))
+          (sym c.is_skipped.ensures ∙ w.if-not-is_skipped.true) _ told.0 _ told.1 told.2))
       | else-not-is_skipped w ↦
           rw (w.writer-is, w.device-is, w.number-is) (skips _ _ _ _ _ _ _ _ _ here _ _ c.next_line.ensures.lines c.next_line.ensures.less (sym c.is_skipped.ensures ∙ w.if-not-is_skipped.false))
     ]

@@ -10,13 +10,13 @@ pub returns-in_err-write_line-clause-front : goal.returns-in_err-write_line-clau
 returns-in_err-write_line-clause-front g c =
     let p = err_from_is_err_and c.from_residual.result c.from_residual.ensures.1 in
     rw p.1 (first_begun _ c.args.words.now ((outcome_text (option_map shown c.args.outcome.now) ++ state_text (stated c.args.state.now)) ++ 10 ∷ []) _ _
-        (rw c.number_line.ensures at c.in_err-write_line.ensures.front))
+    (rw c.number_line.ensures at c.in_err-write_line.ensures.front))
 
 pub returns-in_err-write_text-clause-front : goal.returns-in_err-write_text-clause-front
 returns-in_err-write_text-clause-front g c =
     let p = err_from_is_err_and c.from_residual-in_err-write_text.result c.from_residual-in_err-write_text.ensures.1 in
     rw p.1 (words_begun _ _ ((outcome_text (option_map shown c.args.outcome.now) ++ state_text (stated c.args.state.now)) ++ 10 ∷ []) _ _
-        (rw c.number_line.ensures at c.in_ok-write_line.ensures.whole) _ (rw c.as_bytes.ensures.value at c.in_err-write_text.ensures.front))
+    (rw c.number_line.ensures at c.in_ok-write_line.ensures.whole) _ (rw c.as_bytes.ensures.value at c.in_err-write_text.ensures.front))
 
 pub returns-clause-whole : goal.returns-clause-whole
 returns-clause-whole g c =

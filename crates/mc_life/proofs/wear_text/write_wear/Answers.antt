@@ -12,5 +12,11 @@ returns g c =
     let first = rw (c.slot_line.ensures, c.total.ensures, c.counts-primary.ensures) at c.in_ok-write_line.ensures.whole in
     let second = rw (c.slot_line-2.ensures, c.total-2.ensures, c.counts-secondary.ensures) at c.write_line-2.ensures.whole in
     on_ok c.write_line-2.result _ _
-    (λ last. (p, q, subst (λ z. IsMost z p) c.counts-primary.ensures c.most_of.ensures, subst
-        (λ z. IsMost z q) c.counts-secondary.ensures c.most_of-2.ensures, Appends-trans _ _ _ _ _ first last)) second
+    (λ last. (
+      p,
+      q,
+      subst (λ z. IsMost z p) c.counts-primary.ensures c.most_of.ensures,
+      subst
+          (λ z. IsMost z q) c.counts-secondary.ensures c.most_of-2.ensures,
+      Appends-trans _ _ _ _ _ first last,
+    )) second

@@ -18,7 +18,7 @@ returns-in-Test-clause-layout g c = magic_keeps (g.F.Flash.seen c.args.flash.now
 pub returns-in-Perm-clause-content : goal.returns-in-Perm-clause-content
 returns-in-Perm-clause-content g c =
     rw c.in-Perm.is (both_left (g.F.Flash.seen c.args.flash.now) (g.F.Flash.seen c.write_magic.new.flash) c.in_ok-write_magic.ensures
-        (g.F.Flash.seen c.write_image_ok.new.flash) c.write_image_ok.result c.write_image_ok.ensures)
+    (g.F.Flash.seen c.write_image_ok.new.flash) c.write_image_ok.result c.write_image_ok.ensures)
 
 pub returns-in-Perm-clause-layout : goal.returns-in-Perm-clause-layout
 returns-in-Perm-clause-layout g c =
@@ -28,4 +28,4 @@ returns-in-Perm-clause-layout g c =
 pub returns-in-Perm-clause-refused : goal.returns-in-Perm-clause-refused
 returns-in-Perm-clause-refused g c =
     rw c.in-Perm.is (second_fails (g.F.Flash.seen c.args.flash.now) (g.F.Flash.seen c.write_magic.new.flash) c.in_ok-write_magic.ensures
-        (g.F.Flash.seen c.write_image_ok.new.flash) c.write_image_ok.result c.write_image_ok.ensures)
+    (g.F.Flash.seen c.write_image_ok.new.flash) c.write_image_ok.result c.write_image_ok.ensures)
