@@ -18,7 +18,7 @@ use Rattle.mc_flash.specs.declared.flash.Grain.{Grain}
 use Rattle.mc_flash.specs.declared.op.Op.{Op}
 use Rattle.mc_flash.specs.declared.op.Slot.{Slot}
 use Rattle.mc_flash.specs.declared.op.Slot.TheVariants.{Primary, Secondary}
-use Rattle.mc_flash.specs.facts.Layouts.{chunks_cover, small_unit, whole_add, whole_sector, whole_times}
+use Rattle.mc_flash.specs.facts.Layouts.{chunks_cover, small_unit, trailer_covered, whole_add, whole_sector, whole_times}
 use Rattle.mc_flash.specs.facts.Pieces.{pieces_can}
 use Rattle.mc_trailer.specs.Trailer.{magic_bytes, place, size_bytes}
 use Rattle.mc_trailer.specs.declared.places.Field.{Field}
@@ -326,3 +326,11 @@ pub get_entry : (g : Geometry) (t : Transfer) (k : ℕ) → k ≡ g.sector / g.c
 get_entry g t zero e = absurd (omega arith)
 get_entry g t (suc c) e =
     get_behind (map (copy_of g t) (range_with_len 0 (g.sector / g.chunk))) (entry_of g t ∷ []) c 0 (omega (arith, e, length-map-range_with_len (copy_of g t) 0 (g.sector / g.chunk)))
+
+-- A trailer takes a sector at least.
+pub some_trailer : (g : Geometry) → IsLayout g → 0 < trailer_sectors g
+some_trailer g ok = some (trailer_sectors g) (trailer_covered g ok)
+  where
+    some : (n : ℕ) → 3 * g.max_sectors * g.unit + 48 ≤ n * g.sector → 0 < n
+    some zero covered = absurd (let none = zero-mul g.sector in omega (arith, covered, none))
+    some (suc n) covered = omega arith

@@ -17,7 +17,7 @@ use Rattle.mc_boot.proofs.Meets.{same_bytes, same_content as equal_content, whic
 use Rattle.mc_boot.proofs.Moving.{data_begin}
 use Rattle.mc_boot.proofs.Phases.{Ended, IsSwapOf, Phase, Quiet, Swap, Waiting, asked, asked_from, asks, larger_size, new_is, not_when_done, plan_tested, quiet_reverts, set_is, starting, swap_of}
 use Rattle.mc_boot.proofs.Phases.{tested, tested_from, unasked}
-use Rattle.mc_boot.proofs.Setup.{some_trailer}
+use Rattle.mc_boot.proofs.Courses.{some_trailer}
 use Rattle.mc_boot.proofs.Starts.{count_of}
 use Rattle.mc_boot.proofs.SwapEnds.{Crossed, Nothing, asked_boots, asked_swaps, crossed, exchanges, front_at_start, front_inside, image_there, running_swaps, sees_start, settled_end, settled_on}
 use Rattle.mc_boot.proofs.SwapEnds.{tested_end, tested_fields, tested_on}

@@ -175,11 +175,6 @@ module _ (s : Content) (first second : List ℕ) (at_first : first ≡ s.primary
   images_read size held images size_is held_is id_is valid_is max_is =
       images_are s images.valid images.size (valid_is ∙ valid_held second held.id id_is ∙ ap is_valid at_second) (larger size held.size images.size size_is held_is max_is)
 
-  -- and where the secondary's image is known to be valid
-  pub images_known : (size size2 most : ℕ) → size ≡ image_size first → size2 ≡ image_size second → is_valid s.secondary ≡ true → most ≡ max size size2
-      → record { valid = true; size = most } ≡ images_of s
-  images_known size size2 most size_is size2_is valid most_is = images_are s true most (sym valid) (larger size size2 most size_is size2_is most_is)
-
 -- the size of an image that was told apart
 pub known_size : (b : List ℕ) (id : ImageId) → id_of b ≡ Some (identity_of id) → id.size ≡ image_size b
 known_size b id is =

@@ -9,7 +9,6 @@ pub mod Phases
 pub mod Meets
 pub mod Joins
 pub mod CourseJoins
-pub mod Setup
 pub mod SwapsKeep
 pub mod InPieces
 pub mod SwapEnds

@@ -7,7 +7,7 @@ use Rattle.mc_boot.proofs.Courses.{drop_at_place, drop_past_end}
 use Rattle.mc_boot.proofs.Keeps.{Erased, Keeps, Part, erase_behind_data, erased_here, erased_still, erases_keep, field_write_keeps, keeps_append, keeps_then, place_behind_data}
 use Rattle.mc_boot.proofs.Moving.{Copied, Data, IsOutside, Transferred, data_half, data_same, data_step, kept_below, transfer_keeps}
 use Rattle.mc_boot.proofs.Phases.{Asked, Ended, IsSwapOf, Phase, Quiet, Swap, Under, Waiting, asked, asks, closed, opened, runs, tested, unasked, waits}
-use Rattle.mc_boot.proofs.Setup.{some_trailer}
+use Rattle.mc_boot.proofs.Courses.{some_trailer}
 use Rattle.mc_boot.proofs.Transfers.{Entries, Fits, entries_kept, entries_none, entry_number, entry_step, fits_at, number_below, number_up, place_below, there_is}
 use Rattle.mc_boot.specs.Plan.{closing, from_transfer, image_ok_write, info_write, is_test, marking, new_list, number_of, opening_writes, preparation_writes, resumed_list, steps, swap_list}
 use Rattle.mc_boot.specs.Plan.{trailer_erases, transfers, write}

@@ -2,7 +2,7 @@
 use Rattle.std.proofs.Common.{subst, sym, ◌∙◌}
 use Rattle.std.specs.Prelude.{Bool, Err, IfSome, List, None, Ok, Option, Result, Some, [], drop, false, if◌then◌else◌, length, take, true, ℕ, ◌*◌, ◌+◌, ◌<◌, ◌∷◌, ◌≡◌, ◌≤◌}
 use Rattle.mc_boot.specs.Outcome.{applied, happening}
-use Rattle.mc_boot.specs.Plan.{Plan, PowerOn, new_list, new_setup, plan, power_on, powered, resumed_list}
+use Rattle.mc_boot.specs.Plan.{Plan, PowerOn, new_list, plan, power_on, powered, resumed_list}
 use Rattle.mc_boot.specs.declared.boot.Boot.{Boot}
 use Rattle.mc_boot.specs.declared.course.Course.{Course}
 use Rattle.mc_boot.specs.declared.course.Opening.{Opening}
@@ -33,11 +33,6 @@ course_list c = list_from c.grain c.layout c.sectors c.opening
 abbrev pub whole_list : Option Course → List Op
 whole_list None = []
 whole_list (Some c) = course_list c
-
--- How many operations of a course come before those that it would go on with after a cut: none where it was cut.
-abbrev pub setup_of : Grain → Geometry → Opening → ℕ
-setup_of c g (New kind size) = new_setup c g kind size
-setup_of c g (Resumed first erases image_ok) = 0
 
 -- What callers see of a boot, and what a step does to it and to the flash.
 

@@ -1,7 +1,7 @@
 -- Where a boot after a power cut goes on with the boot that was cut, and what follows of its outcome.
 use Rattle.std.specs.Bool.{beq}
-use Rattle.std.specs.Prelude.{Bool, None, Option, Some, false, if◌then◌else◌, length, nat_le, nat_lt, not, option_and_then, true, ℕ, ◌&&◌, ◌*◌, ◌+◌, ◌-◌, ◌/◌, ◌<◌, ◌==◌, ◌||◌, ◌≡◌}
-use Rattle.mc_boot.specs.Boot.{HasCome, IsBootOf, all_of, course_list, progress, setup_of}
+use Rattle.std.specs.Prelude.{Bool, None, Option, Some, false, if◌then◌else◌, length, nat_le, not, option_and_then, true, ℕ, ◌&&◌, ◌*◌, ◌+◌, ◌-◌, ◌/◌, ◌<◌, ◌==◌, ◌||◌, ◌≡◌}
+use Rattle.mc_boot.specs.Boot.{HasCome, IsBootOf, all_of, course_list, progress}
 use Rattle.mc_boot.specs.Outcome.{Report, ops_of, outcome_of}
 use Rattle.mc_boot.specs.Plan.{PowerOn, is_revert, number_of, opening_writes, plan, power_on, preparation_writes}
 use Rattle.mc_boot.specs.declared.boot.Boot.{Boot}
@@ -11,7 +11,6 @@ use Rattle.mc_boot.specs.declared.course.Opening.TheVariants.{New, Resumed}
 use Rattle.mc_flash.specs.Flash.{Content, IsSized}
 use Rattle.mc_flash.specs.Geometry.{Geometry, trailer_sectors}
 use Rattle.mc_flash.specs.declared.flash.Grain.{Grain}
-use Rattle.mc_image.specs.Image.{IsBytes}
 use Rattle.mc_trailer.specs.declared.tables.SwapType.{SwapType}
 use Rattle.mc_flash.specs.declared.flash.Grain.TheVariants as grains
 
@@ -93,20 +92,6 @@ pub record IsCut (x : PowerOn) (u : Content) (b : Boot) (whole : Report) : Type 
   pub come : HasCome x (progress b) u
   pub early : b.done < length (ops_of x)
   pub outcome : outcome_of x ≡ Some whole
-
--- A boot from s has come to where its flash holds u, at its end or before. Of s no more is known than the length of its
--- slots, and that bytes stand in the secondary.
-pub record IsStopped (g : Geometry) (s u : Content) (b : Boot) : Type 0 where
-  pub sized : IsSized g s
-  pub bytes : IsBytes s.secondary
-  pub layout : IsBootOf g b
-  pub list : all_of b ≡ (plan (power_on b.rules g s)).list
-  pub come : HasCome (power_on b.rules g s) (progress b) u
-
--- Whether a course still makes the trailers anew after so many operations.
-abbrev pub in_setup : Option Course → ℕ → Bool
-in_setup None done = false
-in_setup (Some a) done = nat_lt done (setup_of a.grain a.layout a.opening)
 
 -- How many operations of a course that was cut after so many the next one does not make again. Before the first operation
 -- the next boot is the same boot, and makes all again.

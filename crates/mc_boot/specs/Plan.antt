@@ -185,13 +185,6 @@ new_list c g kind size n =
     if is_revert kind then trailer_erases g Secondary ++ (preparation_writes c g size ++ swap_list c g kind size n)
     else swap_list c g kind size n
 
--- How many operations of a swap from its start come before those that it would go on with after a cut: the trailers are made
--- anew, for a revert the secondary's first, and then the primary's.
-abbrev pub new_setup : Grain → Geometry → SwapType → ℕ → ℕ
-new_setup c g kind size =
-    let swap = trailer_sectors g + length (opening_writes c g kind size) in
-    if is_revert kind then trailer_sectors g + (length (preparation_writes c g size) + swap) else swap
-
 -- What a boot does, from the flash at power-on alone.
 
 -- The type of a boot, how many sectors it swaps (0 where it has no operations), and its operations in order.

@@ -23,7 +23,6 @@ use crate::outcome::Outcome;
 use crate::transfer::first_left;
 use crate::writes::is_test;
 use mc_flash::{Flash, FlashError, Layout, Op, Slot};
-use mc_image::{one_reading, same_front};
 use mc_trailer::{Flag, Rules, SwapType, Trailer, highest_entry, resumes, swap_type};
 
 /// A boot, by how many of its operations have happened. It is small and `Copy`: one that was kept beside a checkpoint of the
@@ -59,7 +58,6 @@ fn confirms(kind: SwapType, image_ok: Flag) -> bool
 
 impl Boot {
     ghost use Rattle.mc_boot.specs.Boot.{all_of, to_come, progress, IsBootOf, Steps, begun};
-    ghost use Rattle.mc_boot.specs.Joins.{IsStopped, in_setup};
     ghost use Rattle.mc_boot.specs.Boot.{HasCome};
     ghost use Rattle.mc_boot.specs.Boot.{GoesOn};
     ghost use Rattle.mc_boot.specs.Boot.{IsCold};
@@ -235,40 +233,6 @@ impl Boot {
         let _primary = flash.read(Slot::Primary);
         let _secondary = flash.read(Slot::Secondary);
         Boot::begin(flash, rules, None, known)
-    }
-
-    // Whether it has not come to the operations that it would go on with after a cut.
-    fn in_setup(&self) -> bool
-        ensures { result ≡ in_setup self.now.course self.now.done }
-    {
-        match &self.course {
-            Some(course) => self.done < course.setup_len(),
-            None => false,
-        }
-    }
-
-    /// The boot at power-on after a power cut, by the rules of the boot that was cut: the flash stands where that one left it. It
-    /// hashes nothing where that one was a swap from its start and had not come to its transfers. The secondary's image was
-    /// valid then, and still is: only trailers have changed.
-    pub fn after_cut<F: Flash>(flash: &F, cut: &Boot) -> Boot
-        requires { (s : Content) × IsStopped (F.seen flash.now).geometry s
-            (F.seen flash.now).content cut.now }
-        ensures { IsCold cut.now.rules (F.seen flash.now) result }
-    {
-        // All that is used of images is what these laws say.
-        one_reading();
-        same_front();
-        // Each number of a layout tells that it is one, and each slot how long it is.
-        let _sector = flash.layout().sector();
-        let _primary = flash.read(Slot::Primary);
-        let _secondary = flash.read(Slot::Secondary);
-        let early = cut.in_setup();
-        let images = if early {
-            Some(Images::read_valid(flash))
-        } else {
-            None
-        };
-        Boot::begin(flash, cut.rules, images, &[])
     }
 
     // The next operation. That there are not many keeps the count of those that happened from overflowing.

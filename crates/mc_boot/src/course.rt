@@ -2,7 +2,7 @@
 ghost use Rattle.std.specs.Prelude.{◌≡◌, ℕ, ◌≤◌, length, slice_get, IfSome};
 ghost use Rattle.mc_flash.specs.Geometry.{Geometry, greatest_sectors};
 ghost use Rattle.mc_flash.specs.Flash.{CanTry};
-ghost use Rattle.mc_boot.specs.Plan.{closing, from_transfer, resumed_list, swap_list, new_list, new_setup};
+ghost use Rattle.mc_boot.specs.Plan.{closing, from_transfer, resumed_list, swap_list, new_list};
 
 use crate::transfer::{transfer_at, transfer_len, transfer_op};
 use crate::writes::{
@@ -174,19 +174,6 @@ pub fn new_len(layout: &Layout, grain: Grain, kind: SwapType, sectors: u32) -> u
     }
 }
 
-/// How many of them make the trailers anew, before those that it would go on with after a cut.
-fn new_setup_len(layout: &Layout, grain: Grain, kind: SwapType) -> u32
-    ensures { (size : ℕ) → new_setup grain layout.now kind size ≡ result }
-{
-    let count = layout.trailer_sectors();
-    let swap = count + opening_len(layout, grain, kind);
-    if is_revert(kind) {
-        count + (preparation_len(layout, grain) + swap)
-    } else {
-        swap
-    }
-}
-
 /// One operation of a swap from its start.
 fn new_op(
     layout: &Layout,
@@ -216,7 +203,7 @@ fn new_op(
 }
 
 impl Course {
-    ghost use Rattle.mc_boot.specs.Boot.{course_list, setup_of};
+    ghost use Rattle.mc_boot.specs.Boot.{course_list};
 
     /// How many operations there are.
     pub fn len(&self) -> u32
@@ -231,16 +218,6 @@ impl Course {
                 erases,
                 image_ok,
             } => resumed_len(&self.layout, self.sectors, first, erases, image_ok),
-        }
-    }
-
-    /// How many operations make the trailers anew, before those that a swap goes on with after a cut: none where it was cut.
-    pub fn setup_len(&self) -> u32
-        ensures { result ≡ setup_of self.now.grain self.now.layout self.now.opening }
-    {
-        match self.opening {
-            Opening::New { kind, .. } => new_setup_len(&self.layout, self.grain, kind),
-            Opening::Resumed { .. } => 0,
         }
     }
 

@@ -113,17 +113,4 @@ impl Images {
             size: primary_size.max(secondary.size),
         }
     }
-
-    /// By the bytes of the slots, where the secondary's image is known to be valid. It hashes nothing.
-    pub fn read_valid<F: Flash>(flash: &F) -> Images
-        requires { is_valid (F.seen flash.now).content.secondary ≡ true }
-        ensures { result ≡ images_of (F.seen flash.now).content }
-    {
-        let primary = image_size(slot_bytes(flash, Slot::Primary));
-        let secondary = image_size(slot_bytes(flash, Slot::Secondary));
-        Images {
-            valid: true,
-            size: primary.max(secondary),
-        }
-    }
 }

@@ -88,6 +88,14 @@ impl Held {
     }
 }
 
+/// The valid image that the bytes begin with. It is hashed where it is none of those that are known.
+pub fn image_in(bytes: &[u8], known: &[Option<KnownImage<'_>>]) -> Option<ImageId>
+    requires { length bytes.now ≤ 2 ^ 24 }
+    ensures { option_map identity_of result ≡ id_of bytes.now }
+{
+    Held::read_among(bytes, known).id
+}
+
 impl Images {
     /// By the bytes of the slots. Of the primary no digest is asked; the secondary's image is hashed where it is none of those that
     /// are known.

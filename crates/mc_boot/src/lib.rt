@@ -21,7 +21,7 @@ pub use boot::{Boot, outcome_after};
 pub use confirmation::confirm;
 pub use image::ImageId;
 pub use kind::Kind;
-pub use known::{KnownImage, known_id};
+pub use known::{KnownImage, image_in, known_id};
 pub use life::life_law;
 pub use outcome::{BootResult, Outcome};
 pub use rejoining::Rejoin;

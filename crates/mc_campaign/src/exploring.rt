@@ -8,10 +8,9 @@ use crate::cursor::CampaignCursor;
 use crate::following;
 use crate::rounds::Twice;
 use crate::row::CampaignRow;
-use mc_boot::{BootResult, Outcome, restart_law};
+use mc_boot::restart_law;
 use mc_explore::{Fields, Labels, Line, Once, RowsAhead, Schedule, Start, Subject, TreeExplorer};
 use mc_flash::{Flash, FlashError};
-use mc_trailer::SwapType;
 use mc_walk::Walk;
 use std::alloc::{AllocError, Global};
 
@@ -37,10 +36,8 @@ fn campaign_at<F: Flash>(walk: &Walk<F, Twice>) -> Campaign
 }
 
 impl Subject for Twice {
-    ghost use Rattle.std.specs.Prelude.{◌≡◌, ◌∷◌, ◌++◌, [], ℕ, None};
-    ghost use Rattle.mc_tree.specs.Tree.{Allowed};
+    ghost use Rattle.std.specs.Prelude.{◌≡◌, None};
     ghost use Rattle.mc_tree.specs.facts.Order.{pairs_in_order};
-    ghost use Rattle.mc_campaign.specs.inner.Twice.{twice_kind};
     ghost use Rattle.mc_explore.specs.inner.Once.{begins};
     ghost use Rattle.mc_boot.specs.Plan.{PowerOn};
     ghost use Rattle.mc_start.specs.Start.{start_digest};
@@ -62,7 +59,7 @@ impl Subject for Twice {
 
     type Until = ();
 
-    // Each row is told by the flash.
+    // Each row is told by the flash, and none ahead.
     type Kept = ();
 
     type Ahead = ();
@@ -83,8 +80,7 @@ impl Subject for Twice {
 
     ghost holds = { λ _ _ _. Unit {0} };
 
-    ghost is_ahead = { λ t c _ path _ _. let kind = twice_kind t.once.rules t.once.layout t.confirms in
-        (number : ℕ) → Allowed kind.tree (kind.root c) (path ++ number ∷ []) → ⊥ };
+    ghost is_ahead = { λ _ _ _ _ _ _. ⊥ };
 
     ghost MORE = { 3 };
 
@@ -141,21 +137,8 @@ impl Subject for Twice {
         None
     }
 
-    // Of a node without children alone, so that no row is asked for.
-    fn row_ahead(_kept: &(), _path: &Schedule, _rows: &RowsAhead<()>) -> CampaignRow {
-        let none = Outcome {
-            result: BootResult::None,
-            kind: SwapType::None,
-            ops: 0,
-            primary: None,
-            secondary: None,
-            next: SwapType::None,
-        };
-        CampaignRow {
-            campaign: Campaign::new(),
-            first: none,
-            second: none,
-        }
+    fn row_ahead(_kept: &(), _path: &Schedule, _rows: &RowsAhead<()>) -> Option<CampaignRow> {
+        None
     }
 
     #[inline]

@@ -105,7 +105,7 @@ impl Branches for Twice {
         start: &Start,
     ) -> Result<Both, FlashError> {
         match at {
-            OnWay::First { boot, .. } => match self.once.derive(flash, boot, &parent.first) {
+            OnWay::First { boot, .. } => match self.once.derive(flash, boot, &parent.first, start) {
                 Ok(first) => Ok(Both {
                     round: Round::First,
                     first,

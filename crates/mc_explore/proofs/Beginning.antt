@@ -41,10 +41,6 @@ module _ {B C K R U N A T : Type 0} (x : Subject C K R U) (kind : B → Kind N A
     listed_there : x.IsListed (begun_of begins one) (choice one.branches) one.bound k ≡ x.IsListed start chosen bound k
     listed_there = cc (one_start, one_choice, one_bound)
 
-    pub not_listed : (went : Bool) → went ≡ false → FollowsKey x kind begins choice key_of one k went two → x.IsListed start chosen bound k → ⊥
-    not_listed true is f m = absurd cc
-    not_listed false is f m = f (subst (λ (S : Type 0). S) (sym listed_there) m)
-
     module _ (went : Bool) (is : went ≡ true) (f : FollowsKey x kind begins choice key_of one k went two) (calm : IsCalm one.seen two.seen) (few : bound ≤ 16) where
       there : (w : Bool) → w ≡ true → FollowsKey x kind begins choice key_of one k w two → FollowsKey x kind begins choice key_of one k true two
       there true e y = y

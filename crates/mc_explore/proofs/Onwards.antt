@@ -9,7 +9,7 @@ use Rattle.mc_flash.specs.declared.flash.FlashError.{FlashError}
 use Rattle.mc_flash.specs.declared.flash.FlashError.TheVariants as errors
 use Rattle.mc_trailer.specs.declared.tables.Rules.{Rules}
 use Rattle.mc_image.specs.Image.{IsBytes}
-use Rattle.mc_boot.specs.Joins.{IsCut, IsStopped}
+use Rattle.mc_boot.specs.Joins.{IsCut}
 use Rattle.mc_boot.specs.Boot.{Progress, IsBootOf, StepsAlong, Steps, all_of, begun, progress, IsBounded, left_of, HasCome}
 use Rattle.mc_boot.specs.Outcome.{outcome_of, shown, left_by, ops_of}
 use Rattle.mc_boot.specs.Plan.{plan, PowerOn, again, power_on, powered}
@@ -172,19 +172,6 @@ module _ (r : Rules) (g : Geometry) where
     early = omega (arith, early, at.on_is.count_is);
     outcome = t.outcome_is;
   }
-
-  pub stopped_here : (s : Content) (i : ℕ) (b : Boot) (f : Seen) (told : Told) → IsAt (once r g) s i b f → IsTold (power_on r g s) told → IsStopped f.geometry s f.content b
-  stopped_here s i b f told at t =
-      let P : Geometry → Type 0 = λ x. IsStopped x s f.content b in
-      let Q : Rules → Type 0 = λ x. HasCome (power_on x g s) (progress b) f.content in
-      let here : HasCome (power_on r g s) (progress b) f.content = subst (HasCome (power_on r g s) (progress b)) (sym at.content_is) at.on_is.come in
-      subst P (sym at.layout_is) (record {
-        sized = t.sized;
-        bytes = t.bytes;
-        layout = at.on_is.layout_is;
-        list = at.on_is.list_is ∙ ap (λ (x : Rules). (plan (power_on x g s)).list) (sym here.rules);
-        come = subst Q (sym here.rules) here;
-      })
 
   -- Before the first operation.
   pub told_still : (s : Content) (i : ℕ) (told : Told) → i ≡ 0 → IsTold (power_on r g s) told → IsTold (power_on r g (at_cut (power_on r g s) i)) told

@@ -1,7 +1,7 @@
 -- The next row, by how a tour stands with the last one, also where the outcomes of last cuts are kept.
-use Rattle.std.proofs.Common.{add-one, ap, arith, length-append, subst, sym, ◌∙◌}
-use Rattle.std.proofs.lemmas.Option.{slice_get_within}
-use Rattle.std.specs.Prelude.{Bool, IfSome, List, None, Option, Some, [], false, is_some, length, refl, slice_get, suc, true, zero, ℕ, ◌++◌, ◌+◌, ◌<◌, ◌^◌, ◌∷◌, ◌≡◌, ◌≢◌, ◌≤◌}
+use Rattle.std.proofs.Common.{add-one, ap, arith, inl, inr, length-append, subst, sym, ◌∙◌}
+use Rattle.std.proofs.lemmas.Option.{slice_get_cases, slice_get_within}
+use Rattle.std.specs.Prelude.{Bool, IfSome, IsSomeAnd, List, None, Option, Some, [], false, is_some, option_map, length, refl, slice_get, suc, true, zero, ℕ, ◌++◌, ◌+◌, ◌<◌, ◌^◌, ◌∷◌, ◌≡◌, ◌≢◌, ◌≤◌}
 use Rattle.mc_boot.specs.Boot.{begun, progress}
 use Rattle.mc_boot.specs.Joins.{IsCut}
 use Rattle.mc_boot.specs.Outcome.{Report, ops_of, outcome_of, shown}
@@ -114,21 +114,32 @@ module _ (x : PowerOn) (of path : List ℕ) (outcomes : List Outcome) (rejoin : 
   early : next < length (ops_of (again x (flash_at x path)))
   early = omega (arith, lt, are.count_is)
 
-  pub within_there : place_of rejoin next < length outcomes
+  within_there : place_of rejoin next < length outcomes
   within_there = omega (arith, are.rejoined.within next early, are.whole)
 
-  pub outcome_there : (o : Outcome) → AreAtCuts x of outcomes → slice_get outcomes (place_of rejoin next) ≡ Some o
-      → outcome_of (again x (flash_at x (path ++ next ∷ []))) ≡ Some (shown o)
-  outcome_there o at told =
+  pub outcome_there : (found : Option Outcome) → AreAtCuts x of outcomes → found ≡ slice_get outcomes (place_of rejoin next)
+      → IsSomeAnd found (λ o. outcome_of (again x (flash_at x (path ++ next ∷ []))) ≡ Some (shown o))
+  outcome_there None at is =
+      absurd (elim (slice_get_cases outcomes (place_of rejoin next)).1 [
+        | inl w ↦ let e : None ≡ Some w.0 = is ∙ w.2 in cc
+        | inr w ↦ omega (arith, w.0, within_there)
+      ])
+  outcome_there (Some o) at is =
       let r = x.rules in
       let g = x.geometry in
       let flash = landed-push (boots r g) x.content path next ∙ placed_at r g (flash_at x of) (flash_at x path) rejoin are.rejoined next early in
-      ap (λ s. outcome_of (again x s)) flash ∙ at (place_of rejoin next) o told
+      ap (λ s. outcome_of (again x s)) flash ∙ at (place_of rejoin next) o (sym is)
 
 -- The next row, by how a tour stands with the last one.
 
 last_more : (path : List ℕ) (n : ℕ) → with_last path (n + 1) ≡ path ++ n ∷ []
 last_more path n = ap (with_last path) (add-one n)
+
+-- What a value is found to be, where there is one.
+pub some_found : {S R : Type 0} (shown : S → R) (P : R → Type 0) (Q : Option R → Type 0) (o : Option S) → IsSomeAnd o (λ s. P (shown s)) → ((r : R) → P r → Q (Some r))
+    → Q (option_map shown o)
+some_found shown P Q None is there = absurd is
+some_found shown P Q (Some s) is there = there (shown s) is
 
 module _ {B N A T H E : Type 0} (kind : B → Kind N A T) (holds : B → Content → H → Type 0) (is_ahead : B → Content → H → List ℕ → E → ℕ → Type 0) where
   -- Where no further path is, the position is behind the last one.
@@ -161,9 +172,6 @@ module _ {B N A T H E : Type 0} (kind : B → Kind N A T) (holds : B → Content
     pub ahead_there : AreBehind kind is_ahead t.walk kept path x
     ahead_there = there.1
 
-    pub short_there : length path < 16
-    short_there = omega (arith, ahead_there.deep, step.few)
-
     next_is : IsNext (IsPath (kind t.walk.branches) t.walk) (After (with_last path x.next)) (path ++ x.next ∷ [])
     next_is = by x.next (omega (arith, lt, ahead_there.count_is))
       where
@@ -190,19 +198,6 @@ module _ {B N A T H E : Type 0} (kind : B → Kind N A T) (holds : B → Content
 
     pub going_there : t.phase ≡ Going
     going_there = going
-
-    pub told_one : IsRowing kind holds is_ahead t kept path (Some (record { ahead = x.ahead; count = x.count; next = x.next + 1 }))
-    told_one = record {
-      spent = λ is. absurd (works is);
-      sound = λ w. record {
-        few = step.few;
-        holds_there = step.holds_there;
-        stands = subst (IsAtPhase kind holds is_ahead t.walk kept path (Some (record { ahead = x.ahead; count = x.count; next = x.next + 1 }))) (sym going) (
-          there.0,
-          record { deep = ahead_there.deep; listed = ahead_there.listed; are = ahead_there.are; count_is = ahead_there.count_is; some = ahead_there.some; small = ahead_there.small },
-        );
-      };
-    }
 
   -- A walk stands at that path, and these rows are ahead; and what was kept goes over.
   pub record HasArrived (w : Walked B) (kept kept' : H) (path' : List ℕ) (ahead' : Option (RowsAhead E)) : Type 0 where

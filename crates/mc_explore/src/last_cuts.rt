@@ -41,17 +41,13 @@ impl AtCuts {
         })
     }
 
-    /// The outcome at the cut of its boot where that of the other boot finds its flash.
-    pub fn outcome(&self, rejoin: &Rejoin, number: u32) -> Outcome
-        requires small { number < 2 ^ 31 }
-        requires within { place_of rejoin.now number < length self.now.outcomes.items }
-        ensures { slice_get self.now.outcomes.items (place_of rejoin.now number) ≡ Some result }
+    /// The outcome at the cut of its boot where that of the other boot finds its flash, if it is kept.
+    pub fn outcome(&self, rejoin: &Rejoin, number: u32) -> Option<Outcome>
+        requires { number < 2 ^ 31 }
+        ensures { result ≡ slice_get self.now.outcomes.items (place_of rejoin.now number) }
     {
         let place = rejoin.place(number) as usize;
-        match self.outcomes.get(place) {
-            Some(outcome) => *outcome,
-            None => unreachable!(),
-        }
+        self.outcomes.get(place).copied()
     }
 
     /// The last cuts behind the path of a walk, where its boot goes on with the one that was cut, and all outcomes at the cuts of

@@ -90,7 +90,13 @@ impl Once {
     /// What is told of a child on its way, where it follows from what was told of its parent: then the uncut boots of both
     /// leave the same flash. Elsewhere the boot at power-on from the child.
     #[inline]
-    pub fn derive<F: Flash>(&self, flash: &F, at: &Boot, parent: &Told) -> Result<Told, Boot>
+    pub fn derive<F: Flash>(
+        &self,
+        flash: &F,
+        at: &Boot,
+        parent: &Told,
+        start: &Start,
+    ) -> Result<Told, Boot>
         requires { IsChild (once self.now.rules self.now.layout) at.now parent.now
             (F.seen flash.now) }
         ensures told { IfOk result (TellsChild (once self.now.rules self.now.layout) at.now
@@ -103,8 +109,7 @@ impl Once {
         if at.count() == 0 {
             return Ok(*parent);
         }
-        bytes_stand(flash.read(Slot::Secondary));
-        let boot = Boot::after_cut(flash, at);
+        let boot = self.boot(flash, start);
         match outcome_after(at, &parent.outcome, &boot) {
             Some(outcome) => Ok(Told { boot, outcome }),
             None => Err(boot),
@@ -176,7 +181,7 @@ impl Branches for Once {
         parent: &Told,
         start: &Start,
     ) -> Result<Told, FlashError> {
-        match self.derive(flash, at, parent) {
+        match self.derive(flash, at, parent, start) {
             Ok(told) => Ok(told),
             Err(boot) => self.tell(flash, boot, start),
         }

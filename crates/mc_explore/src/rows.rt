@@ -107,7 +107,7 @@ impl<F: Flash + Drop, X: Subject> Rows<F, X> {
                 next: rows.next + 1,
                 ..rows
             });
-            return Ok(Some(row));
+            return Ok(row);
         }
         if !go_on(&mut self.tour, self.ahead.is_some(), start)? {
             return Ok(None);

@@ -124,11 +124,11 @@ impl Subject for Once {
     }
 
     #[inline]
-    fn row_ahead(kept: &AtCuts, path: &Schedule, rows: &RowsAhead<Rejoin>) -> Row {
-        let outcome = kept.outcome(&rows.ahead, rows.next);
+    fn row_ahead(kept: &AtCuts, path: &Schedule, rows: &RowsAhead<Rejoin>) -> Option<Row> {
+        let outcome = kept.outcome(&rows.ahead, rows.next)?;
         let mut schedule = *path;
         schedule.push(rows.next);
-        Row { schedule, outcome }
+        Some(Row { schedule, outcome })
     }
 
     #[inline]

@@ -19,7 +19,7 @@ pub struct Fields<C, K> {
 
 /// A kind of tree whose paths are gone through as rows, each found by a key.
 pub trait Subject: Branches<Known = Start> {
-    ghost use Rattle.std.specs.Prelude.{◌≡◌, ◌≢◌, ◌↔◌, ℕ, ◌+◌, ◌<◌, ◌≤◌, Bool, ◌^◌, List, [], ◌∷◌, length, ◌++◌, Option, true, false, IfOk, IfErr, IfSome, OnOk};
+    ghost use Rattle.std.specs.Prelude.{◌≡◌, ◌≢◌, ◌↔◌, ℕ, ◌+◌, ◌<◌, ◌≤◌, Bool, ◌^◌, List, [], ◌∷◌, length, ◌++◌, Option, true, false, IfOk, IfErr, IfSome, IsSomeAnd, OnOk};
     ghost use Rattle.mc_tree.specs.Tree.{Allowed};
     ghost use Rattle.mc_tree.specs.facts.Order.{IsOrder};
     ghost use Rattle.mc_flash.specs.Flash.{Content};
@@ -152,19 +152,21 @@ pub trait Subject: Branches<Known = Start> {
         ensures ahead { IfSome result (AreFresh Self.kind holds is_ahead walk.now kept.new
             path.now) };
 
-    /// The next row of those.
-    fn row_ahead(kept: &Self::Kept, path: &Schedule, rows: &RowsAhead<Self::Ahead>) -> Self::Row
+    /// The next row of those, which is there wherever rows are told ahead.
+    fn row_ahead(
+        kept: &Self::Kept,
+        path: &Schedule,
+        rows: &RowsAhead<Self::Ahead>,
+    ) -> Option<Self::Row>
         requires short { length path.now < 16 }
         requires some { rows.now.next < rows.now.count }
         requires small { rows.now.count ≤ 2 ^ 31 }
-        requires told { (b : Self) × (c : Content)
-            × is_ahead b c kept.now path.now rows.now.ahead rows.now.count }
         ensures { (b : Self) (c : Content) → holds b c kept.now
             → is_ahead b c kept.now path.now rows.now.ahead rows.now.count
             → Allowed (Self.kind b).tree ((Self.kind b).root c)
             (path.now ++ rows.now.next ∷ [])
-            → IsRowAt subject begins choice key_of b c (path.now ++ rows.now.next ∷ [])
-            (shown result) };
+            → IsSomeAnd result (λ row. IsRowAt subject begins choice key_of b c
+            (path.now ++ rows.now.next ∷ []) (shown row)) };
 
     /// The key of a row.
     fn key(row: &Self::Row) -> Self::Key

@@ -13,7 +13,7 @@ ghost use Rattle.mc_start.specs.Start.{IsKnown};
 ghost use Rattle.mc_start.specs.Start.{Starts, Gives, begun, in_order, of_flash, start_digest};
 
 use crate::slots::start_slots;
-use mc_boot::{ImageId, Kind, KnownImage, known_id};
+use mc_boot::{ImageId, Kind, KnownImage, image_in, known_id};
 use mc_flash::{Content, FlashError, Layout, Slot};
 use mc_image::{ImageError, ImageView};
 use mc_trailer::Rules;
@@ -233,7 +233,8 @@ impl Start {
         })
     }
 
-    /// The start from the bytes of both slots, the primary's first. Its boots go by whole calls and the first profile.
+    /// The start from the bytes of both slots, the primary's first. Its boots go by whole calls and the first profile. What the
+    /// slots hold is hashed here, and again nowhere.
     ///
     /// # Errors
     ///
@@ -252,8 +253,8 @@ impl Start {
             rules: Rules::PLAIN,
             line: layout_line(alloc, layout)?,
             content: Content::of(alloc, low, high)?,
-            in_primary: None,
-            in_secondary: None,
+            in_primary: image_in(low, &[]),
+            in_secondary: image_in(high, &[]),
             named: None,
         })
     }

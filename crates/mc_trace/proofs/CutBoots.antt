@@ -35,9 +35,6 @@ module _ (from : PowerOn) where
     pub told_all : told from.geometry p.count (up_to None p.count p.to_come) from.content ≡ told from.geometry 0 list from.content
     told_all = ap (λ (x : Progress). told from.geometry x.count (up_to None x.count x.to_come) from.content) is
 
-    pub head_is : (boot : ℕ) → head_line boot p.kind ≡ head_line boot (plan from).kind
-    head_is boot = ap (λ (x : Progress). head_line boot x.kind) is
-
   -- The boot has come to the cut, which can occur.
   module _ (q : Progress) (t : Content) (cut : ℕ) (come : HasCome from q t) (few : q.count ≤ cut) (end : (q.to_come ≡ []) ⊎ (q.count ≡ cut)) (inside : cut < length (ops_of from)) where
     there : q.count ≡ cut

@@ -1,10 +1,11 @@
-use Rattle.std.proofs.Common.{◌≡◌, ◌+◌, Bool, true, false, Option, Some, List, ℕ, refl, sym, ap, subst, ◌∙◌}
+use Rattle.std.proofs.Common.{◌≡◌, ◌+◌, ◌++◌, ◌∷◌, [], Bool, true, false, Option, Some, List, ℕ, refl, sym, ap, subst, ◌∙◌}
 use Rattle.mc_walk.specs.Walks.{Visits, position_of, IsPath, Walked, origin_of}
 use Rattle.mc_explore.specs.declared.ahead.RowsAhead.{RowsAhead}
 use Rattle.mc_explore.specs.inner.Exploring.{last_of, with_last, FindsRow, IsRowing, Rowed}
 use Rattle.mc_explore.specs.Subject.{IsRowAt}
 use Rattle.mc_explore.proofs.Rowing.{HasArrived, ahead_there, few_next, going_there, last_next, last_there, listed_there, next_ahead, path_next, rowing_next, rowing_over, stands_for, stands_next}
-use Rattle.mc_explore.proofs.Rowing.{step}
+use Rattle.mc_explore.proofs.Rowing.{some_found, step}
+use Rattle.std.specs.Prelude.{option_map}
 use Rattle.mc_explore.proofs.Visiting.{row_back}
 use Rattle.mc_explore.proofs.rows.Rows.next.Given.{Over}
 use Rattle.mc_explore.proofs.rows.Rows.next.Goals as goal
@@ -33,14 +34,15 @@ returns-in-Some-clause-finds g c =
     let going = going_there g.X.Branches.kind g.X.Subject.holds g.X.Subject.is_ahead s.tour s.kept s.path x i lt in
     let listed = subst (IsPath (g.X.Branches.kind w.branches) w) last next.listed in
     let row = c.row_ahead-row.ensures w.branches (origin_of w.seen) holds behind.are listed.1 in
-    let at = subst (λ l. IsRowAt g.X.Subject.subject g.X.Subject.begins g.X.Subject.choice g.X.Subject.key_of w.branches (origin_of w.seen) l (g.X.Subject.shown c.row_ahead-row.result))
-    (sym last) row in
     let new : Rowed g.row.X.Denot = record { walk = w; phase = s.tour.phase; last = with_last s.path (x.next + 1) } in
-    let is : record { walk = w; phase = s.tour.phase; last = with_last s.path x.next } ≡ c.args.self.now =
+    let old : Rowed g.row.X.Denot = record { walk = w; phase = s.tour.phase; last = with_last s.path x.next } in
+    let is : old ≡ c.args.self.now =
     ap (λ (o : Option (RowsAhead g.row.X-Ahead.Denot)). record { walk = w; phase = s.tour.phase; last = last_of s.path o }) (sym c.in-Some.ensures.0) ∙ c.self.view_is in
-    subst (λ (z : Rowed g.row.X.Denot). FindsRow g.X.Subject.subject g.X.Branches.kind g.X.Subject.begins g.X.Subject.choice g.X.Subject.key_of z (Some (g.X.Subject.shown
-    c.row_ahead-row.result)) new) is
-    (next, at, record { branches = refl; bound = refl; origin = refl }, going)
+    subst (λ (z : Rowed g.row.X.Denot). FindsRow g.X.Subject.subject g.X.Branches.kind g.X.Subject.begins g.X.Subject.choice g.X.Subject.key_of z
+    (option_map g.X.Subject.shown c.row_ahead-row.result) new) is
+    (some_found g.X.Subject.shown (IsRowAt g.X.Subject.subject g.X.Subject.begins g.X.Subject.choice g.X.Subject.key_of w.branches (origin_of w.seen) (s.path ++ x.next ∷ []))
+    (λ found. FindsRow g.X.Subject.subject g.X.Branches.kind g.X.Subject.begins g.X.Subject.choice g.X.Subject.key_of old found new) c.row_ahead-row.result row
+    (λ r at. (next, subst (λ l. IsRowAt g.X.Subject.subject g.X.Subject.begins g.X.Subject.choice g.X.Subject.key_of w.branches (origin_of w.seen) l r) (sym last) at, record { branches = refl; bound = refl; origin = refl }, going)))
 
 -- ---- the next node
 

@@ -1,4 +1,4 @@
-use Rattle.std.proofs.Common.{List, ℕ, [], ◌∷◌, ◌++◌, ap, ◌∙◌}
+use Rattle.std.proofs.Common.{List, Some, ℕ, [], ◌∷◌, ◌++◌, ap, sym, ◌∙◌}
 use Rattle.mc_explore.specs.inner.Once.{begins}
 use Rattle.mc_explore.specs.Rows.{outcome_after}
 use Rattle.mc_explore.specs.facts.Listed.{lands_told}
@@ -13,5 +13,6 @@ returns c = λ o s holds are allowed.
     let path = c.args.path.now ++ rows.next ∷ [] in (
       c.push.ensures,
       ap (λ (l : List ℕ). outcome_after x l) c.push.ensures ∙ lands_told x path allowed
-          ∙ outcome_there x kept.of c.args.path.now kept.outcomes.items rows.ahead rows.count rows.next are c.requires.some c.outcome-outcome.result holds c.outcome-outcome.ensures,
+          ∙ outcome_there x kept.of c.args.path.now kept.outcomes.items rows.ahead rows.count rows.next are c.requires.some (Some c.in_ok-outcome.outcome) holds
+          (sym c.in_ok-outcome.was ∙ c.outcome.ensures),
     )

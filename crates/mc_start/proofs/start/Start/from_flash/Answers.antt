@@ -1,9 +1,13 @@
-use Rattle.std.proofs.Common.{◌≡◌, ℕ, ◌+◌, List, length, take, drop, Ok, refl, arith}
+use Rattle.std.proofs.Common.{◌≡◌, ℕ, ◌+◌, List, length, take, drop, None, Ok, Option, Some, ap, refl, rules, sym, arith, ◌∙◌}
+use Rattle.std.specs.Prelude.{option_map}
 use Rattle.std.proofs.lemmas.Bool.Decides.{nat_tests}
 use Rattle.mc_flash.specs.Flash.{Content, size_of}
 use Rattle.mc_flash.specs.Geometry.{Geometry}
 use Rattle.mc_flash.specs.declared.op.Slot.TheVariants.{Primary, Secondary}
-use Rattle.mc_start.specs.Start.{of_flash}
+use Rattle.mc_boot.specs.Plan.{identity_of}
+use Rattle.mc_boot.specs.declared.image.ImageId.{ImageId}
+use Rattle.mc_image.specs.Valid.{id_of}
+use Rattle.mc_start.specs.Start.{IsKnown, of_flash}
 use Rattle.mc_start.proofs.start.Start.from_flash.Goals as goal
 
 right_size : (g : Geometry) (bytes low high : List ℕ) (p s : ℕ) (content : Content) → p ≡ size_of g Primary → s ≡ size_of g Secondary → length bytes ≡ p + s → low ≡ take p bytes → high ≡ drop p bytes
@@ -17,4 +21,19 @@ returns c =
       refl,
       right_size c.args.layout.now c.args.bytes.now _ _ _ _ _ c.size-primary.ensures.value c.size-secondary.ensures.value c.if-bytes-primary.false parts.front parts.back c.in_ok-of.ensures,
       refl,
+    )
+
+-- What is told of some bytes is known of those that are the same.
+known : (bytes same : List ℕ) (o : Option ImageId) → option_map identity_of o ≡ id_of bytes → same ≡ bytes → IsKnown same o
+known bytes same None told is = tt
+known bytes same (Some id) told is = ap id_of is ∙ sym told
+
+pub invariant_of-result : goal.invariant_of-result
+invariant_of-result c =
+    let content = c.in_ok-of.ensures in (
+      c.size-primary.ensures.valid,
+      search rules,
+      c.in_ok-layout_line.ensures,
+      known _ _ c.image_in.result c.image_in.ensures (ap (λ (s : Content). s.primary) content),
+      known _ _ c.image_in-2.result c.image_in-2.ensures (ap (λ (s : Content). s.secondary) content),
     )
