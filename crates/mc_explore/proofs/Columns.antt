@@ -19,6 +19,8 @@ use Rattle.mc_walk.specs.Kind.{IsAt, TellsChild}
 use Rattle.mc_explore.specs.inner.Once.{at_cut, IsTold, most_of, once}
 use Rattle.mc_explore.specs.inner.Table.{ArePositions, HasRoomFor, IsColumn, IsPosition, StaysSo, own_totals, told_totals}
 use Rattle.mc_explore.specs.Census.{report_totals}
+use Rattle.mc_explore.specs.Right.{judged}
+use Rattle.mc_explore.specs.declared.expectation.Expectation.{Expectation}
 use Rattle.mc_explore.specs.declared.census.Census.{Census}
 use Rattle.mc_explore.specs.declared.once.Told.{Told}
 use Rattle.mc_explore.specs.declared.table.Position.{Position}
@@ -44,8 +46,8 @@ went_so old mid end new place at m keeps limits is =
     subst (StaysSo old) (sym back) (record { stays = stays_back old mid end m keeps; limits = (spent_back (length old.checkpoints) end).limits ∙ limits })
 
 module _ (r : Rules) (g : Geometry) where
-  pub own_told : (s : Content) (told : Told) → IsTold (power_on r g s) told → report_totals (shown told.outcome) ≡ own_totals r g s
-  own_told s told t = sym (ap told_totals t.outcome_is)
+  pub own_told : (e : Expectation) (s : Content) (told : Told) → IsTold (power_on r g s) told → report_totals (judged e (shown told.outcome)) ≡ own_totals e r g s
+  own_told e s told t = sym (ap (told_totals e) t.outcome_is)
 
   pub still_at : (s : Content) (i : ℕ) (b : Boot) (old new : Seen) → IsAt (once r g) s i b old → Stays old new → IsAt (once r g) s i b new
   still_at s i b old new at stays = record {
@@ -180,18 +182,18 @@ module _ (r : Rules) (g : Geometry) where
       subst (P g) at.content_is here (shown parent.outcome) (cut_here r g s i b f parent at early told) child_told.boot_is
 
   -- A child with a column of its own.
-  pub column_here : (here u : Content) (bound : ℕ) → 1 ≤ bound → (column : List Census) → here ≡ u → IsColumn r g here (bound - 1 + 1) column → IsColumn r g u bound column
-  column_here here u bound some column same is =
+  pub column_here : (e : Expectation) (here u : Content) (bound : ℕ) → 1 ≤ bound → (column : List Census) → here ≡ u → IsColumn e r g here (bound - 1 + 1) column → IsColumn e r g u bound column
+  column_here e here u bound some column same is =
       let all : bound - 1 + 1 ≡ bound = omega (arith, some) in
-      subst (λ n. IsColumn r g u n column) all (subst (λ v. IsColumn r g v (bound - 1 + 1) column) same is)
+      subst (λ n. IsColumn e r g u n column) all (subst (λ v. IsColumn e r g v (bound - 1 + 1) column) same is)
 
   -- One position more.
-  module _ (s : Content) (bound : ℕ) where
-    pub no_positions : (ps : List Position) → ps ≡ [] → ArePositions r g s bound ps
+  module _ (e : Expectation) (s : Content) (bound : ℕ) where
+    pub no_positions : (ps : List Position) → ps ≡ [] → ArePositions e r g s bound ps
     no_positions ps none c p is = absurd (omega (arith, slice_get_within ps c p is, ap length none))
 
-    pub more_positions : (ps : List Position) (p : Position) (n : ℕ) → ArePositions r g s bound ps → length ps ≡ n → IsPosition r g s bound (at_cut (power_on r g s) n) p
-        → ArePositions r g s bound (ps ++ p ∷ [])
+    pub more_positions : (ps : List Position) (p : Position) (n : ℕ) → ArePositions e r g s bound ps → length ps ≡ n → IsPosition e r g s bound (at_cut (power_on r g s) n) p
+        → ArePositions e r g s bound (ps ++ p ∷ [])
     more_positions ps p n are many here =
-        let P : ℕ → Position → Type 0 = λ m. IsPosition r g s bound (at_cut (power_on r g s) m) in
+        let P : ℕ → Position → Type 0 = λ m. IsPosition e r g s bound (at_cut (power_on r g s) m) in
         each_more P ps p are (subst (λ m. P m p) (sym many) here)

@@ -11,6 +11,9 @@ use Rattle.mc_explore.specs.Page.{last_schedule}
 use Rattle.mc_explore.specs.Pages.{FindsBefore}
 use Rattle.mc_explore.specs.Rows.{State, Told, schedules}
 use Rattle.mc_explore.specs.Survey.{Surveys, SurveysUntil, is_boot, rows_with, tally_of, tally_so_far}
+use Rattle.mc_explore.specs.Right.{SurveysRight, rights_of}
+use Rattle.mc_explore.specs.declared.expectation.Expectation.{Expectation}
+use Rattle.mc_explore.specs.declared.rights.Rights.{Rights}
 use Rattle.mc_explore.specs.declared.surveying.Tally.{Tally}
 use Rattle.mc_explore.specs.facts.Listed.{schedules_are_lawful}
 use Rattle.mc_explore.specs.facts.Whole.{whole_taken}
@@ -21,27 +24,29 @@ use Rattle.mc_boot.specs.declared.outcome.BootResult.TheVariants as results
 
 -- The rows of a survey, as they are counted one after another.
 
-module _ (until : Option (List ℕ)) (old : State) (limit : ℕ) where
+module _ (e : Expectation) (until : Option (List ℕ)) (old : State) (limit : ℕ) where
   -- These rows were taken and counted, and behind the last of them one has come.
-  pub record AreCounted (now : State) (tally : Tally) : Type 0 where
+  pub record AreCounted (now : State) (tally : Tally) (rights : Rights) : Type 0 where
     pub some : List Told
     pub so_far : AreSoFar schedules schedules_are_lawful until old limit now (limit - tally.rows) some
     pub last_is : 0 < length some → now.position ≡ After (last_schedule [] some)
     pub tally_is : tally ≡ tally_so_far some
+    pub rights_are : rights ≡ rights_of e some
     pub few : tally.rows ≤ limit
 
-  pub count_begin : AreCounted old (tally_so_far [])
-  count_begin =
+  pub count_begin : (rights : Rights) → rights ≡ rights_of e [] → AreCounted old (tally_so_far []) rights
+  count_begin rights none =
       let room : limit ≡ limit - 0 = omega arith in
       record {
         some = [];
         so_far = subst (λ r. AreSoFar schedules schedules_are_lawful until old limit old r []) room (none_so_far schedules schedules_are_lawful until old limit);
         last_is = λ some. absurd (omega (arith, some));
         tally_is = refl;
+        rights_are = none;
         few = omega arith;
       }
 
-module _ {until : Option (List ℕ)} {old : State} {limit : ℕ} {now : State} {tally : Tally} (p : AreCounted until old limit now tally) where
+module _ {e : Expectation} {until : Option (List ℕ)} {old : State} {limit : ℕ} {now : State} {tally : Tally} {rights : Rights} (p : AreCounted e until old limit now tally rights) where
   pub one_counted : (row : Told) (tally' : Tally) → tally' ≡ tally_so_far (p.some ++ row ∷ []) → tally'.rows ≡ tally.rows + 1
   one_counted row tally' is =
       let now : tally.rows ≡ length p.some = ap (λ (t : Tally). t.rows) p.tally_is in
@@ -49,27 +54,30 @@ module _ {until : Option (List ℕ)} {old : State} {limit : ℕ} {now : State} {
       omega (arith, now, then, length-append p.some (row ∷ []))
 
   -- One row more.
-  pub count_on : (new : State) (row : Told) (tally' : Tally) (room : limit - tally.rows ≡ suc (limit - tally'.rows)) → FindsBefore schedules until now (Some row) new
-      → ((rows : List Told) → tally ≡ tally_so_far rows → tally' ≡ tally_so_far (rows ++ row ∷ [])) → tally'.rows ≤ limit → AreCounted until old limit new tally'
-  count_on new row tally' room f more few = record {
+  pub count_on : (new : State) (row : Told) (tally' : Tally) (rights' : Rights) (room : limit - tally.rows ≡ suc (limit - tally'.rows)) → FindsBefore schedules until now (Some row) new
+      → ((rows : List Told) → tally ≡ tally_so_far rows → tally' ≡ tally_so_far (rows ++ row ∷ []))
+      → ((rows : List Told) → rights ≡ rights_of e rows → rights' ≡ rights_of e (rows ++ row ∷ [])) → tally'.rows ≤ limit → AreCounted e until old limit new tally' rights'
+  count_on new row tally' rights' room f more better few = record {
     some = p.some ++ row ∷ [];
     so_far = one_more schedules schedules_are_lawful until old limit now (limit - tally.rows) p.some p.so_far (limit - tally'.rows) room new row f;
     last_is = λ _. ap (λ (s : State). s.position) f.2 ∙ ap (λ m. After m) (sym (last_on (λ (row : Told). row.schedule) [] p.some row));
     tally_is = more p.some p.tally_is;
+    rights_are = better p.some p.rights_are;
     few = few;
   }
 
   -- Where no further row is shown.
-  pub counted_short : (new : State) (k : ℕ) → limit - tally.rows ≡ suc k → FindsBefore schedules until now None new → SurveysUntil until old new limit tally
+  pub counted_short : (new : State) (k : ℕ) → limit - tally.rows ≡ suc k → FindsBefore schedules until now None new → SurveysRight e until old new limit tally rights
   counted_short new k room f =
-      (page_with schedules old p.some false, page_short schedules schedules_are_lawful until old limit now (limit - tally.rows) p.some p.so_far k room new f, p.tally_is)
+      (page_with schedules old p.some false, page_short schedules schedules_are_lawful until old limit now (limit - tally.rows) p.some p.so_far k room new f, p.tally_is, p.rights_are)
 
   -- Where the page is full.
   pub last_counted : 1 ≤ limit → limit - tally.rows ≡ 0 → now.position ≡ After (last_schedule [] p.some)
   last_counted some full = p.last_is (omega (arith, some, full, p.few, ap (λ (t : Tally). t.rows) p.tally_is))
 
   pub counted_full : (cursor : Cursor) → limit - tally.rows ≡ 0 → cursor ≡ cursor_of now.start now.bound (last_schedule [] p.some)
-      → SurveysUntil until old now limit (record { rows = tally.rows; boot = tally.boot; none = tally.none; panic = tally.panic; fault = tally.fault; most_ops = tally.most_ops; next = Some cursor })
+      → SurveysRight e until old now limit
+      (record { rows = tally.rows; boot = tally.boot; none = tally.none; panic = tally.panic; fault = tally.fault; most_ops = tally.most_ops; next = Some cursor }) rights
   counted_full cursor full is =
       let so_far = tally_so_far p.some in
       let next = cursor_is schedules schedules_are_lawful until old limit now (limit - tally.rows) p.some p.so_far cursor is in (
@@ -77,6 +85,7 @@ module _ {until : Option (List ℕ)} {old : State} {limit : ℕ} {now : State} {
         page_full schedules schedules_are_lawful until old limit now (limit - tally.rows) p.some p.so_far full,
         ap (λ (t : Tally). record { rows = t.rows; boot = t.boot; none = t.none; panic = t.panic; fault = t.fault; most_ops = t.most_ops; next = Some cursor }) p.tally_is
             ∙ ap (λ n. record { rows = so_far.rows; boot = so_far.boot; none = so_far.none; panic = so_far.panic; fault = so_far.fault; most_ops = so_far.most_ops; next = n }) next,
+        p.rights_are,
       )
 
 -- A survey of all rows to come.

@@ -13,10 +13,12 @@ use Rattle.mc_boot.specs.Plan.{PowerOn, power_on}
 use Rattle.mc_boot.specs.Rejoin.{IsRejoined, place_of}
 use Rattle.mc_boot.specs.declared.rejoining.Rejoin.{Rejoin}
 use Rattle.mc_boot.specs.facts.Run.{outcome_defined}
-use Rattle.mc_explore.specs.Census.{IsCensus, Totals, both, census_of, count_if, cut_off, first_not_boot, no_totals, row_totals, totals}
+use Rattle.mc_explore.specs.Census.{Totals, both, census_of, count_if, cut_off, first_not_boot, no_totals, row_totals, totals}
 use Rattle.mc_explore.specs.Rows.{Told}
 use Rattle.mc_explore.specs.Survey.{is_boot, is_fault, is_none, is_panic, most_ops_of, rows_with}
+use Rattle.mc_explore.specs.Right.{IsCensusOf, judged_row}
 use Rattle.mc_explore.specs.declared.census.Census.{Census}
+use Rattle.mc_explore.specs.declared.expectation.Expectation.{Expectation}
 use Rattle.mc_explore.specs.facts.Listed.{all_rows, row_at}
 use Rattle.mc_explore.specs.facts.Occurring.{at_is, lands_at}
 use Rattle.mc_explore.specs.inner.Once.{at_cut, boots}
@@ -106,9 +108,9 @@ from_none (suc n) i = ap (both no_totals) (from_none n (i + 1))
 
 module _ (r : Rules) (g : Geometry) where
   -- All schedules from a content: the one of no cuts, and those behind each first cut.
-  pub weigh_is : (d : ℕ) (s : Content) → weigh r g d s ≡ both (own_totals r g s) (from totals (λ c. weigh_fewer r g d (at_cut (power_on r g s) c)) (length (ops_of (power_on r g s))) 0)
-  weigh_is zero s = sym (ap (both (own_totals r g s)) (from_none (length (ops_of (power_on r g s))) 0) ∙ totals_weigh.right (own_totals r g s))
-  weigh_is (suc d) s = refl
+  pub weigh_is : (e : Expectation) (d : ℕ) (s : Content) → weigh e r g d s ≡ both (own_totals e r g s) (from totals (λ c. weigh_fewer e r g d (at_cut (power_on r g s) c)) (length (ops_of (power_on r g s))) 0)
+  weigh_is e zero s = sym (ap (both (own_totals e r g s)) (from_none (length (ops_of (power_on r g s))) 0) ∙ totals_weigh.right (own_totals e r g s))
+  weigh_is e (suc d) s = refl
 
   module _ (s u : Content) (x : Rejoin) (joined : IsRejoined (power_on r g s) u x) where
     pub inside : IsInside x (length (ops_of (power_on r g s)))
@@ -134,16 +136,16 @@ module _ (r : Rules) (g : Geometry) where
     }
 
     -- All schedules from a content whose boot goes on with that of another.
-    pub rejoined_weigh : (d : ℕ) → weigh r g d u ≡ both (own_totals r g u)
-        (placed_below totals (λ c. weigh_fewer r g d (at_cut (power_on r g s) c)) (length (ops_of (power_on r g s))) x.kept x.erases (place_of x))
-    rejoined_weigh (suc d) = placed_weight totals totals_weigh (boots r g) (own_totals r g) s u x.kept x.erases (place_of x) d placed
-    rejoined_weigh zero =
+    pub rejoined_weigh : (e : Expectation) (d : ℕ) → weigh e r g d u ≡ both (own_totals e r g u)
+        (placed_below totals (λ c. weigh_fewer e r g d (at_cut (power_on r g s) c)) (length (ops_of (power_on r g s))) x.kept x.erases (place_of x))
+    rejoined_weigh e (suc d) = placed_weight totals totals_weigh (boots r g) (own_totals e r g) s u x.kept x.erases (place_of x) d placed
+    rejoined_weigh e zero =
         let rest : ℕ = length (ops_of (power_on r g s)) - (x.kept + x.erases) in
         let early = from_none x.erases 0 in
         let late = ap (totals.back x.kept) (from_none rest (x.kept + x.erases)) in
-        sym (ap (λ a. both (own_totals r g u) (both a (totals.back x.kept (from totals (λ c. no_totals) rest (x.kept + x.erases))))) early
-        ∙ ap (λ a. both (own_totals r g u) (both no_totals a)) late
-        ∙ totals_weigh.right (own_totals r g u))
+        sym (ap (λ a. both (own_totals e r g u) (both a (totals.back x.kept (from totals (λ c. no_totals) rest (x.kept + x.erases))))) early
+        ∙ ap (λ a. both (own_totals e r g u) (both no_totals a)) late
+        ∙ totals_weigh.right (own_totals e r g u))
 
 -- Lists of totals that are cut off.
 
@@ -184,26 +186,26 @@ module _ (under : ℕ → Totals) where
       sym (ap (λ k. from totals under k 0) one ∙ from_more totals totals_weigh under n 0 ∙ ap (λ i. both (from totals under n 0) (totals.behind i (under i))) at)
 
 -- All schedules of at most d cuts, by the positions of the boot, of which there are n.
-pub one_weighed : (x : PowerOn) (d n : ℕ) → n ≡ length (ops_of x)
-    → both (own_totals x.rules x.geometry x.content) (from totals (λ c. weigh_fewer x.rules x.geometry d (at_cut x c)) n (n - n)) ≡ weigh x.rules x.geometry d x.content
-one_weighed x d n e =
+pub one_weighed : (e : Expectation) (x : PowerOn) (d n : ℕ) → n ≡ length (ops_of x)
+    → both (own_totals e x.rules x.geometry x.content) (from totals (λ c. weigh_fewer e x.rules x.geometry d (at_cut x c)) n (n - n)) ≡ weigh e x.rules x.geometry d x.content
+one_weighed e x d n is =
     let g = x.geometry in
     let s = x.content in
-    let under : ℕ → Totals = λ c. weigh_fewer x.rules g d (at_cut x c) in
+    let under : ℕ → Totals = λ c. weigh_fewer e x.rules g d (at_cut x c) in
     let at : n - n ≡ 0 = omega arith in
-    ap (λ i. both (own_totals x.rules g s) (from totals under n i)) at ∙ ap (λ k. both (own_totals x.rules g s) (from totals under k 0)) e ∙ sym (weigh_is x.rules g d s)
+    ap (λ i. both (own_totals e x.rules g s) (from totals under n i)) at ∙ ap (λ k. both (own_totals e x.rules g s) (from totals under k 0)) is ∙ sym (weigh_is x.rules g e d s)
 
 -- The census of a content for one bound more, by the sums of all positions for that bound.
-pub entry_is : (x : PowerOn) (own sum one : Census) (d count : ℕ) (level sums : List Census)
+pub entry_is : (e : Expectation) (x : PowerOn) (own sum one : Census) (d count : ℕ) (level sums : List Census)
     → ((under : ℕ → Totals) → AreCutOff under level → count ≡ length level → AreSums under count sums)
     → ((under : ℕ → Totals) → AreCutOff under sums → count < length sums → sum ≡ cut_off (under count))
     → ((a b : Totals) → own ≡ cut_off a → sum ≡ cut_off b → one ≡ cut_off (both a b))
-    → own ≡ cut_off (own_totals x.rules x.geometry x.content) → count ≡ length (ops_of x) → IsLevel x.rules x.geometry x.content d level → one ≡ cut_off (weigh x.rules x.geometry d x.content)
-entry_is x own sum one d count level sums summed last together own_is all is_level =
-    let under : ℕ → Totals = λ c. weigh_fewer x.rules x.geometry d (at_cut x c) in
+    → own ≡ cut_off (own_totals e x.rules x.geometry x.content) → count ≡ length (ops_of x) → IsLevel e x.rules x.geometry x.content d level → one ≡ cut_off (weigh e x.rules x.geometry d x.content)
+entry_is e x own sum one d count level sums summed last together own_is all is_level =
+    let under : ℕ → Totals = λ c. weigh_fewer e x.rules x.geometry d (at_cut x c) in
     let are = summed under is_level.1 (all ∙ sym is_level.0) in
     let sum_is = last (λ k. from totals under k (count - k)) are.1 (omega (arith, are.0)) in
-    together (own_totals x.rules x.geometry x.content) (from totals under count (count - count)) own_is sum_is ∙ ap cut_off (one_weighed x d count all)
+    together (own_totals e x.rules x.geometry x.content) (from totals under count (count - count)) own_is sum_is ∙ ap cut_off (one_weighed e x d count all)
 
 -- What the one list of rows comes to is what the tree of boots does.
 
@@ -281,24 +283,46 @@ row_behind i l o =
       first = first;
     }) (first_behind (is_boot o.result) i l)
 
-module _ (r : Rules) (g : Geometry) where
+module _ (e : Expectation) (r : Rules) (g : Geometry) where
   abbrev start_at : Content → PowerOn
   start_at s = record { geometry = g; rules = r; content = s }
 
-  rows_are_weighed : AreWeighed totals totals_weigh (boots r g) (own_totals r g) row_totals (λ s. row_at (start_at s))
+  abbrev judged_at : Content → List ℕ → Told
+  judged_at s l = judged_row e (row_at (start_at s) l)
+
+  rows_are_weighed : AreWeighed totals totals_weigh (boots r g) (own_totals e r g) row_totals judged_at
   unfolding row_at
   rows_are_weighed = record {
-    here = λ s. sym (ap told_totals (outcome_defined (power_on r g s)).1);
-    below = λ s i l. row_behind i l (row_at (start_at (at_cut (power_on r g s) i)) l).outcome;
+    here = λ s. sym (ap (told_totals e) (outcome_defined (power_on r g s)).1);
+    below = λ s i l. row_behind i l (judged_at (at_cut (power_on r g s) i) l).outcome;
   }
 
   -- All rows weigh what the tree does.
-  all_weigh : (bound : ℕ) (s : Content) → sum_of (map (row_at (start_at s)) (all_from (boots r g) bound s)) ≡ weigh r g bound s
-  all_weigh bound s = rows_weigh totals totals_weigh (boots r g) (own_totals r g) row_totals (λ s. row_at (start_at s)) rows_are_weighed bound s
+  all_weigh : (bound : ℕ) (s : Content) → sum_of (map (judged_at s) (all_from (boots r g) bound s)) ≡ weigh e r g bound s
+  all_weigh bound s = rows_weigh totals totals_weigh (boots r g) (own_totals e r g) row_totals judged_at rows_are_weighed bound s
 
-pub is_census : (start : PowerOn) (bound : ℕ) (census : Census) → bound ≤ 16 → census ≡ cut_off (weigh start.rules start.geometry bound start.content) → IsCensus start bound census
-is_census start bound census few is =
-    let rows : List Told = map (row_at start) (all_from (boots start.rules start.geometry) bound start.content) in
+-- The rows of a start, each judged.
+all_judged : (e : Expectation) (start : PowerOn) (ls : List (List ℕ)) → map (judged_at e start.rules start.geometry start.content) ls ≡ map (judged_row e) (map (row_at start) ls)
+all_judged e start [] = refl
+all_judged e start (l ∷ ls) = ap (λ (rows : List Told). judged_row e (row_at start l) ∷ rows) (all_judged e start ls)
+
+-- Each of some rows has as many cuts when it is judged.
+short_judged : (e : Expectation) (rows : List Told) → ((row : Told) → Contains rows row → length row.schedule ≤ 16) → (row : Told) → Contains (map (judged_row e) rows) row
+    → length row.schedule ≤ 16
+short_judged e rows few row there =
+    let from = lists.in_map (judged_row e) row rows there in
+    omega (arith, few from.0 from.2, ap (λ (r : Told). length r.schedule) from.1)
+
+pub is_census : (e : Expectation) (start : PowerOn) (bound : ℕ) (census : Census) → bound ≤ 16 → census ≡ cut_off (weigh e start.rules start.geometry bound start.content)
+    → IsCensusOf e start bound census
+is_census e start bound census few is =
+    let paths = all_from (boots start.rules start.geometry) bound start.content in
+    let rows : List Told = map (row_at start) paths in
     let rest = all_rows start bound in
     let short : (row : Told) → Contains rows row → length row.schedule ≤ 16 = λ row i. omega (arith, few, (rest.only row i).0.listed.0) in
-    record { rows = rows; rest = rest; census_is = is ∙ ap cut_off (sym (all_weigh start.rules start.geometry bound start.content)) ∙ rows_census rows short }
+    record {
+      rows = rows;
+      rest = rest;
+      census_is = is ∙ ap cut_off (sym (all_weigh e start.rules start.geometry bound start.content) ∙ ap sum_of (all_judged e start paths))
+          ∙ rows_census (map (judged_row e) rows) (short_judged e rows short);
+    }

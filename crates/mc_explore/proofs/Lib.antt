@@ -1,14 +1,15 @@
+mod Beginning
 mod Bytes
-mod Onwards
-pub mod Walks
-mod TornPages
-mod Restarts
-mod PageRows
-mod PageText
-pub mod Counting
 mod Columns
 mod Continued
+mod Onwards
+mod PageRows
+mod PageText
+mod Restarts
+mod TornPages
 mod Visiting
-mod Beginning
-pub mod Rowing
 pub mod Counted
+pub mod Counting
+pub mod JudgedRows
+pub mod Rowing
+pub mod Walks

@@ -6,5 +6,6 @@ pub mod Rows
 pub mod Page
 pub mod Survey
 pub mod Census
+pub mod Right
 pub mod inner
 pub mod facts

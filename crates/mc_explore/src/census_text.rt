@@ -8,7 +8,7 @@ use std::fmt;
 
 // A number of schedules, with `>=` before it where it was cut off.
 #[derive(Clone, Copy)]
-struct Count(u128);
+pub(crate) struct Count(pub u128);
 
 impl fmt::Display for Count {
     ghost output = { λ count. Some (count_text count.0) };
@@ -24,7 +24,7 @@ impl fmt::Display for Count {
 
 // A schedule, if there is one.
 #[derive(Clone, Copy)]
-struct First(Option<Schedule>);
+pub(crate) struct First(pub Option<Schedule>);
 
 impl fmt::Display for First {
     ghost output = { λ first. Some (first_text first.0) };

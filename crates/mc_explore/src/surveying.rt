@@ -4,10 +4,13 @@ ghost use Rattle.mc_explore.specs.Rows.{most_for_row};
 ghost use Rattle.mc_explore.specs.Rows.{Told, told};
 ghost use Rattle.mc_explore.specs.Page.{Page};
 ghost use Rattle.mc_explore.specs.Survey.{AllBoot, Surveys, SurveysUntil, tally_of, tally_so_far, tally_text};
+ghost use Rattle.mc_explore.specs.Right.{SurveysRight};
 ghost use Rattle.mc_explore.specs.Subject.{Explores};
 
 use crate::error::ExploreError;
+use crate::expectation::Expectation;
 use crate::explorer::Explorer;
+use crate::rights::Rights;
 use crate::row::Row;
 use mc_boot::BootResult;
 use mc_flash::Flash;
@@ -94,6 +97,43 @@ impl fmt::Display for Tally {
     }
 }
 
+/// Counts the next rows that come before that schedule, if one is told, at most so many, and how many of them are right: the rows
+/// of the page that `write_page_until` would write. The explorer is where that page would have left it. It takes no memory but
+/// through the flash.
+///
+/// # Errors
+///
+/// `Memory`, `Failed`: those of `next_row`.
+pub fn survey_right<F: Flash + Drop>(
+    explorer: &mut Explorer<'_, F>,
+    until: Option<Schedule>,
+    limit: u32,
+    expectation: &Expectation,
+) -> Result<(Tally, Rights), ExploreError>
+    requires { 1 ≤ limit }
+    ensures surveys { IfOk result (λ counted. SurveysRight expectation.now until explorer.old.state
+        explorer.new.state limit counted.0 counted.1) }
+    // Each row takes as much as one by itself.
+    ensures applied { OnOk result (explorer.new.usage.applied ≤ explorer.old.usage.applied + limit
+        * most_for_row explorer.old.state.start.rules explorer.old.state.start.geometry) }
+    ensures explores { Explores F.counted explorer.old result explorer.new }
+    ensures err { IfErr result (λ e. (e ≡ ExploreError.Memory) ⊎ (e ≡ ExploreError.Failed)) }
+{
+    let mut tally = Tally::new();
+    let mut rights = Rights::new();
+    'rows: while tally.rows < limit {
+        match explorer.next_before(&until)? {
+            Some(row) => {
+                tally.add(&row);
+                rights.add(expectation, &row);
+            }
+            None => return Ok((tally, rights)),
+        }
+    }
+    tally.next = Some(explorer.cursor());
+    Ok((tally, rights))
+}
+
 /// Counts the next rows that come before that schedule, if one is told, at most so many: the rows of the page that
 /// `write_page_until` would write. The explorer is where that page would have left it. It takes no memory but through the
 /// flash.
@@ -114,14 +154,7 @@ pub fn survey_until<F: Flash + Drop>(
     ensures explores { Explores F.counted explorer.old result explorer.new }
     ensures err { IfErr result (λ e. (e ≡ ExploreError.Memory) ⊎ (e ≡ ExploreError.Failed)) }
 {
-    let mut tally = Tally::new();
-    'rows: while tally.rows < limit {
-        match explorer.next_before(&until)? {
-            Some(row) => tally.add(&row),
-            None => return Ok(tally),
-        }
-    }
-    tally.next = Some(explorer.cursor());
+    let (tally, _rights) = survey_right(explorer, until, limit, &Expectation::any())?;
     Ok(tally)
 }
 

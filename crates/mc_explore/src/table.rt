@@ -7,6 +7,7 @@ ghost use Rattle.mc_boot.specs.Plan.{power_on};
 ghost use Rattle.mc_boot.specs.Rejoin.{IsRejoined, place_of};
 ghost use Rattle.mc_boot.specs.Outcome.{ops_of};
 ghost use Rattle.mc_tree.specs.inner.Weights.{from, placed_below};
+ghost use Rattle.mc_explore.specs.declared.expectation.Expectation.{Expectation};
 ghost use Rattle.mc_explore.specs.inner.Once.{at_cut};
 ghost use Rattle.mc_explore.specs.inner.Table.{AreCutOff, ArePositions, AreSums, IsColumn, IsInside, IsLevel, IsPosition, own_totals, weigh, weigh_fewer};
 ghost use Rattle.mc_explore.specs.Census.{Totals, both, cut_off, totals};
@@ -85,10 +86,10 @@ fn rejoined(rejoin: &Rejoin, level: &[Census], sums: &[Census]) -> Census
 impl Position {
     /// The census of the schedules of at most so many cuts from there, by those of all positions for fewer cuts and their sums.
     fn census(&self, level: &[Census], sums: &[Census], bound: u32) -> Census
-        ensures { (r : Rules) (g : Geometry) (s u : Content) (most : ℕ)
-            → IsPosition r g s most u self.now → IsLevel r g s bound level.now
-            → AreSums (λ c. weigh_fewer r g bound (at_cut (power_on r g s) c)) (length level.now) sums.now
-            → bound < most → result ≡ cut_off (weigh r g bound u) }
+        ensures { (e : Expectation) (r : Rules) (g : Geometry) (s u : Content) (most : ℕ)
+            → IsPosition e r g s most u self.now → IsLevel e r g s bound level.now
+            → AreSums (λ c. weigh_fewer e r g bound (at_cut (power_on r g s) c)) (length level.now) sums.now
+            → bound < most → result ≡ cut_off (weigh e r g bound u) }
     {
         match &self.below {
             Below::Joined(rejoin) => self.own.both(&rejoined(rejoin, level, sums)),
@@ -105,12 +106,12 @@ fn next_level(
     sums: &[Census],
     bound: u32,
 ) -> Result<Vec<Census>, AllocError>
-    ensures { IfOk result (λ next. (r : Rules) (g : Geometry) (s : Content) (most : ℕ)
-        → ArePositions r g s most positions.now
+    ensures { IfOk result (λ next. (e : Expectation) (r : Rules) (g : Geometry) (s : Content) (most : ℕ)
+        → ArePositions e r g s most positions.now
         → length positions.now ≡ length (ops_of (power_on r g s))
-        → IsLevel r g s bound level.now
-        → AreSums (λ c. weigh_fewer r g bound (at_cut (power_on r g s) c)) (length level.now) sums.now
-        → bound < most → IsLevel r g s (bound + 1) next.items) }
+        → IsLevel e r g s bound level.now
+        → AreSums (λ c. weigh_fewer e r g bound (at_cut (power_on r g s) c)) (length level.now) sums.now
+        → bound < most → IsLevel e r g s (bound + 1) next.items) }
 {
     let mut next = Vec::new(alloc);
     for position in positions {
@@ -128,10 +129,10 @@ pub(crate) fn column_of(
     count: u32,
     bound: u32,
 ) -> Result<Vec<Census>, AllocError>
-    ensures { IfOk result (λ column. (r : Rules) (g : Geometry) (s : Content)
-        → own ≡ cut_off (own_totals r g s) → ArePositions r g s bound positions.now
+    ensures { IfOk result (λ column. (e : Expectation) (r : Rules) (g : Geometry) (s : Content)
+        → own ≡ cut_off (own_totals e r g s) → ArePositions e r g s bound positions.now
         → count ≡ length positions.now → count ≡ length (ops_of (power_on r g s))
-        → IsColumn r g s (bound + 1) column.items) }
+        → IsColumn e r g s (bound + 1) column.items) }
 {
     let mut column = Vec::new(alloc);
     let mut level = Vec::new(alloc);

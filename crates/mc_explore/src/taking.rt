@@ -1,13 +1,16 @@
 //! Takes the census of a start: level by level, without going through the schedules.
 ghost use Rattle.std.specs.Prelude.{◌≡◌, ◌+◌, ◌≤◌, false, IfOk, IfErr, IsErrOf, OnOk};
 ghost use Rattle.mc_explore.specs.Census.{IsCensus};
+ghost use Rattle.mc_explore.specs.Right.{AreRights, IsCensusOf};
 ghost use Rattle.mc_start.specs.Start.{begun};
 ghost use Rattle.mc_explore.specs.inner.Table.{HasRoomFor, weigh};
 ghost use Rattle.mc_explore.specs.Census.{cut_off};
 
 use crate::census::Census;
 use crate::error::{CensusError, ExploreError};
+use crate::expectation::Expectation;
 use crate::once::{Once, Told};
+use crate::rights::Rights;
 use crate::table::{Below, Position, census_at, column_of};
 use mc_boot::Rejoin;
 use mc_flash::Flash;
@@ -27,17 +30,18 @@ impl Once {
         told: &Told,
         bound: u32,
         start: &Start,
+        expectation: &Expectation,
     ) -> Result<Vec<Census>, CensusError>
         requires told { IsToldHere self.now.rules self.now.layout (F.seen flash.old) told.now }
         requires room { HasRoomFor self.now.rules self.now.layout (bound + 1) (F.seen flash.old) }
         requires few { bound ≤ 16 }
-        ensures column { IfOk result (λ column. IsColumn self.now.rules self.now.layout
+        ensures column { IfOk result (λ column. IsColumn expectation.now self.now.rules self.now.layout
             (F.seen flash.old).content (bound + 1) column.items) }
         ensures stays { OnOk result (StaysSo (F.seen flash.old) (F.seen flash.new)) }
         ensures cause { IsErrOf result CensusError.Flash → (F.seen flash.old).usage.limits.counted
             ≡ false }
     {
-        let own = Census::of(&told.outcome);
+        let own = Census::of(&expectation.judge(&told.outcome));
         if bound == 0 {
             return Ok(vec![in alloc; own]?);
         }
@@ -48,10 +52,17 @@ impl Once {
             let child = self.child(flash, &at, told, start)?;
             let below = match Rejoin::find(flash, &at, &child.boot) {
                 Some(rejoin) => Below::Joined(rejoin),
-                None => Below::Apart(self.census_column(alloc, flash, &child, bound - 1, start)?),
+                None => Below::Apart(self.census_column(
+                    alloc,
+                    flash,
+                    &child,
+                    bound - 1,
+                    start,
+                    expectation,
+                )?),
             };
             positions.push(Position {
-                own: Census::of(&child.outcome),
+                own: Census::of(&expectation.judge(&child.outcome)),
                 below,
             })?;
             self.pass(flash, &mut at)?;
@@ -68,18 +79,41 @@ fn census_from<F: Flash>(
     flash: &mut F,
     bound: u32,
     start: &Start,
+    expectation: &Expectation,
 ) -> Result<Census, CensusError>
     requires layout { (F.seen flash.old).geometry ≡ once.now.layout }
     requires room { HasRoomFor once.now.rules once.now.layout (bound + 1) (F.seen flash.old) }
     requires few { bound ≤ 16 }
     ensures census { IfOk result (λ census. census ≡ cut_off
-        (weigh once.now.rules once.now.layout bound (F.seen flash.old).content)) }
+        (weigh expectation.now once.now.rules once.now.layout bound (F.seen flash.old).content)) }
     ensures cause { IsErrOf result CensusError.Flash → (F.seen flash.old).usage.limits.counted
         ≡ false }
 {
     let told = once.root(flash, start)?;
-    let column = once.census_column(alloc, flash, &told, bound, start)?;
+    let column = once.census_column(alloc, flash, &told, bound, start, expectation)?;
     Ok(census_at(&column, bound as usize))
+}
+
+// The census of a start, where only an outcome that meets the expectation counts as a boot.
+fn judged_census<F: Flash>(
+    alloc: Global,
+    start: &Start,
+    bound: u32,
+    expectation: &Expectation,
+) -> Result<Census, ExploreError>
+    requires { bound ≤ 16 }
+    ensures census { IfOk result (IsCensusOf expectation.now (begun start.now) bound) }
+    ensures err { IfErr result (λ e. e ≡ ExploreError.Memory) }
+{
+    let once = Once {
+        rules: start.rules(),
+        layout: *start.layout(),
+    };
+    let (primary, secondary) = (start.primary(), start.secondary());
+    let grain = once.rules.grain;
+    let mut flash = F::load(alloc, &once.layout, grain, primary, secondary, bound + 1)?;
+    let census = census_from(alloc, &once, &mut flash, bound, start, expectation)?;
+    Ok(census)
 }
 
 /// What all schedules of at most so many cuts that can occur come to, without going through them: its time grows with the
@@ -98,13 +132,29 @@ pub fn take_census<F: Flash>(
     ensures census { IfOk result (IsCensus (begun start.now) bound) }
     ensures err { IfErr result (λ e. e ≡ ExploreError.Memory) }
 {
-    let once = Once {
-        rules: start.rules(),
-        layout: *start.layout(),
-    };
-    let (primary, secondary) = (start.primary(), start.secondary());
-    let grain = once.rules.grain;
-    let mut flash = F::load(alloc, &once.layout, grain, primary, secondary, bound + 1)?;
-    let census = census_from(alloc, &once, &mut flash, bound, start)?;
+    let census = judged_census::<F>(alloc, start, bound, &Expectation::any())?;
     Ok(census)
+}
+
+/// How many of all schedules of at most so many cuts that can occur come to what is right, and the first that does not. It takes
+/// what a census takes.
+///
+/// # Errors
+///
+/// `Memory` where an allocation failed.
+pub fn take_rights<F: Flash>(
+    alloc: Global,
+    start: &Start,
+    bound: u32,
+    expectation: &Expectation,
+) -> Result<Rights, ExploreError>
+    requires { bound ≤ 16 }
+    ensures rights { IfOk result (AreRights expectation.now (begun start.now) bound) }
+    ensures err { IfErr result (λ e. e ≡ ExploreError.Memory) }
+{
+    let census = judged_census::<F>(alloc, start, bound, expectation)?;
+    Ok(Rights {
+        right: census.boot,
+        first_not_right: census.first_not_boot,
+    })
 }

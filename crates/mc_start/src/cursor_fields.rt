@@ -71,8 +71,8 @@ fn digits_of(digest: &[u8; 32]) -> [u8; 64]
     digits
 }
 
-// The digest that 64 digits write.
-fn digest_of(text: &str) -> Option<[u8; 32]>
+/// The digest that 64 lower-case digits write.
+pub fn read_digest(text: &str) -> Option<[u8; 32]>
     ensures exact { IfSome result (λ d. text.now ≡ encode_lower d) }
     ensures only { (d : List ℕ) → length d ≡ 32 → IsBytes d → text.now ≡ encode_lower d → result
         ≡ Some d }
@@ -112,7 +112,7 @@ impl StartField {
     {
         let (digits, rest) = next_field(text)?;
         let (number, rest) = next_field(rest)?;
-        let digest = digest_of(digits)?;
+        let digest = read_digest(digits)?;
         let bound = bound_of(number)?;
         Some((StartField { digest, bound }, rest))
     }

@@ -10,7 +10,7 @@ mod slots;
 mod start;
 
 pub use cursor::{Cursor, CursorError};
-pub use cursor_fields::{RulesField, StartField, next_field};
+pub use cursor_fields::{RulesField, StartField, next_field, read_digest};
 pub use mc_output::{Line, MOST_LINE};
 pub use schedule::{MOST_CUTS, Schedule, ScheduleError};
 pub use start::{Start, StartError};

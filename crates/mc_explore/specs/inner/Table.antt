@@ -12,6 +12,8 @@ use Rattle.mc_explore.specs.declared.table.Below.{Below}
 use Rattle.mc_explore.specs.declared.table.Below.TheVariants.{Apart, Joined}
 use Rattle.mc_explore.specs.declared.table.Position.{Position}
 use Rattle.mc_explore.specs.inner.Once.{IsTold, at_cut, boots, most_of}
+use Rattle.mc_explore.specs.declared.expectation.Expectation.{Expectation}
+use Rattle.mc_explore.specs.Right.{judged}
 use Rattle.mc_flash.specs.Flash.{Content}
 use Rattle.mc_flash.specs.Geometry.{Geometry}
 use Rattle.mc_flash.specs.Usage.{Allows, Seen, Stays, times}
@@ -31,15 +33,15 @@ pub record IsInside (x : Rejoin) (n : ℕ) : Type 0 where
   pub late : x.kept + x.erases ≤ n
   pub early : (i : ℕ) → i < x.erases → place_of x i < n
 
--- The totals of what is told of a boot.
-abbrev pub told_totals : Option Report → Totals
-told_totals None = no_totals
-told_totals (Some report) = report_totals report
+-- The totals of what is told of a boot, where only an outcome that meets the expectation counts as a boot.
+abbrev pub told_totals : Expectation → Option Report → Totals
+told_totals e None = no_totals
+told_totals e (Some report) = report_totals (judged e report)
 
-module _ (r : Rules) (g : Geometry) where
+module _ (e : Expectation) (r : Rules) (g : Geometry) where
   -- The totals of the schedule of no cuts from a content, and of all schedules of at most so many cuts.
   abbrev pub own_totals : Content → Totals
-  own_totals s = told_totals (outcome_of (power_on r g s))
+  own_totals s = told_totals e (outcome_of (power_on r g s))
 
   abbrev pub weigh : ℕ → Content → Totals
   weigh bound s = weight totals (boots r g) own_totals bound s

@@ -22,19 +22,19 @@ loop-fewer-preserved c =
     let last = rw c.deref-in-loop-fewer.ensures.value at c.census_at.ensures in
     record {
       many = omega (arith, ap length pushed, length-append old (one ∷ []), i.many);
-      column = λ r g s own positions some all.
-          let is = entry_is (power_on r g s) c.args.own c.census_at.result one d count level sums summed last c.both.ensures own all (i.level r g s own positions some all) in
-          more_cut_off (λ k. weigh r g k s) old _ one d pushed i.many (i.column r g s own positions some all) is;
-      level = λ r g s own positions some all.
-          let here : IsLevel r g s d level = i.level r g s own positions some all in
+      column = λ e r g s own positions some all.
+          let is = entry_is e (power_on r g s) c.args.own c.census_at.result one d count level sums summed last c.both.ensures own all (i.level e r g s own positions some all) in
+          more_cut_off (λ k. weigh e r g k s) old _ one d pushed i.many (i.column e r g s own positions some all) is;
+      level = λ e r g s own positions some all.
+          let here : IsLevel e r g s d level = i.level e r g s own positions some all in
           let many : count ≡ length level = all ∙ sym here.0 in
-          let are = summed (λ k. weigh_fewer r g d (at_cut (power_on r g s) k)) here.1 many in
+          let are = summed (λ k. weigh_fewer e r g d (at_cut (power_on r g s) k)) here.1 many in
           let next = rw c.deref-in-loop-fewer-3.ensures.value at (rw c.deref-in-loop-fewer-2.ensures.value at c.in_ok-level.ensures) in
-          next r g s c.args.bound positions (sym some ∙ all) here (rw many at are) (omega (arith, c.loop-fewer-test.true));
+          next e r g s c.args.bound positions (sym some ∙ all) here (rw many at are) (omega (arith, c.loop-fewer-test.true));
     }
 
 pub returns : goal.returns
-returns c = λ r g s own positions some all.
+returns c = λ e r g s own positions some all.
     let i = c.loop-fewer.invariant in
     let count : ℕ = c.args.count in
     let old : List Census = c.loop-fewer.column.items in
@@ -44,9 +44,9 @@ returns c = λ r g s own positions some all.
     let pushed : c.push-2.new.self.items ≡ old ++ one ∷ [] = c.in_ok-push-3.ensures.items in
     let summed = rw c.deref-2.ensures.value at c.in_ok-sums-2.ensures in
     let last = rw c.deref-3.ensures.value at c.census_at-2.ensures in
-    let is = entry_is (power_on r g s) c.args.own c.census_at-2.result one c.loop-fewer.fewer count level sums summed last c.both-2.ensures own all (i.level r g s own positions some all) in (
+    let is = entry_is e (power_on r g s) c.args.own c.census_at-2.result one c.loop-fewer.fewer count level sums summed last c.both-2.ensures own all (i.level e r g s own positions some all) in (
       omega (arith, ap length pushed, length-append old (one ∷ []), i.many, c.loop-fewer-test.false, c.loop-fewer.auto.fewer-end),
-      more_cut_off (λ k. weigh r g k s) old _ one c.loop-fewer.fewer pushed i.many (i.column r g s own positions some all) is,
+      more_cut_off (λ k. weigh e r g k s) old _ one c.loop-fewer.fewer pushed i.many (i.column e r g s own positions some all) is,
     )
 
 pub loop-position-init : goal.loop-position-init
@@ -70,6 +70,6 @@ loop-fewer-init c =
     let i = c.loop-position.invariant in
     record {
       many = none;
-      column = λ r g s own positions some all i few. absurd (omega (arith, few, none));
-      level = λ r g s own positions some all. (omega (arith, i.many, c.loop-position-test.false, c.loop-position.auto._position-end, all), i.none);
+      column = λ e r g s own positions some all i few. absurd (omega (arith, few, none));
+      level = λ e r g s own positions some all. (omega (arith, i.many, c.loop-position-test.false, c.loop-position.auto._position-end, all), i.none);
     }

@@ -2,6 +2,7 @@ use Rattle.std.proofs.Common.{◌≡◌, length}
 use Rattle.mc_boot.specs.Outcome.{ops_of}
 use Rattle.mc_flash.specs.Flash.{Content}
 use Rattle.mc_flash.specs.Geometry.{Geometry}
+use Rattle.mc_explore.specs.declared.expectation.Expectation.{Expectation}
 use Rattle.mc_trailer.specs.declared.tables.Rules.{Rules}
 use Rattle.mc_explore.specs.inner.Table.{AreCutOff, ArePositions, IsLevel, own_totals, weigh}
 use Rattle.mc_explore.specs.Census.{cut_off, no_totals}
@@ -17,8 +18,8 @@ invariant-loop-position l = record {
 abbrev pub invariant-loop-fewer : goal.invariant-loop-fewer
 invariant-loop-fewer l = record {
   many : length l.column.items ≡ l.fewer;
-  column : (r : Rules) (g : Geometry) (s : Content) → l.own ≡ cut_off (own_totals r g s) → ArePositions r g s l.bound l.positions
-      → l.count ≡ length l.positions → l.count ≡ length (ops_of (power_on r g s)) → AreCutOff (λ d. weigh r g d s) l.column.items;
-  level : (r : Rules) (g : Geometry) (s : Content) → l.own ≡ cut_off (own_totals r g s) → ArePositions r g s l.bound l.positions
-      → l.count ≡ length l.positions → l.count ≡ length (ops_of (power_on r g s)) → IsLevel r g s l.fewer l.level.items;
+  column : (e : Expectation) (r : Rules) (g : Geometry) (s : Content) → l.own ≡ cut_off (own_totals e r g s) → ArePositions e r g s l.bound l.positions
+      → l.count ≡ length l.positions → l.count ≡ length (ops_of (power_on r g s)) → AreCutOff (λ d. weigh e r g d s) l.column.items;
+  level : (e : Expectation) (r : Rules) (g : Geometry) (s : Content) → l.own ≡ cut_off (own_totals e r g s) → ArePositions e r g s l.bound l.positions
+      → l.count ≡ length l.positions → l.count ≡ length (ops_of (power_on r g s)) → IsLevel e r g s l.fewer l.level.items;
 }

@@ -16,4 +16,4 @@ returns-clause-census g c =
     let once = c.args.once.now in
     let s = (g.F.Flash.seen c.args.flash.now).content in
     let seen = rw (sym c.deref.ensures.value) at (rw c.in_ok-told.ensures.stays.content at c.in_ok-column.ensures.column) in
-    c.census_at.ensures (λ d. weigh once.rules once.layout d s) seen.1 (omega (arith, seen.0))
+    c.census_at.ensures (λ d. weigh c.args.expectation.now once.rules once.layout d s) seen.1 (omega (arith, seen.0))

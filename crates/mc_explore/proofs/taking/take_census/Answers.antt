@@ -1,23 +1,11 @@
-use Rattle.std.proofs.Common.{◌≡◌, ap, ◌∙◌}
+use Rattle.std.proofs.Common.{ap, map-id, ◌∙◌}
 use Rattle.mc_start.specs.Start.{begun}
-use Rattle.mc_boot.specs.Plan.{PowerOn}
-use Rattle.mc_explore.specs.inner.Table.{weigh}
-use Rattle.mc_explore.specs.Census.{cut_off}
-use Rattle.mc_explore.specs.inner.View.{begun_with}
-use Rattle.mc_explore.specs.declared.once.Once.{Once}
-use Rattle.mc_explore.proofs.Counting.{is_census}
-use Rattle.mc_explore.proofs.Walks.{room_for, same_start}
+use Rattle.mc_explore.specs.Census.{census_of}
+use Rattle.mc_explore.specs.Right.{IsCensusOf}
 use Rattle.mc_explore.proofs.taking.take_census.Goals as goal
 
-pub census_from-requires-clause-room : goal.census_from-requires-clause-room
-census_from-requires-clause-room g c = room_for _ _ _ _ _ _ _ c.in_ok-flash.ensures.loads
-
+-- Where whatever is there is right, rows stay as they are when they are judged.
 pub returns-clause-census : goal.returns-clause-census
 returns-clause-census g c =
-    let once : Once = record { rules = c.rules.result; layout = c.layout.result.now } in
-    let first = c.primary-primary.result.now in
-    let second = c.secondary-secondary.result.now in
-    let is = rw c.in_ok-flash.ensures.loads.content_is at c.in_ok-census.ensures.census in
-    let same : begun_with once first second ≡ begun c.args.start.now =
-    same_start c.args.start.now once first second c.rules.ensures c.layout.ensures.value c.primary-primary.ensures.value c.secondary-secondary.ensures.value in
-    is_census (begun c.args.start.now) c.args.bound c.in_ok-census.census c.requires (is ∙ ap (λ (s : PowerOn). cut_off (weigh s.rules s.geometry c.args.bound s.content)) same)
+    let is : IsCensusOf _ (begun c.args.start.now) c.args.bound c.in_ok-census.census = rw c.any.ensures at c.in_ok-census.ensures.census in
+    record { rows = is.rows; rest = is.rest; census_is = is.census_is ∙ ap census_of (map-id is.rows) }

@@ -6,7 +6,7 @@ use Rattle.mc_flash.specs.Flash.{Content}
 use Rattle.mc_flash.specs.Geometry.{Geometry}
 use Rattle.mc_explore.specs.inner.Once.{at_cut, IsTold}
 use Rattle.mc_explore.specs.inner.Table.{ArePositions, IsBelow, StaysSo, own_totals}
-use Rattle.mc_explore.specs.Census.{cut_off}
+use Rattle.mc_explore.specs.Census.{cut_off, report_totals}
 use Rattle.mc_explore.specs.declared.table.Below.{Below}
 use Rattle.mc_explore.specs.declared.table.Position.{Position}
 use Rattle.mc_explore.specs.facts.Telling.{width_is}
@@ -29,7 +29,7 @@ loop-number-init g t c =
       here = columns.first_at r layout old.content told old mid c.requires.told.told_is refl c.requires.told.layout_is c.in_ok-here.ensures.1;
       under = columns.first_under r layout old.content told old mid c.requires.told.told_is c.in_ok-here.ensures.1;
       many = ap length none;
-      positions = columns.no_positions r layout old.content c.args.bound c.new-positions.result.items none;
+      positions = columns.no_positions r layout c.args.expectation.now old.content c.args.bound c.new-positions.result.items none;
     }
 
 pub child-requires-clause-child : goal.child-requires-clause-child
@@ -103,25 +103,25 @@ loop-number-preserved g t c =
     let y = reached_still _ _ _ _ _ _ _ _ _ x (stays_there g t a.Joined-find) in
     let s : Content = old.content in
     let u : Content = at_cut (power_on r layout s) n in
-    let P : Below → Type 0 = λ b. IsBelow r layout s c.args.bound u b in
+    let P : Below → Type 0 = λ b. IsBelow c.args.expectation.now r layout s c.args.bound u b in
     let below : P c.match-find.below = elim c.match-find.branch [
       | in-Some w ↦ subst P (sym w.below-is)
           (columns.joined_here r layout s n c.loop-number.at child c.args.told.now after w.in-Some.rejoin x.here x.early c.requires.told.told_is x.told w.in-Some.ensures)
       | in-None+in_ok-census_column-in-None w ↦
           let column = w.in_ok-census_column-in-None in
-          subst P (sym w.below-is) (columns.column_here r layout after.content u c.args.bound some column.field-0.items x.here.content_is column.ensures.column)
+          subst P (sym w.below-is) (columns.column_here r layout c.args.expectation.now after.content u c.args.bound some column.field-0.items x.here.content_is column.ensures.column)
     ] in
     let old_ps : List Position = c.loop-number.positions.items in
     let p : Position = record { own = c.of.result; below = c.match-find.below } in
     let pushed : c.push.new.self.items ≡ old_ps ++ p ∷ [] = c.in_ok-push.ensures.items in
-    let own_is : p.own ≡ cut_off (own_totals r layout u) = c.of.ensures ∙ ap cut_off (columns.own_told r layout u child x.told) in
-    let more = columns.more_positions r layout s c.args.bound old_ps p n i.positions i.many (record { own_is = own_is; below = below }) in
+    let own_is : p.own ≡ cut_off (own_totals c.args.expectation.now r layout u) = c.of.ensures ∙ ap (λ o. cut_off (report_totals o)) c.judge-in-loop-number.ensures ∙ ap cut_off (columns.own_told r layout c.args.expectation.now u child x.told) in
+    let more = columns.more_positions r layout c.args.expectation.now s c.args.bound old_ps p n i.positions i.many (record { own_is = own_is; below = below }) in
     let pass = c.in_ok-pass.ensures in
     record {
       here = pass.passes.0 s n y.here y.early;
       under = columns.passed_under r layout old _ _ _ _ y.under pass.keeps pass.spends.limits pass.passes.1;
       many = omega (arith, ap length pushed, length-append old_ps (p ∷ []), i.many);
-      positions = subst (ArePositions r layout s c.args.bound) (sym pushed) more;
+      positions = subst (ArePositions c.args.expectation.now r layout s c.args.bound) (sym pushed) more;
     }
 
 pub returns-clause-column : goal.returns-clause-column
@@ -133,10 +133,10 @@ returns-clause-column g t c =
     let s : Content = old.content in
     let told = c.args.told.now in
     let all : c.loop-number._number ≡ told.outcome.ops = omega (arith, c.loop-number-test.false, c.loop-number.auto._number-end) in
-    let own_is = c.of-own.ensures ∙ ap cut_off (columns.own_told r layout s told c.requires.told.told_is) in
-    let positions = subst (ArePositions r layout s c.args.bound) (sym c.deref.ensures.value) i.positions in
+    let own_is = c.of-own.ensures ∙ ap (λ o. cut_off (report_totals o)) c.judge.ensures ∙ ap cut_off (columns.own_told r layout c.args.expectation.now s told c.requires.told.told_is) in
+    let positions = subst (ArePositions c.args.expectation.now r layout s c.args.bound) (sym c.deref.ensures.value) i.positions in
     let many : told.outcome.ops ≡ length c.deref.result.now = omega (arith, all, i.many, ap length c.deref.ensures.value) in
-    c.in_ok-column_of.ensures r layout s own_is positions many (width_is r layout told s c.requires.told.told_is)
+    c.in_ok-column_of.ensures c.args.expectation.now r layout s own_is positions many (width_is r layout told s c.requires.told.told_is)
 
 pub returns-clause-stays : goal.returns-clause-stays
 returns-clause-stays g t c =

@@ -19,5 +19,5 @@ invariant-loop-number g l =
       here : IsAt (once r layout) old.content l._number l.at now;
       under : IsUnder r layout old (left_of layout (progress l.at)) now;
       many : length l.positions.items ≡ l._number;
-      positions : ArePositions r layout old.content l.bound l.positions.items;
+      positions : ArePositions l.fn.expectation r layout old.content l.bound l.positions.items;
     }

@@ -1,4 +1,4 @@
-use Rattle.std.proofs.Common.{◌≡◌, Some, arith, subst}
+use Rattle.std.proofs.Common.{◌≡◌, Some, arith}
 use Rattle.mc_boot.specs.Outcome.{outcome_of, shown, left_by}
 use Rattle.mc_boot.specs.Plan.{again}
 use Rattle.mc_explore.proofs.Onwards.{cut_so, left_still, told_of, told_still}

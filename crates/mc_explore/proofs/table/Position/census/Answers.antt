@@ -9,18 +9,18 @@ use Rattle.mc_explore.proofs.table.Position.census.Goals as goal
 use Rattle.mc_boot.specs.Plan.{power_on}
 
 pub returns-in-Joined : goal.returns-in-Joined
-returns-in-Joined c = λ r g s u most here level sums lt.
+returns-in-Joined c = λ e r g s u most here level sums lt.
     let x = c.in-Joined.rejoin in
-    let own : Totals = own_totals r g u in
-    let under : ℕ → Totals = λ i. weigh_fewer r g c.args.bound (at_cut (power_on r g s) i) in
+    let own : Totals = own_totals e r g u in
+    let under : ℕ → Totals = λ i. weigh_fewer e r g c.args.bound (at_cut (power_on r g s) i) in
     let joined = rw c.in-Joined.is at here.below in
     let inside_here : IsInside x (length c.args.level.now) = rw level.0 (inside r g s u x joined) in
     let children = c.rejoined.ensures under level.1 sums inside_here in
     c.both.ensures own (placed_below totals under (length c.args.level.now) x.kept x.erases (place_of x)) here.own_is children
     ∙ ap (λ n. cut_off (both own (placed_below totals under n x.kept x.erases (place_of x)))) level.0
-    ∙ ap cut_off (sym (rejoined_weigh r g s u x joined c.args.bound))
+    ∙ ap cut_off (sym (rejoined_weigh r g s u x joined e c.args.bound))
 
 pub returns-in-Apart : goal.returns-in-Apart
-returns-in-Apart c = λ r g s u most here level sums lt.
-    let there : IsColumn r g u most c.deref.result.now = rw c.deref.ensures.value (rw c.in-Apart.is at here.below) in
-    c.census_at.ensures (λ d. weigh r g d u) there.1 (omega (arith, lt, there.0))
+returns-in-Apart c = λ e r g s u most here level sums lt.
+    let there : IsColumn e r g u most c.deref.result.now = rw c.deref.ensures.value (rw c.in-Apart.is at here.below) in
+    c.census_at.ensures (λ d. weigh e r g d u) there.1 (omega (arith, lt, there.0))

@@ -2,12 +2,12 @@ use Rattle.std.proofs.Common.{◌≡◌, ◌+◌, ◌-◌, ◌*◌, ◌<◌, ◌
 use Rattle.mc_explore.specs.Rows.{most_for_row}
 use Rattle.mc_tree.specs.Tree.{Lost}
 use Rattle.mc_explore.proofs.Counted.{AreCounted}
-use Rattle.mc_explore.proofs.surveying.survey_until.Given as goal
+use Rattle.mc_explore.proofs.surveying.survey_right.Given as goal
 
 abbrev pub invariant-rows : goal.invariant-rows
 invariant-rows g l =
     record {
-      counted : AreCounted l.until l.fn.explorer.state l.limit l.explorer.state l.tally;
+      counted : AreCounted l.expectation l.until l.fn.explorer.state l.limit l.explorer.state l.tally l.rights;
       not_lost : l.explorer.state.position ≡ Lost → l.fn.explorer.state.position ≡ Lost;
       stuck : l.fn.explorer.state.position ≡ Lost → (l.explorer.state.position ≡ Lost) × (l.tally.rows < l.limit);
       still : l.explorer.state.position ≡ Lost → l.explorer ≡ l.fn.explorer;

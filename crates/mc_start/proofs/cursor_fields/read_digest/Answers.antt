@@ -3,7 +3,7 @@ use Rattle.std.proofs.Common.{refl, sym, ap, ◌∙◌}
 use Rattle.std.proofs.lemmas.Slice.Eq.{bytes_eq-Decides}
 use Rattle.hex.specs.Hex.{encode_lower}
 use Rattle.mc_start.proofs.Cursors.{apart, no_error, digest_reads}
-use Rattle.mc_start.proofs.cursor_fields.digest_of.Goals as goal
+use Rattle.mc_start.proofs.cursor_fields.read_digest.Goals as goal
 
 pub returns-then-is_err-clause-only : goal.returns-then-is_err-clause-only
 returns-then-is_err-clause-only c = λ d len bytes is.

@@ -1,0 +1,67 @@
+use Rattle.std.proofs.Common.{◌≡◌, ◌+◌, ◌-◌, ◌*◌, ◌<◌, ◌≤◌, suc, Ok, Err, refl, sym, ap, subst, ◌∙◌, arith}
+use Rattle.mc_explore.specs.Rows.{most_for_row, State, told}
+use Rattle.mc_tree.specs.Tree.{Lost, After}
+use Rattle.mc_boot.specs.Plan.{PowerOn}
+use Rattle.mc_explore.specs.declared.error.ExploreError.TheVariants as errors
+use Rattle.mc_explore.specs.declared.surveying.Tally.{Tally}
+use Rattle.mc_explore.proofs.Counted.{count_begin, count_on, counted_full, counted_short, last_counted, one_counted}
+use Rattle.mc_explore.proofs.PageRows.{row_paid}
+use Rattle.mc_explore.proofs.surveying.survey_right.Given.{Over}
+use Rattle.mc_explore.proofs.surveying.survey_right.Goals as goal
+use Rattle.mc_explore.proofs.surveying.survey_right.Goals.{After-add}
+
+pub rows-init : goal.rows-init
+rows-init g c =
+    let until = c.args.until in
+    let old = c.args.explorer.now.state in
+    let none : c.new-tally.result.rows ≡ 0 = ap (λ (t : Tally). t.rows) c.new-tally.ensures in
+    let room : c.new-tally.result.rows < c.args.limit = omega (arith, none, c.requires) in
+    let all : c.args.limit - c.new-tally.result.rows ≡ c.args.limit = omega (arith, none) in
+    let cost = most_for_row old.start.rules old.start.geometry in
+    record {
+      counted = rw c.new-tally.ensures (count_begin c.args.expectation.now until old c.args.limit c.new-rights.result (c.new-rights.ensures c.args.expectation.now));
+      not_lost = λ e. e;
+      stuck = λ e. (e, room);
+      still = λ e. refl;
+      start = refl;
+      limits = refl;
+      applied = subst (λ n. c.args.explorer.now.usage.applied + n * cost ≤ c.args.explorer.now.usage.applied + c.args.limit * cost) (sym all) (omega arith);
+    }
+
+-- One row more is counted.
+more : (g : Over) (c : After-add g) → c.add.new.self.rows ≡ c.rows.tally.rows + 1
+more g c =
+    let p = c.rows.invariant.counted in
+    one_counted p (told c.in-Some.row) c.add.new.self (c.add.ensures p.some p.tally_is)
+
+pub rows-smaller : goal.rows-smaller
+rows-smaller g c = let n = more g (goal.at.rows-smaller g c).After-add in omega (arith, n, c.rows-test.true)
+
+pub rows-preserved : goal.rows-preserved
+rows-preserved g c =
+    let n = more g (goal.at.rows-preserved g c).After-add in
+    let found = rw c.in-Some.is at c.in_ok-row.ensures.found in
+    let moved = found.2 in
+    let room : c.args.limit - c.rows.tally.rows ≡ suc (c.args.limit - c.add.new.self.rows) = omega (arith, n, c.rows-test.true) in
+    let cost = ap (λ (s : PowerOn). most_for_row s.rules s.geometry) c.rows.invariant.start in
+    record {
+      counted = count_on c.rows.invariant.counted _ (told c.in-Some.row) c.add.new.self c.add-in-Some.new.self room found c.add.ensures c.add-in-Some.ensures (omega (arith, n, c.rows-test.true));
+      not_lost = λ e. let q : Lost ≡ After c.in-Some.row.schedule = sym e ∙ ap (λ (s : State). s.position) moved in absurd cc;
+      stuck = λ e. let q : Ok c.in_ok-row.field-0 ≡ Err errors.Failed = rw c.in_ok-row.was at (c.next_before.ensures.explores.goes.stays_lost (c.rows.invariant.stuck e).0) in absurd cc;
+      still = λ e. let q : Lost ≡ After c.in-Some.row.schedule = sym e ∙ ap (λ (s : State). s.position) moved in absurd cc;
+      start = ap (λ (s : State). s.start) moved ∙ c.rows.invariant.start;
+      limits = c.next_before.ensures.explores.goes.limits ∙ c.rows.invariant.limits;
+      applied = row_paid _ _ (c.args.limit - c.rows.tally.rows) (c.args.limit - c.add.new.self.rows) _ _ room (omega (arith, c.in_ok-row.ensures.applied, cost)) c.rows.invariant.applied;
+    }
+
+pub returns-in-None-clause-surveys : goal.returns-in-None-clause-surveys
+returns-in-None-clause-surveys g c =
+    let found = rw c.in-None.is at c.in_ok-row.ensures.found in
+    let room : c.args.limit - c.rows.tally.rows ≡ suc (c.args.limit - c.rows.tally.rows - 1) = omega (arith, c.rows-test.true) in
+    counted_short c.rows.invariant.counted _ (c.args.limit - c.rows.tally.rows - 1) room found
+
+pub returns-clause-surveys : goal.returns-clause-surveys
+returns-clause-surveys g c =
+    let none : c.args.limit - c.rows.tally.rows ≡ 0 = omega (arith, c.rows-test.false) in
+    let p = c.rows.invariant.counted in
+    counted_full p c.cursor.result none (c.cursor.ensures _ (last_counted p c.requires none))
