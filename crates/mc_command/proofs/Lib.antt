@@ -1,2 +1,3 @@
 mod Told
 mod Blocks
+mod Judging

@@ -1,5 +1,5 @@
 -- What the words of an argument say.
-use Rattle.std.specs.Prelude.{◌≡◌, ◌≤◌, ℕ, Bool, true, false, List, Option, Some, None, unwrap_or, option_map, is_some, IfSome, ◌&&◌, codes, Result, Err, IsOk}
+use Rattle.std.specs.Prelude.{◌≡◌, ◌≤◌, ℕ, Bool, true, false, List, Option, Some, None, unwrap_or, option_map, is_some, IfSome, if◌then◌else◌, ◌-◌, ◌^◌, ◌&&◌, codes, Result, Err, IsOk}
 use Rattle.clap.specs.Words.{first_value, one_text}
 use Rattle.clap.specs.declared.parser.matches.Found.{Found}
 use Rattle.mc_image.specs.VersionText.{Names}
@@ -111,10 +111,14 @@ pub record TellsFlash (found : Found) (o : FlashOptions) : Type 0 where
   pub layout : TellsLayout found o.layout
   pub rules : TellsRules found o.rules
 
--- the arguments tell the most cuts and the most rows
+-- the arguments tell the most cuts and the most rows, with `all` as many as a page can have
 pub record TellsExtent (found : Found) (o : ExploreOptions) : Type 0 where
   pub cuts : TellsNumber found numbers.Cuts o.cuts
-  pub limit : TellsNumber found numbers.Limit o.limit
+  pub number : ℕ
+  pub number_told : TellsNumber found numbers.Limit number
+  pub all : Bool
+  pub all_told : IsFlag found (codes "all") all
+  pub limit_is : o.limit ≡ (if all then 2 ^ 32 - 1 else number)
 
 -- the text of an option is that of a schedule, or the option is left out
 abbrev pub MayTellSchedule : Found → List ℕ → Option (List ℕ) → Type 0

@@ -4,9 +4,12 @@ use Rattle.clap.specs.declared.parser.matches.Found.{Found}
 use Rattle.mc_boot.specs.Plan.{PowerOn}
 use Rattle.mc_explore.specs.Census.{IsCensus}
 use Rattle.mc_explore.specs.Rows.{Resumes, Explored, State, at_start}
-use Rattle.mc_explore.specs.Survey.{SurveysUntil}
+use Rattle.mc_explore.specs.Right.{AreRights, SurveysRight}
+use Rattle.mc_explore.specs.declared.expectation.Expectation.{Expectation}
+use Rattle.mc_explore.specs.declared.rights.Rights.{Rights}
+use Rattle.mc_command.specs.Verdicts.{IsExpectation, TellsAsked}
+use Rattle.mc_command.specs.declared.commands.census.Counts.{Counts}
 use Rattle.mc_explore.specs.Page.{ShownIsOut}
-use Rattle.mc_explore.specs.declared.census.Census.{Census}
 use Rattle.mc_explore.specs.declared.surveying.Tally.{Tally}
 use Rattle.mc_explore.specs.declared.error.ExploreError.{ExploreError}
 use Rattle.mc_explore.specs.declared.error.ExploreError.TheVariants as errors
@@ -47,12 +50,12 @@ Explores e (Ok explorer) = Begins (begun e.start) e.extent.cuts e.range.after e.
 Explores e (Err (refusals.Explore error)) = Begins (begun e.start) e.extent.cuts e.range.after e.range.cursor (Err error)
 Explores e (Err _) = ⊥
 
--- The tally of the rows that the words tell.
-pub record TalliesUntil (e : Exploration) (tally : Tally) : Type 0 where
+-- The tally of the rows that the words tell, and how many of them are right.
+pub record TalliesUntil (e : Exploration) (x : Expectation) (tally : Tally) (rights : Rights) : Type 0 where
   pub explorer : Explored
   pub begins : Begins (begun e.start) e.extent.cuts e.range.after e.range.cursor (Ok explorer)
   pub new : State
-  pub counts : SurveysUntil e.range.until explorer.state new e.extent.limit tally
+  pub counts : SurveysRight x e.range.until explorer.state new e.extent.limit tally rights
 
 -- The page of the rows that the words tell is out.
 pub record PrintsUntil (e : Exploration) (before after : Option (List ℕ)) : Type 0 where
@@ -61,10 +64,21 @@ pub record PrintsUntil (e : Exploration) (before after : Option (List ℕ)) : Ty
   pub new : State
   pub out : ShownIsOut e.range.until explorer.state new e.extent.limit before after
 
--- The census of the start and of the most cuts that the arguments tell.
-pub record TellsCensus (found : Found) (census : Census) : Type 0 where
+-- What of the rows of a start is right, where that is asked.
+abbrev pub AreRightsIf : Option Expectation → PowerOn → ℕ → Option Rights → Type 0
+AreRightsIf None start bound None = Unit {0}
+AreRightsIf (Some e) start bound (Some rights) = AreRights e start bound rights
+AreRightsIf None start bound (Some rights) = ⊥
+AreRightsIf (Some e) start bound None = ⊥
+
+-- The census of the start and of the most cuts that the arguments tell, and what of it is right as they ask.
+pub record TellsCensus (found : Found) (c : Counts) : Type 0 where
   pub start : Started
   pub start_told : TellsStart found start
   pub cuts : ℕ
   pub cuts_told : TellsNumber found numbers.Cuts cuts
-  pub comes_to : IsCensus (begun start) cuts census
+  pub comes_to : IsCensus (begun start) cuts c.census
+  pub asked : TellsAsked found c.asked
+  pub expectation : Option Expectation
+  pub expects : IsExpectation c.asked start.named (Ok expectation)
+  pub rights : AreRightsIf expectation (begun start) cuts c.rights

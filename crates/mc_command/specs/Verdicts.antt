@@ -1,12 +1,82 @@
--- How a survey and a census end.
-use Rattle.std.specs.Prelude.{◌≡◌, Bool, true, List, Result, Ok, Err}
+-- What is to be right at the end, and how a survey and a census end.
+use Rattle.std.specs.Prelude.{◌≡◌, ℕ, Bool, true, false, List, Option, Some, None, [], Result, Ok, Err, IfSome, codes, if◌then◌else◌, is_some, not, ◌&&◌, ◌||◌}
+use Rattle.clap.specs.Words.{first_value}
+use Rattle.clap.specs.declared.parser.matches.Found.{Found}
+use Rattle.mc_explore.specs.Right.{AllRight, Wants, rights_of, rights_text}
 use Rattle.mc_explore.specs.Rows.{Told}
 use Rattle.mc_explore.specs.Survey.{AllBoot}
+use Rattle.mc_explore.specs.declared.expectation.Expectation.{Expectation}
+use Rattle.mc_explore.specs.declared.expectation.Wanted.{Wanted}
+use Rattle.mc_explore.specs.declared.rights.Rights.{Rights}
+use Rattle.mc_image.specs.Valid.{Identity}
+use Rattle.mc_command.specs.Arguments.{IsFlag}
+use Rattle.mc_command.specs.declared.verdict.Asked.{Asked}
 use Rattle.mc_command.specs.declared.refusal.Refusal.{Refusal}
+use Rattle.mc_explore.specs.declared.expectation.Wanted.TheVariants as wanted
 use Rattle.mc_command.specs.declared.refusal.Refusal.TheVariants as refusals
 
--- Where it was asked that each row that is counted ends in a boot, one that doesn't is refused; else only a write is.
-abbrev pub IsVerdict : Bool → List Told → Result (Unit {0}) Refusal → Type 0
-IsVerdict asked rows (Ok done) = asked ≡ true → AllBoot rows
-IsVerdict asked rows (Err refusals.NotAllBoot) = (asked ≡ true) × (AllBoot rows → ⊥)
-IsVerdict asked rows (Err refusal) = refusal ≡ refusals.Write
+-- The text of an option is that of what a slot is to hold, or the option is left out.
+abbrev pub MayTellWanted : Found → List ℕ → Option Wanted → Type 0
+MayTellWanted found name None = first_value found name ≡ None
+MayTellWanted found name (Some w) = (text : List ℕ) × (first_value found name ≡ Some text) × Wants text w
+
+-- The arguments tell what each row is to be.
+pub record TellsAsked (found : Found) (a : Asked) : Type 0 where
+  pub primary : MayTellWanted found (codes "expect-primary") a.primary
+  pub secondary : MayTellWanted found (codes "expect-secondary") a.secondary
+  pub all_right : IsFlag found (codes "all-right") a.all_right
+  pub all_boot : IsFlag found (codes "all-boot") a.all_boot
+
+-- Something is asked of the slots.
+abbrev pub is_of_slots : Asked → Bool
+is_of_slots a = is_some a.primary || is_some a.secondary || a.all_right
+
+-- What is wanted of a slot: what is told of it; else, where each row is to be right, the image that is to lie there at the end.
+abbrev pub wanted_of : Option Wanted → Bool → Option Identity → Option Wanted
+wanted_of (Some w) all id = Some w
+wanted_of None false id = Some wanted.Anything
+wanted_of None true None = None
+wanted_of None true (Some id) = Some (wanted.Digest id.digest)
+
+abbrev both : Option Wanted → Option Wanted → Option Expectation
+both (Some p) (Some s) = Some (record { primary = p; secondary = s })
+both (Some p) None = None
+both None s = None
+
+-- What is asked of both slots of a start with those images, the named one and the other. Nothing where that is not known of a slot.
+abbrev pub expectation_of : Asked → Option (Identity × Identity) → Option Expectation
+expectation_of a None = both (wanted_of a.primary a.all_right None) (wanted_of a.secondary a.all_right None)
+expectation_of a (Some ids) = both (wanted_of a.primary a.all_right (Some ids.0)) (wanted_of a.secondary a.all_right (Some ids.1))
+
+-- The expectation, where one is asked for; it is refused where it is not known of a slot.
+abbrev pub IsExpectation : Asked → Option (Identity × Identity) → Result (Option Expectation) Refusal → Type 0
+IsExpectation a named (Ok None) = is_of_slots a ≡ false
+IsExpectation a named (Ok (Some e)) = (is_of_slots a ≡ true) × (expectation_of a named ≡ Some e)
+IsExpectation a named (Err refusal) = (refusal ≡ refusals.Expectation) × (is_of_slots a ≡ true) × (expectation_of a named ≡ None)
+
+-- What was counted of some rows, if that was asked for.
+abbrev pub AreCounted : Expectation → List Told → Option Rights → Type 0
+AreCounted e rows rights = IfSome rights (λ r. r ≡ rights_of e rows)
+
+-- The lines of it.
+abbrev pub lines_of : Option Rights → List ℕ
+lines_of None = []
+lines_of (Some rights) = rights_text rights
+
+-- The first of what was asked for that does not hold.
+abbrev pub verdict_of : Asked → Bool → Bool → Bool → Result (Unit {0}) Refusal
+verdict_of a boots right whole =
+    if a.all_boot && not boots then Err refusals.NotAllBoot
+    else if a.all_right && not right then Err refusals.NotAllRight
+    else if (a.all_boot || a.all_right) && not whole then Err refusals.NotWhole
+    else Ok tt
+
+-- How a survey or a census of some rows ends: with the first of what was asked for that does not hold. A part of the rows to come is
+-- no verdict. Else only a write is refused.
+abbrev pub IsVerdict : Asked → Expectation → List Told → Option Rights → Bool → Result (Unit {0}) Refusal → Type 0
+IsVerdict a e rows rights whole (Ok done) =
+    (a.all_boot ≡ true → AllBoot rows) × (a.all_right ≡ true → IfSome rights (λ _. AllRight e rows)) × ((a.all_boot || a.all_right) ≡ true → whole ≡ true)
+IsVerdict a e rows rights whole (Err refusals.NotAllBoot) = (a.all_boot ≡ true) × (AllBoot rows → ⊥)
+IsVerdict a e rows rights whole (Err refusals.NotAllRight) = (a.all_right ≡ true) × (AllRight e rows → ⊥)
+IsVerdict a e rows rights whole (Err refusals.NotWhole) = ((a.all_boot || a.all_right) ≡ true) × (whole ≡ false)
+IsVerdict a e rows rights whole (Err refusal) = refusal ≡ refusals.Write

@@ -371,7 +371,7 @@ static EXPLORATIONS: [Explanation; 13] = [
     },
 ];
 
-static COMMANDS: [Explanation; 12] = [
+static COMMANDS: [Explanation; 15] = [
     Explanation {
         number: 70,
         name: "SourceOptions",
@@ -406,6 +406,20 @@ static COMMANDS: [Explanation; 12] = [
         status: 2,
         when: "OUTFILE is INFILE, by the same or another path; it would be emptied before it is read.",
         remedy: "Choose another OUTFILE. Nothing was touched.",
+    },
+    Explanation {
+        number: 76,
+        name: "NotAllRight",
+        status: 1,
+        when: "With --all-right: a schedule that was counted ends otherwise than in a boot with the expected images.",
+        remedy: "Look for its row, first-not-right, with explore.",
+    },
+    Explanation {
+        number: 77,
+        name: "NotWhole",
+        status: 1,
+        when: "With --all-boot or --all-right: only a part of the rows was counted, so there is no verdict.",
+        remedy: "Give --all, or count the rest by its cursor.",
     },
     Explanation {
         number: 78,
@@ -455,5 +469,12 @@ static COMMANDS: [Explanation; 12] = [
         status: 1,
         when: "The script is not UTF-8 text.",
         remedy: "Give a script of lines as mcsim life --help shows them.",
+    },
+    Explanation {
+        number: 85,
+        name: "NoExpectation",
+        status: 2,
+        when: "With --all-right and --flash: what a slot is to hold at the end is not told.",
+        remedy: "Give --expect-primary and --expect-secondary: a version, a digest, or none.",
     },
 ];

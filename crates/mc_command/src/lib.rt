@@ -12,6 +12,7 @@ mod options;
 mod refusal;
 mod same_file;
 mod source;
+mod verdict;
 
 use clap::error::ErrorKind;
 use clap::{ArgMatches, Error};

@@ -214,7 +214,7 @@ pub fn census_options(arguments: &ArgMatches<'_>) -> Result<u8, Refusal>
     Ok(NumberOption::Cuts.read_required(arguments)? as u8)
 }
 
-/// The most cuts and the most rows.
+/// The most cuts and the most rows: with `--all` as many as a page can have.
 ///
 /// # Errors
 ///
@@ -224,9 +224,12 @@ pub fn explore_options(arguments: &ArgMatches<'_>) -> Result<ExploreOptions, Ref
     ensures taken { (o : ExploreOptions) → TellsExtent (found_of arguments.now) o → IsOk result }
     ensures range { IfOk result (λ o. (o.cuts ≤ 16) × (1 ≤ o.limit)) }
 {
+    let cuts = census_options(arguments)?;
+    let limit = NumberOption::Limit.read_required(arguments)?;
+    let all = arguments.get_flag("all");
     Ok(ExploreOptions {
-        cuts: census_options(arguments)?,
-        limit: NumberOption::Limit.read_required(arguments)?,
+        cuts,
+        limit: if all { u32::MAX } else { limit },
     })
 }
 

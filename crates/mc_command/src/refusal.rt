@@ -70,6 +70,15 @@ pub enum Refusal {
     /// A schedule that was counted does not end in a boot.
     #[error("E74 NotAllBoot")]
     NotAllBoot,
+    /// A schedule that was counted does not end right.
+    #[error("E76 NotAllRight")]
+    NotAllRight,
+    /// Not all rows were counted.
+    #[error("E77 NotWhole")]
+    NotWhole,
+    /// What a slot is to hold at the end is not known.
+    #[error("E85 NoExpectation")]
+    Expectation,
     /// What a device is delivered with is not told, or twice.
     #[error("E83 DeviceOptions")]
     Device,
@@ -116,11 +125,13 @@ impl Refusal {
             | Refusal::Unexplained
             | Refusal::CursorOptions
             | Refusal::Device
+            | Refusal::Expectation
             | Refusal::SameFile
             | Refusal::Layout(_)
             | Refusal::Schedule(_)
             | Refusal::Cursor(_) => 2,
-            Refusal::NotAllBoot | Refusal::ScriptText => 1,
+            Refusal::NotAllBoot | Refusal::NotAllRight | Refusal::NotWhole | Refusal::ScriptText =>
+                1,
             Refusal::Life(error) => life_status(*error),
             Refusal::Start(error) => start_status(*error),
             Refusal::Replay(error) => replay_status(*error),

@@ -3,7 +3,7 @@ ghost use Rattle.std.specs.Prelude.{◌≡◌, IfOk, IsOk, option_map};
 ghost use Rattle.mc_boot.specs.Outcome.{shown};
 ghost use Rattle.mc_boot.specs.Plan.{identity_of};
 ghost use Rattle.mc_explore.specs.Right.{is_held, is_met, is_right, judged, IsBytesOf, Wants};
-ghost use Rattle.mc_explore.specs.declared.expectation.Wanted.TheVariants.{Anything, Digest};
+ghost use Rattle.mc_explore.specs.declared.expectation.Wanted.TheVariants.{Anything};
 
 use mc_boot::{BootResult, ImageId, Outcome};
 use mc_image::{Version, VersionError};
@@ -71,19 +71,6 @@ impl Expectation {
         Expectation {
             primary: Wanted::Anything,
             secondary: Wanted::Anything,
-        }
-    }
-
-    /// That image in the primary, and the other one in the secondary.
-    pub fn of(named: &ImageId, other: &ImageId) -> Expectation
-        ensures { result ≡ record {
-          primary = Digest named.now.digest;
-          secondary = Digest other.now.digest;
-        } }
-    {
-        Expectation {
-            primary: Wanted::Digest(named.digest),
-            secondary: Wanted::Digest(other.digest),
         }
     }
 

@@ -9,6 +9,7 @@ mod hostile;
 mod layouts;
 mod lives;
 mod pages;
+mod rights;
 mod sixteen;
 mod support;
 mod texts;

@@ -26,7 +26,7 @@ pub enum Group {
     Trace,
     Sectors,
     Exploration,
-    Survey,
+    Verdict,
     Census,
     Campaign,
     Delivery,
@@ -47,7 +47,8 @@ impl Group {
             Group::Replay => Some("Replay"),
             Group::Trace => Some("Trace"),
             Group::Sectors => Some("Sectors"),
-            Group::Exploration | Group::Survey | Group::Campaign => Some("Exploration"),
+            Group::Exploration | Group::Campaign => Some("Exploration"),
+            Group::Verdict => Some("Verdict"),
             Group::Census => Some("Census"),
             Group::Delivery => Some("Device (--flash or --image)"),
             Group::Life => Some("Life"),
@@ -68,7 +69,7 @@ impl Group {
             Group::Replay => &REPLAY,
             Group::Trace | Group::Sectors => &SCHEDULE_IF_ANY,
             Group::Exploration => &EXPLORATION,
-            Group::Survey => &SURVEY,
+            Group::Verdict => &VERDICT,
             Group::Census => &CENSUS,
             Group::Campaign => &CAMPAIGN,
             Group::Delivery => &DELIVERY,
@@ -338,6 +339,13 @@ static SCHEDULE_IF_ANY: [Word; 1] = [Word {
     ..SCHEDULE
 }];
 
+/// As many rows as a page can have.
+const ALL: Word = Word {
+    name: "all",
+    help: "All rows, in place of --limit 4294967295",
+    ..FLAG
+};
+
 /// The most rows of a page.
 const LIMIT: Word = Word {
     name: "limit",
@@ -364,9 +372,10 @@ const CUTS: Word = Word {
 };
 
 /// What tells an exploration of schedules: the most cuts, a page, and which of the rows.
-static EXPLORATION: [Word; 5] = [
+static EXPLORATION: [Word; 6] = [
     CUTS,
     LIMIT,
+    ALL,
     CURSOR,
     Word {
         name: "after",
@@ -380,25 +389,41 @@ static EXPLORATION: [Word; 5] = [
     },
 ];
 
-/// What `survey` is told more.
-static SURVEY: [Word; 1] = [Word {
-    name: "all-boot",
-    help: "Refuse, after the counts, where a row's result is not boot",
+/// What a slot is to hold at the end.
+const EXPECTED: Word = Word {
+    takes: Takes::Value("V"),
     ..FLAG
-}];
+};
 
-/// What tells a census.
-static CENSUS: [Word; 2] = [
-    CUTS,
+/// What `survey` and `census` are asked for: a verdict on all that they count.
+static VERDICT: [Word; 4] = [
     Word {
         name: "all-boot",
-        help: "Refuse, after the counts, where a schedule's result is not boot",
+        help: "Refuse, after the counts, where a result is not boot",
         ..FLAG
+    },
+    Word {
+        name: "all-right",
+        help: "Refuse, after the counts, where one does not boot with the expected images",
+        ..FLAG
+    },
+    Word {
+        name: "expect-primary",
+        help: "The primary's image at the end: a version, a digest, or none",
+        ..EXPECTED
+    },
+    Word {
+        name: "expect-secondary",
+        help: "The secondary's image at the end: a version, a digest, or none",
+        ..EXPECTED
     },
 ];
 
+/// What tells a census.
+static CENSUS: [Word; 1] = [CUTS];
+
 /// What tells an exploration of campaigns.
-static CAMPAIGN: [Word; 4] = [
+static CAMPAIGN: [Word; 5] = [
     Word {
         name: "cuts",
         takes: Takes::Value("K"),
@@ -407,6 +432,7 @@ static CAMPAIGN: [Word; 4] = [
         ..FLAG
     },
     LIMIT,
+    ALL,
     CURSOR,
     Word {
         name: "confirm",
@@ -502,13 +528,19 @@ How many rows? --cuts 1 has OPS+1; --cuts 2 has 1 more than the sum of OPS over 
 
 const AFTER_SURVEY: &str = "\
 Seven lines: how many rows the page of explore would have, how many of them with each RESULT (boot,
-none, panic, fault), the most operations of a last boot, and next CURSOR or end, as the page.";
+none, panic, fault), the most operations of a last boot, and next CURSOR or end, as the page.
+Where something is expected of the slots, two lines more: how many rows boot with the expected images,
+and the first that does not. --all-right expects of two images the named one in the primary at the end
+and the other in the secondary. A survey of a part of the rows gives no verdict (E77).";
 
 const AFTER_CENSUS: &str = "\
 Seven lines: how many schedules of at most K power cuts can occur, how many of them have each RESULT
 (boot, none, panic, fault), the most operations of a last boot, and the first schedule whose result is
 not boot, or none. They are not listed, so that even K of 16 takes less than a second on most layouts;
 with the grain unit and large images it may take half a minute and 300 MB.
+Where something is expected of the slots, two lines more: how many schedules boot with the expected
+images, and the first that does not. --all-right expects of two images the named one in the primary at
+the end and the other in the secondary; that takes a second census.
 A number of 2^128 - 1 or more is printed as >=340282366920938463463374607431768211455.";
 
 const AFTER_CAMPAIGN: &str = "\
@@ -641,7 +673,7 @@ static COMMANDS: [Subcommand; 15] = [
             Group::Source,
             Group::Rules,
             Group::Exploration,
-            Group::Survey,
+            Group::Verdict,
         ],
     },
     Subcommand {
@@ -650,7 +682,13 @@ static COMMANDS: [Subcommand; 15] = [
         about: "Count all schedules of at most K power cuts by their results, without listing them",
         usage: Some("mcsim census <LAYOUT> <SOURCE> --cuts <K> [OPTIONS]"),
         after_help: Some(AFTER_CENSUS),
-        groups: &[Group::Layout, Group::Source, Group::Rules, Group::Census],
+        groups: &[
+            Group::Layout,
+            Group::Source,
+            Group::Rules,
+            Group::Census,
+            Group::Verdict,
+        ],
     },
     Subcommand {
         name: "campaign",

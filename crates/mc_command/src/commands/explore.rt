@@ -1,18 +1,20 @@
 //! `explore` and `survey`: every schedule of power cuts, with what the boot after it does, and how many do what.
-ghost use Rattle.std.specs.Prelude.{◌≡◌, ◌≤◌, Err, IfOk};
+ghost use Rattle.std.specs.Prelude.{◌≡◌, ◌++◌, ◌≤◌, Err, IfOk, is_none};
+ghost use Rattle.mc_explore.specs.declared.expectation.Expectation.{Expectation as Expected};
 ghost use Rattle.std.specs.Io.KnownBytes.{Appends};
 ghost use Rattle.mc_explore.specs.Page.{Page};
 ghost use Rattle.mc_explore.specs.Survey.{tally_of, tally_text};
 ghost use Rattle.clap.specs.Matches.{found_of};
 ghost use Rattle.mc_command.specs.Sessions.{TellsExploration, Explores, TalliesUntil, PrintsUntil};
-ghost use Rattle.mc_command.specs.Verdicts.{IsVerdict};
+ghost use Rattle.mc_command.specs.Verdicts.{AreCounted, IsVerdict, lines_of};
 
 use super::{finish, in_blocks};
 use crate::options::{ExploreOptions, RangeOptions, explore_options, flash_options, range_options};
 use crate::refusal::Refusal;
 use crate::source::read_start;
+use crate::verdict::{Asked, Lines, all_right};
 use clap::ArgMatches;
-use mc_explore::{Explorer, Start, Tally, survey_until, write_page_until};
+use mc_explore::{Expectation, Explorer, Rights, Start, Tally, survey_right, write_page_until};
 use mc_flash::JournalFlash;
 use std::alloc::Global;
 use std::io::Write;
@@ -90,19 +92,20 @@ impl Exploration {
         Ok(finish(blocks)?)
     }
 
-    /// Counts the rows of the page.
+    /// Counts the rows of the page, and how many of them are right.
     ///
     /// # Errors
     ///
     /// Those of `explorer`, and `Explore` where memory failed.
-    fn tally(&self, alloc: Global) -> Result<Tally, Refusal>
+    fn tally(&self, alloc: Global, expectation: &Expectation) -> Result<(Tally, Rights), Refusal>
         requires cuts { self.now.extent.cuts ≤ 16 }
         requires limit { 1 ≤ self.now.extent.limit }
-        ensures { IfOk result (TalliesUntil self.now) }
+        ensures { IfOk result (λ counted. TalliesUntil self.now expectation.now counted.0
+            counted.1) }
     {
         let mut explorer = self.explorer(alloc)?;
         let (until, limit) = (self.range.until, self.extent.limit);
-        Ok(survey_until(&mut explorer, until, limit)?)
+        Ok(survey_right(&mut explorer, until, limit, expectation)?)
     }
 }
 
@@ -123,38 +126,50 @@ pub fn run<F: Files, O: Write>(
 }
 
 /// Prints how many rows that page would have, how many of them with each result, the greatest number of operations, and where
-/// the page would go on.
+/// the page would go on. Where something is expected of the slots, also how many rows are right, and the first that is not.
 ///
 /// # Errors
 ///
-/// What refuses the words or their files; `Explore` where memory failed; `Write` where the output cannot be written. With
-/// `--all-boot` also `NotAllBoot` where a row does not end in a boot; the output is written then.
+/// What refuses the words or their files; `Expectation`; `Explore` where memory failed; `Write` where the output cannot be written.
+/// With `--all-boot` also `NotAllBoot` where a row does not end in a boot, with `--all-right` `NotAllRight` where one is not right,
+/// and with either `NotWhole` where the page would go on; the output is written then.
 pub fn survey<F: Files, O: Write>(
     files: &F,
     alloc: Global,
     arguments: &ArgMatches<'_>,
     out: &mut O,
 ) -> Result<(), Refusal> {
+    let asked = Asked::read(arguments)?;
     let exploration = read(files, alloc, arguments)?;
-    let tally = exploration.tally(alloc)?;
-    print_tally(&tally, arguments.get_flag("all-boot"), out)
+    let wanted = asked.expectation(&exploration.start)?;
+    let expectation = wanted.unwrap_or(Expectation::any());
+    let (tally, rights) = exploration.tally(alloc, &expectation)?;
+    let rights = if wanted.is_some() { Some(rights) } else { None };
+    print_tally(&tally, &rights, &asked, out)
 }
 
-/// Prints a tally. With `all_boot` it is refused, once it is printed, where a row does not end in a boot.
+/// Prints a tally, and what of it is right where that was asked. Once it is printed it is refused where what is asked does not hold.
 ///
 /// # Errors
 ///
-/// `Write` where the output cannot be written; `NotAllBoot`.
-fn print_tally<O: Write>(tally: &Tally, all_boot: bool, out: &mut O) -> Result<(), Refusal>
-    ensures verdict { (page : Page) → tally.now ≡ tally_of page
-        → IsVerdict all_boot page.rows result }
+/// `Write` where the output cannot be written; `NotAllBoot`; `NotAllRight`; `NotWhole`.
+fn print_tally<O: Write>(
+    tally: &Tally,
+    rights: &Option<Rights>,
+    asked: &Asked,
+    out: &mut O,
+) -> Result<(), Refusal>
+    ensures verdict { (e : Expected) (page : Page) → tally.now ≡ tally_of page
+        → AreCounted e page.rows rights.now
+        → IsVerdict asked.now e page.rows rights.now (is_none page.goes_on) result }
     // The tally is out, unless the write failed.
     ensures written { (result ≡ Err Refusal.Write → ⊥)
-        → Appends (O.contents out.old) (O.contents out.new) (tally_text tally.now) }
+        → Appends (O.contents out.old) (O.contents out.new)
+        (tally_text tally.now ++ lines_of rights.now) }
 {
-    write!(out, "{tally}").map_err(|_| Refusal::Write)?;
-    if all_boot && !tally.all_boot() {
-        return Err(Refusal::NotAllBoot);
-    }
-    Ok(())
+    let lines = Lines(*rights);
+    write!(out, "{tally}{lines}").map_err(|_| Refusal::Write)?;
+    let boots = tally.all_boot();
+    let right = all_right(rights);
+    asked.verdict(boots, right, tally.next.is_none())
 }

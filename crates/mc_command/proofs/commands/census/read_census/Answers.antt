@@ -1,5 +1,5 @@
 use Rattle.std.proofs.Common.{rules}
-use Rattle.mc_command.proofs.commands.census.told_census.Goals as goal
+use Rattle.mc_command.proofs.commands.census.read_census.Goals as goal
 
 pub returns : goal.returns
 returns g c = record {
@@ -8,4 +8,8 @@ returns g c = record {
   cuts = c.in_ok-cuts.cuts;
   cuts_told = c.in_ok-cuts.ensures.told;
   comes_to = search rules;
+  asked = c.in_ok-asked.ensures;
+  expectation = c.in_ok-expectation.expectation;
+  expects = c.in_ok-expectation.ensures;
+  rights = c.in_ok-rights.ensures;
 }

@@ -1,0 +1,149 @@
+//! What the words ask of each row that is counted, and whether it is so.
+ghost use Rattle.std.specs.Prelude.{◌≡◌, ◌↔◌, true, IfOk, IfSome, List, Some, option_map};
+ghost use Rattle.clap.specs.Matches.{found_of};
+ghost use Rattle.mc_boot.specs.Plan.{identity_of};
+ghost use Rattle.mc_explore.specs.declared.expectation.Expectation.{Expectation as Expected};
+ghost use Rattle.mc_explore.specs.Right.{AllRight};
+ghost use Rattle.mc_explore.specs.Rows.{Told};
+ghost use Rattle.mc_command.specs.Verdicts.{AreCounted, IsExpectation, MayTellWanted, TellsAsked, is_of_slots, lines_of, verdict_of, wanted_of};
+
+use crate::refusal::Refusal;
+use clap::ArgMatches;
+use mc_boot::ImageId;
+use mc_explore::{Expectation, Rights, Start, Wanted};
+use std::fmt;
+
+/// What the words ask of each row that is counted.
+#[derive(Clone, Copy, Debug)]
+pub struct Asked {
+    /// What the primary is to hold at the end, where it is told.
+    pub primary: Option<Wanted>,
+    /// What the secondary is to hold, where it is told.
+    pub secondary: Option<Wanted>,
+    /// Whether the command is refused where a row is not right.
+    pub all_right: bool,
+    /// Whether it is refused where a row does not end in a boot.
+    pub all_boot: bool,
+}
+
+/// What an option says that a slot is to hold, if it is given.
+///
+/// # Errors
+///
+/// `Version` where its text is no version, no digest and not `none`.
+fn wanted_option(arguments: &ArgMatches<'_>, name: &str) -> Result<Option<Wanted>, Refusal>
+    ensures { IfOk result (MayTellWanted (found_of arguments.now) name.now) }
+{
+    match arguments.get_str(name) {
+        Some(text) => Ok(Some(Wanted::read(text)?)),
+        None => Ok(None),
+    }
+}
+
+/// What is wanted of a slot: what is told; else, where each row is to be right, the image that is to lie there at the end.
+fn wanted_of(told: Option<Wanted>, all_right: bool, image: Option<ImageId>) -> Option<Wanted>
+    ensures { result ≡ wanted_of told all_right (option_map identity_of image) }
+{
+    match (told, image) {
+        (Some(wanted), _) => Some(wanted),
+        (None, Some(id)) if all_right => Some(Wanted::Digest(id.digest)),
+        (None, None) if all_right => None,
+        (None, _) => Some(Wanted::Anything),
+    }
+}
+
+impl Asked {
+    /// What the words ask.
+    ///
+    /// # Errors
+    ///
+    /// Those of `wanted_option`.
+    pub fn read(arguments: &ArgMatches<'_>) -> Result<Asked, Refusal>
+        ensures { IfOk result (TellsAsked (found_of arguments.now)) }
+    {
+        Ok(Asked {
+            primary: wanted_option(arguments, "expect-primary")?,
+            secondary: wanted_option(arguments, "expect-secondary")?,
+            all_right: arguments.get_flag("all-right"),
+            all_boot: arguments.get_flag("all-boot"),
+        })
+    }
+
+    // Whether something is asked of the slots.
+    fn is_of_slots(&self) -> bool
+        ensures { result ≡ is_of_slots self.now }
+    {
+        self.primary.is_some() || self.secondary.is_some() || self.all_right
+    }
+
+    /// What the slots are to hold at the end, from a start, where that is asked: by default the named image of two is to lie in the
+    /// primary, and the other one in the secondary.
+    ///
+    /// # Errors
+    ///
+    /// `Expectation` where each row is to be right, from a flash, and a slot's expectation is not told.
+    pub fn expectation(&self, start: &Start) -> Result<Option<Expectation>, Refusal>
+        ensures { IsExpectation self.now start.now.named result }
+    {
+        if !self.is_of_slots() {
+            return Ok(None);
+        }
+        let (named, other) = match start.named() {
+            Some((named, other)) => (Some(named), Some(other)),
+            None => (None, None),
+        };
+        let primary = wanted_of(self.primary, self.all_right, named);
+        let secondary = wanted_of(self.secondary, self.all_right, other);
+        match (primary, secondary) {
+            (Some(primary), Some(secondary)) => Ok(Some(Expectation { primary, secondary })),
+            _ => Err(Refusal::Expectation),
+        }
+    }
+
+    /// The verdict on rows of which that was found: whether each boots, whether each is right, and whether they are all that there
+    /// are.
+    ///
+    /// # Errors
+    ///
+    /// The first of `NotAllBoot`, `NotAllRight` and `NotWhole` that was asked for and does not hold.
+    pub fn verdict(&self, boots: bool, right: bool, whole: bool) -> Result<(), Refusal>
+        ensures { result ≡ verdict_of self.now boots right whole }
+    {
+        if self.all_boot && !boots {
+            return Err(Refusal::NotAllBoot);
+        }
+        if self.all_right && !right {
+            return Err(Refusal::NotAllRight);
+        }
+        if (self.all_boot || self.all_right) && !whole {
+            return Err(Refusal::NotWhole);
+        }
+        Ok(())
+    }
+}
+
+/// The lines of what is right, where that was asked.
+#[derive(Clone, Copy)]
+pub struct Lines(pub Option<Rights>);
+
+impl fmt::Display for Lines {
+    ghost output = { λ lines. Some (lines_of lines.0) };
+
+    fn fmt<W: fmt::Write>(&self, f: &mut fmt::Formatter<W>) -> fmt::Result {
+        match self.0 {
+            Some(rights) => write!(f, "{rights}"),
+            None => Ok(()),
+        }
+    }
+}
+
+/// Whether all rows are right, where that was counted.
+pub fn all_right(rights: &Option<Rights>) -> bool
+    ensures { (e : Expected) (rows : List Told) → AreCounted e rows rights.now
+        → (result ≡ true) ↔ IfSome rights.now (λ _. AllRight e rows) }
+{
+    match rights {
+        Some(rights) => rights.all_right(),
+        None => true,
+    }
+}
