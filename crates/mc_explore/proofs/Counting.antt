@@ -108,7 +108,8 @@ from_none (suc n) i = ap (both no_totals) (from_none n (i + 1))
 
 module _ (r : Rules) (g : Geometry) where
   -- All schedules from a content: the one of no cuts, and those behind each first cut.
-  pub weigh_is : (e : Expectation) (d : ℕ) (s : Content) → weigh e r g d s ≡ both (own_totals e r g s) (from totals (λ c. weigh_fewer e r g d (at_cut (power_on r g s) c)) (length (ops_of (power_on r g s))) 0)
+  pub weigh_is : (e : Expectation) (d : ℕ) (s : Content) → weigh e r g d s
+      ≡ both (own_totals e r g s) (from totals (λ c. weigh_fewer e r g d (at_cut (power_on r g s) c)) (length (ops_of (power_on r g s))) 0)
   weigh_is e zero s = sym (ap (both (own_totals e r g s)) (from_none (length (ops_of (power_on r g s))) 0) ∙ totals_weigh.right (own_totals e r g s))
   weigh_is e (suc d) s = refl
 

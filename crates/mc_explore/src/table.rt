@@ -88,8 +88,8 @@ impl Position {
     fn census(&self, level: &[Census], sums: &[Census], bound: u32) -> Census
         ensures { (e : Expectation) (r : Rules) (g : Geometry) (s u : Content) (most : ℕ)
             → IsPosition e r g s most u self.now → IsLevel e r g s bound level.now
-            → AreSums (λ c. weigh_fewer e r g bound (at_cut (power_on r g s) c)) (length level.now) sums.now
-            → bound < most → result ≡ cut_off (weigh e r g bound u) }
+            → AreSums (λ c. weigh_fewer e r g bound (at_cut (power_on r g s) c)) (length level.now)
+            sums.now → bound < most → result ≡ cut_off (weigh e r g bound u) }
     {
         match &self.below {
             Below::Joined(rejoin) => self.own.both(&rejoined(rejoin, level, sums)),
@@ -106,12 +106,12 @@ fn next_level(
     sums: &[Census],
     bound: u32,
 ) -> Result<Vec<Census>, AllocError>
-    ensures { IfOk result (λ next. (e : Expectation) (r : Rules) (g : Geometry) (s : Content) (most : ℕ)
-        → ArePositions e r g s most positions.now
+    ensures { IfOk result (λ next. (e : Expectation) (r : Rules) (g : Geometry) (s : Content)
+        (most : ℕ) → ArePositions e r g s most positions.now
         → length positions.now ≡ length (ops_of (power_on r g s))
         → IsLevel e r g s bound level.now
-        → AreSums (λ c. weigh_fewer e r g bound (at_cut (power_on r g s) c)) (length level.now) sums.now
-        → bound < most → IsLevel e r g s (bound + 1) next.items) }
+        → AreSums (λ c. weigh_fewer e r g bound (at_cut (power_on r g s) c)) (length level.now)
+        sums.now → bound < most → IsLevel e r g s (bound + 1) next.items) }
 {
     let mut next = Vec::new(alloc);
     for position in positions {

@@ -20,4 +20,5 @@ returns-clause-census g c =
     let is = rw c.in_ok-flash.ensures.loads.content_is at c.in_ok-census.ensures.census in
     let same : begun_with once first second ≡ begun c.args.start.now =
     same_start c.args.start.now once first second c.rules.ensures c.layout.ensures.value c.primary-primary.ensures.value c.secondary-secondary.ensures.value in
-    is_census c.args.expectation.now (begun c.args.start.now) c.args.bound c.in_ok-census.census c.requires (is ∙ ap (λ (s : PowerOn). cut_off (weigh c.args.expectation.now s.rules s.geometry c.args.bound s.content)) same)
+    let e = c.args.expectation.now in
+    is_census e (begun c.args.start.now) c.args.bound c.in_ok-census.census c.requires (is ∙ ap (λ (s : PowerOn). cut_off (weigh e s.rules s.geometry c.args.bound s.content)) same)

@@ -114,7 +114,8 @@ loop-number-preserved g t c =
     let old_ps : List Position = c.loop-number.positions.items in
     let p : Position = record { own = c.of.result; below = c.match-find.below } in
     let pushed : c.push.new.self.items ≡ old_ps ++ p ∷ [] = c.in_ok-push.ensures.items in
-    let own_is : p.own ≡ cut_off (own_totals c.args.expectation.now r layout u) = c.of.ensures ∙ ap (λ o. cut_off (report_totals o)) c.judge-in-loop-number.ensures ∙ ap cut_off (columns.own_told r layout c.args.expectation.now u child x.told) in
+    let own_is : p.own ≡ cut_off (own_totals c.args.expectation.now r layout u) =
+    c.of.ensures ∙ ap (λ o. cut_off (report_totals o)) c.judge-in-loop-number.ensures ∙ ap cut_off (columns.own_told r layout c.args.expectation.now u child x.told) in
     let more = columns.more_positions r layout c.args.expectation.now s c.args.bound old_ps p n i.positions i.many (record { own_is = own_is; below = below }) in
     let pass = c.in_ok-pass.ensures in
     record {

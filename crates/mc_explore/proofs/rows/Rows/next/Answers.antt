@@ -38,11 +38,13 @@ returns-in-Some-clause-finds g c =
     let old : Rowed g.row.X.Denot = record { walk = w; phase = s.tour.phase; last = with_last s.path x.next } in
     let is : old ≡ c.args.self.now =
     ap (λ (o : Option (RowsAhead g.row.X-Ahead.Denot)). record { walk = w; phase = s.tour.phase; last = last_of s.path o }) (sym c.in-Some.ensures.0) ∙ c.self.view_is in
-    subst (λ (z : Rowed g.row.X.Denot). FindsRow g.X.Subject.subject g.X.Branches.kind g.X.Subject.begins g.X.Subject.choice g.X.Subject.key_of z
-    (option_map g.X.Subject.shown c.row_ahead-row.result) new) is
-    (some_found g.X.Subject.shown (IsRowAt g.X.Subject.subject g.X.Subject.begins g.X.Subject.choice g.X.Subject.key_of w.branches (origin_of w.seen) (s.path ++ x.next ∷ []))
-    (λ found. FindsRow g.X.Subject.subject g.X.Branches.kind g.X.Subject.begins g.X.Subject.choice g.X.Subject.key_of old found new) c.row_ahead-row.result row
-    (λ r at. (next, subst (λ l. IsRowAt g.X.Subject.subject g.X.Subject.begins g.X.Subject.choice g.X.Subject.key_of w.branches (origin_of w.seen) l r) (sym last) at, record { branches = refl; bound = refl; origin = refl }, going)))
+    let P : Rowed g.row.X.Denot → Option g.X.Subject.Shown → Type 0 =
+    λ z found. FindsRow g.X.Subject.subject g.X.Branches.kind g.X.Subject.begins g.X.Subject.choice g.X.Subject.key_of z found new in
+    let Q : List ℕ → g.X.Subject.Shown → Type 0 =
+    λ l r. IsRowAt g.X.Subject.subject g.X.Subject.begins g.X.Subject.choice g.X.Subject.key_of w.branches (origin_of w.seen) l r in
+    subst (λ z. P z (option_map g.X.Subject.shown c.row_ahead-row.result)) is
+    (some_found g.X.Subject.shown (Q (s.path ++ x.next ∷ [])) (P old) c.row_ahead-row.result row
+    (λ r at. (next, subst (λ l. Q l r) (sym last) at, record { branches = refl; bound = refl; origin = refl }, going)))
 
 -- ---- the next node
 
