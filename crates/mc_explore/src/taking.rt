@@ -35,8 +35,8 @@ impl Once {
         requires told { IsToldHere self.now.rules self.now.layout (F.seen flash.old) told.now }
         requires room { HasRoomFor self.now.rules self.now.layout (bound + 1) (F.seen flash.old) }
         requires few { bound ≤ 16 }
-        ensures column { IfOk result (λ column. IsColumn expectation.now self.now.rules self.now.layout
-            (F.seen flash.old).content (bound + 1) column.items) }
+        ensures column { IfOk result (λ column. IsColumn expectation.now self.now.rules
+            self.now.layout (F.seen flash.old).content (bound + 1) column.items) }
         ensures stays { OnOk result (StaysSo (F.seen flash.old) (F.seen flash.new)) }
         ensures cause { IsErrOf result CensusError.Flash → (F.seen flash.old).usage.limits.counted
             ≡ false }
