@@ -1,5 +1,5 @@
 -- The starts and the explorations that the words of a command tell.
-use Rattle.std.specs.Prelude.{◌≡◌, ℕ, List, Option, Some, None, Result, Ok, Err}
+use Rattle.std.specs.Prelude.{◌≡◌, ℕ, List, Option, Some, None, Result, Ok, Err, option_map, unwrap_or}
 use Rattle.clap.specs.declared.parser.matches.Found.{Found}
 use Rattle.mc_boot.specs.Plan.{PowerOn}
 use Rattle.mc_explore.specs.Census.{IsCensus}
@@ -9,6 +9,7 @@ use Rattle.mc_explore.specs.declared.expectation.Expectation.{Expectation}
 use Rattle.mc_explore.specs.declared.rights.Rights.{Rights}
 use Rattle.mc_command.specs.Verdicts.{IsExpectation, TellsAsked}
 use Rattle.mc_command.specs.declared.commands.census.Counts.{Counts}
+use Rattle.mc_command.specs.declared.verdict.Asked.{Asked}
 use Rattle.mc_explore.specs.Page.{ShownIsOut}
 use Rattle.mc_explore.specs.declared.surveying.Tally.{Tally}
 use Rattle.mc_explore.specs.declared.error.ExploreError.{ExploreError}
@@ -24,6 +25,7 @@ use Rattle.mc_command.specs.declared.numbers.NumberOption.TheVariants as numbers
 use Rattle.mc_command.specs.declared.options.FlashOptions.{FlashOptions}
 use Rattle.mc_command.specs.declared.refusal.Refusal.{Refusal}
 use Rattle.mc_command.specs.declared.refusal.Refusal.TheVariants as refusals
+use Rattle.mc_explore.specs.declared.expectation.Wanted.TheVariants as wanted
 
 -- The arguments tell a source, and the start is of its files.
 pub record TellsStart (found : Found) (s : Started) : Type 0 where
@@ -56,6 +58,14 @@ pub record TalliesUntil (e : Exploration) (x : Expectation) (tally : Tally) (rig
   pub begins : Begins (begun e.start) e.extent.cuts e.range.after e.range.cursor (Ok explorer)
   pub new : State
   pub counts : SurveysRight x e.range.until explorer.state new e.extent.limit tally rights
+
+-- And only where that is asked, for what the words expect of the slots.
+pub record TalliesAsked (e : Exploration) (a : Asked) (tally : Tally) (shown : Option Rights) : Type 0 where
+  pub expectation : Option Expectation
+  pub expects : IsExpectation a e.start.named (Ok expectation)
+  pub rights : Rights
+  pub tallies : TalliesUntil e (unwrap_or expectation (record { primary = wanted.Anything; secondary = wanted.Anything })) tally rights
+  pub shown_is : shown ≡ option_map (λ _. rights) expectation
 
 -- The page of the rows that the words tell is out.
 pub record PrintsUntil (e : Exploration) (before after : Option (List ℕ)) : Type 0 where

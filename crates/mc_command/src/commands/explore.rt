@@ -5,7 +5,7 @@ ghost use Rattle.std.specs.Io.KnownBytes.{Appends};
 ghost use Rattle.mc_explore.specs.Page.{Page};
 ghost use Rattle.mc_explore.specs.Survey.{tally_of, tally_text};
 ghost use Rattle.clap.specs.Matches.{found_of};
-ghost use Rattle.mc_command.specs.Sessions.{TellsExploration, Explores, TalliesUntil, PrintsUntil};
+ghost use Rattle.mc_command.specs.Sessions.{TellsExploration, Explores, TalliesAsked, TalliesUntil, PrintsUntil};
 ghost use Rattle.mc_command.specs.Verdicts.{AreCounted, IsVerdict, lines_of};
 
 use super::{finish, in_blocks};
@@ -107,6 +107,25 @@ impl Exploration {
         let (until, limit) = (self.range.until, self.extent.limit);
         Ok(survey_right(&mut explorer, until, limit, expectation)?)
     }
+
+    /// Counts the rows of the page, and how many of them are right where that is asked.
+    ///
+    /// # Errors
+    ///
+    /// `Expectation`; those of `tally`.
+    fn counts(&self, alloc: Global, asked: &Asked) -> Result<(Tally, Option<Rights>), Refusal>
+        requires cuts { self.now.extent.cuts ≤ 16 }
+        requires limit { 1 ≤ self.now.extent.limit }
+        ensures { IfOk result (λ counted. TalliesAsked self.now asked.now counted.0 counted.1) }
+    {
+        let wanted = asked.expectation(&self.start)?;
+        let expectation = wanted.unwrap_or(Expectation::any());
+        let (tally, rights) = self.tally(alloc, &expectation)?;
+        match wanted {
+            Some(_) => Ok((tally, Some(rights))),
+            None => Ok((tally, None)),
+        }
+    }
 }
 
 /// Prints a page of rows: one for each schedule of at most so many cuts that can occur, in their order, from the first or
@@ -141,10 +160,7 @@ pub fn survey<F: Files, O: Write>(
 ) -> Result<(), Refusal> {
     let asked = Asked::read(arguments)?;
     let exploration = read(files, alloc, arguments)?;
-    let wanted = asked.expectation(&exploration.start)?;
-    let expectation = wanted.unwrap_or(Expectation::any());
-    let (tally, rights) = exploration.tally(alloc, &expectation)?;
-    let rights = if wanted.is_some() { Some(rights) } else { None };
+    let (tally, rights) = exploration.counts(alloc, &asked)?;
     print_tally(&tally, &rights, &asked, out)
 }
 
