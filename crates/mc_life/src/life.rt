@@ -148,7 +148,7 @@ fn tell_line<F: Flash, W: Write>(
     ensures told { OnOk result ((o : Option Report) × Happens files.now line.now device.old
         device.new o × Appends (W.contents writer.old) (W.contents writer.new)
         (line_text number line.now o device.new)) }
-    ensures failed { IfErr result (FailsLine files.now line.now device.old
+    ensures failed { IfErr result (FailsLine files.now number line.now device.old
         (W.contents writer.old) (W.contents writer.new)) }
 {
     let outcome = happen_line(device, alloc, line, files, known)?;
