@@ -12,6 +12,8 @@ use Rattle.mc_explore.specs.declared.error.ExploreError.TheVariants as explore_e
 use Rattle.mc_trace.specs.declared.error.TraceError.{TraceError}
 use Rattle.mc_trace.specs.declared.error.TraceError.TheVariants as trace_errors
 use Rattle.mc_life.specs.declared.error.EventError.TheVariants as event_errors
+use Rattle.mc_life.specs.declared.error.ScriptError.{ScriptError}
+use Rattle.mc_life.specs.declared.error.ScriptError.TheVariants as script_errors
 use Rattle.mc_life.specs.declared.life.LifeError.{LifeError}
 use Rattle.mc_life.specs.declared.life.LifeError.TheVariants as life_errors
 use Rattle.mc_command.specs.declared.refusal.Refusal.{Refusal}
@@ -44,6 +46,11 @@ status_of_trace (trace_errors.CannotOccur _) = 1
 status_of_trace trace_errors.Memory = 3
 status_of_trace trace_errors.Write = 3
 
+-- the status for a script that is not read: 1 where it is no text
+abbrev pub status_of_script : ScriptError → ℕ
+status_of_script (script_errors.Input e) = status_of_tool e
+status_of_script script_errors.NotText = 1
+
 -- the status for a life that is not told to its end: 3 where a file, memory or a write failed
 abbrev pub status_of_life : LifeError → ℕ
 status_of_life (life_errors.Refused event_errors.NoFile _ _) = 3
@@ -74,7 +81,7 @@ status_of refusals.NotAllRight = 1
 status_of refusals.NotWhole = 1
 status_of refusals.Expectation = 2
 status_of refusals.Device = 2
-status_of refusals.ScriptText = 1
+status_of (refusals.Script e) = status_of_script e
 status_of (refusals.Life e) = status_of_life e
 status_of (refusals.Version _) = 2
 status_of refusals.Source = 2

@@ -1,14 +1,14 @@
 //! Why a command ended without a result, and the status for it.
 ghost use Rattle.std.specs.Prelude.{◌≡◌, ◌≤◌};
 ghost use Rattle.mc_command.specs.Statuses.{status_of, status_of_start, status_of_replay, status_of_trace, status_of_tool};
-ghost use Rattle.mc_command.specs.Statuses.{status_of_exploration, status_of_life};
+ghost use Rattle.mc_command.specs.Statuses.{status_of_exploration, status_of_life, status_of_script};
 
 use crate::numbers::NumberOption;
 use mc_explore::{CursorError, ExploreError, ReplayError, ScheduleError, StartError};
 use mc_flash::{FlashError, LayoutError};
 use mc_image::{ImageError, VersionError};
 use mc_imgtool::ToolError;
-use mc_life::{EventError, LifeError};
+use mc_life::{EventError, LifeError, ScriptError};
 use mc_trace::TraceError;
 use std::io::Write;
 use thiserror::Error;
@@ -82,9 +82,9 @@ pub enum Refusal {
     /// What a device is delivered with is not told, or twice.
     #[error("E83 DeviceOptions")]
     Device,
-    /// The script is not UTF-8 text.
-    #[error("E84 ScriptText")]
-    ScriptText,
+    /// The script is not read.
+    #[error(transparent)]
+    Script(#[from] ScriptError),
     /// The file that is to be written is one that is read.
     #[error("E75 SameFile")]
     SameFile,
@@ -130,8 +130,8 @@ impl Refusal {
             | Refusal::Layout(_)
             | Refusal::Schedule(_)
             | Refusal::Cursor(_) => 2,
-            Refusal::NotAllBoot | Refusal::NotAllRight | Refusal::NotWhole | Refusal::ScriptText =>
-                1,
+            Refusal::NotAllBoot | Refusal::NotAllRight | Refusal::NotWhole => 1,
+            Refusal::Script(error) => script_status(*error),
             Refusal::Life(error) => life_status(*error),
             Refusal::Start(error) => start_status(*error),
             Refusal::Replay(error) => replay_status(*error),
@@ -187,6 +187,17 @@ fn trace_status(error: TraceError) -> u8
     match error {
         TraceError::CannotOccur(_) => 1,
         TraceError::Memory | TraceError::Write => 3,
+    }
+}
+
+/// The status for a script that is not read.
+fn script_status(error: ScriptError) -> u8
+    ensures exact { result ≡ status_of_script error }
+    ensures range { (1 ≤ result) × (result ≤ 3) }
+{
+    match error {
+        ScriptError::Input(error) => tool_status(error),
+        ScriptError::NotText => 1,
     }
 }
 

@@ -6,3 +6,4 @@ mod Reading
 mod Lines
 mod Telling
 mod Worst
+mod Naming

@@ -27,6 +27,17 @@ module _ (a w b : List ℕ) (before mid : Option (List ℕ)) where
       pub all_out : Appends last now b → Appends before now (a ++ (w ++ b))
       all_out p = out_all before now (a ++ (w ++ b)) (out_more before last now (a ++ (w ++ b)) b [] after_words p)
 
+-- Two lines come out.
+module _ (a b : List ℕ) (before : Option (List ℕ)) where
+  pub first_of_two : (now : Option (List ℕ)) → AppendsFront before now a → AppendsFront before now (a ++ b)
+  first_of_two now p = out_front before before now (a ++ b) a b (out_begun before (a ++ b)) p
+
+  pub last_of_two : (mid now : Option (List ℕ)) → Appends before mid a → AppendsFront mid now b → AppendsFront before now (a ++ b)
+  last_of_two mid now out p =
+      let o : IsOut before mid (a ++ b) (b ++ []) =
+      subst (IsOut before mid (a ++ b)) (sym (append-nil b)) (out_more before before mid (a ++ b) a b (out_begun before (a ++ b)) out) in
+      out_front before mid now (a ++ b) b [] o p
+
 -- ---- files
 
 module _ (files : List Named) (name : List ℕ) (i : ℕ) (so_far : file_of (drop i files) name ≡ file_of files name) (inside : i < length files) (f : Named) (item : f ≡ get_or files i f) where

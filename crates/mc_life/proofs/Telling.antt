@@ -1,11 +1,12 @@
 -- A script, told line by line.
 use Rattle.std.specs.Prelude.{◌≡◌, ℕ, ◌+◌, ◌≤◌, ◌==◌, Bool, true, false, if◌then◌else◌, List, [], ◌∷◌, ◌++◌, length, Option, Some, None, refl}
 use Rattle.std.specs.Io.KnownBytes.{Appends, Keeps}
-use Rattle.std.proofs.Common.{arith, sym, ap, subst, append_assoc, append-nil, ◌∙◌}
+use Rattle.std.proofs.Common.{arith, inr, sym, ap, subst, append_assoc, append-nil, ◌∙◌}
 use Rattle.std.proofs.KnownBytes.{Appends-nil, Appends-trans}
 use Rattle.std.proofs.lemmas.Bool.Decides.{nat_tests}
 use Rattle.std.proofs.lemmas.List.{length-append}
 use Rattle.mc_boot.specs.Outcome.{Report}
+use Rattle.mc_output.specs.Text.{AppendsFront}
 use Rattle.mc_output.specs.facts.Parting.{AreParts, Lacks}
 use Rattle.mc_start.specs.Start.{Started}
 use Rattle.mc_life.specs.Script.{Named, Either, is_skipped, lines_left, lines_of, onto, size_left}
@@ -15,7 +16,7 @@ use Rattle.mc_flash.specs.Geometry.{Geometry, IsLayout}
 use Rattle.mc_flash.specs.declared.op.Op.{Op}
 use Rattle.mc_trailer.specs.declared.tables.Rules.{Rules}
 use Rattle.mc_life.proofs.Going.{lives_both}
-use Rattle.mc_life.specs.Told.{happenings, operations, FailsLife, FailsLine, Happens, IsTold, RefusesLine, StopsAt, Tell, life_error, line_text}
+use Rattle.mc_life.specs.Told.{happenings, operations, BreaksOff, FailsLife, FailsLine, Happens, IsTold, RefusesLine, StopsAt, Tell, life_error, line_text}
 use Rattle.mc_life.specs.Device.{Goes, IsNew, Standing, moment}
 use Rattle.mc_life.specs.declared.life.LineError.{LineError}
 use Rattle.mc_life.specs.declared.life.LineError.TheVariants as errors_of_line
@@ -179,6 +180,23 @@ module _ (files : List Named) (start : Started) (script : List ℕ) (old : Optio
       out = kept_out old now later at.text at.out keeps;
     }
 
+    pub breaks : (later : Option (List ℕ)) (e : Standing) (o : Option Report) → Happens files words d e o → AppendsFront now later (line_text number words o e)
+        → BreaksOff files start script old later
+    breaks later e o happens front = record {
+      count = at.count;
+      left = d;
+      text = at.text;
+      here = words;
+      behind = lines_left after;
+      told = record { new = at.new; is_new = at.is_new; before = at.before; are = are_now; told = at.told };
+      mid = now;
+      out = at.out;
+      next = e;
+      outcome = o;
+      happens = happens;
+      front = subst (λ n. AppendsFront now later (line_text n words o e)) at.number_is front;
+    }
+
   pub ends : (now : Option (List ℕ)) (number line : ℕ) (d : Standing) → IsAt files start script old now None number line d → IsTold files start script old now d
   ends now number line d at = record {
     count = at.count;
@@ -190,9 +208,11 @@ module _ (files : List Named) (start : Started) (script : List ℕ) (old : Optio
 -- A line that is not told.
 pub fails : (files : List Named) (start : Started) (script : List ℕ) (old now later : Option (List ℕ)) (text : List ℕ) (number line : ℕ) (d : Standing)
     → IsAt files start script old now (Some text) number line d → (words : List ℕ) (after : Option (List ℕ)) → lines_of text ≡ words ∷ lines_left after → size_left after ≤ length text
-    → is_skipped words ≡ false → (e : LineError) → FailsLine files words d now later e → FailsLife files start script old later (life_error e number line)
-fails files start script old now later text number line d at words after lines less skipped (errors_of_line.Event errors.Memory) failed = tt
-fails files start script old now later text number line d at words after lines less skipped errors_of_line.Write failed = tt
+    → is_skipped words ≡ false → (e : LineError) → FailsLine files number words d now later e → FailsLife files start script old later (life_error e number line)
+fails files start script old now later text number line d at words after lines less skipped (errors_of_line.Event errors.Memory) failed =
+    inr (number, line, stops files start script old now text number line d at words after lines less skipped errors.Memory later failed.0 failed.1)
+fails files start script old now later text number line d at words after lines less skipped errors_of_line.Write failed =
+    breaks files start script old now text number line d at words after lines less later failed.0 failed.1 failed.2 failed.3
 fails files start script old now later text number line d at words after lines less skipped (errors_of_line.Event why) failed =
     stops files start script old now text number line d at words after lines less skipped why later failed.0 failed.1
 

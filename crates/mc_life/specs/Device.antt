@@ -111,6 +111,10 @@ slot_wear name m counts =
 abbrev pub wear_text : Most → Most → Counts → List ℕ
 wear_text p q w = slot_wear (codes "primary") p w.primary ++ slot_wear (codes "secondary") q w.secondary
 
+-- Of the text of these counts, with the most of each slot, that holds.
+abbrev pub OfWear : Counts → (List ℕ → Type 0) → Type 0
+OfWear w P = (p q : Most) × IsMost w.primary p × IsMost w.secondary q × P (wear_text p q w)
+
 -- A device as callers see it, and the events that lead from where it stands to where it stands later.
 
 -- Its flash, the rules of its boots, whether an image runs, and how often its sectors were erased.

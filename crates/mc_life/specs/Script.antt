@@ -1,10 +1,14 @@
 -- The text of a script: a line for each event, and the files that it names (docs/FORMAT.md, "A device's life").
-use Rattle.std.specs.Prelude.{Bool, IfSome, List, None, Option, Some, [], bytes_eq, codes, decimal, false, if◌then◌else◌, length, true, ℕ, ⊤, ◌++◌, ◌+◌, ◌<◌, ◌==◌, ◌^◌, ◌∷◌, ◌≡◌, ◌≤◌}
+use Rattle.std.specs.Prelude.{Bool, Err, IfSome, List, None, Ok, Option, Result, Some, [], bytes_eq, codes, decimal, false, if◌then◌else◌, length, option_and_then, true, ℕ, ⊤, ◌++◌, ◌+◌, ◌<◌, ◌==◌, ◌^◌, ◌∷◌, ◌≡◌, ◌≤◌}
+use Rattle.std.specs.Str.{IsUtf8}
 use Rattle.hex.specs.Hex.{IsBytes, encode_lower}
+use Rattle.mc_imgtool.specs.Engines.{RefusesReading}
+use Rattle.mc_life.specs.declared.error.ScriptError.{ScriptError}
 use Rattle.mc_life.specs.declared.event.Event.{Event}
 use Rattle.mc_life.specs.declared.request.Request.{Request}
 use Rattle.mc_output.specs.facts.Parting.{Lacks}
 use Rattle.mc_start.specs.Start.{IsSchedule, schedule_text}
+use Rattle.mc_life.specs.declared.error.ScriptError.TheVariants as refusals
 use Rattle.mc_life.specs.declared.event.Event.TheVariants as events
 use Rattle.mc_life.specs.declared.request.Request.TheVariants as requests
 
@@ -77,7 +81,30 @@ abbrev pub ReadsEvent : List ℕ → Option Event → Type 0
 ReadsEvent line None = (e : Event) → IsEvent e → line ≡ event_text e → ⊥
 ReadsEvent line (Some e) = IsEvent e × (line ≡ event_text e)
 
+-- What is read of a reader of these bytes, where they are known: their text; or that they are too many, or, where they are not, that they are no text. A
+-- read or an allocation may fail whatever they are.
+abbrev pub Reads : Option (List ℕ) → Result (List ℕ) ScriptError → Type 0
+Reads known (Ok text) = (length text ≤ 2 ^ 24) × IsUtf8 text × IfSome known (λ xs. text ≡ xs)
+Reads known (Err (refusals.Input e)) = RefusesReading known (2 ^ 24) e
+Reads known (Err refusals.NotText) = IfSome known (λ xs. (length xs ≤ 2 ^ 24) × (IsUtf8 xs → ⊥))
+
 -- The files that a script names.
+
+-- The one that an event names, if it names one.
+abbrev pub file_named : Event → Option (List ℕ)
+file_named (events.Download file bytes) = Some file.now
+file_named (events.Store file) = Some file.now
+file_named _ = None
+
+abbrev pub before : Option (List ℕ) → List (List ℕ) → List (List ℕ)
+before None names = names
+before (Some name) names = name ∷ names
+
+-- Those that the events of these lines name, in their order and as often as they do.
+abbrev pub Names : List (List ℕ) → List (List ℕ) → Type 0
+Names [] names = names ≡ []
+Names (line ∷ lines) names =
+    (e : Option Event) × (others : List (List ℕ)) × ReadsEvent line e × Names lines others × (names ≡ before (option_and_then file_named e) others)
 
 -- A file by its name: what it holds.
 pub record Named : Type 0 where

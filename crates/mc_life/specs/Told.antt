@@ -1,6 +1,6 @@
 -- What each event of a script leads to, and the lines that tell it.
 use Rattle.std.specs.Io.KnownBytes.{Appends, Keeps}
-use Rattle.std.specs.Prelude.{Bool, List, None, Option, Some, [], codes, decimal, false, length, option_map, true, ℕ, ⊤, ◌++◌, ◌+◌, ◌∷◌, ◌≡◌}
+use Rattle.std.specs.Prelude.{Bool, List, None, Option, Some, [], codes, decimal, false, length, option_map, true, ℕ, ⊤, ◌++◌, ◌+◌, ◌∷◌, ◌≡◌, ◌⊎◌}
 use Rattle.mc_boot.specs.Life.{DeviceState, Event as Happening, confirm, cut, device_state, mark, store}
 use Rattle.mc_boot.specs.Outcome.{Report, result_text}
 use Rattle.mc_boot.specs.Plan.{PowerOn, identity_of, powered}
@@ -19,6 +19,7 @@ use Rattle.mc_life.specs.declared.event.Event.{Event}
 use Rattle.mc_life.specs.declared.life.LifeError.{LifeError}
 use Rattle.mc_life.specs.declared.life.LineError.{LineError}
 use Rattle.mc_life.specs.declared.state.State.{State}
+use Rattle.mc_output.specs.Text.{AppendsFront}
 use Rattle.mc_start.specs.Start.{Started}
 use Rattle.mc_trailer.specs.Tables.{type_text}
 use Rattle.mc_life.specs.declared.error.EventError.TheVariants as errors
@@ -167,16 +168,31 @@ pub record StopsAt (files : List Named) (start : Started) (script : List ℕ) (o
   pub refused : RefusesLine files here left why
   pub out : Appends old new text
 
--- What is refused, unless memory or a write failed.
+-- The lines before one were told, and their text is out; the event of that one happened, and some front of its text is out.
+pub record BreaksOff (files : List Named) (start : Started) (script : List ℕ) (old new : Option (List ℕ)) : Type 0 where
+  pub count : ℕ
+  pub left : Standing
+  pub text : List ℕ
+  pub here : List ℕ
+  pub behind : List (List ℕ)
+  pub told : ToldUpTo files start script (here ∷ behind) count left text
+  pub mid : Option (List ℕ)
+  pub out : Appends old mid text
+  pub next : Standing
+  pub outcome : Option Report
+  pub happens : Happens files here left next outcome
+  pub front : AppendsFront mid new (line_text (count + 1) here outcome next)
+
+-- What is refused. Where memory fails, nothing is out, or the text of the lines before; where a write fails, a front of the text.
 abbrev pub FailsLife : List Named → Started → List ℕ → Option (List ℕ) → Option (List ℕ) → LifeError → Type 0
 FailsLife files start script old new (failures.Refused why number line) = StopsAt files start script old new why number line
-FailsLife files start script old new failures.Memory = ⊤
-FailsLife files start script old new failures.Write = ⊤
+FailsLife files start script old new failures.Memory = Keeps old new ⊎ ((number line : ℕ) × StopsAt files start script old new errors.Memory number line)
+FailsLife files start script old new failures.Write = BreaksOff files start script old new
 
--- What is refused of one line.
-abbrev pub FailsLine : List Named → List ℕ → Standing → Option (List ℕ) → Option (List ℕ) → LineError → Type 0
-FailsLine files line d old new (lines.Event why) = RefusesLine files line d why × Keeps old new
-FailsLine files line d old new lines.Write = ⊤
+-- What is refused of one line; or its event happened, and some front of its text is out.
+abbrev pub FailsLine : List Named → ℕ → List ℕ → Standing → Option (List ℕ) → Option (List ℕ) → LineError → Type 0
+FailsLine files number line d old new (lines.Event why) = RefusesLine files line d why × Keeps old new
+FailsLine files number line d old new lines.Write = (e : Standing) × (o : Option Report) × Happens files line d e o × AppendsFront old new (line_text number line o e)
 
 -- What is refused of a life, where that line is not told.
 abbrev pub life_error : LineError → ℕ → ℕ → LifeError

@@ -1,7 +1,8 @@
-//! Why an event cannot happen, and why a life is not told to its end.
+//! Why an event cannot happen, and why a script is not read.
 ghost use Rattle.std.specs.Prelude.{◌≡◌};
 
 use mc_flash::FlashError;
+use mc_imgtool::ToolError;
 use std::alloc::AllocError;
 use thiserror::Error;
 
@@ -35,6 +36,27 @@ pub enum EventError {
     /// An allocation failed, or the room of a flash that counts is full.
     #[error("E52 Memory")]
     Memory,
+}
+
+/// Why a script is not read.
+#[derive(Clone, Copy, Debug, PartialEq, Eq, Error)]
+pub enum ScriptError {
+    /// It is longer than 2^24 bytes, or a read or an allocation failed.
+    #[error(transparent)]
+    Input(ToolError),
+    /// It is not UTF-8 text.
+    #[error("E84 ScriptText")]
+    NotText,
+}
+
+impl From<ToolError> for ScriptError {
+    ghost use Rattle.mc_life.specs.declared.error.ScriptError.TheVariants.{Input};
+
+    ghost from_gives = { λ error e. e ≡ Input error };
+
+    fn from(error: ToolError) -> Self {
+        ScriptError::Input(error)
+    }
 }
 
 impl From<FlashError> for EventError {

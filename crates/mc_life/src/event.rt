@@ -1,7 +1,7 @@
 //! What can happen to a device, as a line of a script tells it.
-ghost use Rattle.std.specs.Prelude.{◌≡◌, ℕ, ◌<◌, ◌≤◌, ◌^◌, List, length, codes, decimal, MatchOption, Some, None, true, false};
+ghost use Rattle.std.specs.Prelude.{◌≡◌, ℕ, ◌<◌, ◌≤◌, ◌^◌, List, length, codes, decimal, MatchOption, Some, None, option_map, true, false};
 ghost use Rattle.hex.specs.Hex.{IsBytes, encode_lower};
-ghost use Rattle.mc_life.specs.Script.{ReadsEvent, Tells, TellsNone};
+ghost use Rattle.mc_life.specs.Script.{ReadsEvent, Tells, TellsNone, file_named};
 
 use crate::request::Request;
 use mc_flash::Bytes16;
@@ -203,7 +203,9 @@ impl<'a> Event<'a> {
     }
 
     /// The file that it names, if it names one.
-    pub fn file(&self) -> Option<&'a str> {
+    pub fn file(&self) -> Option<&'a str>
+        ensures { option_map (λ t. t.now) result ≡ file_named self.now }
+    {
         match self {
             Event::Download(file, _) | Event::Store(file) => Some(file),
             _ => None,

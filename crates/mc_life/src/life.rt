@@ -1,5 +1,5 @@
 //! A life, told event by event.
-ghost use Rattle.std.specs.Prelude.{◌≡◌, ◌<◌, ◌≤◌, ◌^◌, ◌∷◌, Option, length, option_map, IfErr, IfOk, MatchResult, None, Some, OnOk};
+ghost use Rattle.std.specs.Prelude.{◌≡◌, ◌<◌, ◌≤◌, ◌^◌, Option, length, option_map, IfErr, IfOk, MatchResult, None, Some, OnOk};
 ghost use Rattle.mc_boot.specs.Life.{IsDelivered, LivesOn};
 ghost use Rattle.mc_boot.specs.Outcome.{shown};
 ghost use Rattle.mc_flash.specs.Flash.{Content};
@@ -7,7 +7,7 @@ ghost use Rattle.mc_life.specs.Told.{Ends, Refuses, happenings, operations};
 ghost use Rattle.mc_life.specs.Script.{file_of};
 ghost use Rattle.mc_boot.specs.Outcome.{Report};
 ghost use Rattle.std.specs.Io.KnownBytes.{Appends};
-ghost use Rattle.mc_life.specs.Script.{is_skipped, lines_left, lines_of, size_left};
+ghost use Rattle.mc_life.specs.Script.{is_skipped};
 ghost use Rattle.mc_life.specs.Told.{FailsLife, FailsLine, Happens, IsTold, RefusesLine, life_error, line_text};
 ghost use Rattle.mc_life.specs.Device.{Goes, moment};
 
@@ -15,6 +15,7 @@ use crate::device::Device;
 use crate::error::EventError;
 use crate::event::Event;
 use crate::files::{File, find, image_in, known_at};
+use crate::script::{Script, next_line};
 use crate::state::{state_of, write_event};
 use mc_boot::{KnownImage, Outcome, life_law};
 use mc_flash::Flash;
@@ -147,25 +148,13 @@ fn tell_line<F: Flash, W: Write>(
     ensures told { OnOk result ((o : Option Report) × Happens files.now line.now device.old
         device.new o × Appends (W.contents writer.old) (W.contents writer.new)
         (line_text number line.now o device.new)) }
-    ensures failed { IfErr result (FailsLine files.now line.now device.old
+    ensures failed { IfErr result (FailsLine files.now number line.now device.old
         (W.contents writer.old) (W.contents writer.new)) }
 {
     let outcome = happen_line(device, alloc, line, files, known)?;
     let state = state_of(device.flash(), device.rules(), known);
     write_event(number, line, &outcome, &state, writer)?;
     Ok(())
-}
-
-/// The first line of a text, and what is left behind it, if something is.
-pub fn next_line(text: &str) -> (&str, Option<&str>)
-    ensures lines { lines_of text.now ≡ result.0.now
-        ∷ lines_left (option_map (λ t. t.now) result.1) }
-    ensures less { size_left (option_map (λ t. t.now) result.1) ≤ length text.now }
-{
-    match text.split_once('\n') {
-        Some((line, after)) => (line, Some(after)),
-        None => (text, None),
-    }
 }
 
 // The valid image that some bytes begin with, as one that is known.
@@ -214,11 +203,10 @@ fn failure(error: LineError, number: u32, line: u32) -> LifeError
 pub fn tell<F: Flash, W: Write>(
     alloc: Global,
     start: &Start,
-    script: &str,
+    script: &Script,
     files: &[File],
     writer: &mut W,
 ) -> Result<Device<F>, LifeError>
-    requires { length script.now ≤ 2 ^ 24 }
     ensures told { IfOk result (IsTold files.now start.now script.now (W.contents writer.old)
         (W.contents writer.new)) }
     ensures failed { IfErr result (FailsLife files.now start.now script.now
@@ -236,7 +224,7 @@ pub fn tell<F: Flash, W: Write>(
     };
     let mut number = 1;
     let mut line_number = 1;
-    let mut rest = Some(script);
+    let mut rest = Some(script.text());
     'lines: while let Some(text) = rest {
         let (line, after) = next_line(text);
         if !is_skipped(line) {

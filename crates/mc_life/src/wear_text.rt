@@ -1,7 +1,8 @@
 //! How often sectors were erased, as text.
-ghost use Rattle.std.specs.Prelude.{◌≡◌, ◌≤◌, ◌++◌, codes, decimal, length, OnOk};
+ghost use Rattle.std.specs.Prelude.{◌≡◌, ◌≤◌, ◌++◌, codes, decimal, length, OnErr, OnOk};
 ghost use Rattle.std.specs.Io.KnownBytes.{Appends};
-ghost use Rattle.mc_life.specs.Device.{IsMost, Most as MostErased, total, wear_text};
+ghost use Rattle.mc_life.specs.Device.{IsMost, OfWear, total};
+ghost use Rattle.mc_output.specs.Text.{AppendsFront};
 
 use crate::wear::Wear;
 use mc_flash::Slot;
@@ -75,18 +76,15 @@ fn slot_line(name: &str, most: Most, all: u64) -> Line
 ///
 /// `WriteFailed` where a write fails or takes no bytes.
 pub fn write_wear<W: Write>(wear: &Wear, writer: &mut W) -> Result<(), WriteFailed>
-    ensures { OnOk result ((p q : MostErased) × IsMost wear.now.primary p
-        × IsMost wear.now.secondary q
-        × Appends (W.contents writer.old) (W.contents writer.new) (wear_text p q wear.now)) }
+    ensures whole { OnOk result
+        (OfWear wear.now (Appends (W.contents writer.old) (W.contents writer.new))) }
+    ensures front { OnErr result
+        (OfWear wear.now (AppendsFront (W.contents writer.old) (W.contents writer.new))) }
 {
     let primary = wear.counts(Slot::Primary);
     let secondary = wear.counts(Slot::Secondary);
-    write_line(
-        writer,
-        &slot_line("primary", most_of(primary), total(primary)),
-    )?;
-    write_line(
-        writer,
-        &slot_line("secondary", most_of(secondary), total(secondary)),
-    )
+    let first = slot_line("primary", most_of(primary), total(primary));
+    let second = slot_line("secondary", most_of(secondary), total(secondary));
+    write_line(writer, &first)?;
+    write_line(writer, &second)
 }

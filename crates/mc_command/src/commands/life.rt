@@ -1,6 +1,4 @@
 //! `life`: what happens to a device, told event by event.
-ghost use Rattle.std.specs.Prelude.{◌≤◌, ◌^◌, length, IfOk};
-
 use super::replay::write_file;
 use crate::options::{layout_options, rules_options};
 use crate::refusal::Refusal;
@@ -8,12 +6,12 @@ use crate::source::{GREATEST_FLASH, GREATEST_IMAGE, read_file};
 use clap::ArgMatches;
 use mc_explore::{Kind, Start};
 use mc_flash::{Layout, Slot, SnapFlash};
-use mc_imgtool::{ToolError, read_bounded};
-use mc_life::{Device, Event, File, next_line, tell, write_wear};
+use mc_imgtool::ToolError;
+use mc_life::{Device, File, Script, find, tell, write_wear};
 use std::alloc::Global;
+use std::fs;
 use std::io::{Read, Write};
 use std::rt::Files;
-use std::str;
 
 /// The start of a device that is delivered with an image in the primary, all else blank.
 ///
@@ -59,7 +57,7 @@ fn read_device<F: Files>(
     Ok(start.with_rules(rules))
 }
 
-/// Adds the file that a line names, if it names one that is not there yet and that can be opened.
+/// Adds a file by its name, if it is not there yet and can be opened.
 ///
 /// # Errors
 ///
@@ -67,16 +65,10 @@ fn read_device<F: Files>(
 fn add_file<F: Files>(
     files: &F,
     alloc: Global,
-    line: &str,
+    name: &str,
     shelf: &mut Vec<File>,
 ) -> Result<(), Refusal> {
-    let Some(event) = Event::read(line) else {
-        return Ok(());
-    };
-    let Some(name) = event.file() else {
-        return Ok(());
-    };
-    if mc_life::find(shelf, name).is_some() {
+    if find(shelf, name).is_some() {
         return Ok(());
     }
     let bytes = match read_file(files, alloc, name, GREATEST_IMAGE) {
@@ -97,38 +89,31 @@ fn add_file<F: Files>(
 /// # Errors
 ///
 /// Those of `add_file`.
-fn read_shelf<F: Files>(files: &F, alloc: Global, script: &str) -> Result<Vec<File>, Refusal> {
+fn read_shelf<F: Files>(files: &F, alloc: Global, script: &Script) -> Result<Vec<File>, Refusal> {
+    let names = script.names(alloc).map_err(|_| Refusal::Memory)?;
     let mut shelf = Vec::new(alloc);
-    let mut rest = Some(script);
-    'lines: while let Some(text) = rest {
-        let (line, after) = next_line(text);
-        add_file(files, alloc, line, &mut shelf)?;
-        rest = after;
+    for name in &names {
+        add_file(files, alloc, name, &mut shelf)?;
     }
     Ok(shelf)
 }
 
-/// The bytes of the script, from its file or from standard input.
+/// The script, from its file or from standard input.
 ///
 /// # Errors
 ///
-/// `Open` where the file cannot be opened; `Tool` where a read failed, or it is too long.
+/// `Open` where the file cannot be opened; `Script` with what is refused of what is read.
 fn read_script<F: Files, R: Read>(
     files: &F,
     alloc: Global,
     arguments: &ArgMatches<'_>,
     input: &mut R,
-) -> Result<Vec<u8>, Refusal>
-    ensures { IfOk result (λ bytes. length bytes.items ≤ 2 ^ 24) }
-{
-    let bytes = match arguments.get_str("SCRIPT") {
-        Some(path) => read_file(files, alloc, path, GREATEST_IMAGE)?,
-        None => read_bounded(alloc, input, GREATEST_IMAGE)?,
+) -> Result<Script, Refusal> {
+    let Some(path) = arguments.get_str("SCRIPT") else {
+        return Ok(Script::read(alloc, input)?);
     };
-    if bytes.len() > GREATEST_IMAGE as usize {
-        return Err(Refusal::Tool(ToolError::InputTooLong));
-    }
-    Ok(bytes)
+    let mut file = fs::open(files, path).map_err(|_| Refusal::Open)?;
+    Ok(Script::read(alloc, &mut file)?)
 }
 
 /// Tells what happens to a device by a script, a line for each event. With `--wear` it ends with two lines of what was erased, and
@@ -136,7 +121,7 @@ fn read_script<F: Files, R: Read>(
 ///
 /// # Errors
 ///
-/// What refuses the words or their files; `ScriptText`; `Life` with the first event that can't happen: all before it is printed;
+/// What refuses the words or their files; `Script`; `Life` with the first event that can't happen: all before it is printed;
 /// `Write`.
 pub fn run<F: Files, R: Read, O: Write>(
     files: &F,
@@ -146,12 +131,9 @@ pub fn run<F: Files, R: Read, O: Write>(
     out: &mut O,
 ) -> Result<(), Refusal> {
     let start = read_device(files, alloc, arguments)?;
-    let bytes = read_script(files, alloc, arguments, input)?;
-    let Ok(script) = str::from_utf8(&bytes) else {
-        return Err(Refusal::ScriptText);
-    };
-    let shelf = read_shelf(files, alloc, script)?;
-    let device: Device<SnapFlash> = tell(alloc, &start, script, &shelf, out)?;
+    let script = read_script(files, alloc, arguments, input)?;
+    let shelf = read_shelf(files, alloc, &script)?;
+    let device: Device<SnapFlash> = tell(alloc, &start, &script, &shelf, out)?;
     if arguments.get_flag("wear") {
         write_wear(device.wear(), out).map_err(|_| Refusal::Write)?;
     }

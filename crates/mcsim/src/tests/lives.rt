@@ -1,7 +1,11 @@
 //! `life`: scripts at the worked layout, with what they print.
-use super::support::{in_full, ran_over, tells};
-use mc_fixtures::Fault;
+use super::faulty::FaultyFiles;
+use super::support::{contents, in_full, ran_over, tells, words_of};
+use mc_command::run;
+use mc_fixtures::{FAULTS, FailingReader, FailingWriter, Failure, Fault};
 use std::alloc::Global;
+use std::cell::RefCell;
+use std::io::{Read, Write};
 use std::process::Abort;
 use std::test::Fail;
 
@@ -146,16 +150,129 @@ fn refuses_what_cannot_happen(rt: HostRuntime) -> Result<(), Fail> {
     tell_all(&rt, rt.alloc(), &REFUSED)
 }
 
+/// How a life ends that reads its script here and is told there: its status, and the line of a refusal.
+fn ends<R: Read, W: Write>(
+    alloc: Global,
+    line: &str,
+    input: &mut R,
+    out: &mut W,
+) -> Result<(u8, String), Fail> {
+    let written = RefCell::new(Vec::new(alloc));
+    let files = FaultyFiles {
+        input: &[],
+        written: &written,
+        reads: 0,
+        writes: 0,
+        fault: Fault::Error,
+    };
+    let line = in_full(alloc, line)?;
+    let words = words_of(alloc, line.as_str())?;
+    let mut err = Vec::new(alloc);
+    let status = run(&files, alloc, words.as_slice(), input, out, &mut err);
+    let err = String::from_utf8(err).map_err(|_| "the refusal is no text")?;
+    Ok((status, err))
+}
+
+/// A script, and how many bytes it has.
+static SCRIPT: (&str, usize) = ("boot\nerase 0\n", 13);
+
 #[test]
 fn a_read_that_fails_ends_it(rt: HostRuntime) -> Result<(), Fail> {
     let alloc = rt.alloc();
+    let (script, len) = SCRIPT;
     let line = in_full(alloc, "life WORKED --image first in")?;
-    let ended = ran_over(
-        alloc,
-        line.as_str(),
-        b"boot\n",
-        (0, usize::MAX, Fault::Error),
-    )?;
-    assert_eq!(rt; ended.text(alloc)?.as_str(), "! mcsim: E24 Read\nexit 3\n");
+    // Each byte has a read, and the end has one.
+    for calls in 0..=len {
+        for (fault, lasts) in FAULTS.into_iter().take(4) {
+            let calls_of_file = (calls, usize::MAX, fault);
+            let ended = ran_over(alloc, line.as_str(), script.as_bytes(), calls_of_file)?;
+            assert_eq!(rt; ended.text(alloc)?.as_str(), "! mcsim: E24 Read\nexit 3\n");
+            let mut input = FailingReader {
+                left: script.as_bytes(),
+                failure: Failure {
+                    calls,
+                    fault,
+                    lasts,
+                },
+            };
+            let mut out = Vec::new(alloc);
+            let (status, err) = ends(alloc, "life WORKED --image first", &mut input, &mut out)?;
+            assert_eq!(rt;
+                (status, err.as_str()),
+                (3, "mcsim: E24 Read\n"),
+                "{calls} {fault:?}"
+            );
+            assert!(rt; out.is_empty());
+        }
+    }
+    Ok(())
+}
+
+/// Looks whether what is out before a write fails is a beginning of the text.
+fn breaks_off(rt: &impl Abort, alloc: Global, told: &Told, failure: Failure) -> Result<(), Fail> {
+    let mut out = FailingWriter {
+        taken: Vec::new(alloc),
+        failure,
+    };
+    let (status, err) = ends(alloc, told.line, &mut told.script.as_bytes(), &mut out)?;
+    let want = match failure.calls < told.want.len() {
+        true => (3, "mcsim: E25 Write\n"),
+        false => (0, ""),
+    };
+    assert_eq!(rt; (status, err.as_str()), want, "{failure:?}");
+    assert_eq!(rt; out.taken.len(), failure.calls);
+    assert!(rt; told.want.as_bytes().starts_with(out.taken.as_slice()));
+    Ok(())
+}
+
+#[test]
+fn a_write_that_fails_ends_it(rt: HostRuntime) -> Result<(), Fail> {
+    let told = &LIVES[2];
+    // Each byte has a write, and behind the last there is none.
+    for calls in 0..=told.want.len() {
+        for (fault, lasts) in FAULTS {
+            let failure = Failure {
+                calls,
+                fault,
+                lasts,
+            };
+            breaks_off(&rt, rt.alloc(), told, failure)?;
+        }
+    }
+    Ok(())
+}
+
+#[test]
+fn a_write_of_the_flash_that_fails_ends_it(rt: HostRuntime) -> Result<(), Fail> {
+    let alloc = rt.alloc();
+    let line = in_full(alloc, "life WORKED --image first --out out in")?;
+    let flash = contents(alloc, "1792:0=first")?;
+    for writes in [0, 1, 80, 1023, 1024, 1791] {
+        for fault in [Fault::Error, Fault::Interruption, Fault::NoBytes] {
+            let ended = ran_over(alloc, line.as_str(), b"boot\n", (usize::MAX, writes, fault))?;
+            let want =
+                "1 boot boot none 0 1.0.0+0/80 settled none none\n! mcsim: E25 Write\nexit 3\n";
+            assert_eq!(rt; ended.text(alloc)?.as_str(), want);
+            assert_eq!(rt; ended.written.len(), writes);
+            assert!(rt; flash.as_slice().starts_with(ended.written.as_slice()));
+        }
+    }
+    Ok(())
+}
+
+#[test]
+fn refuses_what_is_no_script(rt: HostRuntime) -> Result<(), Fail> {
+    let alloc = rt.alloc();
+    let line = in_full(alloc, "life WORKED --image first")?;
+    let mut script = b"boot\n".to_vec(alloc)?;
+    script.resize(1 << 24, b'#')?;
+    let told = "1 boot boot none 0 1.0.0+0/80 settled none none\n";
+    tells(&rt, alloc, line.as_str(), script.as_slice(), told)?;
+    script.push(b'#')?;
+    let too_long = "! mcsim: E23 InputTooLong\nexit 1\n";
+    tells(&rt, alloc, line.as_str(), script.as_slice(), too_long)?;
+    let no_text = "! mcsim: E84 ScriptText\nexit 1\n";
+    tells(&rt, alloc, line.as_str(), b"boot\n\xff", no_text)?;
+    tells(&rt, alloc, line.as_str(), b"#\xc3\nboot\n", no_text)?;
     Ok(())
 }

@@ -4,7 +4,7 @@ use Rattle.mc_life.proofs.life.tell.Goals as goal
 use Rattle.mc_life.proofs.life.tell.Goals.{then-not-is_skipped+in-Ok-tell_line, else-not-is_skipped}
 
 pub lines-init : goal.lines-init
-lines-init g c = begins _ _ _ _ _ c.in-Ok.ensures.new
+lines-init g c = rw c.text.ensures.text (begins _ _ _ _ _ c.in-Ok.ensures.new)
 
 pub returns-in-Err-clause-failed : goal.returns-in-Err-clause-failed
 returns-in-Err-clause-failed g c =

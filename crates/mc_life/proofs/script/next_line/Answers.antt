@@ -1,7 +1,7 @@
 use Rattle.std.proofs.Common.{arith}
 use Rattle.mc_output.specs.facts.Parting.{one_piece, parted}
 use Rattle.mc_life.proofs.Telling.{first_of, last_line}
-use Rattle.mc_life.proofs.life.next_line.Goals as goal
+use Rattle.mc_life.proofs.script.next_line.Goals as goal
 
 pub returns-in-Some-clause-lines : goal.returns-in-Some-clause-lines
 returns-in-Some-clause-lines c = first_of _ _ _ (parted 10 (omega arith) c.args.text.now c.split_once.result c.split_once.ensures.cases c.in-Some.line c.in-Some.after c.in-Some.is)
