@@ -1,12 +1,9 @@
 //! The files that a script names.
 ghost use Rattle.std.specs.Prelude.{◌≡◌, ◌≤◌, ◌^◌, length, IfOk, Some, option_map};
-ghost use Rattle.mc_boot.specs.Plan.{identity_of};
-ghost use Rattle.mc_image.specs.Valid.{id_of};
 ghost use Rattle.mc_life.specs.Script.{file_of};
 ghost use Rattle.mc_start.specs.Start.{IsKnown};
 
-use mc_boot::{ImageId, KnownImage, known_id};
-use mc_image::ImageView;
+use mc_boot::{ImageId, KnownImage, image_in};
 use std::alloc::{AllocError, Global};
 use std::marker::Model;
 
@@ -28,21 +25,6 @@ impl Model for File {
     ghost view = { λ f. record { name = string_bytes f.name; bytes = f.bytes.items } };
 
     ghost invariant = { λ f. IsKnown f.bytes.items f.id };
-}
-
-/// The valid image that some bytes begin with. It is hashed where it is none of those that are known.
-pub fn image_in(bytes: &[u8], known: &[Option<KnownImage<'_>>]) -> Option<ImageId>
-    requires { length bytes.now ≤ 2 ^ 24 }
-    ensures { option_map identity_of result ≡ id_of bytes.now }
-{
-    let id = known_id(bytes, known);
-    if id.is_some() {
-        return id;
-    }
-    match ImageView::read_valid(bytes) {
-        Ok(view) => Some(ImageId::of(&view)),
-        Err(_) => None,
-    }
 }
 
 // The valid image that some bytes begin with, as one that is known.

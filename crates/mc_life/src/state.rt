@@ -9,8 +9,7 @@ ghost use Rattle.mc_life.specs.Told.{stated};
 ghost use Rattle.mc_life.specs.Told.{event_line, outcome_text, slot_text, state_text, trial_text};
 ghost use Rattle.mc_output.specs.Text.{AppendsFront};
 
-use crate::files::image_in;
-use mc_boot::{Boot, ImageId, KnownImage, Outcome};
+use mc_boot::{Boot, ImageId, KnownImage, Outcome, image_in};
 use mc_flash::{Flash, Slot};
 use mc_output::{Line, MOST_LINE, WriteFailed, write_line, write_text};
 use mc_trailer::{Flag, Magic, Rules, SwapType, Trailer};
