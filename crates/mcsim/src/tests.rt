@@ -13,6 +13,5 @@ mod sixteen;
 mod support;
 mod texts;
 mod tracing;
-mod trailers;
 mod verification;
 mod words;
