@@ -14,6 +14,5 @@ mod sixteen;
 mod support;
 mod texts;
 mod tracing;
-mod trailers;
 mod verification;
 mod words;

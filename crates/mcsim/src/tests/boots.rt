@@ -1,11 +1,10 @@
 //! `boot` and `replay` at the worked layout.
-use super::support::{filled, plays};
-use std::alloc::{AllocError, Global};
+use super::support::{Table, all_play};
 use std::test::Fail;
 
 /// Swaps that are cut, whole swaps between which each unit is written by itself, and a revert whose magic in the secondary is
 /// cut in half: in the first profile no row of the tables holds, and it is lost.
-static SWAPS: &str = "\
+const SWAPS: &str = "\
 $ boot WORKED --kind test IMAGES --out out
 result boot; type test; ops 18; SWAPPED; next revert
 => 1792 bytes
@@ -60,7 +59,7 @@ result boot; type test; ops 18; SWAPPED; next revert
 ";
 
 /// Schedules that are refused. Each is checked before a file is opened, and after the source.
-static REFUSED: &str = "\
+const REFUSED: &str = "\
 $ replay WORKED --kind test IMAGES --schedule 18
 ! mcsim: E53 CannotOccur at 0; exit 1
 $ replay WORKED --kind test IMAGES --schedule 0.18
@@ -82,7 +81,7 @@ $ replay WORKED --kind test IMAGES --schedule 5.9.9.1
 /// Flashes that no swap left: erased, only asked for a swap, begun with no size, with no type, with an entry of the last
 /// transfer and of none; the first image is lost, and the second does not fit, with its 513 bytes: its header, 441 zeros and
 /// the entry of its digest.
-static FLASHES: &str = "\
+const FLASHES: &str = "\
 $ boot WORKED --flash in < 1792:0=ff
 result none; type none; ops 0; primary none; secondary none; next none
 $ boot WORKED --flash in < 1792:1776=MAGIC
@@ -103,64 +102,85 @@ $ boot WORKED --flash in < 1792:0=first,1024=second,1036=b901,1056=zeros,1497=07
 result boot; type fail; ops 0; primary FIRST; secondary 2.0.0+0 513 LARGER; next fail
 ";
 
-#[test]
-fn boots_swap(rt: HostRuntime) -> Result<(), Fail> {
-    plays(&rt, rt.alloc(), SWAPS)
-}
-
-#[test]
-fn boots_flashes_that_no_swap_left(rt: HostRuntime) -> Result<(), Fail> {
-    plays(&rt, rt.alloc(), FLASHES)
-}
-
-#[test]
-fn refuses_schedules(rt: HostRuntime) -> Result<(), Fail> {
-    plays(&rt, rt.alloc(), REFUSED)
-}
-
 /// A line has the kind of a start and the type of the last boot that is told; the type of the boot after a cut of the first
-/// boot, how many operations it makes, and each of those cuts.
-static CUTS: &str = "\
-test revert test 18 0 1 2 3 4
-test revert test 14 5 6 7 8
-test revert test 9 9 10 11 12
-test revert test 5 13 14 15 16
+/// boot, how many operations it makes, and that cut.
+const CUTS: &str = "\
+test revert test 18 0
+test revert test 18 1
+test revert test 18 2
+test revert test 18 3
+test revert test 18 4
+test revert test 14 5
+test revert test 14 6
+test revert test 14 7
+test revert test 14 8
+test revert test 9 9
+test revert test 9 10
+test revert test 9 11
+test revert test 9 12
+test revert test 5 13
+test revert test 5 14
+test revert test 5 15
+test revert test 5 16
 test revert test 1 17
-perm none perm 19 0 1 2 3 4 5
-perm none perm 14 6 7 8 9
-perm none perm 9 10 11 12 13
-perm none perm 5 14 15 16 17
+perm none perm 19 0
+perm none perm 19 1
+perm none perm 19 2
+perm none perm 19 3
+perm none perm 19 4
+perm none perm 19 5
+perm none perm 14 6
+perm none perm 14 7
+perm none perm 14 8
+perm none perm 14 9
+perm none perm 9 10
+perm none perm 9 11
+perm none perm 9 12
+perm none perm 9 13
+perm none perm 5 14
+perm none perm 5 15
+perm none perm 5 16
+perm none perm 5 17
 perm none perm 1 18
-revert none revert 23 0 1 2 3
-revert none perm 19 4 5 6 7 8 9
-revert none revert 14 10 11 12 13
-revert none revert 9 14 15 16 17
-revert none revert 5 18 19 20 21
+revert none revert 23 0
+revert none revert 23 1
+revert none revert 23 2
+revert none revert 23 3
+revert none perm 19 4
+revert none perm 19 5
+revert none perm 19 6
+revert none perm 19 7
+revert none perm 19 8
+revert none perm 19 9
+revert none revert 14 10
+revert none revert 14 11
+revert none revert 14 12
+revert none revert 14 13
+revert none revert 9 14
+revert none revert 9 15
+revert none revert 9 16
+revert none revert 9 17
+revert none revert 5 18
+revert none revert 5 19
+revert none revert 5 20
+revert none revert 5 21
 revert none revert 1 22
 ";
 
-/// A step of a session, which replays a cut.
-static CUT: &str = "\
+/// Each cut of the first boot ends in the same flash.
+const CUT: &str = "\
 $ replay WORKED --kind KIND IMAGES --schedule CUT
 result boot; type TYPE; ops OPS; SWAPPED; next NEXT
 ";
 
-/// The steps of the cuts of a line.
-fn steps_of(alloc: Global, line: &str) -> Result<String, AllocError> {
-    let step = filled(alloc, CUT, &["KIND", "NEXT", "TYPE", "OPS", "CUTS"], line)?;
-    let mut steps = String::new(alloc);
-    for cut in line.split(' ').skip(4) {
-        let one = step.as_str().replace(alloc, "CUT", cut)?;
-        steps.push_str(one.as_str())?;
-    }
-    Ok(steps)
-}
+static TABLES: [Table; 4] = [
+    (SWAPS, &[], "-"),
+    (REFUSED, &[], "-"),
+    (FLASHES, &[], "-"),
+    (CUT, &["KIND", "NEXT", "TYPE", "OPS", "CUT"], CUTS),
+];
 
 #[test]
-fn each_cut_of_the_first_boot_ends_in_the_same_flash(rt: HostRuntime) -> Result<(), Fail> {
-    for line in CUTS.lines() {
-        let steps = steps_of(rt.alloc(), line)?;
-        plays(&rt, rt.alloc(), steps.as_str())?;
-    }
-    Ok(())
+fn boots_and_replays(rt: HostRuntime) -> Result<(), Fail> {
+    all_play(&rt, rt.alloc(), &TABLES)
 }

@@ -1,13 +1,10 @@
 //! `survey` and `census`, of images and of a flash whose copy-done cannot be written. The numbers are those of a model that shares no
 //! code with this repository.
-use super::pages::prints;
-use super::support::plays;
-use std::alloc::Global;
-use std::process::Abort;
+use super::support::{Table, all_play};
 use std::test::Fail;
 
 /// Tallies.
-static SURVEYS: &str = "\
+const SURVEYS: &str = "\
 $ survey WORKED --kind test IMAGES --cuts 2
 rows 222; boot 222; none 0; panic 0; fault 0; most-ops 18; end
 $ survey WORKED --kind test IMAGES --cuts 1 --limit 19
@@ -54,13 +51,8 @@ $ survey WORKED --flash in --grain unit --cuts 1 --all-boot < MIXED
 rows 116; boot 115; none 1; panic 0; fault 0; most-ops 115; end; ! mcsim: E74 NotAllBoot; exit 1
 ";
 
-#[test]
-fn surveys_images_and_flashes(rt: HostRuntime) -> Result<(), Fail> {
-    plays(&rt, rt.alloc(), SURVEYS)
-}
-
-/// Censuses.
-static CENSUSES: &str = "\
+/// Censuses. The last one is of all schedules of a revert.
+const CENSUSES: &str = "\
 $ census WORKED --kind test IMAGES --cuts 2 --all-boot
 schedules 222; boot 222; none 0; panic 0; fault 0; most-ops 18; first-not-boot none
 $ census WORKED --kind revert IMAGES --cuts 2
@@ -87,35 +79,32 @@ $ census WORKED --flash in --grain unit --cuts 1 < MIXED
 schedules 116; boot 115; none 1; panic 0; fault 0; most-ops 115; first-not-boot 4
 $ census WORKED --flash in --grain unit --cuts 1 --all-boot < MIXED
 schedules 116; boot 115; none 1; panic 0; fault 0; most-ops 115; first-not-boot 4; ! mcsim: E74 NotAllBoot; exit 1
+$ census WORKED --kind revert IMAGES --cuts 16 --all-boot
+schedules ...; first-not-boot none
 ";
 
-#[test]
-fn censuses_of_images_and_flashes(rt: HostRuntime) -> Result<(), Fail> {
-    plays(&rt, rt.alloc(), CENSUSES)
-}
-
-/// A line has the kind of a start and the options, and how many schedules there are.
-static SCHEDULES: &str = "\
-test --cuts 2 --grain unit --profile 2: 7837
-perm --cuts 2 --grain unit --profile 1: 7954
-revert --cuts 2 --grain unit --profile 1: 8419
-revert --cuts 2 --grain unit --profile 2: 8534
+/// A census.
+const STEP: &str = "\
+$ census WORKED --kind KIND IMAGES
+schedules COUNT
+...
 ";
 
-/// Looks whether a census tells so many schedules.
-fn has_schedules(rt: &impl Abort, alloc: Global, row: &str) -> Result<(), Fail> {
-    let (options, want) = row.split_once(": ").ok_or("options and a number")?;
-    let options = format!(in alloc; "WORKED --kind {options}")?;
-    let census = prints(alloc, "census", options.as_str())?;
-    let want = format!(in alloc; "schedules {want}")?;
-    assert_eq!(rt; census.as_str().lines().next(), Some(want.as_str()));
-    Ok(())
-}
+/// A line has how many schedules there are, and the kind of a start and the options.
+const SCHEDULES: &str = "\
+7837 test --cuts 2 --grain unit --profile 2
+7954 perm --cuts 2 --grain unit --profile 1
+8419 revert --cuts 2 --grain unit --profile 1
+8534 revert --cuts 2 --grain unit --profile 2
+";
+
+static TABLES: [Table; 3] = [
+    (SURVEYS, &[], "-"),
+    (CENSUSES, &[], "-"),
+    (STEP, &["COUNT", "KIND"], SCHEDULES),
+];
 
 #[test]
-fn counts_schedules_of_cuts_between_units(rt: HostRuntime) -> Result<(), Fail> {
-    for row in SCHEDULES.lines() {
-        has_schedules(&rt, rt.alloc(), row)?;
-    }
-    Ok(())
+fn counts(rt: HostRuntime) -> Result<(), Fail> {
+    all_play(&rt, rt.alloc(), &TABLES)
 }

@@ -1,90 +1,89 @@
-//! `create`: the images that it makes, and what it refuses.
-use super::support::{plays, scratch_path, told_of};
+//! `create`: the images that it makes, and what it refuses; and command lines over real files.
+use super::support::{Table, all_play, scratch_path, told_of};
 use mc_fixtures::{GOOD_LINE, PAYLOAD, PLAIN_IMAGE};
-use std::fs;
 use std::os::unix::fs::symlink;
 use std::test::Fail;
+use std::{env, fs};
 
-/// What `create` tells of these files.
-fn created(rt: &HostRuntime, infile: &str, outfile: &str) -> Result<String, Fail> {
+/// Looks what a command line tells over the real files, with an image as standard input.
+fn tells(rt: &HostRuntime, line: &str, want: &str) -> Result<(), Fail> {
+    let text = told_of(rt, line, &PLAIN_IMAGE)?;
+    if text.as_str() == want {
+        Ok(())
+    } else {
+        Err(Fail::new(text))
+    }
+}
+
+/// Looks what a file holds.
+fn holds(rt: &HostRuntime, path: &str, want: &[u8]) -> Result<(), Fail> {
+    let bytes = fs::read(rt, path)?;
+    if bytes.as_slice() == want {
+        Ok(())
+    } else {
+        Err(Fail::new("a file holds other bytes"))
+    }
+}
+
+/// Looks what `create` tells of these files.
+fn creates(rt: &HostRuntime, infile: &str, outfile: &str, want: &str) -> Result<(), Fail> {
     let line = format!(in rt.alloc();
         "create --version 1.2.3+4 --header-size 32 --pad-header {infile} {outfile}"
     )?;
-    told_of(rt, line.as_str(), &[])
+    tells(rt, line.as_str(), want)
 }
 
-/// What `verify` tells of a file.
-fn verified(rt: &HostRuntime, infile: &str) -> Result<String, Fail> {
-    let line = format!(in rt.alloc(); "verify {infile}")?;
-    told_of(rt, line.as_str(), &[])
-}
-
-/// Makes an image of the payload. Returns what is told of both, and the bytes of the image.
-fn made(rt: &HostRuntime, payload: &str, image: &str) -> Result<(String, Vec<u8>), Fail> {
-    fs::write(rt, payload, PAYLOAD.as_slice())?;
-    let mut text = created(rt, payload, image)?;
-    text.push_str(verified(rt, image)?.as_str())?;
-    let bytes = fs::read(rt, image)?;
-    fs::remove_file(rt, payload)?;
+/// Makes an image of the payload, verifies and removes it.
+fn makes(rt: &HostRuntime, payload: &str, image: &str) -> Result<(), Fail> {
+    creates(rt, payload, image, "")?;
+    let line = format!(in rt.alloc(); "verify {image}")?;
+    tells(rt, line.as_str(), GOOD_LINE)?;
+    holds(rt, image, &PLAIN_IMAGE)?;
     fs::remove_file(rt, image)?;
-    Ok((text, bytes))
-}
-
-#[test]
-fn makes_and_verifies_an_image(rt: HostRuntime) -> Result<(), Fail> {
-    let payload = scratch_path(&rt, "", "payload")?;
-    let image = scratch_path(&rt, "", "image")?;
-    let (text, bytes) = made(&rt, payload.as_str(), image.as_str())?;
-    assert_eq!(rt;
-        (text.as_str(), bytes.as_slice()),
-        (GOOD_LINE, PLAIN_IMAGE.as_slice())
-    );
     Ok(())
 }
 
-/// What `create` tells of these files, and what INFILE holds afterwards.
-fn left(rt: &HostRuntime, infile: &str, outfile: &str) -> Result<(String, Vec<u8>), Fail> {
-    let text = created(rt, infile, outfile)?;
-    Ok((text, fs::read(rt, infile)?))
-}
-
-/// Whether `create` refuses these files, which are one, and leaves the payload as it is.
-fn is_kept(rt: &HostRuntime, infile: &str, outfile: &str) -> Result<bool, Fail> {
-    let (text, bytes) = left(rt, infile, outfile)?;
-    let is_refused = text.as_str() == "! mcsim: E75 SameFile\nexit 2\n";
-    Ok(is_refused && bytes.as_slice() == PAYLOAD.as_slice())
-}
-
-/// Whether it does so by each of these paths to the payload.
-fn all_kept(rt: &HostRuntime, payload: &str, link: &str, other: &str) -> Result<bool, Fail> {
-    let forth = is_kept(rt, payload, link)? && is_kept(rt, payload, other)?;
-    let back = is_kept(rt, link, payload)? && is_kept(rt, other, payload)?;
-    Ok(forth && back && is_kept(rt, payload, payload)?)
-}
-
-/// The same of a payload that is made, with a link to it, and removed.
-fn made_and_kept(rt: &HostRuntime, payload: &str, link: &str, other: &str) -> Result<bool, Fail> {
-    fs::write(rt, payload, PAYLOAD.as_slice())?;
+/// Refuses a payload that is to be its own image by each of these paths, and leaves it as it is.
+fn keeps(rt: &HostRuntime, payload: &str, link: &str, other: &str) -> Result<(), Fail> {
     symlink(rt, payload, link)?;
-    let kept = all_kept(rt, payload, link, other)?;
+    for (infile, outfile) in [
+        (payload, link),
+        (payload, other),
+        (link, payload),
+        (other, payload),
+        (payload, payload),
+    ] {
+        creates(rt, infile, outfile, "! mcsim: E75 SameFile\nexit 2\n")?;
+        holds(rt, payload, &PAYLOAD)?;
+    }
     fs::remove_file(rt, link)?;
-    fs::remove_file(rt, payload)?;
-    Ok(kept)
+    Ok(())
 }
 
 /// A file that is to be its own image stays as it is, by whatever path it is named.
 #[test]
-fn keeps_a_payload_that_is_the_output_too(rt: HostRuntime) -> Result<(), Fail> {
-    let payload = scratch_path(&rt, "", "same")?;
+fn makes_an_image_and_keeps_its_payload(rt: HostRuntime) -> Result<(), Fail> {
+    let payload = scratch_path(&rt, "", "payload")?;
+    fs::write(&rt, payload.as_str(), PAYLOAD.as_slice())?;
     let link = scratch_path(&rt, "", "link")?;
-    let other = scratch_path(&rt, "./", "same")?;
-    assert!(rt; made_and_kept(&rt, payload.as_str(), link.as_str(), other.as_str())?);
+    makes(&rt, payload.as_str(), link.as_str())?;
+    let other = scratch_path(&rt, "./", "payload")?;
+    keeps(&rt, payload.as_str(), link.as_str(), other.as_str())?;
+    fs::remove_file(&rt, payload.as_str())?;
     Ok(())
+}
+
+#[test]
+fn refuses_files_that_cannot_be_read(rt: HostRuntime) -> Result<(), Fail> {
+    tells(&rt, "verify ", "! mcsim: E71 Open\nexit 3\n")?;
+    let folder = env::temp_dir(&rt)?;
+    let line = format!(in rt.alloc(); "verify {}", folder.as_str())?;
+    tells(&rt, line.as_str(), "! mcsim: E24 Read\nexit 3\n")
 }
 
 /// Images of a header before its input, or in its place, by imgtool's short options too; the slots that have just room for
 /// an image and its trailer, and the ends of the ranges; slots that are filled.
-static IMAGES: &str = "\
+const IMAGES: &str = "\
 $ create PADDING in out < payload
 => plain
 $ create -v 1.2.3+4 --pad-header -H 0x20 in out < payload
@@ -131,14 +130,9 @@ $ create PADDING --slot-size 768 --align 8 --max-sectors 4 --confirm --security-
 => 768:0=counted,744=01,752=MAGIC
 ";
 
-#[test]
-fn makes_images(rt: HostRuntime) -> Result<(), Fail> {
-    plays(&rt, rt.alloc(), IMAGES)
-}
-
 /// Slots that are too small, or of no length; then the version, which is checked before the files are opened, INFILE, which is
 /// opened before OUTFILE, and an input that begins with 31 zeros, one fewer than a header has.
-static REFUSED: &str = "\
+const REFUSED: &str = "\
 $ create PADDING --align 8 --max-sectors 4 --slot-size 223 in out < payload
 ! mcsim: E21 SlotTooSmall; exit 1
 $ create PADDING --slot-size 3199 in out < payload
@@ -167,7 +161,9 @@ $ create --version 1 --header-size 32 in out < 31:0=padded
 ! mcsim: E20 NotZeros; exit 1
 ";
 
+static TABLES: [Table; 2] = [(IMAGES, &[], "-"), (REFUSED, &[], "-")];
+
 #[test]
-fn refuses_slots_and_inputs(rt: HostRuntime) -> Result<(), Fail> {
-    plays(&rt, rt.alloc(), REFUSED)
+fn makes_or_refuses_images(rt: HostRuntime) -> Result<(), Fail> {
+    all_play(&rt, rt.alloc(), &TABLES)
 }

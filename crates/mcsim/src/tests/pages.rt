@@ -1,99 +1,57 @@
 //! `explore`: whole pages, by their digests as a model that shares no code with this repository computed them.
-use super::support::{filled, in_full, plays, told};
-use sha2::{Digest, Sha256};
-use std::alloc::{AllocError, Global};
-use std::process::Abort;
+use super::support::{Table, all_play};
 use std::test::Fail;
 
+/// The step of a page, and the names of a line's fields there.
+const STEP: &str = "\
+$ explore LAYOUT --kind KIND IMAGES --cuts CUTS --limit LIMIT
+lines LINES SHA
+";
+
+const FIELDS: &[&str] = &["LAYOUT", "CUTS", "LIMIT", "LINES", "SHA", "KIND"];
+
 /// Pages of whole calls, in the first profile. A line has the layout (the worked one, one of slots that are equally long, one
-/// of units of one byte, and one whose trailers have two sectors), the most cuts and the most rows, and the kind of the start
-/// and the rules; then how many lines there are, and the SHA-256 of the whole text.
-static PAGES: &str = "\
-WORKED 0 1000 none: 2 eaf7f46f80686a31573b868b1ff258b3ecd9cd759dbe45c605cb87e15bf1dd76
-WORKED 1 1000 none: 2 eaf7f46f80686a31573b868b1ff258b3ecd9cd759dbe45c605cb87e15bf1dd76
-WORKED 2 1000 none: 2 eaf7f46f80686a31573b868b1ff258b3ecd9cd759dbe45c605cb87e15bf1dd76
-WORKED 0 1000 test: 2 5985f74d9148e8a889b656b1c6cc8a40cbb05e08f0f764f7bed382636480df5f
-WORKED 1 1000 test: 20 5351f1776370a163f104fd101d91ff525f16dc6c73307f6efb6a96b56657a842
-WORKED 2 1000 test: 223 6da2093ccc59a6a6cffe7abb3f50387701995290a861e85dc53174e182632a8d
-WORKED 0 1000 perm: 2 df46cc25f931a2250a2a0df7761412a06b0488935e07c342d73116d9f7bd8170
-WORKED 1 1000 perm: 21 879f87e19c22a28e136af3f4f41181bd981285b8be8b56d8d44aba65f3eed9e6
-WORKED 2 1000 perm: 248 5a7ce0a348b168bbbc156bbf895fc3cfb0ced8c632684bf6631c10023cb33414
-WORKED 0 1000 revert: 2 427004488f5a3670994f49ec38178adaa05b009b0855632efa9f1c8023c5a952
-WORKED 1 1000 revert: 25 b3903f94b622f70b2c38d8100521ba312dbfcfae4483571da6db6fbd4846cf75
-WORKED 2 1000 revert: 344 38eb48c4fbcef3d3eaa2f9fd0ff406703c3ede671d330804618242d4a9e0b995
-WORKED 3 1000 test: 1001 cbbc159fd1c120d4589e67526f09163220dcd3188b290b1be2b46e8a3e04cfeb
-WORKED 3 1029 test: 1030 38bb39d6af1cc2f6b9e8b850b5bb1ec9898ed0f53ac01fe3682e7646d305cc10
-WORKED 3 100000 test: 2059 04273fb0967639449da89aeda4132aa01defa5bc44d96713b3fbacd293944327
-THREE 2 1000 test: 223 6da2093ccc59a6a6cffe7abb3f50387701995290a861e85dc53174e182632a8d
-SMALL 2 1000 test: 547 b82383337f19d7cf22480a3c449c34cb669727b279e1d527a2fe7e428ea95a28
-TWO 2 1000 test: 203 721e5f4d55d96c91f80cb9f91f85c274c023cd6ce55e8f890cbc53ccd1909994
+/// of units of one byte, and one whose trailers have two sectors), the most cuts and the most rows; how many lines there are,
+/// and the SHA-256 of the whole text; and the kind of the start and the rules.
+const PAGES: &str = "\
+WORKED 0 1000 2 eaf7f46f80686a31573b868b1ff258b3ecd9cd759dbe45c605cb87e15bf1dd76 none
+WORKED 1 1000 2 eaf7f46f80686a31573b868b1ff258b3ecd9cd759dbe45c605cb87e15bf1dd76 none
+WORKED 2 1000 2 eaf7f46f80686a31573b868b1ff258b3ecd9cd759dbe45c605cb87e15bf1dd76 none
+WORKED 0 1000 2 5985f74d9148e8a889b656b1c6cc8a40cbb05e08f0f764f7bed382636480df5f test
+WORKED 1 1000 20 5351f1776370a163f104fd101d91ff525f16dc6c73307f6efb6a96b56657a842 test
+WORKED 2 1000 223 6da2093ccc59a6a6cffe7abb3f50387701995290a861e85dc53174e182632a8d test
+WORKED 0 1000 2 df46cc25f931a2250a2a0df7761412a06b0488935e07c342d73116d9f7bd8170 perm
+WORKED 1 1000 21 879f87e19c22a28e136af3f4f41181bd981285b8be8b56d8d44aba65f3eed9e6 perm
+WORKED 2 1000 248 5a7ce0a348b168bbbc156bbf895fc3cfb0ced8c632684bf6631c10023cb33414 perm
+WORKED 0 1000 2 427004488f5a3670994f49ec38178adaa05b009b0855632efa9f1c8023c5a952 revert
+WORKED 1 1000 25 b3903f94b622f70b2c38d8100521ba312dbfcfae4483571da6db6fbd4846cf75 revert
+WORKED 2 1000 344 38eb48c4fbcef3d3eaa2f9fd0ff406703c3ede671d330804618242d4a9e0b995 revert
+WORKED 3 1000 1001 cbbc159fd1c120d4589e67526f09163220dcd3188b290b1be2b46e8a3e04cfeb test
+WORKED 3 1029 1030 38bb39d6af1cc2f6b9e8b850b5bb1ec9898ed0f53ac01fe3682e7646d305cc10 test
+WORKED 3 100000 2059 04273fb0967639449da89aeda4132aa01defa5bc44d96713b3fbacd293944327 test
+THREE 2 1000 223 6da2093ccc59a6a6cffe7abb3f50387701995290a861e85dc53174e182632a8d test
+SMALL 2 1000 547 b82383337f19d7cf22480a3c449c34cb669727b279e1d527a2fe7e428ea95a28 test
+TWO 2 1000 203 721e5f4d55d96c91f80cb9f91f85c274c023cd6ce55e8f890cbc53ccd1909994 test
 ";
 
 /// Pages of cuts between write units, in the same form.
-static UNIT_PAGES: &str = "\
-WORKED 1 1000 test --grain unit --profile 1: 111 741fe452e0061a1afc9de69b49afe5b6b9a04fbba9b8a4ac97cde553a74c5b2e
-WORKED 2 100000 test --grain unit --profile 1: 7838 a110c6b68c6d7a1a8febef3eaa3841d3a12c75163c870f95e8589bf040e1db84
-WORKED 1 1000 test --grain unit --profile 2: 111 741fe452e0061a1afc9de69b49afe5b6b9a04fbba9b8a4ac97cde553a74c5b2e
-WORKED 2 100000 test --grain unit --profile 2: 7838 a110c6b68c6d7a1a8febef3eaa3841d3a12c75163c870f95e8589bf040e1db84
-WORKED 1 1000 perm --grain unit --profile 1: 112 ff40396a4b43df9c42591ac68387797f46bc1a8dd119142a44697a0a2a59359a
-WORKED 2 100000 perm --grain unit --profile 1: 7955 0f1b8b0488927c50a8fdcc62143b968539eab663d06aab5dc1ee6a8912128967
-WORKED 1 1000 perm --grain unit --profile 2: 112 ff40396a4b43df9c42591ac68387797f46bc1a8dd119142a44697a0a2a59359a
-WORKED 2 100000 perm --grain unit --profile 2: 7955 0f1b8b0488927c50a8fdcc62143b968539eab663d06aab5dc1ee6a8912128967
-WORKED 1 1000 revert --grain unit --profile 1: 117 dd41bcc4988457c2a68dfb49cf4cb7dde40aeb0055aa1e9f2cc18e589fa066c5
-WORKED 2 100000 revert --grain unit --profile 1: 8420 95c4baa6b32f4a7c2d90a80d2b943a074fff8a421f7521c7d0d1c83a0da4a0ce
-WORKED 1 1000 revert --grain unit --profile 2: 117 8d927f6b93714a3d2d24456dd20981c391e9d9ab53efbb6fa115741afde0d27e
-WORKED 2 100000 revert --grain unit --profile 2: 8535 45be426b5ff6d7ec8cc25b702934f4f548237d0dc55da7bd6ec560878bea233b
+const UNIT_PAGES: &str = "\
+WORKED 1 1000 111 741fe452e0061a1afc9de69b49afe5b6b9a04fbba9b8a4ac97cde553a74c5b2e test --grain unit --profile 1
+WORKED 2 100000 7838 a110c6b68c6d7a1a8febef3eaa3841d3a12c75163c870f95e8589bf040e1db84 test --grain unit --profile 1
+WORKED 1 1000 111 741fe452e0061a1afc9de69b49afe5b6b9a04fbba9b8a4ac97cde553a74c5b2e test --grain unit --profile 2
+WORKED 2 100000 7838 a110c6b68c6d7a1a8febef3eaa3841d3a12c75163c870f95e8589bf040e1db84 test --grain unit --profile 2
+WORKED 1 1000 112 ff40396a4b43df9c42591ac68387797f46bc1a8dd119142a44697a0a2a59359a perm --grain unit --profile 1
+WORKED 2 100000 7955 0f1b8b0488927c50a8fdcc62143b968539eab663d06aab5dc1ee6a8912128967 perm --grain unit --profile 1
+WORKED 1 1000 112 ff40396a4b43df9c42591ac68387797f46bc1a8dd119142a44697a0a2a59359a perm --grain unit --profile 2
+WORKED 2 100000 7955 0f1b8b0488927c50a8fdcc62143b968539eab663d06aab5dc1ee6a8912128967 perm --grain unit --profile 2
+WORKED 1 1000 117 dd41bcc4988457c2a68dfb49cf4cb7dde40aeb0055aa1e9f2cc18e589fa066c5 revert --grain unit --profile 1
+WORKED 2 100000 8420 95c4baa6b32f4a7c2d90a80d2b943a074fff8a421f7521c7d0d1c83a0da4a0ce revert --grain unit --profile 1
+WORKED 1 1000 117 8d927f6b93714a3d2d24456dd20981c391e9d9ab53efbb6fa115741afde0d27e revert --grain unit --profile 2
+WORKED 2 100000 8535 45be426b5ff6d7ec8cc25b702934f4f548237d0dc55da7bd6ec560878bea233b revert --grain unit --profile 2
 ";
 
-/// What a command prints of images with these options.
-pub fn prints(alloc: Global, command: &str, options: &str) -> Result<String, Fail> {
-    let line = format!(in alloc; "{command} {options} IMAGES")?;
-    let line = in_full(alloc, line.as_str())?;
-    told(alloc, line.as_str())
-}
-
-/// How many lines a page has, and its SHA-256.
-pub fn sum_of(alloc: Global, page: &str) -> Result<String, Fail> {
-    let count = page.lines().count();
-    let sum = hex::encode(alloc, Sha256::digest(page.as_bytes()))?;
-    Ok(format!(in alloc; "{count} {sum}")?)
-}
-
-/// The options of a line's page.
-fn options_of(alloc: Global, told: &str) -> Result<String, AllocError> {
-    let names = ["LAYOUT", "CUTS", "LIMIT", "KIND"];
-    let options = "LAYOUT --kind KIND --cuts CUTS --limit LIMIT";
-    filled(alloc, options, &names, told)
-}
-
-/// Looks at the page that a command prints for a line.
-pub fn page_is(rt: &impl Abort, alloc: Global, command: &str, row: &str) -> Result<(), Fail> {
-    let (told, want) = row.split_once(": ").ok_or("options and a page")?;
-    let options = options_of(alloc, told)?;
-    let page = prints(alloc, command, options.as_str())?;
-    let sum = sum_of(alloc, page.as_str())?;
-    assert_eq!(rt; sum.as_str(), want, "{row}");
-    Ok(())
-}
-
-#[test]
-fn prints_the_pages_of_images(rt: HostRuntime) -> Result<(), Fail> {
-    for row in PAGES.lines() {
-        page_is(&rt, rt.alloc(), "explore", row)?;
-    }
-    Ok(())
-}
-
-#[test]
-fn prints_the_pages_of_cuts_between_units(rt: HostRuntime) -> Result<(), Fail> {
-    for row in UNIT_PAGES.lines() {
-        page_is(&rt, rt.alloc(), "explore", row)?;
-    }
-    Ok(())
-}
-
 /// Flashes, and images that ask for nothing.
-static ROWS: &str = "\
+const ROWS: &str = "\
 $ explore WORKED --flash in --cuts 2 < 1792:0=ff
 - none none 0 none none none; end
 $ explore WORKED --kind none IMAGES --cuts 16
@@ -108,13 +66,8 @@ $ explore WORKED --flash in --cuts 16 < BEGUN,976=50000000,984=02,993=00,888=01
 - panic panic 0 none none panic; end
 ";
 
-#[test]
-fn prints_rows(rt: HostRuntime) -> Result<(), Fail> {
-    plays(&rt, rt.alloc(), ROWS)
-}
-
 /// Pages behind cursors and schedules.
-static CURSORS: &str = "\
+const CURSORS: &str = "\
 $ explore WORKED --kind test IMAGES --cuts 2 --limit 1 --cursor mc1:START:2:0.17
 1 boot test 18 2.0.0+0/80 1.0.0+0/80 revert; next mc1:START:2:1
 $ explore WORKED --kind test IMAGES --cuts 2 --limit 1000 --cursor mc1:START:2:17.0
@@ -171,14 +124,9 @@ $ explore WORKED --kind none IMAGES --cuts 0 --limit 1
 - boot none 0 1.0.0+0/80 2.0.0+0/80 none; next mc1:0cf2f5a1b9a451dc9bb060b1858a94da9927942d58635a051bee1bff2fd4356b:0:-
 ";
 
-#[test]
-fn goes_on_behind_cursors_and_schedules(rt: HostRuntime) -> Result<(), Fail> {
-    plays(&rt, rt.alloc(), CURSORS)
-}
-
 /// Cursors and schedules that are refused. A cursor of whole calls does not serve where the power is cut between units. Texts
 /// are checked before a file is opened, and before them that only one of the two is told.
-static REFUSED: &str = "\
+const REFUSED: &str = "\
 $ explore WORKED --kind test IMAGES --cuts 2 --cursor mc1:START:2:18
 ! mcsim: E58 CannotOccur; exit 1
 $ explore WORKED --kind test IMAGES --cuts 2 --cursor mc1:START:1:0
@@ -223,53 +171,37 @@ $ explore WORKED --kind test IMAGES --cuts 2 --cursor mc2:call:2:START:2:-
 ! mcsim: E61 OtherRules; exit 1
 ";
 
-#[test]
-fn refuses_cursors_and_schedules(rt: HostRuntime) -> Result<(), Fail> {
-    plays(&rt, rt.alloc(), REFUSED)
-}
+/// Pages that go on where those of three cuts above end, up to the end; what comes behind the first row, and before a later one; and
+/// an image of two sectors.
+const JOINED: &str = "\
+$ explore WORKED --kind test IMAGES --cuts 3 --limit 1000 --cursor mc1:START:3:4.5.13
+lines 1001 082c04ed7fde998256624af0c174017ee9b812fdfe81b2d2dc49fa0f5f741308
+$ explore WORKED --kind test IMAGES --cuts 3 --limit 1000 --cursor mc1:START:3:14.4
+lines 59 3e5dbde3d9eafdafccda341b3c4e98ccdff04e08f0659eb8125c0cb9d178aadc
+$ explore WORKED --kind test IMAGES --cuts 3 --limit 1029 --cursor mc1:START:3:4.7.12
+lines 1030 f1a9f241350a7943480b6b6686d9eb3dcc83c2aaad2bbe02cd04cbc46c68d293
+$ explore WORKED --kind test IMAGES --cuts 3 --limit 1029 --cursor mc1:START:3:17.0.0
+end
+$ explore WORKED --kind test IMAGES --cuts 1 --after=-
+lines 19 2de75d2f3fabb7c04ce28ec7c52414ad1cce0197fd8b32e66215f910ca108616
+$ explore WORKED --kind test IMAGES --cuts 1 --until 5
+lines 7 63bed82178f4688166ce60725efa46f00d4fa5e53c432ac44dbb2d3f3c81a6b7
+$ create --version 2 --pad-header --header-size 32 in out < 228:0=zeros
+=> 300 bytes
+$ explore WORKED --kind test --image-a first --image-b in --cuts 2 --limit 1000 < out
+lines 547 ebe6527a1a7ebba32511e755d5ed61e6d13afed11fcbb92eb457c56553b1b0ee
+";
+
+static TABLES: [Table; 6] = [
+    (STEP, FIELDS, PAGES),
+    (STEP, FIELDS, UNIT_PAGES),
+    (ROWS, &[], "-"),
+    (CURSORS, &[], "-"),
+    (REFUSED, &[], "-"),
+    (JOINED, &[], "-"),
+];
 
 #[test]
-fn rows_after_the_first_end_the_page(rt: HostRuntime) -> Result<(), Fail> {
-    let alloc = rt.alloc();
-    let whole = prints(alloc, "explore", "WORKED --kind test --cuts 1")?;
-    let rest = prints(alloc, "explore", "WORKED --kind test --cuts 1 --after=-")?;
-    assert!(rt; whole.as_str().ends_with(rest.as_str()));
-    let begun = prints(alloc, "explore", "WORKED --kind test --cuts 1 --until 5")?;
-    let lengths = (
-        rest.as_str().lines().count(),
-        begun.as_str().lines().count(),
-    );
-    assert_eq!(rt; lengths, (19, 7));
-    Ok(())
-}
-
-/// How many lines a page of so many rows has that goes on there, and where the next page goes on.
-fn page_from(alloc: Global, limit: u32, cursor: &str) -> Result<(usize, String), Fail> {
-    let options = format!(in alloc; "WORKED --kind test --cuts 3 --limit {limit}{cursor}")?;
-    let page = prints(alloc, "explore", options.as_str())?;
-    let last = page.as_str().lines().last().unwrap_or("");
-    let next = last.replace(alloc, "next ", " --cursor ")?;
-    Ok((page.as_str().lines().count(), next))
-}
-
-/// How many lines so many pages have, each of which goes on where the one before it ends, and the last line.
-fn joined(alloc: Global, limit: u32, pages: u32) -> Result<String, Fail> {
-    let mut lengths = String::new(alloc);
-    let mut cursor = String::new(alloc);
-    for _ in 0..pages {
-        let (length, next) = page_from(alloc, limit, cursor.as_str())?;
-        lengths.push_str(format!(in alloc; "{length} ")?.as_str())?;
-        cursor = next;
-    }
-    lengths.push_str(cursor.as_str())?;
-    Ok(lengths)
-}
-
-#[test]
-fn pages_join_up(rt: HostRuntime) -> Result<(), Fail> {
-    for (limit, want) in [(1000, "1001 1001 59 end"), (1029, "1030 1030 1 end")] {
-        let told = joined(rt.alloc(), limit, 3)?;
-        assert_eq!(rt; told.as_str(), want);
-    }
-    Ok(())
+fn explores(rt: HostRuntime) -> Result<(), Fail> {
+    all_play(&rt, rt.alloc(), &TABLES)
 }

@@ -1,53 +1,11 @@
 //! Sixteen cuts, at the worked layout and at one of the largest sectors with the longest status area. How many schedules there are
 //! is summed up by hand from how many operations the boot after a cut makes; the digest is of the bytes that define the start.
-use super::support::plays;
-use std::alloc::{AllocError, Global};
+use super::support::{Table, all_play};
 use std::test::Fail;
-
-/// What stands for what here, besides the words of each session: that layout and its start; sixteen cuts before the first
-/// operation, as a schedule and in the first round, fifteen of them, and eight in each round but the last; and sixteen of the
-/// greatest places.
-static WORDS: [(&str, &str); 8] = [
-    (
-        "WIDE-START",
-        "26ad908ef00f25725e859e007381c2c9a3d4aa6b2c818a12debd12dc18c01c36",
-    ),
-    (
-        "WIDE",
-        "--sector 65536 --unit 8 --max-sectors 1024 --chunk 65536 --primary 4 --secondary 3",
-    ),
-    ("ZEROS", "FIFTEEN.0"),
-    ("FIFTEEN", "0.0.0.0.0.0.0.0.0.0.0.0.0.0.0"),
-    (
-        "ROUND-ONE",
-        "1.0,1.0,1.0,1.0,1.0,1.0,1.0,1.0,1.0,1.0,1.0,1.0,1.0,1.0,1.0",
-    ),
-    (
-        "ROUNDS",
-        "1.0,1.0,1.0,1.0,1.0,1.0,1.0,1.0,2.0,2.0,2.0,2.0,2.0,2.0,2.0",
-    ),
-    (
-        "GREATEST-ROUND",
-        "1.4294967295,1.4294967295,1.4294967295,1.4294967295,1.4294967295,1.4294967295,1.4294967295,1.4294967295,1.4294967295,1.4294967295,1.4294967295,1.4294967295,1.4294967295,1.4294967295,1.4294967295,1.4294967295",
-    ),
-    (
-        "GREATEST",
-        "4294967295.4294967295.4294967295.4294967295.4294967295.4294967295.4294967295.4294967295.4294967295.4294967295.4294967295.4294967295.4294967295.4294967295.4294967295.4294967295",
-    ),
-];
-
-/// A text with these words in full.
-fn in_full(alloc: Global, text: &str) -> Result<String, AllocError> {
-    let mut whole = String::from_str(alloc, text)?;
-    for (word, full) in &WORDS {
-        whole = whole.as_str().replace(alloc, *word, *full)?;
-    }
-    Ok(whole)
-}
 
 /// Boots after sixteen cuts, the flash and its sectors at the last of them, and all schedules. The boot of a swap for a test makes
 /// 15 operations where a sector is one chunk. After the first 8 of them 7 are left, and after 3 of these 4.
-static SCHEDULES: &str = "\
+const SCHEDULES: &str = "\
 $ replay WORKED --kind test IMAGES --schedule ZEROS --at-cut out
 result boot; type test; ops 18; SWAPPED; next revert
 => 1792:0=first,1024=second,1776=MAGIC
@@ -70,14 +28,8 @@ $ explore WORKED --kind test IMAGES --grain unit --profile 2 --cuts 16 --limit 1
 FIFTEEN.1 boot test 109 2.0.0+0/80 1.0.0+0/80 revert; next mc2:unit:2:START:16:FIFTEEN.1
 ";
 
-#[test]
-fn sixteen_cuts_are_gone_through(rt: HostRuntime) -> Result<(), Fail> {
-    let session = in_full(rt.alloc(), SCHEDULES)?;
-    plays(&rt, rt.alloc(), session.as_str())
-}
-
 /// Campaigns of sixteen cuts. A test that was left alone is taken back by 20 operations where a sector is one chunk.
-static CAMPAIGNS: &str = "\
+const CAMPAIGNS: &str = "\
 $ campaign WORKED --kind test IMAGES --cuts 16 --limit 2
 - boot test 18 boot revert 23 1.0.0+0/80 2.0.0+0/80 none; 1.0 boot test 18 boot revert 23 1.0.0+0/80 2.0.0+0/80 none; next mc3:call:1:leave:START:16:1.0
 $ campaign WORKED --kind test IMAGES --cuts 16 --limit 1 --cursor mc3:call:1:leave:START:16:ROUNDS,2.0
@@ -90,14 +42,8 @@ $ campaign WORKED --kind test IMAGES --cuts 16 --limit 1 --cursor mc3:call:1:lea
 ROUND-ONE,2.0 boot test 18 boot revert 23 1.0.0+0/80 2.0.0+0/80 none; next mc3:call:1:leave:START:16:ROUND-ONE,2.0
 ";
 
-#[test]
-fn campaigns_of_sixteen_cuts_go_on(rt: HostRuntime) -> Result<(), Fail> {
-    let session = in_full(rt.alloc(), CAMPAIGNS)?;
-    plays(&rt, rt.alloc(), session.as_str())
-}
-
 /// The longest texts of schedules and cursors are read, and then do not serve.
-static LONGEST: &str = "\
+const LONGEST: &str = "\
 $ replay WORKED --kind test IMAGES --schedule GREATEST
 ! mcsim: E53 CannotOccur at 0; exit 1
 $ explore WORKED --kind test IMAGES --cuts 16 --after GREATEST
@@ -110,32 +56,9 @@ $ campaign WORKED --kind test IMAGES --grain unit --profile 2 --confirm --cuts 1
 ! mcsim: E58 CannotOccur; exit 1
 ";
 
-#[test]
-fn the_longest_texts_are_read(rt: HostRuntime) -> Result<(), Fail> {
-    let session = in_full(rt.alloc(), LONGEST)?;
-    plays(&rt, rt.alloc(), session.as_str())
-}
-
-/// A trace of sixteen cuts, each but the first of a boot that has only the last operation left, and what it tells.
-fn trace(alloc: Global) -> Result<String, AllocError> {
-    let line = "$ trace WORKED --kind test IMAGES --schedule 17.FIFTEEN\n";
-    let mut session = in_full(alloc, line)?;
-    session.push_str(FIRST_BOOT)?;
-    for boot in 1..16u32 {
-        let cut = format!(in alloc; "boot {boot} test\ncut before 0 FINISH\n")?;
-        session.push_str(cut.as_str())?;
-    }
-    session.push_str("boot 16 test\n0 FINISH\n")?;
-    session.push_str("result boot; type test; ops 1; SWAPPED; next revert\n")?;
-    session.as_str().replace(
-        alloc,
-        "FINISH",
-        "write primary 992 copy-done 01ffffffffffffff",
-    )
-}
-
-/// What it tells of the first boot, which is cut before the last operation.
-static FIRST_BOOT: &str = "\
+/// Sixteen cuts, each but the first of a boot that has only the last operation left; and sixteen before the first operation.
+const TRACES: &str = "\
+$ trace WORKED --kind test IMAGES --schedule 17.FIFTEEN
 boot 0 test
 0 erase primary 3
 1 write primary 984 swap-info 02ffffffffffffff
@@ -155,10 +78,67 @@ boot 0 test
 15 copy primary 384 to secondary 128 length 128
 16 write primary 920 entry 5 01ffffffffffffff
 cut before 17 FINISH
+boot 1 test; cut before 0 FINISH
+boot 2 test; cut before 0 FINISH
+boot 3 test; cut before 0 FINISH
+boot 4 test; cut before 0 FINISH
+boot 5 test; cut before 0 FINISH
+boot 6 test; cut before 0 FINISH
+boot 7 test; cut before 0 FINISH
+boot 8 test; cut before 0 FINISH
+boot 9 test; cut before 0 FINISH
+boot 10 test; cut before 0 FINISH
+boot 11 test; cut before 0 FINISH
+boot 12 test; cut before 0 FINISH
+boot 13 test; cut before 0 FINISH
+boot 14 test; cut before 0 FINISH
+boot 15 test; cut before 0 FINISH
+boot 16 test; 0 FINISH
+result boot; type test; ops 1; SWAPPED; next revert
+$ trace WIDE --kind test IMAGES --schedule ZEROS
+boot 0 test; cut before 0 erase primary 3
+boot 1 test; cut before 0 erase primary 3
+boot 2 test; cut before 0 erase primary 3
+boot 3 test; cut before 0 erase primary 3
+boot 4 test; cut before 0 erase primary 3
+boot 5 test; cut before 0 erase primary 3
+boot 6 test; cut before 0 erase primary 3
+boot 7 test; cut before 0 erase primary 3
+boot 8 test; cut before 0 erase primary 3
+boot 9 test; cut before 0 erase primary 3
+boot 10 test; cut before 0 erase primary 3
+boot 11 test; cut before 0 erase primary 3
+boot 12 test; cut before 0 erase primary 3
+boot 13 test; cut before 0 erase primary 3
+boot 14 test; cut before 0 erase primary 3
+boot 15 test; cut before 0 erase primary 3
+boot 16 test
+0 erase primary 3
+1 write primary 262104 swap-info 02ffffffffffffff
+2 write primary 262096 swap-size 50000000ffffffff
+3 write primary 262128 magic 77c295f360d2ef7f3552500f2cb67980
+4 erase secondary 2
+5 erase primary 1
+6 copy primary 0 to primary 65536 length 65536
+7 write primary 237520 entry 0 01ffffffffffffff
+8 erase primary 0
+9 copy secondary 0 to primary 0 length 65536
+10 write primary 245712 entry 1024 01ffffffffffffff
+11 erase secondary 0
+12 copy primary 65536 to secondary 0 length 65536
+13 write primary 245720 entry 1025 01ffffffffffffff
+14 write primary 262112 copy-done 01ffffffffffffff
+result boot; type test; ops 15; SWAPPED; next revert
 ";
 
+static TABLES: [Table; 4] = [
+    (SCHEDULES, &[], "-"),
+    (CAMPAIGNS, &[], "-"),
+    (LONGEST, &[], "-"),
+    (TRACES, &[], "-"),
+];
+
 #[test]
-fn sixteen_cuts_are_told(rt: HostRuntime) -> Result<(), Fail> {
-    let session = trace(rt.alloc())?;
-    plays(&rt, rt.alloc(), session.as_str())
+fn sixteen_cuts_are_gone_through(rt: HostRuntime) -> Result<(), Fail> {
+    all_play(&rt, rt.alloc(), &TABLES)
 }

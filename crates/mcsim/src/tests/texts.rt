@@ -1,29 +1,19 @@
 //! Texts of versions, schedules and cursors: those that are read, and those that are refused before a file is opened.
-use super::support::plays;
-use std::alloc::Global;
-use std::process::Abort;
+use super::support::{Table, all_play};
 use std::test::Fail;
 
-/// A step for each text, in the place of the word `TEXT`.
-type Steps = (&'static str, &'static str);
-
 /// Schedules; the file of the flash is asked for then.
-static SCHEDULES: Steps = (
-    "$ replay WORKED --flash missing --schedule=TEXT\n! mcsim: E71 Open; exit 3\n",
-    "\
+const SCHEDULES: &str = "\
 -
 0
 17
 0.17
 4294967295.0
 1.2.3.4.5.6.7.8.9.10.11.12.13.14.15.16
-",
-);
+";
 
 /// Texts that are no schedules.
-static NO_SCHEDULES: Steps = (
-    "$ replay WORKED --flash missing --schedule=TEXT\n! mcsim: E60 ScheduleSyntax; exit 2\n",
-    "\
+const NO_SCHEDULES: &str = "\
 .
 01
 1.
@@ -36,13 +26,10 @@ static NO_SCHEDULES: Steps = (
 1,2
 4294967296
 0.0.0.0.0.0.0.0.0.0.0.0.0.0.0.0.0
-",
-);
+";
 
 /// Texts of versions outside the form.
-static NO_VERSIONS: Steps = (
-    "$ create --version TEXT --header-size 32 missing out\n! mcsim: E15 Syntax; exit 2\n",
-    "\
+const NO_VERSIONS: &str = "\
 01
 1.2+4
 1.
@@ -52,25 +39,19 @@ a
 1a
 1.2.3+
 256.x
-",
-);
+";
 
 /// Texts of versions with a number that is too great.
-static GREAT_VERSIONS: Steps = (
-    "$ create --version TEXT --header-size 32 missing out\n! mcsim: E16 Range; exit 2\n",
-    "\
+const GREAT_VERSIONS: &str = "\
 256
 1.256
 1.2.65536
 1.2.3+4294967296
 99999999999999999999999
-",
-);
+";
 
 /// Cursors.
-static CURSORS: Steps = (
-    "$ explore WORKED --flash missing --cuts 2 --cursor TEXT\n! mcsim: E71 Open; exit 3\n",
-    "\
+const CURSORS: &str = "\
 mc1:START:0:-
 mc1:START:2:0.17
 mc1:START:16:4294967295
@@ -83,13 +64,10 @@ mc2:unit:1:START:16:4294967295
 mc2:unit:2:START:0:-
 mc2:unit:2:START:2:0.17
 mc2:unit:2:START:16:4294967295
-",
-);
+";
 
 /// Texts that are no cursors, the last of them with digits of upper case.
-static NO_CURSORS: Steps = (
-    "$ explore WORKED --flash missing --cuts 2 --cursor TEXT\n! mcsim: E55 Syntax; exit 2\n",
-    "\
+const NO_CURSORS: &str = "\
 -
 mc1
 mc1:
@@ -122,25 +100,19 @@ mc2:unit:2:START:1
 mc3:unit:2:leave:START:1:-
 mc3:unit:2:START:1:-
 mc1:00112233445566778899AABBCCDDEEFF00112233445566778899aabbccddeeff:0:-
-",
-);
+";
 
 /// Cursors of campaigns.
-static CAMPAIGN_CURSORS: Steps = (
-    "$ campaign WORKED --flash missing --cuts 2 --cursor TEXT\n! mcsim: E71 Open; exit 3\n",
-    "\
+const CAMPAIGN_CURSORS: &str = "\
 mc3:call:1:leave:START:0:-
 mc3:call:1:confirm:START:1:1.17
 mc3:call:2:leave:START:2:1.17,2.0
 mc3:unit:1:confirm:START:16:2.4294967295
 mc3:unit:2:leave:START:10:1.0,1.0,2.22
-",
-);
+";
 
 /// Texts that are no cursors of campaigns, the last of them with digits of upper case.
-static NO_CAMPAIGN_CURSORS: Steps = (
-    "$ campaign WORKED --flash missing --cuts 2 --cursor TEXT\n! mcsim: E55 Syntax; exit 2\n",
-    "\
+const NO_CAMPAIGN_CURSORS: &str = "\
 mc3
 mc3:
 mc3:call:1:leave:START:02:-
@@ -169,38 +141,56 @@ mc2:call:1:leave:START:1:-
 mc1:START:1:-
 mc3:START:1:-
 mc3:call:1:leave:00112233445566778899AABBCC00EEFF00112233445566778899aabbccddeeff:1:-
-",
-);
+";
 
-/// Plays the step of each text.
-fn each_plays(rt: &impl Abort, alloc: Global, (step, texts): Steps) -> Result<(), Fail> {
-    for text in texts.lines() {
-        let step = step.replace(alloc, "TEXT", text)?;
-        plays(rt, alloc, step.as_str())?;
-    }
-    Ok(())
-}
+/// The name of a line's text in its step.
+const TEXT: &[&str] = &["TEXT"];
+
+/// The file of a flash is asked for where its schedule or its cursor is read.
+static TABLES: [Table; 8] = [
+    (
+        "$ create --version TEXT --header-size 32 missing out\n! mcsim: E15 Syntax; exit 2\n",
+        TEXT,
+        NO_VERSIONS,
+    ),
+    (
+        "$ create --version TEXT --header-size 32 missing out\n! mcsim: E16 Range; exit 2\n",
+        TEXT,
+        GREAT_VERSIONS,
+    ),
+    (
+        "$ replay WORKED --flash missing --schedule=TEXT\n! mcsim: E71 Open; exit 3\n",
+        TEXT,
+        SCHEDULES,
+    ),
+    (
+        "$ replay WORKED --flash missing --schedule=TEXT\n! mcsim: E60 ScheduleSyntax; exit 2\n",
+        TEXT,
+        NO_SCHEDULES,
+    ),
+    (
+        "$ explore WORKED --flash missing --cuts 2 --cursor TEXT\n! mcsim: E71 Open; exit 3\n",
+        TEXT,
+        CURSORS,
+    ),
+    (
+        "$ explore WORKED --flash missing --cuts 2 --cursor TEXT\n! mcsim: E55 Syntax; exit 2\n",
+        TEXT,
+        NO_CURSORS,
+    ),
+    (
+        "$ campaign WORKED --flash missing --cuts 2 --cursor TEXT\n! mcsim: E71 Open; exit 3\n",
+        TEXT,
+        CAMPAIGN_CURSORS,
+    ),
+    (
+        "$ campaign WORKED --flash missing --cuts 2 --cursor TEXT\n! mcsim: E55 Syntax; exit 2\n",
+        TEXT,
+        NO_CAMPAIGN_CURSORS,
+    ),
+];
 
 #[test]
-fn texts_that_are_no_versions_are_refused(rt: HostRuntime) -> Result<(), Fail> {
-    each_plays(&rt, rt.alloc(), NO_VERSIONS)?;
-    each_plays(&rt, rt.alloc(), GREAT_VERSIONS)
-}
-
-#[test]
-fn schedules_are_read_or_refused(rt: HostRuntime) -> Result<(), Fail> {
-    each_plays(&rt, rt.alloc(), SCHEDULES)?;
-    each_plays(&rt, rt.alloc(), NO_SCHEDULES)
-}
-
-#[test]
-fn cursors_are_read_or_refused(rt: HostRuntime) -> Result<(), Fail> {
-    each_plays(&rt, rt.alloc(), CURSORS)?;
-    each_plays(&rt, rt.alloc(), NO_CURSORS)
-}
-
-#[test]
-fn cursors_of_campaigns_are_read_or_refused(rt: HostRuntime) -> Result<(), Fail> {
-    each_plays(&rt, rt.alloc(), CAMPAIGN_CURSORS)?;
-    each_plays(&rt, rt.alloc(), NO_CAMPAIGN_CURSORS)
+fn texts_are_read_or_refused(rt: HostRuntime) -> Result<(), Fail> {
+    all_play(&rt, rt.alloc(), &TABLES)
 }

@@ -1,10 +1,10 @@
-//! `trace` and `sectors` at the worked layout. The operations are those that a model which shares no code with this
-//! repository tells.
-use super::support::plays;
+//! `trace` and `sectors` at the worked layout, and the flashes of starts. The operations are those that a model which shares no code
+//! with this repository tells.
+use super::support::{Table, all_play};
 use std::test::Fail;
 
 /// A whole test swap, one that is cut twice, an operation that is refused, and the flash at a cut.
-static TRACES: &str = "\
+const TRACES: &str = "\
 $ trace WORKED --kind test IMAGES
 boot 0 test
 0 erase primary 3
@@ -82,7 +82,41 @@ $ replay WORKED --kind test IMAGES --schedule 0.18 --at-cut out
 ! mcsim: E53 CannotOccur at 1; exit 1
 ";
 
+/// How the boot of a test swap begins where each unit is written by itself, worked out by hand.
+const UNITS: &str = "\
+$ trace WORKED --kind test IMAGES --grain unit
+boot 0 test
+0 erase primary 3
+1 write primary 984 swap-info 02ffffffffffffff
+2 write primary 976 swap-size 50000000ffffffff
+3 write primary 1008 magic 77c295f360d2ef7f
+4 write primary 1016 magic 3552500f2cb67980
+5 erase secondary 2
+...
+";
+
+/// The flash of each kind of start. Images are placed without the bytes after them, and a flash as it is.
+const STARTS: &str = "\
+$ replay WORKED --kind none IMAGES --schedule - --at-cut out
+result boot; type none; ops 0; KEPT; next none
+=> 1792:0=first,1024=second
+$ replay WORKED --kind perm IMAGES --schedule - --at-cut out
+result boot; type perm; ops 19; SWAPPED; next none
+=> 1792:0=first,1024=second,1768=01,1776=MAGIC
+$ replay WORKED --kind test --image-a in --image-b second --schedule - --at-cut out < 1024:0=first
+result boot; type test; ops 18; SWAPPED; next revert
+=> 1792:0=first,1024=second,1776=MAGIC
+$ replay WORKED --kind test --image-a first --image-b in --schedule - --at-cut out < 768:0=second
+result boot; type test; ops 18; SWAPPED; next revert
+=> 1792:0=first,1024=second,1776=MAGIC
+$ replay WORKED --flash in --schedule - --at-cut out < 1792:0=zeros,441=first,521=zeros,962=second,1042=counted,1134=zeros,1575=plain
+result none; type none; ops 0; primary none; secondary none; next none
+=> 1792:0=zeros,441=first,521=zeros,962=second,1042=counted,1134=zeros,1575=plain
+";
+
+static TABLES: [Table; 3] = [(TRACES, &[], "-"), (UNITS, &[], "-"), (STARTS, &[], "-")];
+
 #[test]
-fn tells_operations_and_sectors(rt: HostRuntime) -> Result<(), Fail> {
-    plays(&rt, rt.alloc(), TRACES)
+fn tells_operations_and_flashes(rt: HostRuntime) -> Result<(), Fail> {
+    all_play(&rt, rt.alloc(), &TABLES)
 }

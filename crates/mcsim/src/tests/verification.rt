@@ -1,10 +1,9 @@
 //! `verify` and `dumpinfo`, of standard input and of files.
-use super::support::{plays, told_of};
-use mc_fixtures::PLAIN_IMAGE;
+use super::support::{Table, all_play};
 use std::test::Fail;
 
 /// Images alone, and with bytes behind them: one, and those of a slot.
-static IMAGES: &str = "\
+const IMAGES: &str = "\
 $ verify < plain
 GOOD
 $ verify in < plain
@@ -45,13 +44,8 @@ $ verify < out
 good 255.255.65535+4294967295 80 0b1d620236aad84f5acae2b39ab52b3cfdea09c02f764f882a6a78eed18dd118
 ";
 
-#[test]
-fn reads_images(rt: HostRuntime) -> Result<(), Fail> {
-    plays(&rt, rt.alloc(), IMAGES)
-}
-
 /// Each fault of an image, in both readers, only one of which wants the digest to be right; and images that are cut short.
-static FAULTS: &str = "\
+const FAULTS: &str = "\
 $ verify < 0:0=plain
 ! mcsim: E1 Truncated; exit 1
 $ verify < 31:0=plain
@@ -126,18 +120,9 @@ $ dumpinfo < 768:0=counted,0=00
 ! mcsim: E2 BadMagic; exit 1
 ";
 
-#[test]
-fn refuses_each_fault_of_an_image(rt: HostRuntime) -> Result<(), Fail> {
-    plays(&rt, rt.alloc(), FAULTS)
-}
+static TABLES: [Table; 2] = [(IMAGES, &[], "-"), (FAULTS, &[], "-")];
 
 #[test]
-fn refuses_files_that_cannot_be_read(rt: HostRuntime) -> Result<(), Fail> {
-    let missing = told_of(&rt, "verify ", &PLAIN_IMAGE)?;
-    assert_eq!(rt; missing.as_str(), "! mcsim: E71 Open\nexit 3\n");
-    let folder = std::env::temp_dir(&rt)?;
-    let line = format!(in rt.alloc(); "verify {}", folder.as_str())?;
-    let text = told_of(&rt, line.as_str(), &PLAIN_IMAGE)?;
-    assert_eq!(rt; text.as_str(), "! mcsim: E24 Read\nexit 3\n");
-    Ok(())
+fn reads_or_refuses_images(rt: HostRuntime) -> Result<(), Fail> {
+    all_play(&rt, rt.alloc(), &TABLES)
 }

@@ -1,11 +1,11 @@
 //! Command lines that are refused, and those that ask for help.
-use super::support::{in_full, outcome_over, plays, told, words_of};
+use super::support::{Table, all_play, fits, outcome_over, ran};
 use mc_command::Refusal;
 use std::alloc::Global;
 use std::test::Fail;
 
-/// Command lines that clap refuses.
-static REFUSED: &str = "\
+/// Command lines that clap refuses, in its words.
+const REFUSED: &str = "\
 nonsense
 --nonsense
 verify a b
@@ -33,24 +33,8 @@ boot WORKED --flash a --grain word
 boot WORKED --flash a --profile 0
 ";
 
-/// Whether a command line is refused in clap's words.
-fn is_refused(alloc: Global, line: &str) -> Result<bool, Fail> {
-    let text = told(alloc, line)?;
-    let text = text.as_str();
-    Ok(text.starts_with("! error: ") && text.ends_with("\nexit 2\n"))
-}
-
-#[test]
-fn refuses_command_lines(rt: HostRuntime) -> Result<(), Fail> {
-    let lines = in_full(rt.alloc(), REFUSED)?;
-    for line in lines.as_str().lines() {
-        assert!(rt; is_refused(rt.alloc(), line)?, "{line}");
-    }
-    Ok(())
-}
-
 /// Command lines with a number that its option does not take, and what is said of it.
-static NUMBERS: &str = "\
+const NUMBERS: &str = "\
 $ create --version 1 --header-size 31 a b
 ! mcsim: --header-size takes a number from 32 to 65535; exit 2
 $ create --version 1 --header-size 65536 a b
@@ -97,8 +81,11 @@ $ explain Counts
 ! mcsim: no refusal has this number; exit 2
 ";
 
-/// What a number, or a name, of a refusal means.
-static EXPLANATIONS: &str = "\
+/// What is told where no command is.
+const NO_WORDS: &str = "! ...Usage: mcsim <COMMAND>...exit 2\n";
+
+/// What a number, or a name, of a refusal means; and a line without a command.
+const EXPLANATIONS: &str = "\
 $ explain 22
 E22 NeedsSlotSize, exit status 2
 --pad and --confirm need the length of the slot.
@@ -111,24 +98,27 @@ $ explain 40
 E40 NotErased, exit status 1
 A write met bytes that are not 0xff.
 In a life: request once behind a download. In a boot the result is fault.
+$ 
+! ...Usage: mcsim <COMMAND>...exit 2
 ";
 
-#[test]
-fn refuses_numbers(rt: HostRuntime) -> Result<(), Fail> {
-    plays(&rt, rt.alloc(), NUMBERS)
-}
+static TABLES: [Table; 3] = [
+    ("$ LINE\n! error: ...\nexit 2\n", &["LINE"], REFUSED),
+    (NUMBERS, &[], "-"),
+    (EXPLANATIONS, &[], "-"),
+];
 
 #[test]
-fn explains_refusals(rt: HostRuntime) -> Result<(), Fail> {
-    plays(&rt, rt.alloc(), EXPLANATIONS)
+fn refuses_or_explains(rt: HostRuntime) -> Result<(), Fail> {
+    all_play(&rt, rt.alloc(), &TABLES)
 }
 
 /// Whether a command line prints these words alone on standard output, in lines of at most 100 bytes.
 fn helps(alloc: Global, line: &str, want: &str) -> Result<bool, Fail> {
-    let text = told(alloc, line)?;
-    let text = text.as_str();
+    let ended = ran(alloc, line, &[])?;
+    let text = ended.out.as_str();
     let is_narrow = text.lines().all(|row| row.len() <= 100);
-    Ok(is_narrow && text.contains(want) && !text.contains("! "))
+    Ok(is_narrow && text.contains(want) && ended.err.is_empty() && ended.status == 0)
 }
 
 #[test]
@@ -148,25 +138,6 @@ fn prints_help(rt: HostRuntime) -> Result<(), Fail> {
     Ok(())
 }
 
-/// Whether words are refused with the usage.
-fn tells_usage(rt: &HostRuntime, words: &[String]) -> Result<bool, Fail> {
-    let ended = outcome_over(rt.alloc(), rt, words, &mut [].as_slice())?;
-    let text = ended.text(rt.alloc())?;
-    let text = text.as_str();
-    let has_usage = text.contains("Usage: mcsim <COMMAND>");
-    Ok(has_usage && text.starts_with("! ") && text.ends_with("exit 2\n"))
-}
-
-#[test]
-fn refuses_no_words(rt: HostRuntime) -> Result<(), Fail> {
-    let words = words_of(rt.alloc(), "")?;
-    for count in 0..2usize {
-        let words = words.as_slice().get(..count).unwrap_or_default();
-        assert!(rt; tells_usage(&rt, words)?, "{count}");
-    }
-    Ok(())
-}
-
 /// Whether a refusal is one line with the program's name, and has the status 2.
 fn is_one_line(alloc: Global, refusal: Refusal) -> Result<bool, Fail> {
     let mut err = Vec::new(alloc);
@@ -177,10 +148,14 @@ fn is_one_line(alloc: Global, refusal: Refusal) -> Result<bool, Fail> {
     Ok(status == 2 && is_line && text.starts_with("mcsim: "))
 }
 
+/// Words that are no text, more than there is room for, and none.
 #[test]
-fn refuses_words_in_one_line(rt: HostRuntime) -> Result<(), Fail> {
+fn refuses_words(rt: HostRuntime) -> Result<(), Fail> {
     for refusal in [Refusal::NotText, Refusal::Argument] {
         assert!(rt; is_one_line(rt.alloc(), refusal)?);
     }
+    let ended = outcome_over(rt.alloc(), &rt, &[], &mut [].as_slice())?;
+    let text = ended.text(rt.alloc())?;
+    assert!(rt; fits(text.as_str(), NO_WORDS));
     Ok(())
 }
