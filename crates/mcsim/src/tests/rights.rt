@@ -1,11 +1,11 @@
 //! What is to be right at the end: `survey` and `census` with expectations, and the whole list in place of a part. The counts are those of
 //! the rows of a model that shares no code with this repository.
-use super::support::plays;
+use super::support::{Table, all_play};
 use std::test::Fail;
 
 /// Two images, for which the named one is to lie in the primary at the end, and the other in the secondary; a revert under cuts
 /// between units, which the first profile can forget; a part of the rows, which is no verdict.
-static IMAGES: &str = "\
+const IMAGES: &str = "\
 $ census WORKED --kind test IMAGES --cuts 2 --all-right
 schedules 222; boot 222; none 0; panic 0; fault 0; most-ops 18; first-not-boot none; right 222; first-not-right none
 $ census WORKED --kind test IMAGES --cuts 2 --expect-primary 2.0
@@ -28,14 +28,9 @@ $ census WORKED --kind test IMAGES --cuts 2 --expect-primary x
 ! mcsim: E15 Syntax; exit 2
 ";
 
-#[test]
-fn asks_which_images_boot(rt: HostRuntime) -> Result<(), Fail> {
-    plays(&rt, rt.alloc(), IMAGES)
-}
-
 /// Flashes: an image alone, which is what is expected, and by its digest; one whose way back is gone; an update that is never
 /// installed; rows that do not boot; and what is to be right of a flash is not known.
-static FLASHES: &str = "\
+const FLASHES: &str = "\
 $ census WORKED --flash in --cuts 2 --expect-primary e3103e985884e987aaeb3091f107d4ad2ae5ff4720f4c43459c3d0ff3a12650d --expect-secondary none --all-right < 1792:0=first
 schedules 1; boot 1; none 0; panic 0; fault 0; most-ops 0; first-not-boot none; right 1; first-not-right none
 $ census WORKED --flash in --cuts 2 --all-boot --expect-primary 2.0.0 --expect-secondary 1.0.0 --all-right < 1792:0=second
@@ -48,7 +43,9 @@ $ census WORKED --flash in --cuts 2 --all-right < BEGUN
 ! mcsim: E85 NoExpectation; exit 2
 ";
 
+static TABLES: [Table; 2] = [(IMAGES, &[], "-"), (FLASHES, &[], "-")];
+
 #[test]
-fn asks_which_images_of_a_flash_boot(rt: HostRuntime) -> Result<(), Fail> {
-    plays(&rt, rt.alloc(), FLASHES)
+fn asks_which_images_boot(rt: HostRuntime) -> Result<(), Fail> {
+    all_play(&rt, rt.alloc(), &TABLES)
 }
