@@ -1,5 +1,5 @@
 //! What the words ask of each row that is counted, and whether it is so.
-ghost use Rattle.std.specs.Prelude.{◌≡◌, ◌↔◌, true, IfOk, IfSome, List, Some, option_map};
+ghost use Rattle.std.specs.Prelude.{◌≡◌, ◌↔◌, ◌||◌, true, IfOk, IfSome, List, Some, option_map};
 ghost use Rattle.clap.specs.Matches.{found_of};
 ghost use Rattle.mc_boot.specs.Plan.{identity_of};
 ghost use Rattle.mc_explore.specs.declared.expectation.Expectation.{Expectation as Expected};
@@ -74,6 +74,13 @@ impl Asked {
         ensures { result ≡ is_of_slots self.now }
     {
         self.primary.is_some() || self.secondary.is_some() || self.all_right
+    }
+
+    /// Whether anything is asked.
+    pub fn is_any(&self) -> bool
+        ensures { result ≡ (is_of_slots self.now || self.now.all_boot) }
+    {
+        self.is_of_slots() || self.all_boot
     }
 
     /// What the slots are to hold at the end, from a start, where that is asked: by default the named image of two is to lie in the

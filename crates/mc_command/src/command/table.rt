@@ -395,7 +395,7 @@ const EXPECTED: Word = Word {
     ..FLAG
 };
 
-/// What `survey` and `census` are asked for: a verdict on all that they count.
+/// What `explore`, `survey` and `census` are asked for: a verdict on all that they list or count.
 static VERDICT: [Word; 4] = [
     Word {
         name: "all-boot",
@@ -524,7 +524,8 @@ fault (a write met bytes that are not erased).
 Rows come in this order: -, 0, 0.0, 0.1, .., 1, 1.0, 1.1, .. So --after 0 --until 1 gives those that
 begin with 0 and have more cuts.
 How many rows? --cuts 1 has OPS+1; --cuts 2 has 1 more than the sum of OPS over the rows of
---cuts 1.";
+--cuts 1.
+With a verdict the rows are counted once more; see mcsim survey --help.";
 
 const AFTER_SURVEY: &str = "\
 Seven lines: how many rows the page of explore would have, how many of them with each RESULT (boot,
@@ -660,6 +661,7 @@ static COMMANDS: [Subcommand; 15] = [
             Group::Source,
             Group::Rules,
             Group::Exploration,
+            Group::Verdict,
         ],
     },
     Subcommand {

@@ -129,19 +129,53 @@ impl Exploration {
 }
 
 /// Prints a page of rows: one for each schedule of at most so many cuts that can occur, in their order, from the first or
-/// after the one that the words tell, up to one that they tell.
+/// after the one that the words tell, up to one that they tell. Where something is asked of the rows, they are counted once more, and
+/// how many are right follows, and the first that is not.
 ///
 /// # Errors
 ///
-/// What refuses the words or their files; `Explore` where memory failed, or the output cannot be written.
+/// What refuses the words or their files; `Expectation`; `Explore` where memory failed, or the output cannot be written. What is asked
+/// of the rows is refused as of a survey, once the page is out.
 pub fn run<F: Files, O: Write>(
     files: &F,
     alloc: Global,
     arguments: &ArgMatches<'_>,
     out: &mut O,
 ) -> Result<(), Refusal> {
-    read(files, alloc, arguments)?.print(alloc, out)?;
-    Ok(())
+    let asked = Asked::read(arguments)?;
+    let exploration = read(files, alloc, arguments)?;
+    let _known = asked.expectation(&exploration.start)?;
+    exploration.print(alloc, &mut *out)?;
+    if !asked.is_any() {
+        return Ok(());
+    }
+    let (tally, rights) = exploration.counts(alloc, &asked)?;
+    print_rights(&tally, &rights, &asked, out)
+}
+
+/// Prints what of a page is right, where that was asked. Once it is printed the page is refused where what is asked does not hold.
+///
+/// # Errors
+///
+/// `Write` where the output cannot be written; `NotAllBoot`; `NotAllRight`; `NotWhole`.
+fn print_rights<O: Write>(
+    tally: &Tally,
+    rights: &Option<Rights>,
+    asked: &Asked,
+    out: &mut O,
+) -> Result<(), Refusal>
+    ensures verdict { (e : Expected) (page : Page) → tally.now ≡ tally_of page
+        → AreCounted e page.rows rights.now
+        → IsVerdict asked.now e page.rows rights.now (is_none page.goes_on) result }
+    // The lines are out, unless the write failed.
+    ensures written { (result ≡ Err Refusal.Write → ⊥)
+        → Appends (O.contents out.old) (O.contents out.new) (lines_of rights.now) }
+{
+    let lines = Lines(*rights);
+    write!(out, "{lines}").map_err(|_| Refusal::Write)?;
+    let boots = tally.all_boot();
+    let right = all_right(rights);
+    asked.verdict(boots, right, tally.next.is_none())
 }
 
 /// Prints how many rows that page would have, how many of them with each result, the greatest number of operations, and where

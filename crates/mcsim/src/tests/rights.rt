@@ -24,6 +24,12 @@ $ survey WORKED --kind test IMAGES --cuts 2 --limit 100 --all-boot
 rows 100; boot 100; none 0; panic 0; fault 0; most-ops 18; next mc1:START:2:5.2; ! mcsim: E77 NotWhole; exit 1
 $ survey WORKED --kind test IMAGES --cuts 2 --limit 100 --all --all-boot
 rows 222; boot 222; none 0; panic 0; fault 0; most-ops 18; end
+$ explore WORKED --kind test IMAGES --cuts 1 --limit 2 --expect-primary 2
+- boot test 18 2.0.0+0/80 1.0.0+0/80 revert; 0 boot test 18 2.0.0+0/80 1.0.0+0/80 revert; next mc1:START:1:0; right 2; first-not-right none
+$ explore WORKED --kind test IMAGES --cuts 1 --limit 2 --all-boot
+- boot test 18 2.0.0+0/80 1.0.0+0/80 revert; 0 boot test 18 2.0.0+0/80 1.0.0+0/80 revert; next mc1:START:1:0; ! mcsim: E77 NotWhole; exit 1
+$ explore WORKED --kind none IMAGES --cuts 1 --all --all-right --expect-secondary none
+- boot none 0 1.0.0+0/80 2.0.0+0/80 none; end; right 0; first-not-right -; ! mcsim: E76 NotAllRight; exit 1
 $ census WORKED --kind test IMAGES --cuts 2 --expect-primary x
 ! mcsim: E15 Syntax; exit 2
 ";
