@@ -242,7 +242,7 @@ fn filled(alloc: Global, text: &str, names: &[&str], line: &str) -> Result<Strin
 }
 
 /// The bytes of a file: a named one, or one of so many bytes `0xff` but for those at some places, as in `1792:0=first,984=02`.
-fn contents(alloc: Global, told: &str) -> Result<Vec<u8>, Fail> {
+pub fn contents(alloc: Global, told: &str) -> Result<Vec<u8>, Fail> {
     let Some((length, changes)) = told.split_once(':') else {
         return Ok(named(told).unwrap_or_default().to_vec(alloc)?);
     };
