@@ -1,13 +1,13 @@
 //! Bytes that are changed as a test tells.
 use crate::named;
+use hex::FromHexError;
 use std::alloc::Global;
-use std::test::Fail;
 
 /// Named bytes, or those of some digits.
-fn bytes_of(alloc: Global, told: &str) -> Result<Vec<u8>, Fail> {
+fn bytes_of(alloc: Global, told: &str) -> Result<Vec<u8>, FromHexError> {
     match named(told) {
         Some(file) => Ok(file.to_vec(alloc)?),
-        None => Ok(hex::decode(alloc, told)?),
+        None => hex::decode(alloc, told),
     }
 }
 
@@ -22,10 +22,14 @@ fn put(bytes: &mut [u8], place: usize, new: &[u8]) {
 ///
 /// # Errors
 ///
-/// A change that is not told so; an allocation that failed.
-pub fn change_at(alloc: Global, bytes: &mut [u8], told: &str) -> Result<(), Fail> {
-    let (place, told) = told.split_once('=').ok_or("a place and bytes")?;
-    let place = place.parse::<usize>()?;
+/// `InvalidStringLength` where no place is told; those of the digits; `OutOfMemory`.
+pub fn change_at(alloc: Global, bytes: &mut [u8], told: &str) -> Result<(), FromHexError> {
+    let Some((place, told)) = told.split_once('=') else {
+        return Err(FromHexError::InvalidStringLength);
+    };
+    let Ok(place) = place.parse::<usize>() else {
+        return Err(FromHexError::InvalidStringLength);
+    };
     put(bytes, place, bytes_of(alloc, told)?.as_slice());
     Ok(())
 }

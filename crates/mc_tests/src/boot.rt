@@ -9,15 +9,9 @@ mod lives;
 
 use crate::common::{flash_of, same, same_at};
 use mc_boot::{Boot, BootResult, Outcome, Rejoin, confirm};
-use mc_flash::{Flash, FlashError, SnapFlash};
+use mc_flash::{Flash, SnapFlash};
 use mc_trailer::Rules;
-use std::alloc::Global;
-use std::test::Fail;
-
-/// The two images, and the swap for a test is asked for.
-fn test_flash(alloc: Global) -> Result<SnapFlash, Fail> {
-    flash_of(alloc, "IMAGES")
-}
+use std::process::Abort;
 
 /// Makes so many steps, or all that there are.
 fn run<F: Flash>(flash: &mut F, boot: &mut Boot, steps: u32)
@@ -42,46 +36,43 @@ fn told<F: Flash>(flash: &mut F, rules: Rules) -> Outcome
 
 /// What a boot tells, and what the same boot tells that was kept beside a checkpoint.
 #[tactic(auto, unfolding(mc_flash::specs::Usage::went_back))]
-fn told_again(flash: &mut SnapFlash) -> Result<[Outcome; 2], FlashError> {
+fn told_again(rt: &impl Abort, flash: &mut SnapFlash) -> [Outcome; 2] {
     let mut boot = Boot::cold(flash, Rules::PLAIN);
     run(flash, &mut boot, 7);
-    let place = flash.mark()?;
+    let place = flash.mark().expect(rt, "a checkpoint");
     let kept = boot;
     run(flash, &mut boot, 200);
     let first = boot.outcome(flash);
     flash.back_to(place);
     let mut boot = kept;
     run(flash, &mut boot, 200);
-    Ok([first, boot.outcome(flash)])
-}
-
-/// Whether the kept boot tells the same, how it ends, and how many operations it makes.
-fn serves_again(flash: &mut SnapFlash) -> Result<(bool, BootResult, u32), FlashError> {
-    let [first, again] = told_again(flash)?;
-    Ok((first == again, again.result, again.ops))
+    [first, boot.outcome(flash)]
 }
 
 #[test]
-fn a_kept_boot_serves_again(rt: HostRuntime) -> Result<(), Fail> {
-    let told = serves_again(&mut test_flash(rt.alloc())?)?;
-    same(&rt, &told, &(true, BootResult::Boot, 18));
-    Ok(())
-}
-
-/// Whether the image confirms itself after a swap for a test, and whether it does so again.
-fn confirms_twice(flash: &mut SnapFlash) -> Result<[bool; 2], FlashError> {
-    let _ = told(flash, Rules::PLAIN);
-    Ok([confirm(flash)?, confirm(flash)?])
+fn a_kept_boot_serves_again(rt: HostRuntime) {
+    let [first, again] = told_again(&rt, &mut flash_of(&rt, rt.alloc(), "IMAGES"));
+    same(&rt, &first, &again);
+    same(&rt, &(again.result, again.ops), &(BootResult::Boot, 18));
 }
 
 /// Once after a test, and not where a swap is not finished.
 #[test]
-fn an_image_confirms_itself(rt: HostRuntime) -> Result<(), Fail> {
-    let confirms = confirms_twice(&mut test_flash(rt.alloc())?)?;
-    same(&rt, &confirms, &[true, false]);
-    let confirms = confirm(&mut flash_of(rt.alloc(), "BEGUN,984=02")?)?;
+fn an_image_confirms_itself(rt: HostRuntime) {
+    let mut flash = flash_of(&rt, rt.alloc(), "IMAGES");
+    let _ = told(&mut flash, Rules::PLAIN);
+    for wanted in [true, false] {
+        same(
+            &rt,
+            &confirm(&mut flash).expect(&rt, "a confirmation"),
+            &wanted,
+        );
+    }
+    let confirms = confirm(&mut flash_of(&rt, rt.alloc(), "BEGUN,984=02")).expect(
+        &rt,
+        "a confirmation",
+    );
     same(&rt, &confirms, &false);
-    Ok(())
 }
 
 /// The places of the first four operations of the boot after a cut, among those of the boot that was cut.
@@ -114,10 +105,9 @@ static PLACES: [(u32, [u32; 4]); 8] = [
 ];
 
 #[test]
-fn places_after_cuts(rt: HostRuntime) -> Result<(), Fail> {
+fn places_after_cuts(rt: HostRuntime) {
     for (cut, wanted) in &PLACES {
-        let found = places(&mut test_flash(rt.alloc())?, *cut);
+        let found = places(&mut flash_of(&rt, rt.alloc(), "IMAGES"), *cut);
         same_at(&rt, cut, &found, &Some(*wanted));
     }
-    Ok(())
 }

@@ -1,10 +1,9 @@
 //! What the tests share.
 use mc_fixtures::{change_at, worked};
 use mc_flash::{Flash, Grain, SnapFlash};
-use std::alloc::{AllocError, Global};
-use std::fmt::{Debug, Display};
+use std::alloc::Global;
+use std::fmt::Debug;
 use std::process::Abort;
-use std::test::Fail;
 
 /// What was found is what is wanted.
 pub fn same<T: PartialEq + Debug>(rt: &impl Abort, found: &T, wanted: &T) {
@@ -25,52 +24,37 @@ static WORDS: [(&str, &str); 3] = [
 ];
 
 /// A text with its words in full.
-fn in_full(alloc: Global, text: &str) -> Result<String, AllocError> {
-    let mut whole = String::from_str(alloc, text)?;
+fn in_full(rt: &impl Abort, alloc: Global, text: &str) -> String {
+    let mut whole = String::from_str(alloc, text).expect(rt, "memory");
     for (word, full) in &WORDS {
-        whole = whole.as_str().replace(alloc, *word, *full)?;
+        whole = whole
+            .as_str()
+            .replace(alloc, *word, *full)
+            .expect(rt, "memory");
     }
-    Ok(whole)
+    whole
 }
 
 /// Puts named bytes, or those of some digits, in their places, as in `0=first,984=02`. What there is no room for is left out.
-pub fn change(alloc: Global, bytes: &mut [u8], changes: &str) -> Result<(), Fail> {
-    let changes = in_full(alloc, changes)?;
+pub fn change(rt: &impl Abort, alloc: Global, bytes: &mut [u8], changes: &str) {
+    let changes = in_full(rt, alloc, changes);
     for change in changes.as_str().split(',') {
-        change_at(alloc, bytes, change)?;
+        change_at(alloc, bytes, change).expect(rt, "a change");
     }
-    Ok(())
 }
 
-/// A flash of the worked layout that is 0xff but for some changes. The secondary's places are behind the primary's.
-pub fn flash_of(alloc: Global, changes: &str) -> Result<SnapFlash, Fail> {
-    let layout = worked()?;
-    let mut bytes = [0xff; 1792];
-    change(alloc, &mut bytes, changes)?;
+/// A flash of the worked layout with these bytes, changed as told. The secondary's places are behind the primary's.
+pub fn flash_with(rt: &impl Abort, alloc: Global, bytes: &mut [u8], changes: &str) -> SnapFlash {
+    let layout = worked().expect(rt, "a layout");
+    change(rt, alloc, bytes, changes);
+    assert!(rt; bytes.len() == 1792);
     let (primary, secondary) = bytes.split_at(1024);
-    Ok(SnapFlash::load(alloc, &layout, Grain::Call, primary, secondary, 1)?)
+    SnapFlash::load(alloc, &layout, Grain::Call, primary, secondary, 1).expect(rt, "a flash")
 }
 
-/// The texts of some values, a line each.
-pub fn texts_of<T: Display>(alloc: Global, values: &[T]) -> Result<String, AllocError> {
-    let mut texts = String::new(alloc);
-    for value in values {
-        let line = format!(in alloc; "{value}\n")?;
-        texts.push_str(line.as_str())?;
-    }
-    Ok(texts)
-}
-
-/// Some values have these texts.
-pub fn have_texts<T: Display>(
-    rt: &impl Abort,
-    alloc: Global,
-    values: &[T],
-    wanted: &str,
-) -> Result<(), AllocError> {
-    let texts = texts_of(alloc, values)?;
-    same(rt, &texts.as_str(), &wanted);
-    Ok(())
+/// A flash of the worked layout that is 0xff but for some changes.
+pub fn flash_of(rt: &impl Abort, alloc: Global, changes: &str) -> SnapFlash {
+    flash_with(rt, alloc, &mut [0xff; 1792], changes)
 }
 
 /// A secondary of the worked layout that holds 0xaa, but for its sector in the middle, which is erased.

@@ -1,12 +1,11 @@
 //! The worked images, byte for byte, and what no clause says.
 ghost use Rattle.std.specs.Prelude.{◌<◌, ◌≤◌, ◌^◌, length};
 
-use crate::common::{have_texts, same};
+use crate::common::same;
 use mc_fixtures::{COUNTED_IMAGE, EMPTY_IMAGE, PAYLOAD, PLAIN_IMAGE};
 use mc_image::{Area, ImageError, ImageParts, ImageView, Judge, Judged, Tlv, Version, write_image};
-use std::alloc::{AllocError, Global};
+use std::alloc::Global;
 use std::process::Abort;
-use std::test::Fail;
 
 const VERSION: Version = Version {
     major: 1,
@@ -32,93 +31,76 @@ fn parts_of<'a>(
     }
 }
 
-/// This comes of it that these parts are written behind some bytes.
-fn writes(
-    rt: &impl Abort,
-    alloc: Global,
-    before: &[u8],
-    parts: &ImageParts,
-    wanted: &[u8],
-) -> Result<(), Fail> {
-    let mut out = before.to_vec(alloc)?;
-    write_image(parts, &mut out)?;
+/// This comes of it that parts are written behind some bytes.
+fn writes(rt: &impl Abort, alloc: Global, before: &[u8], parts: &ImageParts, wanted: &[u8]) {
+    let mut out = before.to_vec(alloc).expect(rt, "memory");
+    write_image(parts, &mut out).expect(rt, "an image");
     same(rt, &out.as_slice(), &wanted);
-    Ok(())
 }
 
-/// This comes of it that a payload is written with some protected entries.
-fn writes_payload(
-    rt: &impl Abort,
-    alloc: Global,
-    payload: &[u8],
-    protected: &[(u16, &[u8])],
-    wanted: &[u8],
-) -> Result<(), Fail> {
-    writes(rt, alloc, &[], &parts_of(payload, protected, &[]), wanted)
+/// The image of a payload, with an entry of no bytes behind the digest: the plain area's total is 44 in place of 40.
+fn with_an_entry() -> [u8; 84] {
+    let mut image = [0; 84];
+    image[..80].copy_from_slice(&PLAIN_IMAGE);
+    image[42] = 0x2c;
+    image[80] = 0x99;
+    image
 }
 
-fn fault(bytes: &[u8]) -> Option<ImageError> {
-    ImageView::read(bytes).err()
+/// A byte, and the image of a payload behind it.
+fn behind_a_byte() -> [u8; 81] {
+    let mut bytes = [9; 81];
+    bytes[1..].copy_from_slice(&PLAIN_IMAGE);
+    bytes
 }
 
 #[test]
-fn worked_images_are_written(rt: HostRuntime) -> Result<(), Fail> {
+fn worked_images_are_written(rt: HostRuntime) {
     let alloc = rt.alloc();
     let counter = [(0x50, [7, 0, 0, 0].as_slice())];
-    writes_payload(&rt, alloc, &PAYLOAD, &[], &PLAIN_IMAGE)?;
-    writes_payload(&rt, alloc, &[], &[], &EMPTY_IMAGE)?;
-    writes_payload(&rt, alloc, &PAYLOAD, &counter, &COUNTED_IMAGE)
+    let empty = [(0x99, [].as_slice())];
+    let plain = parts_of(&PAYLOAD, &[], &[]);
+    writes(&rt, alloc, &[], &plain, &PLAIN_IMAGE);
+    writes(&rt, alloc, &[9], &plain, &behind_a_byte());
+    writes(&rt, alloc, &[], &parts_of(&[], &[], &[]), &EMPTY_IMAGE);
+    writes(
+        &rt,
+        alloc,
+        &[],
+        &parts_of(&PAYLOAD, &counter, &[]),
+        &COUNTED_IMAGE,
+    );
+    writes(
+        &rt,
+        alloc,
+        &[],
+        &parts_of(&PAYLOAD, &[], &empty),
+        &with_an_entry(),
+    )
 }
 
-#[test]
-fn an_empty_entry_follows_the_digest(rt: HostRuntime) -> Result<(), Fail> {
-    let entries = [(0x99, [].as_slice())];
-    // The plain area's total is 44 in place of 40, and the entry stands after the digest.
-    let mut wanted = [0; 84];
-    wanted[..80].copy_from_slice(&PLAIN_IMAGE);
-    wanted[42] = 0x2c;
-    wanted[80] = 0x99;
-    let parts = parts_of(&PAYLOAD, &[], &entries);
-    writes(&rt, rt.alloc(), &[], &parts, &wanted)
-}
-
-#[test]
-fn an_image_is_appended(rt: HostRuntime) -> Result<(), Fail> {
-    let mut wanted = [9; 81];
-    wanted[1..].copy_from_slice(&PLAIN_IMAGE);
-    let parts = parts_of(&PAYLOAD, &[], &[]);
-    writes(&rt, rt.alloc(), &[9], &parts, &wanted)
-}
-
-/// Why these parts are refused. None where the vector is another then.
-fn refusal_of(alloc: Global, parts: &ImageParts) -> Result<Option<ImageError>, AllocError> {
-    let mut out = [9u8].to_vec(alloc)?;
+/// Why these parts are refused.
+fn refusal_of(rt: &impl Abort, alloc: Global, parts: &ImageParts) -> Option<ImageError> {
+    let mut out = [9u8].to_vec(alloc).expect(rt, "memory");
     let refusal = write_image(parts, &mut out).err();
-    Ok(refusal.filter(|_| out.as_slice() == [9].as_slice()))
+    same(rt, &out.as_slice(), &[9].as_slice());
+    refusal
 }
 
-/// Why a payload of one byte more than the most is refused, with these entries.
-fn refusal_of_large(
-    alloc: Global,
-    plain: &[(u16, &[u8])],
-) -> Result<Option<ImageError>, AllocError> {
-    let long = vec![in alloc; 0u8; (1 << 24) + 1]?;
-    refusal_of(alloc, &parts_of(long.as_slice(), &[], plain))
-}
-
+/// Too large comes first.
 #[test]
-fn refused_parts_leave_the_vector(rt: HostRuntime) -> Result<(), Fail> {
+fn refused_parts_leave_the_vector(rt: HostRuntime) {
     let digest = [(0x10, [0u8; 32].as_slice())];
-    let many = refusal_of(rt.alloc(), &parts_of(&PAYLOAD, &[], &digest))?;
-    // Too large comes first.
-    let large = refusal_of_large(rt.alloc(), &digest)?;
+    let many = refusal_of(&rt, rt.alloc(), &parts_of(&PAYLOAD, &[], &digest));
+    let long = vec![in rt.alloc(); 0u8; (1 << 24) + 1].expect(&rt, "memory");
+    let large = refusal_of(&rt, rt.alloc(), &parts_of(long.as_slice(), &[], &digest));
     let wanted = [Some(ImageError::ManyDigests), Some(ImageError::TooLarge)];
     same(&rt, &[many, large], &wanted);
-    Ok(())
 }
 
-/// Whether a view shows the parts of the image with a counter.
-fn shows_the_parts(view: &ImageView) -> bool {
+#[test]
+fn a_view_shows_the_parts(rt: HostRuntime) {
+    let view = ImageView::read(&COUNTED_IMAGE).expect(&rt, "an image");
     let parts = [
         view.header(),
         view.payload(),
@@ -133,21 +115,14 @@ fn shows_the_parts(view: &ImageView) -> bool {
         &COUNTED_IMAGE[52..],
         &COUNTED_IMAGE[60..],
     ];
-    parts == wanted
-}
-
-#[test]
-fn a_view_shows_the_parts(rt: HostRuntime) -> Result<(), Fail> {
-    let view = ImageView::read(&COUNTED_IMAGE)?;
+    same(&rt, &parts, &wanted);
     let told = (view.size(), view.version(), view.check());
-    same(&rt, &shows_the_parts(&view), &true);
     same(&rt, &told, &(92, VERSION, Ok(())));
-    Ok(())
 }
 
 #[test]
-fn a_view_shows_the_entries(rt: HostRuntime) -> Result<(), Fail> {
-    let mut tlvs = ImageView::read(&COUNTED_IMAGE)?.tlvs();
+fn a_view_shows_the_entries(rt: HostRuntime) {
+    let mut tlvs = ImageView::read(&COUNTED_IMAGE).expect(&rt, "a text").tlvs();
     let counter = Tlv {
         area: Area::Protected,
         kind: 0x50,
@@ -160,49 +135,6 @@ fn a_view_shows_the_entries(rt: HostRuntime) -> Result<(), Fail> {
     };
     let found = [tlvs.next(), tlvs.next(), tlvs.next()];
     same(&rt, &found, &[Some(counter), Some(digest), None]);
-    Ok(())
-}
-
-/// The refusals, in their order.
-static ERRORS: [ImageError; 14] = [
-    ImageError::Truncated,
-    ImageError::BadMagic,
-    ImageError::BadHeaderSize,
-    ImageError::UnsupportedFlags,
-    ImageError::TruncatedBody,
-    ImageError::BadProtected,
-    ImageError::BadTlvMagic,
-    ImageError::BadTlvLength,
-    ImageError::NoDigest,
-    ImageError::ManyDigests,
-    ImageError::DigestLength,
-    ImageError::WrongDigest,
-    ImageError::TooLarge,
-    ImageError::Memory,
-];
-
-/// Their texts.
-static TEXTS: &str = "\
-E1 Truncated
-E2 BadMagic
-E3 BadHeaderSize
-E4 UnsupportedFlags
-E5 TruncatedBody
-E6 BadProtected
-E7 BadTlvMagic
-E8 BadTlvLength
-E9 NoDigest
-E10 ManyDigests
-E11 DigestLength
-E12 WrongDigest
-E13 TooLarge
-E14 Memory
-";
-
-#[test]
-fn refusals_have_their_texts(rt: HostRuntime) -> Result<(), Fail> {
-    have_texts(&rt, rt.alloc(), &ERRORS, TEXTS)?;
-    Ok(())
 }
 
 /// What a judge says of bytes that come in pieces of so many at most.
@@ -226,24 +158,11 @@ fn first_difference(image: &[u8], most: usize) -> Option<usize>
     requires fits { length image.now ≤ 2 ^ 32 }
 {
     for n in 0..image.len() {
-        if judged(&image[..n], most).err() != fault(&image[..n]) {
+        if judged(&image[..n], most).err() != ImageView::read(&image[..n]).err() {
             return Some(n);
         }
     }
     None
-}
-
-/// What is to be told of a worked image.
-fn wanted_of(image: &[u8]) -> Judged
-    requires { 32 ≤ length image.now }
-{
-    let mut digest = [0; 32];
-    digest.copy_from_slice(&image[image.len() - 32..]);
-    Judged {
-        version: VERSION,
-        size: image.len() as u64,
-        digest,
-    }
 }
 
 /// Judges a worked image and each of its beginnings.
@@ -251,7 +170,14 @@ fn is_judged(rt: &impl Abort, image: &[u8], most: usize)
     requires some { 0 < most }
     requires fits { (32 ≤ length image.now) × (length image.now ≤ 2 ^ 32) }
 {
-    same(rt, &judged(image, most), &Ok(wanted_of(image)));
+    let mut digest = [0; 32];
+    digest.copy_from_slice(&image[image.len() - 32..]);
+    let wanted = Judged {
+        version: VERSION,
+        size: image.len() as u64,
+        digest,
+    };
+    same(rt, &judged(image, most), &Ok(wanted));
     same(rt, &first_difference(image, most), &None);
 }
 

@@ -2,14 +2,12 @@
 mod faults;
 mod sizes;
 
-use crate::common::{have_texts, same, same_at};
-use mc_image::{ImageError, Version};
+use crate::common::same;
+use mc_image::Version;
 use mc_imgtool::{CreateOptions, ToolError, create, dumpinfo, read_bounded, verify};
-use std::alloc::{AllocError, Global};
-use std::fmt::Debug;
+use std::alloc::Global;
 use std::io::{Read, Write};
 use std::process::Abort;
-use std::test::Fail;
 
 /// The options of the worked images: write units of 8 bytes and four sectors.
 const WORKED: CreateOptions = CreateOptions {
@@ -29,10 +27,9 @@ const WORKED: CreateOptions = CreateOptions {
     security_counter: None,
 };
 
-#[derive(Clone, Copy, Debug)]
+#[derive(Clone, Copy)]
 enum Engine {
-    /// With these options, but for the size of the header.
-    Create(CreateOptions),
+    Create,
     Verify,
     Dumpinfo,
 }
@@ -41,92 +38,50 @@ impl Engine {
     /// What an engine returns. The test ends where an allocation failed (`scripts/refuse-tests`).
     fn run<R: Read, W: Write>(
         self,
+        rt: &impl Abort,
         alloc: Global,
         input: &mut R,
         output: &mut W,
-    ) -> Result<Result<(), ToolError>, Fail> {
+    ) -> Result<(), ToolError> {
         let told = match self {
-            Engine::Create(options) => {
-                let options = CreateOptions {
-                    header_size: 32,
-                    ..options
-                };
-                create(alloc, &options, input, output)
-            }
+            Engine::Create => create(alloc, &WORKED, input, output),
             Engine::Verify => verify(input, output),
             Engine::Dumpinfo => dumpinfo(alloc, input, output),
         };
-        if told == Err(ToolError::Memory) {
-            told?;
-        }
-        Ok(told)
+        assert!(rt; told != Err(ToolError::Memory), "error: Memory");
+        told
     }
 
     /// What it writes of an input, and behind it why it refuses, where it does. No write wants memory.
-    fn told<R: Read>(self, alloc: Global, input: &mut R) -> Result<Vec<u8>, Fail> {
-        let mut out = Vec::with_capacity(alloc, 1024)?;
-        if let Err(error) = self.run(alloc, input, &mut out)? {
-            let refusal = format!(in alloc; "{error}\n")?;
-            out.extend_from_slice(refusal.as_str().as_bytes())?;
+    fn told<R: Read>(self, rt: &impl Abort, alloc: Global, input: &mut R) -> Vec<u8> {
+        let mut out = Vec::with_capacity(alloc, 1024).expect(rt, "memory");
+        if let Err(error) = self.run(rt, alloc, input, &mut out) {
+            let refusal = format!(in alloc; "{error}\n").expect(rt, "memory");
+            out.extend_from_slice(refusal.as_str().as_bytes())
+                .expect(rt, "memory");
         }
-        Ok(out)
+        out
     }
 }
 
-/// An engine tells this of some bytes.
-fn is_told<A: Debug>(
-    rt: &impl Abort,
-    alloc: Global,
-    (at, engine): (&A, Engine),
-    mut input: &[u8],
-    wanted: &[u8],
-) -> Result<(), Fail> {
-    let told = engine.told(alloc, &mut input)?;
-    same_at(rt, at, &told.as_slice(), &wanted);
-    Ok(())
+/// An engine tells this of an input.
+fn is_told<R: Read>(rt: &impl Abort, alloc: Global, engine: Engine, input: &mut R, wanted: &str) {
+    let told = engine.told(rt, alloc, input);
+    same(
+        rt,
+        &str::from_utf8(told.as_slice()).expect(rt, "a text"),
+        &wanted,
+    );
 }
 
-/// Why 5000 bytes are more than a limit, and how many are left unread.
-fn refusal_and_rest(alloc: Global, limit: u32) -> Result<(Option<ToolError>, usize), AllocError> {
-    let bytes = vec![in alloc; 7u8; 5000]?;
+#[test]
+fn a_byte_behind_the_limit_is_read(rt: HostRuntime) {
+    let bytes = [7u8; 5000];
     let mut rest = bytes.as_slice();
-    let refusal = read_bounded(alloc, &mut rest, limit).err();
-    Ok((refusal, rest.len()))
-}
-
-#[test]
-fn a_byte_behind_the_limit_is_read(rt: HostRuntime) -> Result<(), Fail> {
-    let found = refusal_and_rest(rt.alloc(), 4000)?;
-    same(&rt, &found, &(Some(ToolError::InputTooLong), 999));
-    Ok(())
-}
-
-/// A refusal of an image, and the tool's own.
-static ERRORS: [ToolError; 8] = [
-    ToolError::Image(ImageError::WrongDigest),
-    ToolError::NotZeros,
-    ToolError::SlotTooSmall,
-    ToolError::NeedsSlotSize,
-    ToolError::InputTooLong,
-    ToolError::Read,
-    ToolError::Write,
-    ToolError::Memory,
-];
-
-/// Their texts.
-static TEXTS: &str = "\
-E12 WrongDigest
-E20 NotZeros
-E21 SlotTooSmall
-E22 NeedsSlotSize
-E23 InputTooLong
-E24 Read
-E25 Write
-E26 Memory
-";
-
-#[test]
-fn refusals_have_their_texts(rt: HostRuntime) -> Result<(), Fail> {
-    have_texts(&rt, rt.alloc(), &ERRORS, TEXTS)?;
-    Ok(())
+    let refusal = read_bounded(rt.alloc(), &mut rest, 4000).err();
+    same(
+        &rt,
+        &(refusal, rest.len()),
+        &(Some(ToolError::InputTooLong), 999),
+    );
 }

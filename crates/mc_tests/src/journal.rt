@@ -1,5 +1,5 @@
 //! The flash with a journal: its limits, its counts, and what it takes back.
-ghost use Rattle.std.specs.Prelude.{◌≡◌, [], length, ◌<◌, ◌≤◌, IfOk};
+ghost use Rattle.std.specs.Prelude.{◌≡◌, [], length, ◌<◌, ◌≤◌};
 ghost use Rattle.mc_flash.specs.inner.Worked.{worked};
 
 use crate::common::{same, with_an_erased_sector};
@@ -7,15 +7,14 @@ use mc_fixtures::worked;
 use mc_flash::{Flash, FlashError, Grain, JournalFlash, Slot};
 use std::alloc::Global;
 use std::process::Abort;
-use std::test::Fail;
 
 /// A journal flash of the worked layout: the primary is blank, and the secondary holds 0xaa.
-fn loaded(alloc: Global, boots: u32) -> Result<JournalFlash, Fail>
+fn loaded(rt: &impl Abort, alloc: Global, boots: u32) -> JournalFlash
     requires { (1 ≤ boots) × (boots ≤ 32) }
-    ensures geometry { IfOk result (λ flash. flash.geometry ≡ worked) }
-    ensures checkpoints { IfOk result (λ flash. flash.checkpoints ≡ []) }
+    ensures geometry { result.geometry ≡ worked }
+    ensures checkpoints { result.checkpoints ≡ [] }
 {
-    let layout = worked()?;
+    let layout = worked().expect(rt, "a layout");
     let flash = JournalFlash::load(
         alloc,
         &layout,
@@ -23,8 +22,9 @@ fn loaded(alloc: Global, boots: u32) -> Result<JournalFlash, Fail>
         &[0xff; 1024],
         &[0xaa; 768],
         boots,
-    )?;
-    Ok(flash)
+    )
+    .expect(rt, "a flash");
+    flash
 }
 
 /// The entries, the saved bytes, the checkpoints, and the operations done.
@@ -42,20 +42,24 @@ type Operated = ([usize; 2], [[u64; 4]; 3], Result<(), FlashError>);
 /// Marks and erases a sector; marks, writes a unit, copies it to that sector, and is refused to write it again. The places
 /// of the checkpoints, the counts before and after each part, and the refusal.
 #[tactic(auto, using(mc_flash::specs::facts::Done::does_keep))]
-fn operated(flash: &mut JournalFlash) -> Result<Operated, FlashError>
+fn operated(rt: &impl Abort, flash: &mut JournalFlash) -> Operated
     requires geometry { flash.old.geometry ≡ worked }
     requires checkpoints { flash.old.checkpoints ≡ [] }
-    ensures { IfOk result (λ told. length flash.new.checkpoints ≡ 2) }
+    ensures { length flash.new.checkpoints ≡ 2 }
 {
     let before = counts(flash);
-    let first = flash.mark()?;
-    flash.erase(Slot::Secondary, 1)?;
+    let first = flash.mark().expect(rt, "a checkpoint");
+    flash.erase(Slot::Secondary, 1).expect(rt, "an erase");
     let erased = counts(flash);
-    let second = flash.mark()?;
-    flash.program(Slot::Primary, 16, &[1, 2, 3, 4, 5, 6, 7, 8])?;
-    flash.copy(Slot::Primary, 16, Slot::Secondary, 256, 8)?;
+    let second = flash.mark().expect(rt, "a checkpoint");
+    flash
+        .program(Slot::Primary, 16, &[1, 2, 3, 4, 5, 6, 7, 8])
+        .expect(rt, "a write");
+    flash
+        .copy(Slot::Primary, 16, Slot::Secondary, 256, 8)
+        .expect(rt, "a copy");
     let again = flash.program(Slot::Primary, 16, &[0; 8]);
-    Ok(([first, second], [before, erased, counts(flash)], again))
+    ([first, second], [before, erased, counts(flash)], again)
 }
 
 /// Goes back to a checkpoint, and returns the counts then.
@@ -72,7 +76,7 @@ type GoneBack = ([[u64; 4]; 2], [bool; 3], usize);
 
 /// Goes back to the second checkpoint, and then to the first. The counts after each, whether the slots are as they were, and the
 /// place of the next checkpoint.
-fn gone_back(flash: &mut JournalFlash) -> Result<GoneBack, FlashError>
+fn gone_back(rt: &impl Abort, flash: &mut JournalFlash) -> GoneBack
     requires { length flash.old.checkpoints ≡ 2 }
 {
     let second = counts_back(flash, 1);
@@ -80,25 +84,21 @@ fn gone_back(flash: &mut JournalFlash) -> Result<GoneBack, FlashError>
     let erased = flash.read(Slot::Secondary) == with_an_erased_sector().as_slice();
     let first = counts_back(flash, 0);
     let whole = flash.read(Slot::Secondary) == [0xaa; 768].as_slice();
-    Ok(([second, first], [primary, erased, whole], flash.mark()?))
-}
-
-/// Operates and goes back, and tells what it is to.
-fn operates_and_goes_back(rt: &impl Abort, flash: &mut JournalFlash) -> Result<(), Fail>
-    requires geometry { flash.old.geometry ≡ worked }
-    requires checkpoints { flash.old.checkpoints ≡ [] }
-{
-    let there = operated(flash)?;
-    let wanted = [[0, 0, 0, 0], [1, 256, 1, 1], [3, 256, 2, 3]];
-    same(rt, &there, &([0, 1], wanted, Err(FlashError::NotErased)));
-    let back = gone_back(flash)?;
-    same(rt, &back, &([[1, 256, 1, 3], [0, 0, 0, 3]], [true; 3], 0));
-    Ok(())
+    (
+        [second, first],
+        [primary, erased, whole],
+        flash.mark().expect(rt, "a checkpoint"),
+    )
 }
 
 #[test]
-fn operations_are_counted_and_taken_back(rt: HostRuntime) -> Result<(), Fail> {
-    operates_and_goes_back(&rt, &mut loaded(rt.alloc(), 3)?)
+fn operations_are_counted_and_taken_back(rt: HostRuntime) {
+    let mut flash = loaded(&rt, rt.alloc(), 3);
+    let there = operated(&rt, &mut flash);
+    let wanted = [[0, 0, 0, 0], [1, 256, 1, 1], [3, 256, 2, 3]];
+    same(&rt, &there, &([0, 1], wanted, Err(FlashError::NotErased)));
+    let back = gone_back(&rt, &mut flash);
+    same(&rt, &back, &([[1, 256, 1, 3], [0, 0, 0, 3]], [true; 3], 0));
 }
 
 /// Takes the checkpoints, erases and entries that there is room for. The places of these, the counts after the erases and at
@@ -130,11 +130,10 @@ fn filled(
 
 /// The most erases of a boot, and the place for one checkpoint more.
 #[test]
-fn a_full_journal_refuses(rt: HostRuntime) -> Result<(), Fail> {
-    let told = filled(&mut loaded(rt.alloc(), 1)?)?;
+fn a_full_journal_refuses(rt: HostRuntime) {
+    let told = filled(&mut loaded(&rt, rt.alloc(), 1)).expect(&rt, "room");
     let memory = Some(FlashError::Memory);
     let refused = [memory, memory, memory, Some(FlashError::NotErased)];
     let counts = [[9, 2304, 2, 9], [36, 2304, 2, 36]];
     same(&rt, &told, &([0, 1], counts, refused));
-    Ok(())
 }

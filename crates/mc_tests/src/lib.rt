@@ -16,4 +16,6 @@ mod imgtool;
 #[cfg(test)]
 mod journal;
 #[cfg(test)]
+mod texts;
+#[cfg(test)]
 mod trailer;

@@ -1,20 +1,10 @@
 //! The worked layout's places, and what is read of the flashes of worked examples.
-ghost use Rattle.std.specs.Prelude.{◌<◌};
-
-use crate::common::{same, same_at};
+use crate::common::{flash_of, same, same_at};
 use mc_fixtures::worked;
-use mc_flash::{Flash, Grain, Layout, Slot, SnapFlash};
+use mc_flash::Slot;
 use mc_trailer::{Field, Flag, MAGIC, Magic, Trailer, entry_place, highest_entry, place};
 use std::alloc::Global;
 use std::process::Abort;
-use std::test::Fail;
-
-/// A flash of the worked layout.
-fn loaded(alloc: Global, primary: &[u8; 1024], secondary: &[u8; 768]) -> Result<SnapFlash, Fail> {
-    let layout = worked()?;
-    let flash = SnapFlash::load(alloc, &layout, Grain::Call, primary, secondary, 1)?;
-    Ok(flash)
-}
 
 /// The places of the fields in the primary and in the secondary.
 static FIELD_PLACES: [(Field, [u32; 2]); 5] = [
@@ -25,29 +15,17 @@ static FIELD_PLACES: [(Field, [u32; 2]); 5] = [
     (Field::SwapSize, [976, 720]),
 ];
 
-fn places_of(layout: &Layout, field: Field) -> [u32; 2] {
-    [
-        place(layout, Slot::Primary, field),
-        place(layout, Slot::Secondary, field),
-    ]
-}
-
 #[test]
-fn fields_stand_in_the_worked_places(rt: HostRuntime) -> Result<(), Fail> {
-    let layout = worked()?;
+fn fields_and_entries_stand_in_the_worked_places(rt: HostRuntime) {
+    let layout = worked().expect(&rt, "a layout");
     for (field, wanted) in &FIELD_PLACES {
-        same_at(&rt, field, &places_of(&layout, *field), wanted);
+        let primary = place(&layout, Slot::Primary, *field);
+        let secondary = place(&layout, Slot::Secondary, *field);
+        same_at(&rt, field, &[primary, secondary], wanted);
     }
-    Ok(())
-}
-
-#[test]
-fn entries_stand_in_the_worked_places(rt: HostRuntime) -> Result<(), Fail> {
-    let layout = worked()?;
     for entry in 0..12u32 {
         same(&rt, &entry_place(&layout, entry), &(880 + 8 * entry));
     }
-    Ok(())
 }
 
 /// A flag by its byte.
@@ -61,15 +39,12 @@ fn flag(byte: u8) -> Flag {
 
 /// What is read of the flags where this byte stands, or what is left of it up to 0xff: image-ok and copy-done of the primary
 /// and of the secondary, and the swap-info.
-fn flags_of(alloc: Global, byte: u8) -> Result<([Flag; 4], u8), Fail> {
-    let mut primary = [0xff; 1024];
-    let mut secondary = [0xff; 768];
-    primary[1000] = byte;
-    primary[992] = 255 - byte;
-    primary[984] = byte;
-    secondary[744] = 255 - byte;
-    secondary[736] = byte;
-    let flash = loaded(alloc, &primary, &secondary)?;
+fn flags_of(rt: &impl Abort, alloc: Global, byte: u8) -> ([Flag; 4], u8) {
+    let other = 255 - byte;
+    let changes = format!(in alloc;
+        "1000={byte:02x},992={other:02x},984={byte:02x},1768={other:02x},1760={byte:02x}"
+    ).expect(rt, "memory");
+    let flash = flash_of(rt, alloc, changes.as_str());
     let first = Trailer::read(&flash, Slot::Primary);
     let second = Trailer::read(&flash, Slot::Secondary);
     let flags = [
@@ -78,64 +53,48 @@ fn flags_of(alloc: Global, byte: u8) -> Result<([Flag; 4], u8), Fail> {
         second.image_ok,
         second.copy_done,
     ];
-    Ok((flags, first.swap_info))
+    (flags, first.swap_info)
 }
 
 #[test]
-fn every_byte_of_a_flag_is_read(rt: HostRuntime) -> Result<(), Fail> {
+fn every_byte_of_a_flag_is_read(rt: HostRuntime) {
     for byte in 0..=255u8 {
-        let told = flags_of(rt.alloc(), byte)?;
-        let one = flag(byte);
-        let other = flag(255 - byte);
+        let told = flags_of(&rt, rt.alloc(), byte);
+        let (one, other) = (flag(byte), flag(255 - byte));
         same(&rt, &told, &([one, other, other, one], byte));
     }
-    Ok(())
-}
-
-/// What is read of a magic with one bit off in a byte.
-fn magic_with(alloc: Global, off: usize) -> Result<Magic, Fail>
-    requires { off < 16 }
-{
-    let mut primary = [0xff; 1024];
-    primary[1008..].copy_from_slice(&MAGIC);
-    primary[1008 + off] ^= 1;
-    let flash = loaded(alloc, &primary, &[0xff; 768])?;
-    Ok(Trailer::read(&flash, Slot::Primary).magic)
 }
 
 #[test]
-fn a_magic_with_one_byte_off_is_bad(rt: HostRuntime) -> Result<(), Fail> {
-    for off in 0..16usize {
-        same_at(&rt, &off, &magic_with(rt.alloc(), off)?, &Magic::Bad);
+fn a_magic_with_one_byte_off_is_bad(rt: HostRuntime) {
+    for (off, byte) in MAGIC.iter().enumerate() {
+        let changes = format!(in rt.alloc(); "1008=MAGIC,{}={:02x}", 1008 + off, *byte ^ 1).expect(
+            &rt, "memory",
+        );
+        let flash = flash_of(&rt, rt.alloc(), changes.as_str());
+        let found = Trailer::read(&flash, Slot::Primary).magic;
+        same_at(&rt, &off, &found, &Magic::Bad);
     }
-    Ok(())
 }
 
-/// The highest entry of a flash with this primary.
-fn highest_of(alloc: Global, primary: &[u8; 1024]) -> Result<Option<u32>, Fail> {
-    let flash = loaded(alloc, primary, &[0; 768])?;
-    Ok(highest_entry(&flash))
-}
-
-/// Bytes that are written one after the other, and the highest entry then. Bytes beside the entries are of none. Then entry 0
+/// Bytes of the primary, before a secondary of zeros, and the highest entry then. Bytes beside the entries are of none. Then entry 0
 /// by its first byte, entry 3 by its last, entry 5 by a byte that is not 1.
-static ENTRIES: [(usize, u8, Option<u32>); 6] = [
-    (879, 1, None),
-    (976, 1, None),
-    (880, 1, Some(0)),
-    (911, 0xfe, Some(3)),
-    (920, 0, Some(5)),
-    (975, 1, Some(11)),
+static ENTRIES: [(&str, Option<u32>); 6] = [
+    ("879=01", None),
+    ("879=01,976=01", None),
+    ("879=01,976=01,880=01", Some(0)),
+    ("879=01,976=01,880=01,911=fe", Some(3)),
+    ("879=01,976=01,880=01,911=fe,920=00", Some(5)),
+    ("879=01,976=01,880=01,911=fe,920=00,975=01", Some(11)),
 ];
 
 #[test]
-fn the_highest_written_entry_is_found(rt: HostRuntime) -> Result<(), Fail> {
-    let mut primary = [0xff; 1024];
-    for (at, byte, entry) in &ENTRIES {
-        if let Some(place) = primary.get_mut(*at) {
-            *place = *byte;
-        }
-        same_at(&rt, at, &highest_of(rt.alloc(), &primary)?, entry);
+fn the_highest_written_entry_is_found(rt: HostRuntime) {
+    for (changes, entry) in &ENTRIES {
+        let changes = format!(in rt.alloc(); "1024=zeros,1351=zeros,{changes}").expect(
+            &rt, "memory",
+        );
+        let flash = flash_of(&rt, rt.alloc(), changes.as_str());
+        same_at(&rt, entry, &highest_entry(&flash), entry);
     }
-    Ok(())
 }

@@ -6,26 +6,14 @@ use mc_flash::Grain;
 use mc_trailer::Profile;
 
 /// Whether an outcome is told of the second flash's boot, as though it came after a cut of the first one's.
-fn goes_on<F: Flash>(first: &mut F, cut: u32, second: &F, rules: Rules) -> Result<bool, Fail> {
-    let place = first.mark()?;
+fn goes_on<F: Flash>(rt: &impl Abort, first: &mut F, cut: u32, second: &F, rules: Rules) -> bool {
+    let place = first.mark().expect(rt, "a checkpoint");
     let whole = told(first, Rules::PLAIN);
     first.back_to(place);
     let mut boot = Boot::cold(first, Rules::PLAIN);
     run(first, &mut boot, cut);
     let next = Boot::cold(second, rules);
-    Ok(outcome_after(&boot, &whole, &next).is_some())
-}
-
-/// The same of flashes that differ so from a blank one.
-fn goes_on_from(
-    alloc: Global,
-    first: &str,
-    cut: u32,
-    second: &str,
-    rules: Rules,
-) -> Result<bool, Fail> {
-    let second = flash_of(alloc, second)?;
-    goes_on(&mut flash_of(alloc, first)?, cut, &second, rules)
+    outcome_after(&boot, &whole, &next).is_some()
 }
 
 const CALL: Rules = Rules::PLAIN;
@@ -79,10 +67,15 @@ static BOOTS: [(&str, u32, &str, Rules, bool); 27] = [
 ];
 
 #[test]
-fn boots_that_go_on_where_another_was_cut(rt: HostRuntime) -> Result<(), Fail> {
+fn boots_that_go_on_where_another_was_cut(rt: HostRuntime) {
     for (first, cut, second, rules, wanted) in &BOOTS {
-        let found = goes_on_from(rt.alloc(), *first, *cut, *second, *rules)?;
+        let found = goes_on(
+            &rt,
+            &mut flash_of(&rt, rt.alloc(), *first),
+            *cut,
+            &flash_of(&rt, rt.alloc(), *second),
+            *rules,
+        );
         same_at(&rt, &(*second, *cut), &found, wanted);
     }
-    Ok(())
 }

@@ -1,37 +1,35 @@
-//! Campaigns of a test swap that are replayed.
+//! Campaigns that are replayed, of a test swap and of one of large images.
 use super::common::swap;
+use super::large::large;
 use mc_campaign::{Campaign, CampaignRow, replay_campaign};
 use mc_explore::{Kind, ReplayError, Start};
-use mc_flash::SnapFlash;
-use std::alloc::{AllocError, Global};
+use mc_flash::{Flash, JournalFlash, SnapFlash};
+use std::alloc::Global;
 use std::process::Abort;
-use std::test::Fail;
 
-/// Why a campaign is not replayed. The test ends where an allocation failed (`scripts/refuse-tests`).
-fn refused(alloc: Global, error: ReplayError) -> Result<String, AllocError> {
-    match error {
-        ReplayError::Memory => Err(AllocError),
-        error => format!(in alloc; "{error}"),
-    }
-}
-
-/// The row of a campaign that is replayed from a start, or why it is not.
-fn row_of(
+/// The row of a campaign that is replayed from a start, or why it is not. The test ends where an allocation failed
+/// (`scripts/refuse-tests`).
+fn told_of<F: Flash + Drop>(
+    rt: &impl Abort,
     alloc: Global,
     start: &Start,
-    campaign: Campaign,
+    text: &str,
     confirms: bool,
-) -> Result<String, AllocError> {
-    match replay_campaign::<SnapFlash>(alloc, start, &campaign, confirms) {
+) -> String {
+    let campaign = Campaign::read(text).expect(rt, "a campaign");
+    match replay_campaign::<F>(alloc, start, &campaign, confirms) {
         Ok((first, second, _)) => {
             let row = CampaignRow {
                 campaign,
                 first,
                 second,
             };
-            format!(in alloc; "{row}")
+            format!(in alloc; "{row}").expect(rt, "memory")
         }
-        Err(error) => refused(alloc, error),
+        Err(error) => {
+            assert!(rt; error != ReplayError::Memory, "error: Memory");
+            format!(in alloc; "{error}").expect(rt, "memory")
+        }
     }
 }
 
@@ -56,23 +54,26 @@ static REPLAYS: [(bool, &str, &str); 5] = [
     (false, "1.18,2.0", "E53 CannotOccur at 0"),
 ];
 
-/// Looks what is told of a campaign of a start.
-fn assert_replayed(
-    rt: &impl Abort,
-    alloc: Global,
-    start: &Start,
-    (confirms, text, want): (bool, &str, &str),
-) -> Result<(), Fail> {
-    let row = row_of(alloc, start, Campaign::read(text)?, confirms)?;
-    assert_eq!(rt; row.as_str(), want, "{text}");
-    Ok(())
+#[test]
+fn campaigns_are_replayed_or_cannot_occur(rt: HostRuntime) {
+    let start = swap(&rt, rt.alloc());
+    for (confirms, text, want) in REPLAYS {
+        let told = told_of::<SnapFlash>(&rt, rt.alloc(), &start, text, confirms);
+        assert_eq!(rt; told.as_str(), want, "{text}");
+    }
 }
 
+/// A campaign of sixteen cuts before the first operation of a round, and what is told of it.
+static ROUNDS: &str = "1.0,1.0,1.0,1.0,1.0,1.0,1.0,1.0,2.0,2.0,2.0,2.0,2.0,2.0,2.0,2.0";
+
+static TOLD: &str =
+    "1.0,1.0,1.0,1.0,1.0,1.0,1.0,1.0,2.0,2.0,2.0,2.0,2.0,2.0,2.0,2.0 boot test 7598 boot revert 7604 2.0.0+0/1036288 2.0.0+0/1036288 none";
+
 #[test]
-fn campaigns_are_replayed_or_cannot_occur(rt: HostRuntime) -> Result<(), Fail> {
-    let start = swap(rt.alloc(), Kind::Test)?;
-    for case in &REPLAYS {
-        assert_replayed(&rt, rt.alloc(), &start, *case)?;
-    }
-    Ok(())
+fn a_campaign_of_large_images_is_replayed(rt: HostRuntime) {
+    let start = large(&rt, rt.alloc(), Kind::Test);
+    let told = told_of::<SnapFlash>(&rt, rt.alloc(), &start, ROUNDS, false);
+    assert_eq!(rt; told.as_str(), TOLD);
+    let told = told_of::<JournalFlash>(&rt, rt.alloc(), &start, ROUNDS, false);
+    assert_eq!(rt; told.as_str(), TOLD);
 }

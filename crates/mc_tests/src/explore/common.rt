@@ -2,10 +2,12 @@
 use mc_explore::{Kind, Start};
 use mc_fixtures::{FIRST_IMAGE, SECOND_IMAGE, worked};
 use std::alloc::Global;
-use std::test::Fail;
+use std::process::Abort;
 
-/// A start of both images with that kind of swap.
-pub fn swap(alloc: Global, kind: Kind) -> Result<Start, Fail> {
-    let layout = worked()?;
-    Ok(Start::from_images(alloc, &layout, kind, &FIRST_IMAGE, &SECOND_IMAGE)?)
+/// A start of both images with a swap for a test.
+pub fn swap(rt: &impl Abort, alloc: Global) -> Start {
+    let layout = worked().expect(rt, "a layout");
+    Start::from_images(alloc, &layout, Kind::Test, &FIRST_IMAGE, &SECOND_IMAGE).expect(
+        rt, "a start",
+    )
 }

@@ -1,10 +1,8 @@
 //! Texts of schedules, campaigns and cursors.
 use super::common::swap;
 use mc_campaign::{Campaign, CampaignCursor, Round};
-use mc_explore::{Cursor, Kind, Schedule, Start};
+use mc_explore::{Cursor, Schedule};
 use std::alloc::{AllocError, Global};
-use std::process::Abort;
-use std::test::Fail;
 
 /// Campaigns, with at most sixteen cuts, and texts that are none, the first of them empty.
 static CAMPAIGNS: &str = "\
@@ -40,20 +38,13 @@ fn told_of(alloc: Global, text: &str) -> Result<String, AllocError> {
     }
 }
 
-/// Looks what is told of the text of a line.
-fn assert_told(rt: &impl Abort, alloc: Global, line: &str) -> Result<(), Fail> {
-    let (text, want) = line.split_once(" => ").ok_or("a text and an end")?;
-    let told = told_of(alloc, text)?;
-    assert_eq!(rt; told.as_str(), want, "{line}");
-    Ok(())
-}
-
 #[test]
-fn campaigns_are_read_back_or_refused(rt: HostRuntime) -> Result<(), Fail> {
+fn campaigns_are_read_back_or_refused(rt: HostRuntime) {
     for line in CAMPAIGNS.lines() {
-        assert_told(&rt, rt.alloc(), line)?;
+        let (text, want) = line.split_once(" => ").expect(&rt, "a text and an end");
+        let told = told_of(rt.alloc(), text).expect(&rt, "memory");
+        assert_eq!(rt; told.as_str(), want, "{line}");
     }
-    Ok(())
 }
 
 /// Whether a text is no schedule and no cursor.
@@ -65,46 +56,26 @@ fn is_refused(text: &str) -> bool {
 
 #[test]
 fn texts_with_nothing_or_a_space_are_refused(rt: HostRuntime) {
-    assert!(rt; is_refused("") && is_refused(" ") && is_refused(" 1"));
+    for text in ["", " ", " 1"] {
+        assert!(rt; is_refused(text), "{text}");
+    }
 }
 
 #[test]
-fn texts_name_their_cuts_in_order(rt: HostRuntime) -> Result<(), Fail> {
-    let schedule = Schedule::read("9.4")?;
-    let campaign = Campaign::read("1.3,2.0,2.17")?;
-    let (first, second) = (
-        campaign.places(Round::First),
-        campaign.places(Round::Second),
-    );
-    assert_eq!(rt;
-        (schedule.cuts(), (first.cuts(), second.cuts())),
-        ([9, 4].as_slice(), ([3].as_slice(), [0, 17].as_slice()))
-    );
-    Ok(())
-}
-
-/// The text of the cursor of a campaign.
-fn cursor_of(alloc: Global, start: &Start) -> Result<String, Fail> {
-    let cursor = CampaignCursor::of(start, 2, true, &Campaign::read("1.0,2.5")?);
-    Ok(format!(in alloc; "{cursor}")?)
-}
-
-/// The same, as it is to be.
-fn cursor_with_digest(alloc: Global, start: &Start) -> Result<String, Fail> {
-    let digest = hex::encode(alloc, start.digest())?;
-    Ok(format!(in alloc; "mc3:call:1:confirm:{digest}:2:1.0,2.5")?)
-}
-
-/// Looks whether that is the text.
-fn assert_named(rt: &impl Abort, alloc: Global, start: &Start) -> Result<(), Fail> {
-    let want = cursor_with_digest(alloc, start)?;
-    let text = cursor_of(alloc, start)?;
-    assert_eq!(rt; text.as_str(), want.as_str());
-    Ok(())
+fn texts_name_their_cuts_in_order(rt: HostRuntime) {
+    let schedule = Schedule::read("9.4").expect(&rt, "a text");
+    assert_eq!(rt; schedule.cuts(), [9, 4].as_slice());
+    let campaign = Campaign::read("1.3,2.0,2.17").expect(&rt, "a text");
+    assert_eq!(rt; campaign.places(Round::First).cuts(), [3].as_slice());
+    assert_eq!(rt; campaign.places(Round::Second).cuts(), [0, 17].as_slice());
 }
 
 #[test]
-fn the_cursor_of_a_campaign_names_its_start(rt: HostRuntime) -> Result<(), Fail> {
-    let start = swap(rt.alloc(), Kind::Test)?;
-    assert_named(&rt, rt.alloc(), &start)
+fn the_cursor_of_a_campaign_names_its_start(rt: HostRuntime) {
+    let campaign = Campaign::read("1.0,2.5").expect(&rt, "a text");
+    let cursor = CampaignCursor::of(&swap(&rt, rt.alloc()), 2, true, &campaign);
+    let text = format!(in rt.alloc(); "{cursor}").expect(&rt, "memory");
+    let want =
+        "mc3:call:1:confirm:9b07a99687c30f1c748c995c0d4df48a8af881b571e209fd613b03ba09e2b5b7:2:1.0,2.5";
+    assert_eq!(rt; text.as_str(), want);
 }

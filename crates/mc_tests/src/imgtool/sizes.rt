@@ -2,14 +2,13 @@
 ghost use Rattle.std.specs.Prelude.{◌≡◌, true};
 
 use super::{Engine, WORKED, is_told};
-use crate::common::{same, same_at};
+use crate::common::same;
 use mc_image::Version;
 use mc_imgtool::{CreateOptions, create, read_bounded};
 use std::alloc::Global;
 use std::io;
 use std::io::Read;
 use std::process::Abort;
-use std::test::Fail;
 
 /// The most bytes of an input.
 const MOST: usize = 1 << 24;
@@ -55,71 +54,58 @@ impl Read for Zeros {
     }
 }
 
-/// The image of so many zero bytes, with the length that its slot is filled up to.
-fn created(alloc: Global, left: usize, slot_size: Option<u32>) -> Result<Vec<u8>, Fail> {
-    let options = CreateOptions {
-        pad: slot_size.is_some(),
-        slot_size,
-        ..WORKED
-    };
-    let mut out = Vec::with_capacity(alloc, 2 * MOST)?;
-    create(alloc, &options, &mut Zeros { left }, &mut out)?;
-    Ok(out)
+/// The image of so many zero bytes.
+fn created(rt: &impl Abort, alloc: Global, left: usize, options: &CreateOptions) -> Vec<u8> {
+    assert!(rt; options.header_size >= 32);
+    let mut out = Vec::with_capacity(alloc, 2 * MOST).expect(rt, "memory");
+    create(alloc, options, &mut Zeros { left }, &mut out).expect(rt, "an image");
+    out
 }
 
-/// Whether some bytes are so many, and end with those that these digits tell.
-fn ends_with(alloc: Global, bytes: &[u8], length: usize, digits: &str) -> Result<bool, Fail> {
-    let end = hex::decode(alloc, digits)?;
-    Ok(bytes.len() == length && bytes.ends_with(end.as_slice()))
+/// Some bytes are so many, and end with those that these digits tell.
+fn end_with(rt: &impl Abort, alloc: Global, bytes: &[u8], length: usize, digits: &str) {
+    let end = hex::decode(alloc, digits).expect(rt, "digits");
+    let told = (bytes.len(), bytes.ends_with(end.as_slice()));
+    same(rt, &told, &(length, true));
 }
 
-/// An image and a slot are so many bytes and end as they are to, and the slot begins with the image.
-fn are_filled(rt: &impl Abort, alloc: Global, image: &[u8], slot: &[u8]) -> Result<(), Fail> {
-    let is_image = ends_with(alloc, image, MOST + 72, LARGEST_PAYLOAD)?;
-    let is_marked = ends_with(alloc, slot, 2 * MOST, MAGIC)?;
-    same(
-        rt,
-        &[is_image, is_marked, slot.starts_with(image)],
-        &[true; 3],
-    );
-    Ok(())
-}
+/// The options of the largest slot.
+const PADDED: CreateOptions = CreateOptions {
+    pad: true,
+    slot_size: Some(1 << 25),
+    ..WORKED
+};
 
 #[test]
-fn the_largest_payload_is_taken_and_the_largest_slot_filled(rt: HostRuntime) -> Result<(), Fail> {
-    let image = created(rt.alloc(), MOST, None)?;
-    let slot = created(rt.alloc(), MOST, Some(1 << 25))?;
-    are_filled(&rt, rt.alloc(), image.as_slice(), slot.as_slice())
+fn the_largest_payload_is_taken_and_the_largest_slot_filled(rt: HostRuntime) {
+    let image = created(&rt, rt.alloc(), MOST, &WORKED);
+    end_with(
+        &rt,
+        rt.alloc(),
+        image.as_slice(),
+        MOST + 72,
+        LARGEST_PAYLOAD,
+    );
+    let slot = created(&rt, rt.alloc(), MOST, &PADDED);
+    end_with(&rt, rt.alloc(), slot.as_slice(), 2 * MOST, MAGIC);
+    same(&rt, &slot.as_slice().starts_with(image.as_slice()), &true);
 }
 
 /// Inputs of zeros, and why they are refused.
 static ZEROS: [(Engine, usize, &str); 3] = [
-    (Engine::Create(WORKED), MOST + 1, "E23 InputTooLong\n"),
+    (Engine::Create, MOST + 1, "E23 InputTooLong\n"),
     (Engine::Verify, MOST, "E2 BadMagic\n"),
     (Engine::Verify, MOST + 1, "E23 InputTooLong\n"),
 ];
 
-/// An engine tells this of so many zeros, and leaves none.
-fn tells_of_zeros(
-    rt: &impl Abort,
-    alloc: Global,
-    engine: Engine,
-    left: usize,
-    wanted: &[u8],
-) -> Result<(), Fail> {
-    let mut input = Zeros { left };
-    let told = engine.told(alloc, &mut input)?;
-    same_at(rt, &left, &(told.as_slice(), input.left), &(wanted, 0));
-    Ok(())
-}
-
 /// Zeros are read to the end or the limit.
 #[test]
-fn zeros_are_refused(rt: HostRuntime) -> Result<(), Fail> {
+fn zeros_are_refused(rt: HostRuntime) {
     for (engine, left, wanted) in &ZEROS {
-        tells_of_zeros(&rt, rt.alloc(), *engine, *left, wanted.as_bytes())?;
+        let mut input = Zeros { left: *left };
+        is_told(&rt, rt.alloc(), *engine, &mut input, *wanted);
+        same(&rt, &input.left, &0);
     }
-    Ok(())
 }
 
 /// What is told of the largest image, and of so many bytes behind it.
@@ -130,56 +116,45 @@ static LARGEST: [(Engine, usize, &str); 4] = [
     (Engine::Dumpinfo, 1, "E23 InputTooLong\n"),
 ];
 
-/// This is told of the largest image.
-fn judges_and_refuses(rt: &impl Abort, alloc: Global, image: &mut Vec<u8>) -> Result<(), Fail> {
-    for (engine, behind, wanted) in &LARGEST {
-        image.resize(MOST + *behind, 0)?;
-        let at = (engine, *engine);
-        is_told(rt, alloc, at, image.as_slice(), wanted.as_bytes())?;
-    }
-    Ok(())
-}
-
 #[test]
-fn the_largest_image_is_judged_and_a_larger_one_refused(rt: HostRuntime) -> Result<(), Fail> {
-    judges_and_refuses(&rt, rt.alloc(), &mut created(rt.alloc(), MOST - 72, None)?)
+fn the_largest_image_is_judged_and_a_larger_one_refused(rt: HostRuntime) {
+    let mut image = created(&rt, rt.alloc(), MOST - 72, &WORKED);
+    for (engine, behind, wanted) in &LARGEST {
+        image.resize(MOST + *behind, 0).expect(&rt, "memory");
+        is_told(&rt, rt.alloc(), *engine, &mut image.as_slice(), *wanted);
+    }
 }
 
 /// The longest line that there can be, of the largest image with the largest version.
 const LONGEST_LINE: &str =
     "good 255.255.65535+4294967295 16777216 a2752af8abfe2ced31677702985769392525b1a92aae0d4859ef0854db49ac85\n";
 
-/// That image.
-fn longest(alloc: Global) -> Result<Vec<u8>, Fail> {
-    let version = Version {
+/// The options of that image.
+const GREATEST: CreateOptions = CreateOptions {
+    version: Version {
         major: u8::MAX,
         minor: u8::MAX,
         revision: u16::MAX,
         build: u32::MAX,
-    };
-    let options = CreateOptions { version, ..WORKED };
-    let mut out = Vec::with_capacity(alloc, 2 * MOST)?;
-    create(alloc, &options, &mut Zeros { left: MOST - 72 }, &mut out)?;
-    Ok(out)
-}
+    },
+    ..WORKED
+};
 
 #[test]
-fn the_longest_line_is_written(rt: HostRuntime) -> Result<(), Fail> {
-    let image = longest(rt.alloc())?;
-    let at = (&MOST, Engine::Verify);
+fn the_longest_line_is_written(rt: HostRuntime) {
+    let image = created(&rt, rt.alloc(), MOST - 72, &GREATEST);
     is_told(
         &rt,
         rt.alloc(),
-        at,
-        image.as_slice(),
-        LONGEST_LINE.as_bytes(),
+        Engine::Verify,
+        &mut image.as_slice(),
+        LONGEST_LINE,
     )
 }
 
 #[test]
-fn more_than_an_engine_takes_is_read(rt: HostRuntime) -> Result<(), Fail> {
+fn more_than_an_engine_takes_is_read(rt: HostRuntime) {
     let mut input = Zeros { left: 2 * MOST };
-    let whole = read_bounded(rt.alloc(), &mut input, 1 << 25)?;
+    let whole = read_bounded(rt.alloc(), &mut input, 1 << 25).expect(&rt, "an input");
     same(&rt, &whole.len(), &(2 * MOST));
-    Ok(())
 }
