@@ -1,5 +1,5 @@
 -- The verdict on rows is the first of what was asked for that does not hold.
-use Rattle.std.proofs.Common.{Bool, List, None, Ok, Err, Option, Result, Some, ap, false, if◌then◌else◌, not, refl, sym, true, ◌&&◌, ◌||◌, ◌∙◌, ◌≡◌, ◌↔◌}
+use Rattle.std.proofs.Common.{Bool, List, None, Option, Result, Some, false, not, refl, true, ◌≡◌, ◌↔◌}
 use Rattle.std.specs.Prelude.{IfSome, is_none, is_some}
 use Rattle.mc_explore.specs.Right.{AllRight}
 use Rattle.mc_explore.specs.Rows.{Told}
@@ -9,7 +9,6 @@ use Rattle.mc_explore.specs.declared.rights.Rights.{Rights}
 use Rattle.mc_command.specs.Verdicts.{IsVerdict, verdict_of}
 use Rattle.mc_command.specs.declared.verdict.Asked.{Asked}
 use Rattle.mc_command.specs.declared.refusal.Refusal.{Refusal}
-use Rattle.mc_command.specs.declared.refusal.Refusal.TheVariants as refusals
 
 -- That holds where it was counted.
 where_counted : (P : Type 0) (o : Option Rights) → P → IfSome o (λ _. P)
