@@ -7,9 +7,11 @@ ghost use Rattle.mc_flash.specs.inner.Worked.{worked};
 
 mod changes;
 mod failing;
+mod faulty;
 
 pub use changes::change_at;
 pub use failing::{FAULTS, FailingReader, FailingWriter, Failure, Fault};
+pub use faulty::{FaultyFile, FaultyFiles};
 use mc_flash::{Layout, LayoutError};
 use mc_image::{ImageError, ImageParts, Version, write_image};
 use std::alloc::Global;

@@ -4,7 +4,6 @@ mod campaigns;
 mod counts;
 mod creation;
 mod faults;
-mod faulty;
 mod hostile;
 mod layouts;
 mod lives;

@@ -1,8 +1,7 @@
 //! Command lines whose reads and writes fail, each at each call.
-use super::faulty::FaultyFile;
 use super::support::{ran_over, words_of};
 use mc_command::run;
-use mc_fixtures::{Failure, Fault, PAYLOAD, PLAIN_IMAGE};
+use mc_fixtures::{Failure, Fault, FaultyFile, PAYLOAD, PLAIN_IMAGE};
 use std::alloc::Global;
 use std::cell::RefCell;
 use std::process::Abort;

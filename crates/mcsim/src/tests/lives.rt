@@ -1,8 +1,7 @@
 //! `life`: scripts at the worked layout, with what they print.
-use super::faulty::FaultyFiles;
 use super::support::{contents, in_full, ran_over, tells, words_of};
 use mc_command::run;
-use mc_fixtures::{FAULTS, FailingReader, FailingWriter, Failure, Fault};
+use mc_fixtures::{FAULTS, FailingReader, FailingWriter, Failure, Fault, FaultyFiles};
 use std::alloc::Global;
 use std::cell::RefCell;
 use std::io::{Read, Write};

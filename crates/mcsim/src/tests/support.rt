@@ -1,7 +1,6 @@
 //! What the tests of command lines share: files in memory, and sessions over them.
-use super::faulty::FaultyFiles;
 use mc_command::run;
-use mc_fixtures::{FIRST_TOLD, Fault, GOOD_LINE, SECOND_TOLD, change_at, named};
+use mc_fixtures::{FIRST_TOLD, Fault, FaultyFiles, GOOD_LINE, SECOND_TOLD, change_at, named};
 use sha2::{Digest, Sha256};
 use std::alloc::{AllocError, Global};
 use std::cell::RefCell;

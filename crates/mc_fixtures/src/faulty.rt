@@ -1,5 +1,6 @@
 //! Files and streams that fail once.
-use mc_fixtures::{Failure, Fault, named};
+use crate::failing::{Failure, Fault};
+use crate::named;
 use std::alloc::Allocator;
 use std::cell::RefCell;
 use std::fs::{Metadata, OpenFile, OpenOptions};
