@@ -30,6 +30,8 @@ $ explore WORKED --kind test IMAGES --cuts 1 --limit 2 --all-boot
 - boot test 18 2.0.0+0/80 1.0.0+0/80 revert; 0 boot test 18 2.0.0+0/80 1.0.0+0/80 revert; next mc1:START:1:0; ! mcsim: E77 NotWhole; exit 1
 $ explore WORKED --kind none IMAGES --cuts 1 --all --all-right --expect-secondary none
 - boot none 0 1.0.0+0/80 2.0.0+0/80 none; end; right 0; first-not-right -; ! mcsim: E76 NotAllRight; exit 1
+$ campaign WORKED --kind test IMAGES --cuts 0 --limit 1 --all
+- boot test 18 boot revert 23 1.0.0+0/80 2.0.0+0/80 none; end
 $ census WORKED --kind test IMAGES --cuts 2 --expect-primary x
 ! mcsim: E15 Syntax; exit 2
 ";
