@@ -1,6 +1,6 @@
 -- The files that a script names, line by line.
 use Rattle.std.specs.Prelude.{◌≡◌, ℕ, List, [], ◌∷◌, ◌++◌, Option, Some, None, option_and_then, refl}
-use Rattle.std.proofs.Common.{sym, ap, append_assoc, append-nil, ◌∙◌}
+use Rattle.std.proofs.Common.{sym, ap, append_assoc, ◌∙◌}
 use Rattle.mc_life.specs.declared.event.Event.{Event}
 use Rattle.mc_life.specs.Script.{Names, ReadsEvent, before, file_named, lines_left, lines_of}
 
@@ -26,9 +26,6 @@ pub record AreNamed (script : List ℕ) (rest : Option (List ℕ)) (names : List
   pub are : lines_of script ≡ told ++ lines_left rest
   pub named : Names told names
 
-pub names_none : (script : List ℕ) → AreNamed script (Some script) []
-names_none script = record { told = []; are = refl; named = refl }
-
 pub names_line : (script text : List ℕ) (names : List (List ℕ)) → AreNamed script (Some text) names → (line : List ℕ) (after : Option (List ℕ)) → lines_of text ≡ line ∷ lines_left after
     → (found : Option (List ℕ)) → (e : Option Event) × ReadsEvent line e × (found ≡ option_and_then file_named e) → AreNamed script after (names ++ before found [])
 names_line script text names at line after lines found (e, reads, is) = record {
@@ -36,6 +33,3 @@ names_line script text names at line after lines found (e, reads, is) = record {
   are = at.are ∙ ap (λ (z : List (List ℕ)). at.told ++ z) lines ∙ sym (append_assoc at.told (line ∷ []) (lines_left after));
   named = rw is (names_more at.told line names e reads at.named);
 }
-
-pub names_all : (script : List ℕ) (names : List (List ℕ)) → AreNamed script None names → Names (lines_of script) names
-names_all script names at = let e = at.are ∙ append-nil at.told in rw e at.named

@@ -26,14 +26,6 @@ module _ (counts : List ℕ) (i sector count here : ℕ) (so : IsSoFar counts i 
     inside = omega (arith, so.inside);
   }
 
-  pub rises : count < here → IsSoFar counts (i + 1) i here
-  rises lt = record {
-    value = is;
-    greatest = λ k lt_k. elim (below k i lt_k) [ inl a ↦ omega (arith, so.greatest k a, lt) | inr e ↦ (let at : get_or counts k 0 ≡ here = ap (λ n. get_or counts n 0) e ∙ is in omega (arith, at)) ];
-    first = λ k lt_k. omega (arith, so.greatest k lt_k, lt);
-    inside = omega arith;
-  }
-
 pub is_most : (counts : List ℕ) (i sector count : ℕ) → length counts ≤ i → IsSoFar counts i sector count → IsMost counts (record { count = count; sector = sector })
 is_most counts i sector count end so = record { value = so.value; greatest = λ k lt. so.greatest k (omega (arith, lt, end)); first = so.first }
 
