@@ -62,8 +62,8 @@ impl Script {
     pub fn read<R: Read>(alloc: Global, reader: &mut R) -> Result<Script, ScriptError>
         ensures reads { Reads (R.remaining reader.old) result }
         ensures end { OnOk result (IsAtEnd (R.remaining reader.new)) }
-        ensures taken { (bs : List ℕ) × Consumes (R.remaining reader.old) (R.remaining reader.new) bs
-            × (length bs ≤ 2 ^ 24 + 1) }
+        ensures taken { (bs : List ℕ) × Consumes (R.remaining reader.old)
+            (R.remaining reader.new) bs × (length bs ≤ 2 ^ 24 + 1) }
     {
         let bytes = read_bounded(alloc, reader, GREATEST_SCRIPT)?;
         match String::from_utf8(bytes) {
