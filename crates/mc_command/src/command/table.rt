@@ -404,7 +404,7 @@ static VERDICT: [Word; 4] = [
     },
     Word {
         name: "all-right",
-        help: "Refuse, after the counts, where one does not boot with the expected images",
+        help: "Refuse, after the counts, where the images are not those expected",
         ..FLAG
     },
     Word {
@@ -530,9 +530,9 @@ With a verdict the rows are counted once more; see mcsim survey --help.";
 const AFTER_SURVEY: &str = "\
 Seven lines: how many rows the page of explore would have, how many of them with each RESULT (boot,
 none, panic, fault), the most operations of a last boot, and next CURSOR or end, as the page.
-Where something is expected of the slots, two lines more: how many rows boot with the expected images,
-and the first that does not. --all-right expects of two images the named one in the primary at the end
-and the other in the secondary. A survey of a part of the rows gives no verdict (E77).";
+Where something is expected of the slots, two lines more: how many rows boot with the expected
+images, and the first that does not. --all-right expects of two images the named one in the primary
+at the end and the other in the secondary. A survey of a part of the rows gives no verdict (E77).";
 
 const AFTER_CENSUS: &str = "\
 Seven lines: how many schedules of at most K power cuts can occur, how many of them have each RESULT
@@ -540,8 +540,8 @@ Seven lines: how many schedules of at most K power cuts can occur, how many of t
 not boot, or none. They are not listed, so that even K of 16 takes less than a second on most layouts;
 with the grain unit and large images it may take half a minute and 300 MB.
 Where something is expected of the slots, two lines more: how many schedules boot with the expected
-images, and the first that does not. --all-right expects of two images the named one in the primary at
-the end and the other in the secondary; that takes a second census.
+images, and the first that does not. --all-right expects of two images the named one in the primary
+at the end and the other in the secondary; that takes a second census.
 A number of 2^128 - 1 or more is printed as >=340282366920938463463374607431768211455.";
 
 const AFTER_CAMPAIGN: &str = "\
