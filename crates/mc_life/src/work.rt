@@ -1,9 +1,9 @@
 //! What a running image does to the secondary, operation by operation, and what that erases.
-ghost use Rattle.std.specs.Prelude.{◌≡◌, ◌<◌, [], ◌∷◌, ◌≤◌, ◌%◌, length, IfErr, IfOk, OnOk};
+ghost use Rattle.std.specs.Prelude.{◌≡◌, ◌<◌, [], ◌∷◌, ◌≤◌, ◌%◌, length, IfErr, IfOk, OnOk, true};
 ghost use Rattle.mc_boot.specs.Life.{AreSecondary};
 ghost use Rattle.mc_image.specs.Image.{IsBytes};
 ghost use Rattle.mc_flash.specs.Flash.{put, sectors_of, size_of, with_bytes};
-ghost use Rattle.mc_flash.specs.Usage.{Does};
+ghost use Rattle.mc_flash.specs.Usage.{Does, limits_for};
 ghost use Rattle.mc_flash.specs.declared.op.Op.TheVariants.{Erase, Program};
 ghost use Rattle.mc_flash.specs.declared.op.Slot.TheVariants.{Primary, Secondary};
 ghost use Rattle.mc_life.specs.Device.{worn};
@@ -195,6 +195,8 @@ pub fn marked<F: Flash>(
     ensures content { let f = F.seen flash.now in IfOk result (λ made. (F.seen made).content
         ≡ marked f.geometry f.content bytes.now) }
     ensures layout { IfOk result (λ made. (F.seen made).geometry ≡ (F.seen flash.now).geometry) }
+    ensures exact { let f = F.seen flash.now in IfOk result (λ made. F.counted ≡ true
+        → (F.seen made).usage.limits ≡ limits_for grain f.geometry boots) }
     ensures err { IfErr result (λ e. e ≡ FlashError.Memory) }
 {
     let layout = flash.layout();
