@@ -1,6 +1,5 @@
 //! `boot` and `replay` at the worked layout.
 use super::support::{Table, all_play};
-use std::test::Fail;
 
 /// Swaps that are cut, whole swaps between which each unit is written by itself, and a revert whose magic in the secondary is
 /// cut in half: in the first profile no row of the tables holds, and it is lost.
@@ -181,6 +180,6 @@ static TABLES: [Table; 4] = [
 ];
 
 #[test]
-fn boots_and_replays(rt: HostRuntime) -> Result<(), Fail> {
+fn boots_and_replays(rt: HostRuntime) {
     all_play(&rt, rt.alloc(), &TABLES)
 }

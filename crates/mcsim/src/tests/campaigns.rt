@@ -1,6 +1,5 @@
 //! `campaign` at the worked layout, by rows of a model that shares no code with this repository.
 use super::support::{Table, all_play};
-use std::test::Fail;
 
 /// The step of a page, and the names of a line's fields there.
 const STEP: &str = "\
@@ -150,6 +149,6 @@ $ campaign WORKED --kind test IMAGES --cuts 1 --cursor mc3:call:1:leave:START:1:
 static TABLES: [Table; 2] = [(STEP, FIELDS, PAGES), (CAMPAIGNS, &[], "-")];
 
 #[test]
-fn lists_campaigns(rt: HostRuntime) -> Result<(), Fail> {
+fn lists_campaigns(rt: HostRuntime) {
     all_play(&rt, rt.alloc(), &TABLES)
 }

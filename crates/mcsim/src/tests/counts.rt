@@ -1,7 +1,6 @@
 //! `survey` and `census`, of images and of a flash whose copy-done cannot be written. The numbers are those of a model that shares no
 //! code with this repository.
 use super::support::{Table, all_play};
-use std::test::Fail;
 
 /// Tallies.
 const SURVEYS: &str = "\
@@ -105,6 +104,6 @@ static TABLES: [Table; 3] = [
 ];
 
 #[test]
-fn counts(rt: HostRuntime) -> Result<(), Fail> {
+fn counts(rt: HostRuntime) {
     all_play(&rt, rt.alloc(), &TABLES)
 }

@@ -1,51 +1,88 @@
 //! `create`: the images that it makes, and what it refuses; and command lines over real files.
-use super::support::{Table, all_play, scratch_path, told_of};
+use super::support::{Table, all_play, told_of};
 use mc_fixtures::{GOOD_LINE, PAYLOAD, PLAIN_IMAGE};
+use std::alloc::Global;
 use std::os::unix::fs::symlink;
-use std::test::Fail;
-use std::{env, fs};
+use std::process::Abort;
+use std::rt::Files;
+use std::{env, fs, process};
 
 /// Looks what a command line tells over the real files, with an image as standard input.
-fn tells(rt: &HostRuntime, line: &str, want: &str) -> Result<(), Fail> {
-    let text = told_of(rt, line, &PLAIN_IMAGE)?;
-    if text.as_str() == want {
-        Ok(())
-    } else {
-        Err(Fail::new(text))
-    }
+fn tells<H: Abort + Files>(rt: &H, alloc: Global, line: &str, want: &str) {
+    let text = told_of(rt, alloc, line, &PLAIN_IMAGE);
+    assert_eq!(rt; text.as_str(), want, "{line}");
 }
 
 /// Looks what a file holds.
-fn holds(rt: &HostRuntime, path: &str, want: &[u8]) -> Result<(), Fail> {
-    let bytes = fs::read(rt, path)?;
-    if bytes.as_slice() == want {
-        Ok(())
-    } else {
-        Err(Fail::new("a file holds other bytes"))
-    }
+fn holds<H: Abort + Files + Alloc>(rt: &H, path: &str, want: &[u8]) {
+    let bytes = fs::read(rt, path).expect(rt, "a file");
+    assert_eq!(rt; bytes.as_slice(), want, "{path}");
+}
+
+/// Removes a file.
+fn remove<H: Abort + Files>(rt: &H, path: &str) {
+    fs::remove_file(rt, path).expect(rt, "a file")
 }
 
 /// Looks what `create` tells of these files.
-fn creates(rt: &HostRuntime, infile: &str, outfile: &str, want: &str) -> Result<(), Fail> {
-    let line = format!(in rt.alloc();
+fn creates<H: Abort + Files>(rt: &H, alloc: Global, infile: &str, outfile: &str, want: &str) {
+    let line = format!(in alloc;
         "create --version 1.2.3+4 --header-size 32 --pad-header {infile} {outfile}"
-    )?;
-    tells(rt, line.as_str(), want)
+    ).expect(rt, "memory");
+    tells(rt, alloc, line.as_str(), want)
+}
+
+/// Looks what `verify` tells of a path.
+fn verifies<H: Abort + Files>(rt: &H, alloc: Global, path: &str, want: &str) {
+    let line = format!(in alloc; "verify {path}").expect(rt, "memory");
+    tells(rt, alloc, line.as_str(), want)
 }
 
 /// Makes an image of the payload, verifies and removes it.
-fn makes(rt: &HostRuntime, payload: &str, image: &str) -> Result<(), Fail> {
-    creates(rt, payload, image, "")?;
-    let line = format!(in rt.alloc(); "verify {image}")?;
-    tells(rt, line.as_str(), GOOD_LINE)?;
-    holds(rt, image, &PLAIN_IMAGE)?;
-    fs::remove_file(rt, image)?;
-    Ok(())
+fn makes<H: Abort + Files + Alloc>(rt: &H, alloc: Global, payload: &str, image: &str) {
+    creates(rt, alloc, payload, image, "");
+    verifies(rt, alloc, image, GOOD_LINE);
+    holds(rt, image, &PLAIN_IMAGE);
+    remove(rt, image)
 }
 
-/// Refuses a payload that is to be its own image by each of these paths, and leaves it as it is.
-fn keeps(rt: &HostRuntime, payload: &str, link: &str, other: &str) -> Result<(), Fail> {
-    symlink(rt, payload, link)?;
+/// Refuses a payload that is to be its own image by this path, and leaves it as it is.
+fn keeps<H: Abort + Files + Alloc>(
+    rt: &H,
+    alloc: Global,
+    payload: &str,
+    infile: &str,
+    outfile: &str,
+) {
+    creates(
+        rt,
+        alloc,
+        infile,
+        outfile,
+        "! mcsim: E75 SameFile\nexit 2\n",
+    );
+    holds(rt, payload, &PAYLOAD)
+}
+
+/// Paths of this test alone in a folder: of a payload, of a link to it, and the payload's by a detour.
+fn paths_in(rt: &impl Abort, alloc: Global, folder: &str, id: u32) -> [String; 3] {
+    [
+        format!(in alloc; "{folder}/mcsim-{id}-payload").expect(rt, "memory"),
+        format!(in alloc; "{folder}/mcsim-{id}-link").expect(rt, "memory"),
+        format!(in alloc; "{folder}/./mcsim-{id}-payload").expect(rt, "memory"),
+    ]
+}
+
+/// A file that is to be its own image stays as it is, by whatever path it is named.
+#[test]
+fn makes_an_image_and_keeps_its_payload(rt: HostRuntime) {
+    let folder = env::temp_dir(&rt).expect(&rt, "a folder");
+    let id = process::id(rt.process());
+    let paths = paths_in(&rt, rt.alloc(), folder.as_str(), id);
+    let [payload, link, other] = [paths[0].as_str(), paths[1].as_str(), paths[2].as_str()];
+    fs::write(&rt, payload, PAYLOAD.as_slice()).expect(&rt, "a file");
+    makes(&rt, rt.alloc(), payload, link);
+    symlink(&rt, payload, link).expect(&rt, "a link");
     for (infile, outfile) in [
         (payload, link),
         (payload, other),
@@ -53,32 +90,22 @@ fn keeps(rt: &HostRuntime, payload: &str, link: &str, other: &str) -> Result<(),
         (other, payload),
         (payload, payload),
     ] {
-        creates(rt, infile, outfile, "! mcsim: E75 SameFile\nexit 2\n")?;
-        holds(rt, payload, &PAYLOAD)?;
+        keeps(&rt, rt.alloc(), payload, infile, outfile);
     }
-    fs::remove_file(rt, link)?;
-    Ok(())
-}
-
-/// A file that is to be its own image stays as it is, by whatever path it is named.
-#[test]
-fn makes_an_image_and_keeps_its_payload(rt: HostRuntime) -> Result<(), Fail> {
-    let payload = scratch_path(&rt, "", "payload")?;
-    fs::write(&rt, payload.as_str(), PAYLOAD.as_slice())?;
-    let link = scratch_path(&rt, "", "link")?;
-    makes(&rt, payload.as_str(), link.as_str())?;
-    let other = scratch_path(&rt, "./", "payload")?;
-    keeps(&rt, payload.as_str(), link.as_str(), other.as_str())?;
-    fs::remove_file(&rt, payload.as_str())?;
-    Ok(())
+    remove(&rt, link);
+    remove(&rt, payload)
 }
 
 #[test]
-fn refuses_files_that_cannot_be_read(rt: HostRuntime) -> Result<(), Fail> {
-    tells(&rt, "verify ", "! mcsim: E71 Open\nexit 3\n")?;
-    let folder = env::temp_dir(&rt)?;
-    let line = format!(in rt.alloc(); "verify {}", folder.as_str())?;
-    tells(&rt, line.as_str(), "! mcsim: E24 Read\nexit 3\n")
+fn refuses_files_that_cannot_be_read(rt: HostRuntime) {
+    let folder = env::temp_dir(&rt).expect(&rt, "a folder");
+    verifies(&rt, rt.alloc(), "", "! mcsim: E71 Open\nexit 3\n");
+    verifies(
+        &rt,
+        rt.alloc(),
+        folder.as_str(),
+        "! mcsim: E24 Read\nexit 3\n",
+    )
 }
 
 /// Images of a header before its input, or in its place, by imgtool's short options too; the slots that have just room for
@@ -164,6 +191,6 @@ $ create --version 1 --header-size 32 in out < 31:0=padded
 static TABLES: [Table; 2] = [(IMAGES, &[], "-"), (REFUSED, &[], "-")];
 
 #[test]
-fn makes_or_refuses_images(rt: HostRuntime) -> Result<(), Fail> {
+fn makes_or_refuses_images(rt: HostRuntime) {
     all_play(&rt, rt.alloc(), &TABLES)
 }

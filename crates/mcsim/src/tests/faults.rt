@@ -1,11 +1,11 @@
 //! Command lines whose reads and writes fail, each at each call.
-use super::support::{ran_over, words_of};
+use super::support::{ran_over, same_at, words_of};
 use mc_command::run;
 use mc_fixtures::{Failure, Fault, FaultyFile, PAYLOAD, PLAIN_IMAGE};
 use std::alloc::Global;
 use std::cell::RefCell;
 use std::process::Abort;
-use std::test::Fail;
+use std::rt::Files;
 
 static FAULTS: [Fault; 3] = [Fault::Error, Fault::Interruption, Fault::NoBytes];
 
@@ -13,47 +13,31 @@ static FAULTS: [Fault; 3] = [Fault::Error, Fault::Interruption, Fault::NoBytes];
 static CREATE: &str = "create --version 1.2.3+4 --header-size 32 --pad-header in out";
 
 /// Runs `create` over two files that fail so, and looks at what it tells and writes.
-fn ends(
-    rt: &impl Abort,
-    alloc: Global,
-    calls: (usize, usize, Fault),
-    text: &str,
-    written: &[u8],
-) -> Result<(), Fail> {
-    let ended = ran_over(alloc, CREATE, &PAYLOAD, calls)?;
-    let told = ended.text(alloc)?;
-    assert_eq!(rt;
-        (told.as_str(), ended.written.as_slice()),
-        (text, written),
-        "{calls:?}"
-    );
-    Ok(())
+fn ends(rt: &impl Abort, alloc: Global, calls: (usize, usize, Fault), text: &str, written: &[u8]) {
+    let ended = ran_over(rt, alloc, CREATE, &PAYLOAD, calls);
+    let told = ended.text(rt, alloc);
+    let found = (told.as_str(), ended.written.as_slice());
+    same_at(rt, &calls, &found, &(text, written))
 }
 
 #[test]
-fn create_meets_failing_reads(rt: HostRuntime) -> Result<(), Fail> {
+fn create_meets_failing_reads(rt: HostRuntime) {
     // 8 reads of one byte, and one that finds the end.
     let text = "! mcsim: E24 Read\nexit 3\n";
     for reads in 0..9 {
-        ends(&rt, rt.alloc(), (reads, 1000, Fault::Error), text, &[])?;
-        ends(
-            &rt,
-            rt.alloc(),
-            (reads, 1000, Fault::Interruption),
-            text,
-            &[],
-        )?;
+        for fault in [Fault::Error, Fault::Interruption] {
+            ends(&rt, rt.alloc(), (reads, 1000, fault), text, &[]);
+        }
     }
-    Ok(())
 }
 
 #[test]
-fn create_meets_failing_writes(rt: HostRuntime) -> Result<(), Fail> {
+fn create_meets_failing_writes(rt: HostRuntime) {
     let text = "! mcsim: E25 Write\nexit 3\n";
     for place in 0..80 {
         for fault in FAULTS {
             let prefix = &PLAIN_IMAGE[..place];
-            ends(&rt, rt.alloc(), (1000, place, fault), text, prefix)?;
+            ends(&rt, rt.alloc(), (1000, place, fault), text, prefix);
         }
     }
     ends(
@@ -66,9 +50,8 @@ fn create_meets_failing_writes(rt: HostRuntime) -> Result<(), Fail> {
 }
 
 /// The status of a command line whose streams fail at each call.
-fn status_of(rt: &HostRuntime, line: &str) -> Result<u8, Fail> {
-    let alloc = rt.alloc();
-    let words = words_of(alloc, line)?;
+fn status_of<H: Abort + Files>(rt: &H, alloc: Global, line: &str) -> u8 {
+    let words = words_of(rt, alloc, line);
     let unused = RefCell::new(Vec::new(alloc));
     let failing = || FaultyFile {
         rest: &[],
@@ -79,19 +62,19 @@ fn status_of(rt: &HostRuntime, line: &str) -> Result<u8, Fail> {
             lasts: true,
         },
     };
-    Ok(run(
+    run(
         rt,
         alloc,
         words.as_slice(),
         &mut [].as_slice(),
         &mut failing(),
         &mut failing(),
-    ))
+    )
 }
 
 /// The help cannot be written.
 #[test]
-fn statuses_stand_where_no_text_can_be_written(rt: HostRuntime) -> Result<(), Fail> {
+fn statuses_stand_where_no_text_can_be_written(rt: HostRuntime) {
     for (line, want) in [
         ("verify", 1),
         ("dumpinfo", 1),
@@ -99,7 +82,6 @@ fn statuses_stand_where_no_text_can_be_written(rt: HostRuntime) -> Result<(), Fa
         ("", 2),
         ("--help", 3),
     ] {
-        assert_eq!(rt; status_of(&rt, line)?, want, "{line}");
+        assert_eq!(rt; status_of(&rt, rt.alloc(), line), want, "{line}");
     }
-    Ok(())
 }

@@ -1,7 +1,6 @@
 //! Flashes that no swap left: whole pages by their digests, and how many schedules there are, as a model that shares no code with
 //! this repository computed them.
 use super::support::{Table, all_play};
-use std::test::Fail;
 
 /// The page and the census of a flash.
 const STEPS: &str = "\
@@ -60,6 +59,6 @@ static TABLES: [Table; 1] = [(
 )];
 
 #[test]
-fn hostile_flashes_are_explored(rt: HostRuntime) -> Result<(), Fail> {
+fn hostile_flashes_are_explored(rt: HostRuntime) {
     all_play(&rt, rt.alloc(), &TABLES)
 }

@@ -1,6 +1,5 @@
 //! `layout`, of the worked layout, of a board's and of refused ones; `type`, of flashes and of two images.
 use super::support::{Table, all_play};
-use std::test::Fail;
 
 /// The worked layout, and slots of 118 sectors of 4096 bytes, worked out by hand; then one whose secondary is too small, and a word
 /// that is no number.
@@ -233,6 +232,6 @@ static TABLES: [Table; 5] = [
 ];
 
 #[test]
-fn prints_layouts_and_trailers(rt: HostRuntime) -> Result<(), Fail> {
+fn prints_layouts_and_trailers(rt: HostRuntime) {
     all_play(&rt, rt.alloc(), &TABLES)
 }

@@ -1,12 +1,11 @@
 //! `life`: scripts at the worked layout, with what they print.
-use super::support::{contents, in_full, ran_over, tells, words_of};
+use super::support::{contents, in_full, ran_over, same_at, tells, text_of, words_of};
 use mc_command::run;
 use mc_fixtures::{FAULTS, FailingReader, FailingWriter, Failure, Fault, FaultyFiles};
 use std::alloc::Global;
 use std::cell::RefCell;
 use std::io::{Read, Write};
 use std::process::Abort;
-use std::test::Fail;
 
 /// A script, what is printed of it, and what is refused.
 struct Told {
@@ -131,31 +130,27 @@ static REFUSED: [Told; 11] = [
 ];
 
 /// Looks what each of some scripts prints.
-fn tell_all(rt: &impl Abort, alloc: Global, told: &[Told]) -> Result<(), Fail> {
+fn tell_all(rt: &impl Abort, alloc: Global, told: &[Told]) {
     for one in told {
-        let line = in_full(alloc, one.line)?;
-        tells(rt, alloc, line.as_str(), one.script.as_bytes(), one.want)?;
+        let line = in_full(rt, alloc, one.line);
+        tells(rt, alloc, line.as_str(), one.script.as_bytes(), one.want);
     }
-    Ok(())
 }
 
 #[test]
-fn tells_lives(rt: HostRuntime) -> Result<(), Fail> {
-    tell_all(&rt, rt.alloc(), &LIVES)
-}
-
-#[test]
-fn refuses_what_cannot_happen(rt: HostRuntime) -> Result<(), Fail> {
+fn tells_lives_or_refuses_them(rt: HostRuntime) {
+    tell_all(&rt, rt.alloc(), &LIVES);
     tell_all(&rt, rt.alloc(), &REFUSED)
 }
 
 /// How a life ends that reads its script here and is told there: its status, and the line of a refusal.
 fn ends<R: Read, W: Write>(
+    rt: &impl Abort,
     alloc: Global,
     line: &str,
     input: &mut R,
     out: &mut W,
-) -> Result<(u8, String), Fail> {
+) -> (u8, String) {
     let written = RefCell::new(Vec::new(alloc));
     let files = FaultyFiles {
         input: &[],
@@ -164,68 +159,77 @@ fn ends<R: Read, W: Write>(
         writes: 0,
         fault: Fault::Error,
     };
-    let line = in_full(alloc, line)?;
-    let words = words_of(alloc, line.as_str())?;
+    let line = in_full(rt, alloc, line);
+    let words = words_of(rt, alloc, line.as_str());
     let mut err = Vec::new(alloc);
     let status = run(&files, alloc, words.as_slice(), input, out, &mut err);
-    let err = String::from_utf8(err).map_err(|_| "the refusal is no text")?;
-    Ok((status, err))
+    (status, text_of(rt, err))
 }
 
 /// A script, and how many bytes it has.
 static SCRIPT: (&str, usize) = ("boot\nerase 0\n", 13);
 
-#[test]
-fn a_read_that_fails_ends_it(rt: HostRuntime) -> Result<(), Fail> {
-    let alloc = rt.alloc();
-    let (script, len) = SCRIPT;
-    let line = in_full(alloc, "life WORKED --image first in")?;
-    // Each byte has a read, and the end has one.
-    for calls in 0..=len {
-        for (fault, lasts) in FAULTS.into_iter().take(4) {
-            let calls_of_file = (calls, usize::MAX, fault);
-            let ended = ran_over(alloc, line.as_str(), script.as_bytes(), calls_of_file)?;
-            assert_eq!(rt; ended.text(alloc)?.as_str(), "! mcsim: E24 Read\nexit 3\n");
-            let mut input = FailingReader {
-                left: script.as_bytes(),
-                failure: Failure {
-                    calls,
-                    fault,
-                    lasts,
-                },
-            };
-            let mut out = Vec::new(alloc);
-            let (status, err) = ends(alloc, "life WORKED --image first", &mut input, &mut out)?;
-            assert_eq!(rt;
-                (status, err.as_str()),
-                (3, "mcsim: E24 Read\n"),
-                "{calls} {fault:?}"
-            );
-            assert!(rt; out.is_empty());
-        }
-    }
-    Ok(())
+/// Looks how a life ends where a read of its script fails so, from a file.
+fn file_breaks_off(rt: &impl Abort, alloc: Global, failure: Failure) {
+    let line = in_full(rt, alloc, "life WORKED --image first in");
+    let calls = (failure.calls, usize::MAX, failure.fault);
+    let ended = ran_over(rt, alloc, line.as_str(), SCRIPT.0.as_bytes(), calls);
+    let told = ended.text(rt, alloc);
+    same_at(rt, &failure, &told.as_str(), &"! mcsim: E24 Read\nexit 3\n")
 }
 
-/// Looks whether what is out before a write fails is a beginning of the text.
-fn breaks_off(rt: &impl Abort, alloc: Global, told: &Told, failure: Failure) -> Result<(), Fail> {
+/// The same from standard input.
+fn input_breaks_off(rt: &impl Abort, alloc: Global, failure: Failure) {
+    let mut input = FailingReader {
+        left: SCRIPT.0.as_bytes(),
+        failure,
+    };
+    let mut out = Vec::new(alloc);
+    let (status, err) = ends(rt, alloc, "life WORKED --image first", &mut input, &mut out);
+    let told = (status, err.as_str(), out.is_empty());
+    same_at(rt, &failure, &told, &(3, "mcsim: E24 Read\n", true))
+}
+
+#[test]
+fn a_read_that_fails_ends_it(rt: HostRuntime) {
+    // Each byte has a read, and the end has one.
+    for calls in 0..=SCRIPT.1 {
+        for (fault, lasts) in FAULTS.into_iter().take(4) {
+            let failure = Failure {
+                calls,
+                fault,
+                lasts,
+            };
+            file_breaks_off(&rt, rt.alloc(), failure);
+            input_breaks_off(&rt, rt.alloc(), failure);
+        }
+    }
+}
+
+/// How a life of this text ends where the write behind so many fails.
+fn end_of(want: &str, calls: usize) -> (u8, &str, Option<&[u8]>) {
+    let taken = want.as_bytes().get(..calls);
+    if calls < want.len() {
+        (3, "mcsim: E25 Write\n", taken)
+    } else {
+        (0, "", taken)
+    }
+}
+
+/// Looks whether what is out before a write fails is the beginning of the text.
+fn breaks_off(rt: &impl Abort, alloc: Global, told: &Told, failure: Failure) {
     let mut out = FailingWriter {
         taken: Vec::new(alloc),
         failure,
     };
-    let (status, err) = ends(alloc, told.line, &mut told.script.as_bytes(), &mut out)?;
-    let want = match failure.calls < told.want.len() {
-        true => (3, "mcsim: E25 Write\n"),
-        false => (0, ""),
-    };
-    assert_eq!(rt; (status, err.as_str()), want, "{failure:?}");
-    assert_eq!(rt; out.taken.len(), failure.calls);
-    assert!(rt; told.want.as_bytes().starts_with(out.taken.as_slice()));
-    Ok(())
+    let mut script = told.script.as_bytes();
+    let (status, err) = ends(rt, alloc, told.line, &mut script, &mut out);
+    let found = (status, err.as_str(), Some(out.taken.as_slice()));
+    same_at(rt, &failure, &found, &end_of(told.want, failure.calls))
 }
 
 #[test]
-fn a_write_that_fails_ends_it(rt: HostRuntime) -> Result<(), Fail> {
+fn a_write_that_fails_ends_it(rt: HostRuntime) {
     let told = &LIVES[2];
     // Each byte has a write, and behind the last there is none.
     for calls in 0..=told.want.len() {
@@ -235,43 +239,55 @@ fn a_write_that_fails_ends_it(rt: HostRuntime) -> Result<(), Fail> {
                 fault,
                 lasts,
             };
-            breaks_off(&rt, rt.alloc(), told, failure)?;
+            breaks_off(&rt, rt.alloc(), told, failure);
         }
     }
-    Ok(())
+}
+
+/// What is told of a life whose flash cannot be written from some byte on.
+static NOT_WRITTEN: &str =
+    "1 boot boot none 0 1.0.0+0/80 settled none none\n! mcsim: E25 Write\nexit 3\n";
+
+/// Looks how a life ends whose flash cannot be written from some byte on.
+fn flash_breaks_off(rt: &impl Abort, alloc: Global, writes: usize, fault: Fault) {
+    let line = in_full(rt, alloc, "life WORKED --image first --out out in");
+    let calls = (usize::MAX, writes, fault);
+    let ended = ran_over(rt, alloc, line.as_str(), b"boot\n", calls);
+    let told = ended.text(rt, alloc);
+    let flash = contents(rt, alloc, "1792:0=first");
+    let found = (told.as_str(), Some(ended.written.as_slice()));
+    let wanted = (NOT_WRITTEN, flash.as_slice().get(..writes));
+    same_at(rt, &calls, &found, &wanted)
 }
 
 #[test]
-fn a_write_of_the_flash_that_fails_ends_it(rt: HostRuntime) -> Result<(), Fail> {
-    let alloc = rt.alloc();
-    let line = in_full(alloc, "life WORKED --image first --out out in")?;
-    let flash = contents(alloc, "1792:0=first")?;
+fn a_write_of_the_flash_that_fails_ends_it(rt: HostRuntime) {
     for writes in [0, 1, 80, 1023, 1024, 1791] {
         for fault in [Fault::Error, Fault::Interruption, Fault::NoBytes] {
-            let ended = ran_over(alloc, line.as_str(), b"boot\n", (usize::MAX, writes, fault))?;
-            let want =
-                "1 boot boot none 0 1.0.0+0/80 settled none none\n! mcsim: E25 Write\nexit 3\n";
-            assert_eq!(rt; ended.text(alloc)?.as_str(), want);
-            assert_eq!(rt; ended.written.len(), writes);
-            assert!(rt; flash.as_slice().starts_with(ended.written.as_slice()));
+            flash_breaks_off(&rt, rt.alloc(), writes, fault);
         }
     }
-    Ok(())
 }
 
+/// Looks what is told of a life with this script.
+fn is_told(rt: &impl Abort, alloc: Global, script: &[u8], want: &str) {
+    let line = in_full(rt, alloc, "life WORKED --image first");
+    tells(rt, alloc, line.as_str(), script, want);
+}
+
+/// What is no text, and what is too long.
 #[test]
-fn refuses_what_is_no_script(rt: HostRuntime) -> Result<(), Fail> {
+fn refuses_what_is_no_script(rt: HostRuntime) {
     let alloc = rt.alloc();
-    let line = in_full(alloc, "life WORKED --image first")?;
-    let mut script = b"boot\n".to_vec(alloc)?;
-    script.resize(1 << 24, b'#')?;
-    let told = "1 boot boot none 0 1.0.0+0/80 settled none none\n";
-    tells(&rt, alloc, line.as_str(), script.as_slice(), told)?;
-    script.push(b'#')?;
-    let too_long = "! mcsim: E23 InputTooLong\nexit 1\n";
-    tells(&rt, alloc, line.as_str(), script.as_slice(), too_long)?;
-    let no_text = "! mcsim: E84 ScriptText\nexit 1\n";
-    tells(&rt, alloc, line.as_str(), b"boot\n\xff", no_text)?;
-    tells(&rt, alloc, line.as_str(), b"#\xc3\nboot\n", no_text)?;
-    Ok(())
+    for script in [b"boot\n\xff".as_slice(), b"#\xc3\nboot\n".as_slice()] {
+        is_told(&rt, alloc, script, "! mcsim: E84 ScriptText\nexit 1\n");
+    }
+    let mut script = b"boot\n".to_vec(alloc).expect(&rt, "memory");
+    for (length, want) in [
+        (1 << 24, "1 boot boot none 0 1.0.0+0/80 settled none none\n"),
+        ((1 << 24) + 1, "! mcsim: E23 InputTooLong\nexit 1\n"),
+    ] {
+        script.resize(length, b'#').expect(&rt, "memory");
+        is_told(&rt, alloc, script.as_slice(), want);
+    }
 }

@@ -1,6 +1,5 @@
 //! `explore`: whole pages, by their digests as a model that shares no code with this repository computed them.
 use super::support::{Table, all_play};
-use std::test::Fail;
 
 /// The step of a page, and the names of a line's fields there.
 const STEP: &str = "\
@@ -202,6 +201,6 @@ static TABLES: [Table; 6] = [
 ];
 
 #[test]
-fn explores(rt: HostRuntime) -> Result<(), Fail> {
+fn explores(rt: HostRuntime) {
     all_play(&rt, rt.alloc(), &TABLES)
 }

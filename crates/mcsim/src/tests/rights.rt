@@ -1,7 +1,6 @@
 //! What is to be right at the end: `survey` and `census` with expectations, and the whole list in place of a part. The counts are those of
 //! the rows of a model that shares no code with this repository.
 use super::support::{Table, all_play};
-use std::test::Fail;
 
 /// Two images, for which the named one is to lie in the primary at the end, and the other in the secondary; a revert under cuts
 /// between units, which the first profile can forget; a part of the rows, which is no verdict.
@@ -54,6 +53,6 @@ $ census WORKED --flash in --cuts 2 --all-right < BEGUN
 static TABLES: [Table; 2] = [(IMAGES, &[], "-"), (FLASHES, &[], "-")];
 
 #[test]
-fn asks_which_images_boot(rt: HostRuntime) -> Result<(), Fail> {
+fn asks_which_images_boot(rt: HostRuntime) {
     all_play(&rt, rt.alloc(), &TABLES)
 }

@@ -1,7 +1,6 @@
 //! Sixteen cuts, at the worked layout and at one of the largest sectors with the longest status area. How many schedules there are
 //! is summed up by hand from how many operations the boot after a cut makes; the digest is of the bytes that define the start.
 use super::support::{Table, all_play};
-use std::test::Fail;
 
 /// Boots after sixteen cuts, the flash and its sectors at the last of them, and all schedules. The boot of a swap for a test makes
 /// 15 operations where a sector is one chunk. After the first 8 of them 7 are left, and after 3 of these 4.
@@ -139,6 +138,6 @@ static TABLES: [Table; 4] = [
 ];
 
 #[test]
-fn sixteen_cuts_are_gone_through(rt: HostRuntime) -> Result<(), Fail> {
+fn sixteen_cuts_are_gone_through(rt: HostRuntime) {
     all_play(&rt, rt.alloc(), &TABLES)
 }

@@ -2,13 +2,17 @@
 use mc_command::run;
 use mc_fixtures::{FIRST_TOLD, Fault, FaultyFiles, GOOD_LINE, SECOND_TOLD, change_at, named};
 use sha2::{Digest, Sha256};
-use std::alloc::{AllocError, Global};
+use std::alloc::Global;
 use std::cell::RefCell;
+use std::fmt::Debug;
 use std::io::Read;
 use std::process::Abort;
 use std::rt::Files;
-use std::test::Fail;
-use std::{env, process};
+
+/// What was found is what is wanted. Where it is not so, this is told.
+pub fn same_at<T: PartialEq + Debug, A: Debug>(rt: &impl Abort, at: &A, found: &T, wanted: &T) {
+    assert_eq!(rt; *found, *wanted, "at {at:?}");
+}
 
 /// How a command line ended.
 #[derive(Drop)]
@@ -22,64 +26,78 @@ pub struct Outcome {
 
 impl Outcome {
     /// The text on standard output; where all is not well, also `! `, the text on standard error, and the status.
-    pub fn text(&self, alloc: Global) -> Result<String, AllocError> {
-        let mut text = String::from_str(alloc, self.out.as_str())?;
-        let err = self.err.as_str();
-        let status = self.status;
-        if status != 0 || !err.is_empty() {
-            let end = format!(in alloc; "! {err}exit {status}\n")?;
-            text.push_str(end.as_str())?;
+    pub fn text(&self, rt: &impl Abort, alloc: Global) -> String {
+        let (out, err, status) = (self.out.as_str(), self.err.as_str(), self.status);
+        if status == 0 && err.is_empty() {
+            owned(rt, alloc, out)
+        } else {
+            format!(in alloc; "{out}! {err}exit {status}\n").expect(rt, "memory")
         }
-        Ok(text)
     }
 }
 
+/// The same text, by itself.
+fn owned(rt: &impl Abort, alloc: Global, text: &str) -> String {
+    String::from_str(alloc, text).expect(rt, "memory")
+}
+
+/// The same bytes, by themselves.
+fn owned_bytes(rt: &impl Abort, alloc: Global, bytes: &[u8]) -> Vec<u8> {
+    bytes.to_vec(alloc).expect(rt, "memory")
+}
+
 /// The words of a command line, with the program's name before them.
-pub fn words_of(alloc: Global, line: &str) -> Result<Vec<String>, AllocError> {
+pub fn words_of(rt: &impl Abort, alloc: Global, line: &str) -> Vec<String> {
     let mut words = Vec::new(alloc);
-    words.push(String::from_str(alloc, "mcsim")?)?;
-    if line.is_empty() {
-        return Ok(words);
+    words.push(owned(rt, alloc, "mcsim")).expect(rt, "memory");
+    if !line.is_empty() {
+        for word in line.split(' ') {
+            words.push(owned(rt, alloc, word)).expect(rt, "memory");
+        }
     }
-    for word in line.split(' ') {
-        words.push(String::from_str(alloc, word)?)?;
-    }
-    Ok(words)
+    words
+}
+
+/// What was written, which is text.
+pub fn text_of(rt: &impl Abort, bytes: Vec<u8>) -> String {
+    String::from_utf8(bytes).expect(rt, "a text")
 }
 
 /// Runs a command line.
 pub fn outcome_over<F: Files, R: Read>(
+    rt: &impl Abort,
     alloc: Global,
     files: &F,
     words: &[String],
     input: &mut R,
-) -> Result<Outcome, Fail> {
+) -> Outcome {
     let mut out = Vec::new(alloc);
     let mut err = Vec::new(alloc);
     let status = run(files, alloc, words, input, &mut out, &mut err);
-    Ok(Outcome {
+    Outcome {
         status,
-        out: String::from_utf8(out).map_err(|_| "the output is no text")?,
-        err: String::from_utf8(err).map_err(|_| "the refusal is no text")?,
+        out: text_of(rt, out),
+        err: text_of(rt, err),
         written: Vec::new(alloc),
-    })
+    }
 }
 
 /// What a command line tells over the real files, with these bytes as standard input.
-pub fn told_of(rt: &HostRuntime, line: &str, mut input: &[u8]) -> Result<String, Fail> {
-    let words = words_of(rt.alloc(), line)?;
-    let ended = outcome_over(rt.alloc(), rt, words.as_slice(), &mut input)?;
-    Ok(ended.text(rt.alloc())?)
+pub fn told_of<H: Abort + Files>(rt: &H, alloc: Global, line: &str, mut input: &[u8]) -> String {
+    let words = words_of(rt, alloc, line);
+    let ended = outcome_over(rt, alloc, rt, words.as_slice(), &mut input);
+    ended.text(rt, alloc)
 }
 
 /// Runs a command line over files in memory, with these bytes in the file `in` and on standard input. So many reads of `in`
 /// and writes of `out` come before the one that fails.
 pub fn ran_over(
+    rt: &impl Abort,
     alloc: Global,
     line: &str,
     mut input: &[u8],
     calls: (usize, usize, Fault),
-) -> Result<Outcome, Fail> {
+) -> Outcome {
     let written = RefCell::new(Vec::new(alloc));
     let (reads, writes, fault) = calls;
     let files = FaultyFiles {
@@ -89,22 +107,23 @@ pub fn ran_over(
         writes,
         fault,
     };
-    let words = words_of(alloc, line)?;
-    let mut ended = outcome_over(alloc, &files, words.as_slice(), &mut input)?;
+    let words = words_of(rt, alloc, line);
+    let mut ended = outcome_over(rt, alloc, &files, words.as_slice(), &mut input);
     ended.written = written.into_inner();
-    Ok(ended)
+    ended
 }
 
 /// The same where no call fails.
-pub fn ran(alloc: Global, line: &str, input: &[u8]) -> Result<Outcome, Fail> {
-    ran_over(alloc, line, input, (usize::MAX, usize::MAX, Fault::Error))
+pub fn ran(rt: &impl Abort, alloc: Global, line: &str, input: &[u8]) -> Outcome {
+    let calls = (usize::MAX, usize::MAX, Fault::Error);
+    ran_over(rt, alloc, line, input, calls)
 }
 
 /// How many lines a text has, and its SHA-256.
-fn sum_of(alloc: Global, text: &str) -> Result<String, Fail> {
+fn sum_of(rt: &impl Abort, alloc: Global, text: &str) -> String {
     let count = text.lines().count();
-    let sum = hex::encode(alloc, Sha256::digest(text.as_bytes()))?;
-    Ok(format!(in alloc; "lines {count} {sum}\n")?)
+    let sum = hex::encode(alloc, Sha256::digest(text.as_bytes())).expect(rt, "memory");
+    format!(in alloc; "lines {count} {sum}\n").expect(rt, "memory")
 }
 
 /// Whether a text is what is wanted, where a `...` stands for anything, and a second one too. No refusal stands for anything.
@@ -118,20 +137,14 @@ pub fn fits(text: &str, want: &str) -> bool {
 }
 
 /// Runs a command line over files in memory, and looks at what it tells, or at how many lines that has and their digest.
-pub fn tells(
-    rt: &impl Abort,
-    alloc: Global,
-    line: &str,
-    input: &[u8],
-    want: &str,
-) -> Result<Outcome, Fail> {
-    let ended = ran(alloc, line, input)?;
-    let mut text = ended.text(alloc)?;
+pub fn tells(rt: &impl Abort, alloc: Global, line: &str, input: &[u8], want: &str) -> Outcome {
+    let ended = ran(rt, alloc, line, input);
+    let mut text = ended.text(rt, alloc);
     if want.starts_with("lines ") {
-        text = sum_of(alloc, text.as_str())?;
+        text = sum_of(rt, alloc, text.as_str());
     }
     assert!(rt; fits(text.as_str(), want), "{line}: {text}");
-    Ok(ended)
+    ended
 }
 
 /// What is told of the image `counted`, but for what comes after it and how its digest is.
@@ -148,11 +161,13 @@ protected 0x0050 4 07000000
 plain 0x0010 32 4dcc5778bca9c831b86de779361dfbc68a9740b5fcc3297188767c3aa8cba2e4
 total 92";
 
-/// What stands for what in a session. Some words are of sixteen cuts: a layout of the largest sectors and its start; cuts before
-/// the first operation, as a schedule and in the first round, and eight in the first and seven in the second; the greatest places.
-fn words_in_full() -> [(&'static str, &'static str); 28] {
+/// A word, and the text that it stands for.
+type Word = (&'static str, &'static str);
+
+/// What stands for what in a session, of sixteen cuts: a layout of the largest sectors and its start; cuts before the first
+/// operation, as a schedule and in the first round, and eight in the first and seven in the second; the greatest places.
+fn words_of_sixteen() -> [Word; 8] {
     [
-        ("; ", "\n"),
         (
             "WIDE-START",
             "26ad908ef00f25725e859e007381c2c9a3d4aa6b2c818a12debd12dc18c01c36",
@@ -179,6 +194,12 @@ fn words_in_full() -> [(&'static str, &'static str); 28] {
             "GREATEST",
             "4294967295.4294967295.4294967295.4294967295.4294967295.4294967295.4294967295.4294967295.4294967295.4294967295.4294967295.4294967295.4294967295.4294967295.4294967295.4294967295",
         ),
+    ]
+}
+
+/// The other words, which may stand in a text of those.
+fn words_in_full() -> [Word; 19] {
+    [
         ("FINISH", "write primary 992 copy-done 01ffffffffffffff"),
         (
             "WORKED",
@@ -223,58 +244,71 @@ fn words_in_full() -> [(&'static str, &'static str); 28] {
 }
 
 /// A text with its words in full.
-pub fn in_full(alloc: Global, text: &str) -> Result<String, AllocError> {
-    let mut whole = String::from_str(alloc, text)?;
-    for (word, full) in words_in_full() {
-        whole = whole.as_str().replace(alloc, word, full)?;
+pub fn in_full(rt: &impl Abort, alloc: Global, text: &str) -> String {
+    let lines = text.replace(alloc, "; ", "\n").expect(rt, "memory");
+    let of_sixteen = with_words(rt, alloc, lines, &words_of_sixteen());
+    with_words(rt, alloc, of_sixteen, &words_in_full())
+}
+
+/// A text with these words in full, one after the other.
+fn with_words(rt: &impl Abort, alloc: Global, text: String, words: &[Word]) -> String {
+    let mut whole = text;
+    for (word, full) in words {
+        let told = whole.as_str().replace(alloc, *word, *full);
+        whole = told.expect(rt, "memory");
     }
-    Ok(whole)
+    whole
 }
 
 /// A text with the fields of a line in the place of their names. The last field is the rest of the line.
-fn filled(alloc: Global, text: &str, names: &[&str], line: &str) -> Result<String, AllocError> {
-    let mut whole = String::from_str(alloc, text)?;
+fn filled(rt: &impl Abort, alloc: Global, text: &str, names: &[&str], line: &str) -> String {
+    let mut whole = owned(rt, alloc, text);
     for (name, field) in names.iter().zip(line.splitn(names.len(), ' ')) {
-        whole = whole.as_str().replace(alloc, *name, field)?;
+        let told = whole.as_str().replace(alloc, *name, field);
+        whole = told.expect(rt, "memory");
     }
-    Ok(whole)
+    whole
 }
 
 /// The bytes of a file: a named one, or one of so many bytes `0xff` but for those at some places, as in `1792:0=first,984=02`.
-pub fn contents(alloc: Global, told: &str) -> Result<Vec<u8>, Fail> {
+pub fn contents(rt: &impl Abort, alloc: Global, told: &str) -> Vec<u8> {
     let Some((length, changes)) = told.split_once(':') else {
-        return Ok(named(told).unwrap_or_default().to_vec(alloc)?);
+        return owned_bytes(rt, alloc, named(told).unwrap_or_default());
     };
-    let mut bytes = vec![in alloc; 0xffu8; length.parse::<usize>()?]?;
+    let length = number_of(rt, length);
+    let mut bytes = vec![in alloc; 0xffu8; length].expect(rt, "memory");
     for told in changes.split(',') {
-        change_at(alloc, bytes.as_mut_slice(), told)?;
+        change_at(alloc, bytes.as_mut_slice(), told).expect(rt, "a change");
     }
-    Ok(bytes)
+    bytes
+}
+
+/// The number that a text says.
+fn number_of(rt: &impl Abort, text: &str) -> usize {
+    text.parse::<usize>().expect(rt, "a number")
 }
 
 /// A session, names in it, and lines: it is played for each of them, with the line's fields in the place of the names.
 pub type Table = (&'static str, &'static [&'static str], &'static str);
 
 /// Plays the sessions of some tables.
-pub fn all_play(rt: &impl Abort, alloc: Global, tables: &[Table]) -> Result<(), Fail> {
+pub fn all_play(rt: &impl Abort, alloc: Global, tables: &[Table]) {
     for (session, names, lines) in tables {
         for line in lines.lines() {
-            let session = filled(alloc, *session, *names, line)?;
-            plays(rt, alloc, session.as_str())?;
+            let session = filled(rt, alloc, *session, *names, line);
+            plays(rt, alloc, session.as_str());
         }
     }
-    Ok(())
 }
 
 /// Plays a session. A step is `$ `, a command line, perhaps ` < ` and what the file `in` and standard input hold, `out` for
 /// what the last step wrote; then what it tells, and perhaps `=> ` and what it writes to the file `out`, or how many bytes.
-fn plays(rt: &impl Abort, alloc: Global, session: &str) -> Result<(), Fail> {
-    let session = in_full(alloc, session)?;
+fn plays(rt: &impl Abort, alloc: Global, session: &str) {
+    let session = in_full(rt, alloc, session);
     let mut written = Vec::new(alloc);
     for step in session.as_str().split("$ ").skip(1) {
-        written = ends(rt, alloc, step, written.as_slice())?;
+        written = ends(rt, alloc, step, written.as_slice());
     }
-    Ok(())
 }
 
 /// A step of a session: a command line, its input, what it tells and what it writes.
@@ -301,38 +335,26 @@ fn step_of(text: &str) -> Option<Step<'_>> {
 }
 
 /// The input that is told, after a step that wrote these bytes.
-fn input_of(alloc: Global, told: &str, last: &[u8]) -> Result<Vec<u8>, Fail> {
+fn input_of(rt: &impl Abort, alloc: Global, told: &str, last: &[u8]) -> Vec<u8> {
     match told {
-        "out" => Ok(last.to_vec(alloc)?),
-        _ => contents(alloc, told),
+        "out" => owned_bytes(rt, alloc, last),
+        _ => contents(rt, alloc, told),
     }
 }
 
 /// Looks whether these bytes are those that are told, or so many.
-fn assert_written(rt: &impl Abort, alloc: Global, written: &[u8], told: &str) -> Result<(), Fail> {
-    let Some(length) = told.strip_suffix(" bytes") else {
-        let wanted = contents(alloc, told)?;
-        assert_eq!(rt; written, wanted.as_slice());
-        return Ok(());
-    };
-    assert_eq!(rt; written.len(), length.parse::<usize>()?);
-    Ok(())
+fn assert_written(rt: &impl Abort, alloc: Global, written: &[u8], told: &str) {
+    match told.strip_suffix(" bytes") {
+        Some(length) => same_at(rt, &told, &written.len(), &number_of(rt, length)),
+        None => same_at(rt, &told, &written, &contents(rt, alloc, told).as_slice()),
+    }
 }
 
 /// Plays a step of a session after one that wrote these bytes, and returns those that it wrote.
-fn ends(rt: &impl Abort, alloc: Global, step: &str, last: &[u8]) -> Result<Vec<u8>, Fail> {
-    let step = step_of(step).ok_or("a command line")?;
-    let input = input_of(alloc, step.input, last)?;
-    let ended = tells(rt, alloc, step.line, input.as_slice(), step.want)?;
-    assert_written(rt, alloc, ended.written.as_slice(), step.file)?;
-    Ok(ended.written.as_slice().to_vec(alloc)?)
-}
-
-/// A path in the folder for temporary files, of this test alone, with these words before its last part.
-pub fn scratch_path(rt: &HostRuntime, before: &str, name: &str) -> Result<String, Fail> {
-    let alloc = rt.alloc();
-    let id = process::id(rt.process());
-    let folder = env::temp_dir(rt)?;
-    let folder = folder.as_str();
-    Ok(format!(in alloc; "{folder}/{before}mcsim-{id}-{name}")?)
+fn ends(rt: &impl Abort, alloc: Global, step: &str, last: &[u8]) -> Vec<u8> {
+    let step = step_of(step).expect(rt, "a command line");
+    let input = input_of(rt, alloc, step.input, last);
+    let ended = tells(rt, alloc, step.line, input.as_slice(), step.want);
+    assert_written(rt, alloc, ended.written.as_slice(), step.file);
+    ended.written
 }

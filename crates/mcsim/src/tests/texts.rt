@@ -1,6 +1,5 @@
 //! Texts of versions, schedules and cursors: those that are read, and those that are refused before a file is opened.
 use super::support::{Table, all_play};
-use std::test::Fail;
 
 /// Schedules; the file of the flash is asked for then.
 const SCHEDULES: &str = "\
@@ -191,6 +190,6 @@ static TABLES: [Table; 8] = [
 ];
 
 #[test]
-fn texts_are_read_or_refused(rt: HostRuntime) -> Result<(), Fail> {
+fn texts_are_read_or_refused(rt: HostRuntime) {
     all_play(&rt, rt.alloc(), &TABLES)
 }

@@ -1,6 +1,5 @@
 //! `verify` and `dumpinfo`, of standard input and of files.
 use super::support::{Table, all_play};
-use std::test::Fail;
 
 /// Images alone, and with bytes behind them: one, and those of a slot.
 const IMAGES: &str = "\
@@ -123,6 +122,6 @@ $ dumpinfo < 768:0=counted,0=00
 static TABLES: [Table; 2] = [(IMAGES, &[], "-"), (FAULTS, &[], "-")];
 
 #[test]
-fn reads_or_refuses_images(rt: HostRuntime) -> Result<(), Fail> {
+fn reads_or_refuses_images(rt: HostRuntime) {
     all_play(&rt, rt.alloc(), &TABLES)
 }

@@ -1,8 +1,8 @@
 //! Command lines that are refused, and those that ask for help.
-use super::support::{Table, all_play, fits, outcome_over, ran};
+use super::support::{Table, all_play, fits, outcome_over, ran, same_at};
 use mc_command::Refusal;
 use std::alloc::Global;
-use std::test::Fail;
+use std::process::Abort;
 
 /// Command lines that clap refuses, in its words.
 const REFUSED: &str = "\
@@ -109,20 +109,24 @@ static TABLES: [Table; 3] = [
 ];
 
 #[test]
-fn refuses_or_explains(rt: HostRuntime) -> Result<(), Fail> {
+fn refuses_or_explains(rt: HostRuntime) {
     all_play(&rt, rt.alloc(), &TABLES)
 }
 
-/// Whether a command line prints these words alone on standard output, in lines of at most 100 bytes.
-fn helps(alloc: Global, line: &str, want: &str) -> Result<bool, Fail> {
-    let ended = ran(alloc, line, &[])?;
+/// Whether a text has lines of at most 100 bytes.
+fn is_narrow(text: &str) -> bool {
+    text.lines().all(|row| row.len() <= 100)
+}
+
+/// Whether a command line prints these words alone on standard output, in such lines.
+fn helps(rt: &impl Abort, alloc: Global, line: &str, want: &str) -> bool {
+    let ended = ran(rt, alloc, line, &[]);
     let text = ended.out.as_str();
-    let is_narrow = text.lines().all(|row| row.len() <= 100);
-    Ok(is_narrow && text.contains(want) && ended.err.is_empty() && ended.status == 0)
+    is_narrow(text) && text.contains(want) && ended.err.is_empty() && ended.status == 0
 }
 
 #[test]
-fn prints_help(rt: HostRuntime) -> Result<(), Fail> {
+fn prints_help(rt: HostRuntime) {
     for (line, want) in [
         ("--help", "Usage: mcsim <COMMAND>"),
         ("create --help", "Usage: mcsim create "),
@@ -133,29 +137,33 @@ fn prints_help(rt: HostRuntime) -> Result<(), Fail> {
         ("sign --help", "Usage: mcsim "),
         ("--version", "mcsim 0.1.0 (proved by rattle-kit-"),
     ] {
-        assert!(rt; helps(rt.alloc(), line, want)?, "{line}");
+        assert!(rt; helps(&rt, rt.alloc(), line, want), "{line}");
     }
-    Ok(())
 }
 
-/// Whether a refusal is one line with the program's name, and has the status 2.
-fn is_one_line(alloc: Global, refusal: Refusal) -> Result<bool, Fail> {
+/// Refusals of words that are no text, and of more than there is room for: one line with the program's name.
+static REFUSALS: [(Refusal, &str); 2] = [
+    (Refusal::NotText, "mcsim: an argument is not UTF-8 text\n"),
+    (
+        Refusal::Argument,
+        "mcsim: an argument is missing or out of its range\n",
+    ),
+];
+
+/// Looks whether a refusal has this text, and the status 2.
+fn is_reported(rt: &impl Abort, alloc: Global, refusal: Refusal, want: &str) {
     let mut err = Vec::new(alloc);
     let status = refusal.report(&mut err);
-    let text = String::from_utf8(err).map_err(|_| "the refusal is no text")?;
-    let text = text.as_str();
-    let is_line = text.lines().count() == 1 && text.ends_with("\n");
-    Ok(status == 2 && is_line && text.starts_with("mcsim: "))
+    same_at(rt, &want, &(status, err.as_slice()), &(2, want.as_bytes()))
 }
 
-/// Words that are no text, more than there is room for, and none.
+/// These words, and none.
 #[test]
-fn refuses_words(rt: HostRuntime) -> Result<(), Fail> {
-    for refusal in [Refusal::NotText, Refusal::Argument] {
-        assert!(rt; is_one_line(rt.alloc(), refusal)?);
+fn refuses_words(rt: HostRuntime) {
+    for (refusal, want) in &REFUSALS {
+        is_reported(&rt, rt.alloc(), *refusal, *want);
     }
-    let ended = outcome_over(rt.alloc(), &rt, &[], &mut [].as_slice())?;
-    let text = ended.text(rt.alloc())?;
+    let ended = outcome_over(&rt, rt.alloc(), &rt, &[], &mut [].as_slice());
+    let text = ended.text(&rt, rt.alloc());
     assert!(rt; fits(text.as_str(), NO_WORDS));
-    Ok(())
 }
