@@ -25,13 +25,30 @@ fn run<F: Flash>(flash: &mut F, boot: &mut Boot, steps: u32)
     }
 }
 
+/// The outcome of a boot that is left alone.
+fn ended<F: Flash>(flash: &mut F, mut boot: Boot) -> Outcome
+    requires { IsBootOf (F.seen flash.old).geometry boot }
+    ensures geometry { (F.seen flash.new).geometry ≡ (F.seen flash.old).geometry }
+    ensures checkpoints { (F.seen flash.new).checkpoints ≡ (F.seen flash.old).checkpoints }
+{
+    run(flash, &mut boot, 200);
+    boot.outcome(flash)
+}
+
 /// The outcome of a whole boot.
 fn told<F: Flash>(flash: &mut F, rules: Rules) -> Outcome
     ensures { (F.seen flash.new).checkpoints ≡ (F.seen flash.old).checkpoints }
 {
-    let mut boot = Boot::cold(flash, rules);
-    run(flash, &mut boot, 200);
-    boot.outcome(flash)
+    let boot = Boot::cold(flash, rules);
+    ended(flash, boot)
+}
+
+/// The outcome of a whole boot, from which the flash is taken back.
+fn whole_of<F: Flash>(rt: &impl Abort, flash: &mut F, rules: Rules) -> Outcome {
+    let place = flash.mark().expect(rt, "a checkpoint");
+    let whole = told(flash, rules);
+    flash.back_to(place);
+    whole
 }
 
 /// What a boot tells, and what the same boot tells that was kept beside a checkpoint.
@@ -40,13 +57,9 @@ fn told_again(rt: &impl Abort, flash: &mut SnapFlash) -> [Outcome; 2] {
     let mut boot = Boot::cold(flash, Rules::PLAIN);
     run(flash, &mut boot, 7);
     let place = flash.mark().expect(rt, "a checkpoint");
-    let kept = boot;
-    run(flash, &mut boot, 200);
-    let first = boot.outcome(flash);
+    let first = ended(flash, boot);
     flash.back_to(place);
-    let mut boot = kept;
-    run(flash, &mut boot, 200);
-    [first, boot.outcome(flash)]
+    [first, ended(flash, boot)]
 }
 
 #[test]
@@ -56,23 +69,20 @@ fn a_kept_boot_serves_again(rt: HostRuntime) {
     same(&rt, &(again.result, again.ops), &(BootResult::Boot, 18));
 }
 
+/// Whether the image of a flash confirms itself.
+fn confirms(rt: &impl Abort, flash: &mut SnapFlash) -> bool {
+    confirm(flash).expect(rt, "a confirmation")
+}
+
 /// Once after a test, and not where a swap is not finished.
 #[test]
 fn an_image_confirms_itself(rt: HostRuntime) {
     let mut flash = flash_of(&rt, rt.alloc(), "IMAGES");
     let _ = told(&mut flash, Rules::PLAIN);
-    for wanted in [true, false] {
-        same(
-            &rt,
-            &confirm(&mut flash).expect(&rt, "a confirmation"),
-            &wanted,
-        );
-    }
-    let confirms = confirm(&mut flash_of(&rt, rt.alloc(), "BEGUN,984=02")).expect(
-        &rt,
-        "a confirmation",
-    );
-    same(&rt, &confirms, &false);
+    let first = confirms(&rt, &mut flash);
+    let second = confirms(&rt, &mut flash);
+    let begun = confirms(&rt, &mut flash_of(&rt, rt.alloc(), "BEGUN,984=02"));
+    same(&rt, &[first, second, begun], &[true, false, false]);
 }
 
 /// The places of the first four operations of the boot after a cut, among those of the boot that was cut.

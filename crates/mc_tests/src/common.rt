@@ -1,6 +1,10 @@
 //! What the tests share.
+ghost use Rattle.std.specs.Prelude.{◌≡◌, ◌≤◌, []};
+ghost use Rattle.mc_flash.specs.inner.Worked.{worked};
+
 use mc_fixtures::{change_at, worked};
 use mc_flash::{Flash, Grain, SnapFlash};
+use mc_trailer::{Profile, Rules};
 use std::alloc::Global;
 use std::fmt::Debug;
 use std::process::Abort;
@@ -15,31 +19,57 @@ pub fn same_at<T: PartialEq + Debug, A: Debug>(rt: &impl Abort, at: &A, found: &
     assert_eq!(rt; *found, *wanted, "at {at:?}");
 }
 
-/// What stands for what in the tests' texts: the two images with the swap for a test asked for; the primary's trailer of a swap
-/// of 80 bytes that was begun; and the magic of a trailer.
-static WORDS: [(&str, &str); 3] = [
-    ("IMAGES", "0=first,1024=second,1776=MAGIC"),
-    ("BEGUN", "976=50000000,1008=MAGIC"),
-    ("MAGIC", "77c295f360d2ef7f3552500f2cb67980"),
-];
+/// A text with a word in full.
+fn with_word(rt: &impl Abort, alloc: Global, text: &str, word: &str, full: &str) -> String {
+    text.replace(alloc, word, full).expect(rt, "memory")
+}
 
-/// A text with its words in full.
+/// A text with its words in full: the two images with the swap for a test asked for; the primary's trailer of a swap of 80 bytes
+/// that was begun; and the magic of a trailer.
 fn in_full(rt: &impl Abort, alloc: Global, text: &str) -> String {
-    let mut whole = String::from_str(alloc, text).expect(rt, "memory");
-    for (word, full) in &WORDS {
-        whole = whole
-            .as_str()
-            .replace(alloc, *word, *full)
-            .expect(rt, "memory");
-    }
-    whole
+    let images = "0=first,1024=second,1776=MAGIC";
+    let placed = with_word(rt, alloc, text, "IMAGES", images);
+    let begun = with_word(
+        rt,
+        alloc,
+        placed.as_str(),
+        "BEGUN",
+        "976=50000000,1008=MAGIC",
+    );
+    let magic = "77c295f360d2ef7f3552500f2cb67980";
+    with_word(rt, alloc, begun.as_str(), "MAGIC", magic)
+}
+
+/// The number that a text says.
+pub fn number_of(rt: &impl Abort, text: &str) -> u32 {
+    text.parse::<u32>().expect(rt, "a number")
+}
+
+/// The two parts of a text on both sides of the first such text.
+pub fn parts_of<'a>(rt: &impl Abort, text: &'a str, between: &str) -> (&'a str, &'a str) {
+    text.split_once(between).expect(rt, "two parts")
+}
+
+/// The rules of a name: those of whole calls or of units, in the first or the second profile.
+pub fn rules_named(name: &str) -> Rules {
+    let grain = if name.starts_with("unit") {
+        Grain::Unit
+    } else {
+        Grain::Call
+    };
+    let profile = if name.ends_with('2') {
+        Profile::Two
+    } else {
+        Profile::One
+    };
+    Rules { grain, profile }
 }
 
 /// Puts named bytes, or those of some digits, in their places, as in `0=first,984=02`. What there is no room for is left out.
 pub fn change(rt: &impl Abort, alloc: Global, bytes: &mut [u8], changes: &str) {
     let changes = in_full(rt, alloc, changes);
-    for change in changes.as_str().split(',') {
-        change_at(alloc, bytes, change).expect(rt, "a change");
+    for told in changes.as_str().split(',') {
+        change_at(alloc, bytes, told).expect(rt, "a change");
     }
 }
 
@@ -55,6 +85,25 @@ pub fn flash_with(rt: &impl Abort, alloc: Global, bytes: &mut [u8], changes: &st
 /// A flash of the worked layout that is 0xff but for some changes.
 pub fn flash_of(rt: &impl Abort, alloc: Global, changes: &str) -> SnapFlash {
     flash_with(rt, alloc, &mut [0xff; 1792], changes)
+}
+
+/// A flash of the worked layout for so many boots: the primary is blank, and the secondary holds 0xaa.
+pub fn loaded<F: Flash>(rt: &impl Abort, alloc: Global, boots: u32) -> F
+    requires { (1 ≤ boots) × (boots ≤ 32) }
+    ensures geometry { (F.seen result).geometry ≡ worked }
+    ensures checkpoints { (F.seen result).checkpoints ≡ [] }
+{
+    let layout = worked().expect(rt, "a layout");
+    let flash = F::load(
+        alloc,
+        &layout,
+        Grain::Call,
+        &[0xff; 1024],
+        &[0xaa; 768],
+        boots,
+    )
+    .expect(rt, "a flash");
+    flash
 }
 
 /// A secondary of the worked layout that holds 0xaa, but for its sector in the middle, which is erased.

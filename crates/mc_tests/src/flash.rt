@@ -2,7 +2,7 @@
 ghost use Rattle.std.specs.Prelude.{◌≡◌, []};
 ghost use Rattle.mc_flash.specs.inner.Worked.{worked};
 
-use crate::common::{same, with_an_erased_sector};
+use crate::common::{loaded, same, with_an_erased_sector};
 use mc_fixtures::worked;
 use mc_flash::{
     Bytes16, Flash, FlashError, Grain, JournalFlash, Layout, Slot, SnapFlash, blank, blank_lanes,
@@ -77,18 +77,6 @@ fn at_most_sixteen_bytes_are_kept(rt: HostRuntime) {
 
 const UNIT: [u8; 8] = [1, 2, 3, 4, 5, 6, 7, 8];
 
-/// A flash of the worked layout: the primary is blank, and the secondary holds 0xaa.
-fn loaded<F: Flash>(rt: &impl Abort, alloc: Global) -> F
-    ensures geometry { (F.seen result).geometry ≡ worked }
-    ensures checkpoints { (F.seen result).checkpoints ≡ [] }
-{
-    let layout = worked().expect(rt, "a layout");
-    let flash = F::load(alloc, &layout, Grain::Call, &[0xff; 1024], &[0xaa; 768], 1).expect(
-        rt, "a flash",
-    );
-    flash
-}
-
 /// Whether a unit is programmed, and refused where it stands.
 #[tactic(auto, using(mc_flash::specs::facts::Done::does_keep))]
 fn is_programmed<F: Flash>(rt: &impl Abort, flash: &mut F) -> [bool; 2]
@@ -154,11 +142,11 @@ type Played = (u32, [bool; 2], [bool; 3], ([bool; 2], [usize; 3]));
 
 /// What is told of a flash of one kind: whether it is programmed, whether it is copied, and how it is given back.
 fn plays<F: Flash>(rt: &impl Abort, alloc: Global) -> Played {
-    let mut flash = loaded::<F>(rt, alloc);
+    let mut flash = loaded::<F>(rt, alloc, 1);
     let sector = flash.layout().sector();
     let is_programmed = is_programmed(rt, &mut flash);
-    let is_copied = is_copied(rt, &mut loaded::<F>(rt, alloc));
-    let given = is_given_back(rt, &mut loaded::<F>(rt, alloc));
+    let is_copied = is_copied(rt, &mut loaded::<F>(rt, alloc, 1));
+    let given = is_given_back(rt, &mut loaded::<F>(rt, alloc, 1));
     (sector, is_programmed, is_copied, given)
 }
 
@@ -184,6 +172,6 @@ fn is_kept(rt: &impl Abort, flash: &mut SnapFlash) -> bool {
 /// `scripts/refuse-tests` refuses each allocation of the tests in turn.
 #[test]
 fn a_refused_mark_changes_nothing(rt: HostRuntime) {
-    let kept = is_kept(&rt, &mut loaded::<SnapFlash>(&rt, rt.alloc()));
+    let kept = is_kept(&rt, &mut loaded::<SnapFlash>(&rt, rt.alloc(), 1));
     same(&rt, &kept, &true);
 }

@@ -56,27 +56,21 @@ fn behind_a_byte() -> [u8; 81] {
 
 #[test]
 fn worked_images_are_written(rt: HostRuntime) {
-    let alloc = rt.alloc();
-    let counter = [(0x50, [7, 0, 0, 0].as_slice())];
-    let empty = [(0x99, [].as_slice())];
     let plain = parts_of(&PAYLOAD, &[], &[]);
-    writes(&rt, alloc, &[], &plain, &PLAIN_IMAGE);
-    writes(&rt, alloc, &[9], &plain, &behind_a_byte());
-    writes(&rt, alloc, &[], &parts_of(&[], &[], &[]), &EMPTY_IMAGE);
-    writes(
-        &rt,
-        alloc,
-        &[],
-        &parts_of(&PAYLOAD, &counter, &[]),
-        &COUNTED_IMAGE,
-    );
-    writes(
-        &rt,
-        alloc,
-        &[],
-        &parts_of(&PAYLOAD, &[], &empty),
-        &with_an_entry(),
-    )
+    writes(&rt, rt.alloc(), &[], &plain, &PLAIN_IMAGE);
+    writes(&rt, rt.alloc(), &[9], &plain, &behind_a_byte());
+    let empty = parts_of(&[], &[], &[]);
+    writes(&rt, rt.alloc(), &[], &empty, &EMPTY_IMAGE)
+}
+
+#[test]
+fn images_with_entries_are_written(rt: HostRuntime) {
+    let counter = [(0x50, [7, 0, 0, 0].as_slice())];
+    let counted = parts_of(&PAYLOAD, &counter, &[]);
+    writes(&rt, rt.alloc(), &[], &counted, &COUNTED_IMAGE);
+    let empty = [(0x99, [].as_slice())];
+    let with_empty = parts_of(&PAYLOAD, &[], &empty);
+    writes(&rt, rt.alloc(), &[], &with_empty, &with_an_entry())
 }
 
 /// Why these parts are refused.

@@ -2,30 +2,9 @@
 ghost use Rattle.std.specs.Prelude.{◌≡◌, [], length, ◌<◌, ◌≤◌};
 ghost use Rattle.mc_flash.specs.inner.Worked.{worked};
 
-use crate::common::{same, with_an_erased_sector};
-use mc_fixtures::worked;
-use mc_flash::{Flash, FlashError, Grain, JournalFlash, Slot};
-use std::alloc::Global;
+use crate::common::{loaded, same, with_an_erased_sector};
+use mc_flash::{Flash, FlashError, JournalFlash, Slot};
 use std::process::Abort;
-
-/// A journal flash of the worked layout: the primary is blank, and the secondary holds 0xaa.
-fn loaded(rt: &impl Abort, alloc: Global, boots: u32) -> JournalFlash
-    requires { (1 ≤ boots) × (boots ≤ 32) }
-    ensures geometry { result.geometry ≡ worked }
-    ensures checkpoints { result.checkpoints ≡ [] }
-{
-    let layout = worked().expect(rt, "a layout");
-    let flash = JournalFlash::load(
-        alloc,
-        &layout,
-        Grain::Call,
-        &[0xff; 1024],
-        &[0xaa; 768],
-        boots,
-    )
-    .expect(rt, "a flash");
-    flash
-}
 
 /// The entries, the saved bytes, the checkpoints, and the operations done.
 fn counts(flash: &JournalFlash) -> [u64; 4] {
@@ -93,7 +72,7 @@ fn gone_back(rt: &impl Abort, flash: &mut JournalFlash) -> GoneBack
 
 #[test]
 fn operations_are_counted_and_taken_back(rt: HostRuntime) {
-    let mut flash = loaded(&rt, rt.alloc(), 3);
+    let mut flash = loaded::<JournalFlash>(&rt, rt.alloc(), 3);
     let there = operated(&rt, &mut flash);
     let wanted = [[0, 0, 0, 0], [1, 256, 1, 1], [3, 256, 2, 3]];
     same(&rt, &there, &([0, 1], wanted, Err(FlashError::NotErased)));
@@ -101,39 +80,51 @@ fn operations_are_counted_and_taken_back(rt: HostRuntime) {
     same(&rt, &back, &([[1, 256, 1, 3], [0, 0, 0, 3]], [true; 3], 0));
 }
 
-/// Takes the checkpoints, erases and entries that there is room for. The places of these, the counts after the erases and at
-/// the end, and what is refused on the way.
+/// Takes the erases that there is room for, and returns what is refused then.
 #[tactic(auto, using(mc_flash::specs::facts::Done::does_keep))]
-fn filled(
-    flash: &mut JournalFlash,
-) -> Result<([usize; 2], [[u64; 4]; 2], [Option<FlashError>; 4]), FlashError>
+fn erased(rt: &impl Abort, flash: &mut JournalFlash) -> Option<FlashError>
+    requires { flash.old.geometry ≡ worked }
+    ensures { flash.new.geometry ≡ worked }
+{
+    for _ in 0..9u32 {
+        flash.erase(Slot::Secondary, 1).expect(rt, "an erase");
+    }
+    flash.erase(Slot::Secondary, 1).err()
+}
+
+/// Takes the entries that there is room for, and returns what is refused then, at a place of its own and at one of them.
+#[tactic(auto, using(mc_flash::specs::facts::Done::does_keep))]
+fn programmed(rt: &impl Abort, flash: &mut JournalFlash) -> [Option<FlashError>; 2]
     requires { flash.old.geometry ≡ worked }
 {
-    let places = [flash.mark()?, flash.mark()?];
-    let mark = flash.mark().err();
-    for _ in 0..9u32 {
-        flash.erase(Slot::Secondary, 1)?;
-    }
-    let erase = flash.erase(Slot::Secondary, 1).err();
-    let erased = counts(flash);
     for unit in 0..27u32 {
-        flash.program(Slot::Primary, 8 * unit, &[0; 8])?;
+        flash
+            .program(Slot::Primary, 8 * unit, &[0; 8])
+            .expect(rt, "a write");
     }
-    let program = flash.program(Slot::Primary, 512, &[0; 8]).err();
+    let room = flash.program(Slot::Primary, 512, &[0; 8]).err();
     let over = flash.program(Slot::Primary, 0, &[0; 8]).err();
-    Ok((
-        places,
-        [erased, counts(flash)],
-        [mark, erase, program, over],
-    ))
+    [room, over]
+}
+
+/// Takes the checkpoints that there is room for, and returns their places, and what is refused then.
+fn marked(rt: &impl Abort, flash: &mut JournalFlash) -> ([usize; 2], Option<FlashError>)
+    ensures { flash.new.geometry ≡ flash.old.geometry }
+{
+    let first = flash.mark().expect(rt, "a checkpoint");
+    let second = flash.mark().expect(rt, "a checkpoint");
+    ([first, second], flash.mark().err())
 }
 
 /// The most erases of a boot, and the place for one checkpoint more.
 #[test]
 fn a_full_journal_refuses(rt: HostRuntime) {
-    let told = filled(&mut loaded(&rt, rt.alloc(), 1)).expect(&rt, "room");
     let memory = Some(FlashError::Memory);
-    let refused = [memory, memory, memory, Some(FlashError::NotErased)];
-    let counts = [[9, 2304, 2, 9], [36, 2304, 2, 36]];
-    same(&rt, &told, &([0, 1], counts, refused));
+    let mut flash = loaded::<JournalFlash>(&rt, rt.alloc(), 1);
+    same(&rt, &marked(&rt, &mut flash), &([0, 1], memory));
+    same(&rt, &erased(&rt, &mut flash), &memory);
+    same(&rt, &counts(&flash), &[9, 2304, 2, 9]);
+    let refused = programmed(&rt, &mut flash);
+    same(&rt, &refused, &[memory, Some(FlashError::NotErased)]);
+    same(&rt, &counts(&flash), &[36, 2304, 2, 36]);
 }

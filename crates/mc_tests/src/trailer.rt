@@ -65,14 +65,17 @@ fn every_byte_of_a_flag_is_read(rt: HostRuntime) {
     }
 }
 
+/// The primary's magic where this byte stands in it.
+fn magic_with(rt: &impl Abort, alloc: Global, place: usize, byte: u8) -> Magic {
+    let changes = format!(in alloc; "1008=MAGIC,{place}={byte:02x}").expect(rt, "memory");
+    let flash = flash_of(rt, alloc, changes.as_str());
+    Trailer::read(&flash, Slot::Primary).magic
+}
+
 #[test]
 fn a_magic_with_one_byte_off_is_bad(rt: HostRuntime) {
     for (off, byte) in MAGIC.iter().enumerate() {
-        let changes = format!(in rt.alloc(); "1008=MAGIC,{}={:02x}", 1008 + off, *byte ^ 1).expect(
-            &rt, "memory",
-        );
-        let flash = flash_of(&rt, rt.alloc(), changes.as_str());
-        let found = Trailer::read(&flash, Slot::Primary).magic;
+        let found = magic_with(&rt, rt.alloc(), 1008 + off, *byte ^ 1);
         same_at(&rt, &off, &found, &Magic::Bad);
     }
 }
@@ -88,13 +91,16 @@ static ENTRIES: [(&str, Option<u32>); 6] = [
     ("879=01,976=01,880=01,911=fe,920=00,975=01", Some(11)),
 ];
 
+/// The highest entry where these bytes stand.
+fn highest_with(rt: &impl Abort, alloc: Global, changes: &str) -> Option<u32> {
+    let changes = format!(in alloc; "1024=zeros,1351=zeros,{changes}").expect(rt, "memory");
+    highest_entry(&flash_of(rt, alloc, changes.as_str()))
+}
+
 #[test]
 fn the_highest_written_entry_is_found(rt: HostRuntime) {
     for (changes, entry) in &ENTRIES {
-        let changes = format!(in rt.alloc(); "1024=zeros,1351=zeros,{changes}").expect(
-            &rt, "memory",
-        );
-        let flash = flash_of(&rt, rt.alloc(), changes.as_str());
-        same_at(&rt, entry, &highest_entry(&flash), entry);
+        let found = highest_with(&rt, rt.alloc(), *changes);
+        same_at(&rt, changes, &found, entry);
     }
 }

@@ -1,9 +1,9 @@
 //! Lives of a device, event by event, against the automaton of `docs/LIFE.md`.
 use super::*;
-use crate::common::{flash_with, same_at};
+use crate::common::{flash_with, number_of, parts_of, rules_named, same_at};
 use mc_boot::ImageId;
-use mc_flash::{Grain, Slot};
-use mc_trailer::{Flag, Magic, Profile, Trailer};
+use mc_flash::Slot;
+use mc_trailer::{Flag, Magic, Trailer};
 use std::alloc::Global;
 
 /// The bytes of both slots.
@@ -15,19 +15,34 @@ fn bytes_of(rt: &impl Abort, alloc: Global, flash: &SnapFlash) -> Vec<u8> {
     bytes
 }
 
+/// A boot that is left alone, or loses the power before an operation of it.
+fn boots(rt: &impl Abort, flash: &mut SnapFlash, rules: Rules, event: &str) {
+    match event.strip_prefix("cut ") {
+        Some(cut) => {
+            let mut boot = Boot::cold(flash, rules);
+            run(flash, &mut boot, number_of(rt, cut));
+        }
+        None => {
+            let _ = told(flash, rules);
+        }
+    }
+}
+
+/// The same flash with some bytes changed.
+fn changed(rt: &impl Abort, alloc: Global, flash: &SnapFlash, changes: &str) -> SnapFlash {
+    let mut bytes = bytes_of(rt, alloc, flash);
+    flash_with(rt, alloc, bytes.as_mut_slice(), changes)
+}
+
 /// Lets an event happen: the power comes on, and the boot is left alone, or the power is lost before an operation of it; the image
 /// confirms itself, or changes bytes: of the secondary, behind the primary's, or of a confirmation that is torn.
 fn live(rt: &impl Abort, alloc: Global, flash: &mut SnapFlash, rules: Rules, event: &str) {
-    if event == "boot" {
-        let _ = told(flash, rules);
-    } else if event == "confirm" {
+    if event == "confirm" {
         let _ = confirm(flash).expect(rt, "a confirmation");
-    } else if let Some(cut) = event.strip_prefix("cut ") {
-        let mut boot = Boot::cold(flash, rules);
-        run(flash, &mut boot, cut.parse::<u32>().expect(rt, "a number"));
+    } else if event.contains('=') {
+        *flash = changed(rt, alloc, flash, event);
     } else {
-        let mut bytes = bytes_of(rt, alloc, flash);
-        *flash = flash_with(rt, alloc, bytes.as_mut_slice(), event);
+        boots(rt, flash, rules, event)
     }
 }
 
@@ -53,199 +68,138 @@ fn state_of(rt: &impl Abort, alloc: Global, flash: &SnapFlash, rules: Rules) -> 
     format!(in alloc; "{runs} {trial} {other} {}", outcome.next).expect(rt, "memory")
 }
 
-const CALL_ONE: Rules = Rules::PLAIN;
+/// Lives, with an empty line between them: a line of the rules, one of the flash that the device is delivered with, and one for
+/// each event with the state that it leaves; no state after a cut, where the device does not rest.
+///
+/// A download, a request, a test with two cuts, and the image confirms itself. It does not, and is taken back for good. An upgrade
+/// for good. A request where no image stands fails, until one stands there. What is downloaded while an image is on trial is taken
+/// in by the revert. Half of it takes the way back, for as long as it stands there. A request on trial: the image that never
+/// confirmed itself comes back for good. A confirmation keeps what was requested. A confirmation that is torn ends the trial, and
+/// so does nothing that is written behind it. A torn request on trial, by the first profile and by the second. A revert that is
+/// cut within the secondary's magic is forgotten by these rules, and comes back when that magic is erased.
+const LIVES: &str = "\
+call-1,call-2,unit-1,unit-2
+0=first
+boot: A - 0 none
+1024=second: A - B none
+boot: A - B none
+1776=MAGIC: A - B test
+cut 9:
+cut 1:
+boot: B trial A revert
+confirm: B - A none
+boot: B - A none
 
-const CALL_TWO: Rules = Rules {
-    grain: Grain::Call,
-    profile: Profile::Two,
-};
+call-1,call-2,unit-1,unit-2
+IMAGES
+boot: B trial A revert
+cut 0:
+boot: A - B none
+confirm: A - B none
+boot: A - B none
 
-const UNIT_ONE: Rules = Rules {
-    grain: Grain::Unit,
-    profile: Profile::One,
-};
+call-1,call-2,unit-1,unit-2
+IMAGES,1768=01
+confirm: A - B perm
+cut 5:
+boot: B - A none
+confirm: B - A none
 
-const UNIT_TWO: Rules = Rules {
-    grain: Grain::Unit,
-    profile: Profile::Two,
-};
+call-1,call-2,unit-1,unit-2
+0=first
+1776=MAGIC: A - 0 fail
+boot: A - 0 fail
+1024=second,1100=00: A - 0 fail
+1100=69: A - B test
 
-const ALL: &[Rules] = &[CALL_ONE, CALL_TWO, UNIT_ONE, UNIT_TWO];
+call-1,call-2,unit-1,unit-2
+IMAGES
+boot: B trial A revert
+1024=plain: B trial C revert
+boot: C - B none
 
-/// A life: its rules, the flash that the device is delivered with, and each event with the state that it leaves; no state after a
-/// cut, where the device does not rest.
-type Life = (
-    &'static [Rules],
-    &'static str,
-    &'static [(&'static str, &'static str)],
-);
+call-1,call-2,unit-1,unit-2
+IMAGES
+boot: B trial A revert
+1024=plain,1103=00: B trial 0 fail
+boot: B trial 0 fail
+1103=d4: B trial C revert
+boot: C - B none
 
-static LIVES: [Life; 13] = [
-    // A download, a request, a test with two cuts, and the image confirms itself.
-    (
-        ALL,
-        "0=first",
-        &[
-            ("boot", "A - 0 none"),
-            ("1024=second", "A - B none"),
-            ("boot", "A - B none"),
-            ("1776=MAGIC", "A - B test"),
-            ("cut 9", ""),
-            ("cut 1", ""),
-            ("boot", "B trial A revert"),
-            ("confirm", "B - A none"),
-            ("boot", "B - A none"),
-        ],
-    ),
-    // It does not, and is taken back for good.
-    (
-        ALL,
-        "IMAGES",
-        &[
-            ("boot", "B trial A revert"),
-            ("cut 0", ""),
-            ("boot", "A - B none"),
-            ("confirm", "A - B none"),
-            ("boot", "A - B none"),
-        ],
-    ),
-    // An upgrade for good.
-    (
-        ALL,
-        "IMAGES,1768=01",
-        &[
-            ("confirm", "A - B perm"),
-            ("cut 5", ""),
-            ("boot", "B - A none"),
-            ("confirm", "B - A none"),
-        ],
-    ),
-    // A request where no image stands fails, until one stands there.
-    (
-        ALL,
-        "0=first",
-        &[
-            ("1776=MAGIC", "A - 0 fail"),
-            ("boot", "A - 0 fail"),
-            ("1024=second,1100=00", "A - 0 fail"),
-            ("1100=69", "A - B test"),
-        ],
-    ),
-    // What is downloaded while an image is on trial is taken in by the revert.
-    (
-        ALL,
-        "IMAGES",
-        &[
-            ("boot", "B trial A revert"),
-            ("1024=plain", "B trial C revert"),
-            ("boot", "C - B none"),
-        ],
-    ),
-    // Half of it takes the way back, for as long as it stands there.
-    (
-        ALL,
-        "IMAGES",
-        &[
-            ("boot", "B trial A revert"),
-            ("1024=plain,1103=00", "B trial 0 fail"),
-            ("boot", "B trial 0 fail"),
-            ("1103=d4", "B trial C revert"),
-            ("boot", "C - B none"),
-        ],
-    ),
-    // A request on trial: the image that never confirmed itself comes back for good.
-    (
-        ALL,
-        "IMAGES",
-        &[
-            ("boot", "B trial A revert"),
-            ("1024=plain,1776=MAGIC", "B trial C test"),
-            ("boot", "C trial B revert"),
-            ("boot", "B - C none"),
-        ],
-    ),
-    // A confirmation keeps what was requested.
-    (
-        ALL,
-        "IMAGES",
-        &[
-            ("boot", "B trial A revert"),
-            ("1024=plain,1776=MAGIC", "B trial C test"),
-            ("confirm", "B - C test"),
-            ("boot", "C trial B revert"),
-        ],
-    ),
-    // A confirmation that is torn ends the trial, and so does nothing that is written behind it.
-    (
-        ALL,
-        "IMAGES",
-        &[
-            ("boot", "B trial A revert"),
-            ("1000=7f", "B - A none"),
-            ("boot", "B - A none"),
-            ("confirm", "B - A none"),
-        ],
-    ),
-    // A torn request on trial, by the first profile and by the second.
-    (
-        &[CALL_ONE, UNIT_ONE],
-        "IMAGES",
-        &[
-            ("boot", "B trial A revert"),
-            ("1776=77c295f3", "B trial A none"),
-            ("boot", "B trial A none"),
-        ],
-    ),
-    (
-        &[CALL_TWO, UNIT_TWO],
-        "IMAGES",
-        &[
-            ("boot", "B trial A revert"),
-            ("1776=77c295f3", "B trial A revert"),
-            ("cut 4", ""),
-            ("boot", "A - B none"),
-        ],
-    ),
-    // A revert that is cut within the secondary's magic is forgotten by these rules, and comes back when that magic is erased.
-    (
-        &[UNIT_ONE],
-        "IMAGES",
-        &[
-            ("boot", "B trial A revert"),
-            ("cut 4", ""),
-            ("boot", "B trial A none"),
-            ("1776=ffffffffffffffffffffffffffffffff", "B trial A revert"),
-            ("boot", "A - B none"),
-        ],
-    ),
-    (
-        &[UNIT_TWO],
-        "IMAGES",
-        &[
-            ("boot", "B trial A revert"),
-            ("cut 4", ""),
-            ("boot", "A - B none"),
-        ],
-    ),
-];
+call-1,call-2,unit-1,unit-2
+IMAGES
+boot: B trial A revert
+1024=plain,1776=MAGIC: B trial C test
+boot: C trial B revert
+boot: B - C none
 
-/// A life is as it is told.
-fn is_told(rt: &impl Abort, alloc: Global, rules: Rules, life: &Life) {
-    let mut flash = flash_of(rt, alloc, life.1);
-    for (event, state) in life.2 {
-        live(rt, alloc, &mut flash, rules, *event);
+call-1,call-2,unit-1,unit-2
+IMAGES
+boot: B trial A revert
+1024=plain,1776=MAGIC: B trial C test
+confirm: B - C test
+boot: C trial B revert
+
+call-1,call-2,unit-1,unit-2
+IMAGES
+boot: B trial A revert
+1000=7f: B - A none
+boot: B - A none
+confirm: B - A none
+
+call-1,unit-1
+IMAGES
+boot: B trial A revert
+1776=77c295f3: B trial A none
+boot: B trial A none
+
+call-2,unit-2
+IMAGES
+boot: B trial A revert
+1776=77c295f3: B trial A revert
+cut 4:
+boot: A - B none
+
+unit-1
+IMAGES
+boot: B trial A revert
+cut 4:
+boot: B trial A none
+1776=ffffffffffffffffffffffffffffffff: B trial A revert
+boot: A - B none
+
+unit-2
+IMAGES
+boot: B trial A revert
+cut 4:
+boot: A - B none
+";
+
+/// A flash lives through some events as they are told.
+fn is_told(rt: &impl Abort, alloc: Global, start: &str, rules: Rules, events: &str) {
+    let mut flash = flash_of(rt, alloc, start);
+    for line in events.lines() {
+        let (event, state) = parts_of(rt, line, ":");
+        live(rt, alloc, &mut flash, rules, event);
         if !state.is_empty() {
             let found = state_of(rt, alloc, &flash, rules);
-            same_at(rt, &(rules, life.1, *event), &found.as_str(), state);
+            same_at(rt, &(rules, events, event), &found.as_str(), &state.trim());
         }
+    }
+}
+
+/// A life is as it is told, under each of its rules.
+fn are_told(rt: &impl Abort, alloc: Global, life: &str) {
+    let (names, rest) = parts_of(rt, life, "\n");
+    let (start, events) = parts_of(rt, rest, "\n");
+    for name in names.split(',') {
+        is_told(rt, alloc, start, rules_named(name), events);
     }
 }
 
 #[test]
 fn lives(rt: HostRuntime) {
-    for life in &LIVES {
-        for rules in life.0 {
-            is_told(&rt, rt.alloc(), *rules, life);
-        }
+    for life in LIVES.split("\n\n") {
+        are_told(&rt, rt.alloc(), life);
     }
 }

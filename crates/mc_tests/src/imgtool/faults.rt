@@ -1,5 +1,6 @@
 //! The engines over readers and writers that move one byte a call, and fail at each call in turn.
 use super::Engine;
+use crate::common::same_at;
 use mc_fixtures::{
     COUNTED_IMAGE, FAULTS, FailingReader, FailingWriter, Failure, Fault, GOOD_LINE, PAYLOAD,
     PLAIN_IMAGE, REPORT,
@@ -19,6 +20,22 @@ fn texts_of(engine: Engine) -> (&'static [u8], &'static [u8]) {
     }
 }
 
+/// How an engine ends on an input of so many bytes, with a text of so many, and how many of these it has written.
+fn end_of(
+    input: usize,
+    text: usize,
+    reads: Failure,
+    writes: Failure,
+) -> (Result<(), ToolError>, usize) {
+    if reads.calls <= input {
+        (Err(ToolError::Read), 0)
+    } else if writes.calls < text {
+        (Err(ToolError::Write), writes.calls)
+    } else {
+        (Ok(()), text)
+    }
+}
+
 /// Looks how an engine ends where its reader fails so, or else its writer, and that it has written the beginning of its text. The
 /// last call of a reader finds the end.
 fn ends(rt: &impl Abort, alloc: Global, engine: Engine, reads: Failure, writes: Failure) {
@@ -32,18 +49,9 @@ fn ends(rt: &impl Abort, alloc: Global, engine: Engine, reads: Failure, writes: 
         failure: writes,
     };
     let told = engine.run(rt, alloc, &mut reader, &mut writer);
-    let (wanted, count) = if reads.calls <= input.len() {
-        (Err(ToolError::Read), 0)
-    } else if writes.calls < text.len() {
-        (Err(ToolError::Write), writes.calls)
-    } else {
-        (Ok(()), text.len())
-    };
-    assert_eq!(rt;
-        (told, Some(writer.taken.as_slice())),
-        (wanted, text.get(..count)),
-        "{reads:?} {writes:?}"
-    );
+    let (wanted, count) = end_of(input.len(), text.len(), reads, writes);
+    let found = (told, Some(writer.taken.as_slice()));
+    same_at(rt, &(reads, writes), &found, &(wanted, text.get(..count)))
 }
 
 /// A reader or a writer that never fails.

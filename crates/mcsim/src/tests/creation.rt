@@ -1,5 +1,5 @@
 //! `create`: the images that it makes, and what it refuses; and command lines over real files.
-use super::support::{Table, all_play, told_of};
+use super::support::{Table, all_play, same_at, told_of};
 use mc_fixtures::{GOOD_LINE, PAYLOAD, PLAIN_IMAGE};
 use std::alloc::Global;
 use std::os::unix::fs::symlink;
@@ -10,13 +10,13 @@ use std::{env, fs, process};
 /// Looks what a command line tells over the real files, with an image as standard input.
 fn tells<H: Abort + Files>(rt: &H, alloc: Global, line: &str, want: &str) {
     let text = told_of(rt, alloc, line, &PLAIN_IMAGE);
-    assert_eq!(rt; text.as_str(), want, "{line}");
+    same_at(rt, &line, &text.as_str(), &want)
 }
 
 /// Looks what a file holds.
 fn holds<H: Abort + Files + Alloc>(rt: &H, path: &str, want: &[u8]) {
     let bytes = fs::read(rt, path).expect(rt, "a file");
-    assert_eq!(rt; bytes.as_slice(), want, "{path}");
+    same_at(rt, &path, &bytes.as_slice(), &want)
 }
 
 /// Removes a file.
@@ -64,13 +64,36 @@ fn keeps<H: Abort + Files + Alloc>(
     holds(rt, payload, &PAYLOAD)
 }
 
-/// Paths of this test alone in a folder: of a payload, of a link to it, and the payload's by a detour.
-fn paths_in(rt: &impl Abort, alloc: Global, folder: &str, id: u32) -> [String; 3] {
-    [
-        format!(in alloc; "{folder}/mcsim-{id}-payload").expect(rt, "memory"),
-        format!(in alloc; "{folder}/mcsim-{id}-link").expect(rt, "memory"),
-        format!(in alloc; "{folder}/./mcsim-{id}-payload").expect(rt, "memory"),
-    ]
+/// Makes an image of a payload, and refuses the payload that is to be its own image, by the path of a link, and by a detour.
+fn makes_and_keeps<H: Abort + Files + Alloc>(
+    rt: &H,
+    alloc: Global,
+    payload: &str,
+    link: &str,
+    detour: &str,
+) {
+    fs::write(rt, payload, PAYLOAD.as_slice()).expect(rt, "a file");
+    makes(rt, alloc, payload, link);
+    symlink(rt, payload, link).expect(rt, "a link");
+    keeps(rt, alloc, payload, payload, link);
+    keeps(rt, alloc, payload, payload, detour);
+    keeps(rt, alloc, payload, link, payload);
+    keeps(rt, alloc, payload, detour, payload);
+    keeps(rt, alloc, payload, payload, payload);
+    remove(rt, link);
+    remove(rt, payload)
+}
+
+/// A path of this test alone in a folder, with some words before its last part.
+fn path_in(
+    rt: &impl Abort,
+    alloc: Global,
+    folder: &str,
+    before: &str,
+    id: u32,
+    name: &str,
+) -> String {
+    format!(in alloc; "{folder}/{before}mcsim-{id}-{name}").expect(rt, "memory")
 }
 
 /// A file that is to be its own image stays as it is, by whatever path it is named.
@@ -78,22 +101,16 @@ fn paths_in(rt: &impl Abort, alloc: Global, folder: &str, id: u32) -> [String; 3
 fn makes_an_image_and_keeps_its_payload(rt: HostRuntime) {
     let folder = env::temp_dir(&rt).expect(&rt, "a folder");
     let id = process::id(rt.process());
-    let paths = paths_in(&rt, rt.alloc(), folder.as_str(), id);
-    let [payload, link, other] = [paths[0].as_str(), paths[1].as_str(), paths[2].as_str()];
-    fs::write(&rt, payload, PAYLOAD.as_slice()).expect(&rt, "a file");
-    makes(&rt, rt.alloc(), payload, link);
-    symlink(&rt, payload, link).expect(&rt, "a link");
-    for (infile, outfile) in [
-        (payload, link),
-        (payload, other),
-        (link, payload),
-        (other, payload),
-        (payload, payload),
-    ] {
-        keeps(&rt, rt.alloc(), payload, infile, outfile);
-    }
-    remove(&rt, link);
-    remove(&rt, payload)
+    let payload = path_in(&rt, rt.alloc(), folder.as_str(), "", id, "payload");
+    let link = path_in(&rt, rt.alloc(), folder.as_str(), "", id, "link");
+    let detour = path_in(&rt, rt.alloc(), folder.as_str(), "./", id, "payload");
+    makes_and_keeps(
+        &rt,
+        rt.alloc(),
+        payload.as_str(),
+        link.as_str(),
+        detour.as_str(),
+    )
 }
 
 #[test]

@@ -49,39 +49,46 @@ fn create_meets_failing_writes(rt: HostRuntime) {
     )
 }
 
-/// The status of a command line whose streams fail at each call.
-fn status_of<H: Abort + Files>(rt: &H, alloc: Global, line: &str) -> u8 {
-    let words = words_of(rt, alloc, line);
-    let unused = RefCell::new(Vec::new(alloc));
-    let failing = || FaultyFile {
+/// A stream that fails at each call.
+fn failing(unused: &RefCell<Vec<u8>>) -> FaultyFile<'_> {
+    FaultyFile {
         rest: &[],
-        written: &unused,
+        written: unused,
         failure: Failure {
             calls: 0,
             fault: Fault::Error,
             lasts: true,
         },
-    };
+    }
+}
+
+/// The status of a command line with such streams.
+fn status_of<H: Abort + Files>(rt: &H, alloc: Global, line: &str) -> u8 {
+    let words = words_of(rt, alloc, line);
+    let unused = RefCell::new(Vec::new(alloc));
+    let (mut out, mut err) = (failing(&unused), failing(&unused));
     run(
         rt,
         alloc,
         words.as_slice(),
         &mut [].as_slice(),
-        &mut failing(),
-        &mut failing(),
+        &mut out,
+        &mut err,
     )
 }
 
-/// The help cannot be written.
+/// Command lines, the last of which asks for help that cannot be written; and their statuses.
+static STATUSES: [(&str, u8); 5] = [
+    ("verify", 1),
+    ("dumpinfo", 1),
+    ("nonsense", 2),
+    ("", 2),
+    ("--help", 3),
+];
+
 #[test]
 fn statuses_stand_where_no_text_can_be_written(rt: HostRuntime) {
-    for (line, want) in [
-        ("verify", 1),
-        ("dumpinfo", 1),
-        ("nonsense", 2),
-        ("", 2),
-        ("--help", 3),
-    ] {
-        assert_eq!(rt; status_of(&rt, rt.alloc(), line), want, "{line}");
+    for (line, want) in &STATUSES {
+        same_at(&rt, line, &status_of(&rt, rt.alloc(), *line), want);
     }
 }

@@ -147,125 +147,66 @@ pub fn tells(rt: &impl Abort, alloc: Global, line: &str, input: &[u8], want: &st
     ended
 }
 
-/// What is told of the image `counted`, but for what comes after it and how its digest is.
-static FIELDS: &str = "\
-magic 0x96f3b83d
-load 0x00000000
-header-size 32
-protected-size 12
-image-size 8
-flags 0x00000000
-version 1.2.3+4
-padding 0x00000000
-protected 0x0050 4 07000000
-plain 0x0010 32 4dcc5778bca9c831b86de779361dfbc68a9740b5fcc3297188767c3aa8cba2e4
-total 92";
+/// What stands for what in a session, in the order in which it is put in, with `; ` for the end of a line. The first words are
+/// of sixteen cuts: a layout of the largest sectors and its start; cuts before the first operation, as a schedule and in the first
+/// round, and eight in the first and seven in the second; the greatest places. `REPORT` is what is told of the image `counted`,
+/// but for what comes after it and how its digest is.
+const WORDS: &str = "\
+WIDE-START 26ad908ef00f25725e859e007381c2c9a3d4aa6b2c818a12debd12dc18c01c36
+WIDE --sector 65536 --unit 8 --max-sectors 1024 --chunk 65536 --primary 4 --secondary 3
+ZEROS FIFTEEN.0
+FIFTEEN 0.0.0.0.0.0.0.0.0.0.0.0.0.0.0
+ROUND-ONE 1.0,1.0,1.0,1.0,1.0,1.0,1.0,1.0,1.0,1.0,1.0,1.0,1.0,1.0,1.0
+ROUNDS 1.0,1.0,1.0,1.0,1.0,1.0,1.0,1.0,2.0,2.0,2.0,2.0,2.0,2.0,2.0
+GREATEST-ROUND 1.4294967295,1.4294967295,1.4294967295,1.4294967295,1.4294967295,1.4294967295,1.4294967295,1.4294967295,1.4294967295,1.4294967295,1.4294967295,1.4294967295,1.4294967295,1.4294967295,1.4294967295,1.4294967295
+GREATEST 4294967295.4294967295.4294967295.4294967295.4294967295.4294967295.4294967295.4294967295.4294967295.4294967295.4294967295.4294967295.4294967295.4294967295.4294967295.4294967295
+FINISH write primary 992 copy-done 01ffffffffffffff
+WORKED --sector 256 --unit 8 --max-sectors 4 --chunk 128 --primary 4 --secondary 3
+THREE --sector 256 --unit 8 --max-sectors 4 --chunk 128 --primary 3 --secondary 3
+SMALL --sector 64 --unit 1 --max-sectors 4 --chunk 32 --primary 4 --secondary 3
+TWO --sector 128 --unit 8 --max-sectors 4 --chunk 128 --primary 5 --secondary 4
+IMAGES --image-a first --image-b second
+SWAPPED primary SECOND; secondary FIRST
+PADDING --version 1.2.3+4 --pad-header --header-size 32
+REPORT magic 0x96f3b83d; load 0x00000000; header-size 32; protected-size 12; image-size 8; flags 0x00000000; version 1.2.3+4; padding 0x00000000; protected 0x0050 4 07000000; plain 0x0010 32 4dcc5778bca9c831b86de779361dfbc68a9740b5fcc3297188767c3aa8cba2e4; total 92
+KEPT primary FIRST; secondary SECOND
+START 9b07a99687c30f1c748c995c0d4df48a8af881b571e209fd613b03ba09e2b5b7
+BEGUN 1792:1008=MAGIC
+MIXED 1792:992=01,1008=MAGIC,1024=second
+UNSET magic=unset image-ok=unset copy-done=unset swap-info=0xff swap-size=4294967295
+LARGER 31e51cada910d18be541c1fed45924a8449c611617190bed4e31ca876b3385ce
+MAGIC 77c295f360d2ef7f3552500f2cb67980
+";
 
-/// A word, and the text that it stands for.
-type Word = (&'static str, &'static str);
-
-/// What stands for what in a session, of sixteen cuts: a layout of the largest sectors and its start; cuts before the first
-/// operation, as a schedule and in the first round, and eight in the first and seven in the second; the greatest places.
-fn words_of_sixteen() -> [Word; 8] {
-    [
-        (
-            "WIDE-START",
-            "26ad908ef00f25725e859e007381c2c9a3d4aa6b2c818a12debd12dc18c01c36",
-        ),
-        (
-            "WIDE",
-            "--sector 65536 --unit 8 --max-sectors 1024 --chunk 65536 --primary 4 --secondary 3",
-        ),
-        ("ZEROS", "FIFTEEN.0"),
-        ("FIFTEEN", "0.0.0.0.0.0.0.0.0.0.0.0.0.0.0"),
-        (
-            "ROUND-ONE",
-            "1.0,1.0,1.0,1.0,1.0,1.0,1.0,1.0,1.0,1.0,1.0,1.0,1.0,1.0,1.0",
-        ),
-        (
-            "ROUNDS",
-            "1.0,1.0,1.0,1.0,1.0,1.0,1.0,1.0,2.0,2.0,2.0,2.0,2.0,2.0,2.0",
-        ),
-        (
-            "GREATEST-ROUND",
-            "1.4294967295,1.4294967295,1.4294967295,1.4294967295,1.4294967295,1.4294967295,1.4294967295,1.4294967295,1.4294967295,1.4294967295,1.4294967295,1.4294967295,1.4294967295,1.4294967295,1.4294967295,1.4294967295",
-        ),
-        (
-            "GREATEST",
-            "4294967295.4294967295.4294967295.4294967295.4294967295.4294967295.4294967295.4294967295.4294967295.4294967295.4294967295.4294967295.4294967295.4294967295.4294967295.4294967295",
-        ),
-    ]
+/// A text with a word in full.
+fn with_word(rt: &impl Abort, alloc: Global, text: &str, word: &str, full: &str) -> String {
+    text.replace(alloc, word, full).expect(rt, "memory")
 }
 
-/// The other words, which may stand in a text of those.
-fn words_in_full() -> [Word; 19] {
-    [
-        ("FINISH", "write primary 992 copy-done 01ffffffffffffff"),
-        (
-            "WORKED",
-            "--sector 256 --unit 8 --max-sectors 4 --chunk 128 --primary 4 --secondary 3",
-        ),
-        (
-            "THREE",
-            "--sector 256 --unit 8 --max-sectors 4 --chunk 128 --primary 3 --secondary 3",
-        ),
-        (
-            "SMALL",
-            "--sector 64 --unit 1 --max-sectors 4 --chunk 32 --primary 4 --secondary 3",
-        ),
-        (
-            "TWO",
-            "--sector 128 --unit 8 --max-sectors 4 --chunk 128 --primary 5 --secondary 4",
-        ),
-        ("IMAGES", "--image-a first --image-b second"),
-        ("SWAPPED", "primary SECOND\nsecondary FIRST"),
-        ("PADDING", "--version 1.2.3+4 --pad-header --header-size 32"),
-        ("REPORT", FIELDS),
-        ("GOOD\n", GOOD_LINE),
-        ("KEPT", "primary FIRST\nsecondary SECOND"),
-        ("FIRST", FIRST_TOLD),
-        ("SECOND", SECOND_TOLD),
-        (
-            "START",
-            "9b07a99687c30f1c748c995c0d4df48a8af881b571e209fd613b03ba09e2b5b7",
-        ),
-        ("BEGUN", "1792:1008=MAGIC"),
-        ("MIXED", "1792:992=01,1008=MAGIC,1024=second"),
-        (
-            "UNSET",
-            "magic=unset image-ok=unset copy-done=unset swap-info=0xff swap-size=4294967295",
-        ),
-        (
-            "LARGER",
-            "31e51cada910d18be541c1fed45924a8449c611617190bed4e31ca876b3385ce",
-        ),
-        ("MAGIC", "77c295f360d2ef7f3552500f2cb67980"),
-    ]
+/// A text with the words of all lines in full.
+fn with_words(rt: &impl Abort, alloc: Global, text: &str) -> String {
+    let mut whole = owned(rt, alloc, text);
+    for line in WORDS.lines() {
+        let (word, full) = line.split_once(' ').unwrap_or((line, ""));
+        whole = with_word(rt, alloc, whole.as_str(), word, full);
+    }
+    whole
 }
 
 /// A text with its words in full.
 pub fn in_full(rt: &impl Abort, alloc: Global, text: &str) -> String {
-    let lines = text.replace(alloc, "; ", "\n").expect(rt, "memory");
-    let of_sixteen = with_words(rt, alloc, lines, &words_of_sixteen());
-    with_words(rt, alloc, of_sixteen, &words_in_full())
-}
-
-/// A text with these words in full, one after the other.
-fn with_words(rt: &impl Abort, alloc: Global, text: String, words: &[Word]) -> String {
-    let mut whole = text;
-    for (word, full) in words {
-        let told = whole.as_str().replace(alloc, *word, *full);
-        whole = told.expect(rt, "memory");
-    }
-    whole
+    let good = with_word(rt, alloc, text, "GOOD\n", GOOD_LINE);
+    let words = with_words(rt, alloc, good.as_str());
+    let first = with_word(rt, alloc, words.as_str(), "FIRST", FIRST_TOLD);
+    let second = with_word(rt, alloc, first.as_str(), "SECOND", SECOND_TOLD);
+    with_word(rt, alloc, second.as_str(), "; ", "\n")
 }
 
 /// A text with the fields of a line in the place of their names. The last field is the rest of the line.
 fn filled(rt: &impl Abort, alloc: Global, text: &str, names: &[&str], line: &str) -> String {
     let mut whole = owned(rt, alloc, text);
     for (name, field) in names.iter().zip(line.splitn(names.len(), ' ')) {
-        let told = whole.as_str().replace(alloc, *name, field);
-        whole = told.expect(rt, "memory");
+        whole = with_word(rt, alloc, whole.as_str(), *name, field);
     }
     whole
 }

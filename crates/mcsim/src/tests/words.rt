@@ -125,19 +125,22 @@ fn helps(rt: &impl Abort, alloc: Global, line: &str, want: &str) -> bool {
     is_narrow(text) && text.contains(want) && ended.err.is_empty() && ended.status == 0
 }
 
+/// Command lines that ask for help, and some words of it.
+static HELP: [(&str, &str); 8] = [
+    ("--help", "Usage: mcsim <COMMAND>"),
+    ("create --help", "Usage: mcsim create "),
+    ("verify -h", "Usage: mcsim verify "),
+    ("dumpinfo -h", "Usage: mcsim dumpinfo "),
+    ("type --help", "Usage: mcsim type "),
+    ("explore --help", "Usage: mcsim explore "),
+    ("sign --help", "Usage: mcsim "),
+    ("--version", "mcsim 0.1.0 (proved by rattle-kit-"),
+];
+
 #[test]
 fn prints_help(rt: HostRuntime) {
-    for (line, want) in [
-        ("--help", "Usage: mcsim <COMMAND>"),
-        ("create --help", "Usage: mcsim create "),
-        ("verify -h", "Usage: mcsim verify "),
-        ("dumpinfo -h", "Usage: mcsim dumpinfo "),
-        ("type --help", "Usage: mcsim type "),
-        ("explore --help", "Usage: mcsim explore "),
-        ("sign --help", "Usage: mcsim "),
-        ("--version", "mcsim 0.1.0 (proved by rattle-kit-"),
-    ] {
-        assert!(rt; helps(&rt, rt.alloc(), line, want), "{line}");
+    for (line, want) in &HELP {
+        same_at(&rt, line, &helps(&rt, rt.alloc(), *line, *want), &true);
     }
 }
 

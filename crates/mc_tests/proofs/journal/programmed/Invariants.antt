@@ -1,9 +1,6 @@
 use Rattle.std.proofs.Common.{◌≡◌}
 use Rattle.mc_flash.specs.inner.Worked.{worked}
-use Rattle.mc_tests.proofs.journal.filled.Given as goal
-
-abbrev pub invariant-loop : goal.invariant-loop
-invariant-loop l = record { layout : l.flash.geometry ≡ worked }
+use Rattle.mc_tests.proofs.journal.programmed.Given as goal
 
 abbrev pub invariant-loop-unit : goal.invariant-loop-unit
 invariant-loop-unit l = record { layout : l.flash.geometry ≡ worked }
