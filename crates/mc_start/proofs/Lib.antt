@@ -1,3 +1,2 @@
-mod Preceding
 mod Cursors
 pub mod Starts

@@ -5,6 +5,7 @@ ghost use Rattle.mc_start.specs.Start.{lowered};
 ghost use Rattle.mc_start.specs.Start.{schedule_text, FitsCut, IsSchedule, IsAdded, ReadsSchedule};
 
 use mc_output::{Line, MOST_LINE};
+use mc_tree::precedes;
 use std::fmt;
 use std::marker::Model;
 use thiserror::Error;
@@ -157,7 +158,7 @@ impl Schedule {
     pub fn is_before(&self, other: &Schedule) -> bool
         ensures { (result ≡ true) ↔ Precedes self.now other.now }
     {
-        self.cuts() < other.cuts()
+        precedes(self.cuts(), other.cuts())
     }
 
     /// Adds a cut at the end.
