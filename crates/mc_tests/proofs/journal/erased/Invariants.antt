@@ -3,4 +3,4 @@ use Rattle.mc_flash.specs.inner.Worked.{worked}
 use Rattle.mc_tests.proofs.journal.erased.Given as goal
 
 abbrev pub invariant-loop : goal.invariant-loop
-invariant-loop l = record { layout : l.flash.geometry ≡ worked }
+invariant-loop g l = record { layout : l.flash.geometry ≡ worked }
