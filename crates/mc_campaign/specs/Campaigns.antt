@@ -64,6 +64,14 @@ pub record AreReplayed (x : PowerOn) (confirms : Bool) (c : List (ℕ × ℕ)) (
   pub first : schedules.IsReplayed x (in_round 1 c) one middle
   pub second : schedules.IsReplayed (again x (confirmed_if confirms x.geometry middle)) (in_round 2 c) two z
 
+-- The second round begins with y: the cuts of the first can occur, the uncut boot after them leaves `middle`, and y is that, once the
+-- image has confirmed itself, where it does.
+pub record BeginsSecond (x : PowerOn) (confirms : Bool) (cuts : List ℕ) (y : PowerOn) : Type 0 where
+  pub one : Report
+  pub middle : Content
+  pub first : schedules.IsReplayed x cuts one middle
+  pub begins : y ≡ again x (confirmed_if confirms x.geometry middle)
+
 -- The first round ends, and the first cut that can't occur is of the second.
 pub record CannotOccurLater (x : PowerOn) (confirms : Bool) (c : List (ℕ × ℕ)) (place : ℕ) : Type 0 where
   pub one : Report

@@ -1,5 +1,5 @@
 -- Campaigns as what is explored: the states of their explorer, their rows with their text, what the restart theorem says of them, and what a row costs.
-use Rattle.std.specs.Prelude.{Bool, List, Result, Some, [], codes, false, true, ℕ, ◌*◌, ◌++◌, ◌+◌, ◌≡◌, ◌≢◌}
+use Rattle.std.specs.Prelude.{Bool, List, Result, Some, [], codes, false, if◌then◌else◌, true, ℕ, ◌*◌, ◌++◌, ◌+◌, ◌≡◌, ◌≢◌}
 use Rattle.mc_boot.specs.Outcome.{Report, after, shown}
 use Rattle.mc_boot.specs.Plan.{PowerOn, again}
 use Rattle.mc_boot.specs.Restart.{BeginsImage, EndsAgain, EndsIn, confirmed_if, forgets_reverts, has_revert, named, other, start_flash}
@@ -11,6 +11,7 @@ use Rattle.mc_campaign.specs.declared.row.CampaignRow.{CampaignRow}
 use Rattle.mc_explore.specs.Rows.{outcome_text, slots_text}
 use Rattle.mc_explore.specs.Schedules.{IsSwapOutcome}
 use Rattle.mc_explore.specs.Subject.{Subject}
+use Rattle.mc_explore.specs.Survey.{is_boot}
 use Rattle.mc_explore.specs.declared.error.ExploreError.{ExploreError}
 use Rattle.mc_flash.specs.Flash.{Content}
 use Rattle.mc_flash.specs.Geometry.{Geometry, IsLayout}
@@ -48,6 +49,10 @@ pub record Told : Type 0 where
 
 abbrev pub told : CampaignRow → Told
 told row = record { campaign = row.campaign; first = shown row.first; second = shown row.second }
+
+-- How a campaign ends: as its first round does, where that does not end in a boot, else as its second.
+abbrev pub end_of : Told → Report
+end_of row = if is_boot row.first.result then row.second else row.first
 
 -- The outcomes of a row are those of its campaign, round by round.
 abbrev pub HasOutcomes : PowerOn → Bool → Told → Type 0
@@ -120,8 +125,10 @@ campaigns = record {
   IsListed = IsMember;
   Before = Precedes;
   key = λ row. row.campaign;
+  key_text = campaign_text;
   row_text = row_text;
   no_key = [];
+  ends = end_of;
   HasOutcome = HasOutcomes;
   Restarts = RowRestarts;
   most_for_row = most_for_row;

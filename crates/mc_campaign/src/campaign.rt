@@ -1,7 +1,7 @@
 //! Campaigns of power cuts.
-ghost use Rattle.std.specs.Prelude.{◌≡◌, ℕ, List, ◌+◌, ◌*◌, ◌<◌, ◌≤◌, ◌^◌, [], ◌∷◌, ◌++◌, length, decimal, Some, Ok, IfOk, OnOk, OnErr, MatchResult};
-ghost use Rattle.mc_campaign.specs.Campaigns.{IsInOrder, in_round};
-ghost use Rattle.mc_campaign.specs.Campaigns.{number_of};
+ghost use Rattle.std.specs.Prelude.{◌≡◌, ◌↔◌, ℕ, List, ◌+◌, ◌*◌, ◌<◌, ◌≤◌, ◌^◌, [], ◌∷◌, ◌++◌, length, decimal, true, Some, Ok, IfOk, OnOk, OnErr, MatchResult};
+ghost use Rattle.mc_tree.specs.Tree.{Before};
+ghost use Rattle.mc_campaign.specs.Campaigns.{IsInOrder, Precedes, in_round, number_of};
 ghost use Rattle.mc_campaign.specs.Texts.{campaign_text, cut_text, FitsCut, IsAdded, IsCampaign, IsCut, ReadsCampaign};
 ghost use Rattle.mc_campaign.specs.facts.Cuts.{last_round};
 
@@ -178,6 +178,14 @@ impl Campaign {
         &self.cuts[..self.len]
     }
 
+    /// Whether it comes before another in the order of rows: a proper prefix does, else the first cut that differs decides, by its
+    /// round and then by its place.
+    pub fn is_before(&self, other: &Campaign) -> bool
+        ensures { (result ≡ true) ↔ Precedes self.now other.now }
+    {
+        come_before(self.cuts(), other.cuts())
+    }
+
     /// The places of the cuts of a round, in their order.
     pub fn places(&self, round: Round) -> Schedule
         ensures { result ≡ in_round (number_of round) self.now }
@@ -190,6 +198,30 @@ impl Campaign {
             }
         }
         places
+    }
+}
+
+// Whether a cut comes before another: by its round, and then by its place.
+fn is_earlier(cut: (u8, u32), other: (u8, u32)) -> bool
+    ensures { (result ≡ true) ↔ Before cut other }
+{
+    cut.0 < other.0 || (cut.0 == other.0 && cut.1 < other.1)
+}
+
+// Whether some cuts come before others: a proper prefix does, else the first cut that differs decides.
+fn come_before(cuts: &[(u8, u32)], others: &[(u8, u32)]) -> bool
+    ensures { (result ≡ true) ↔ Precedes cuts.now others.now }
+{
+    let Some((other, others)) = others.split_first() else {
+        return false;
+    };
+    let Some((cut, cuts)) = cuts.split_first() else {
+        return true;
+    };
+    if cut.0 == other.0 && cut.1 == other.1 {
+        come_before(cuts, others)
+    } else {
+        is_earlier(*cut, *other)
     }
 }
 

@@ -8,7 +8,7 @@ use crate::cursor::CampaignCursor;
 use crate::following;
 use crate::rounds::Twice;
 use crate::row::CampaignRow;
-use mc_boot::restart_law;
+use mc_boot::{Outcome, restart_law};
 use mc_explore::{Fields, Labels, Line, Once, RowsAhead, Schedule, Start, Subject, TreeExplorer};
 use mc_flash::{Flash, FlashError};
 use mc_walk::Walk;
@@ -36,7 +36,7 @@ fn campaign_at<F: Flash>(walk: &Walk<F, Twice>) -> Campaign
 }
 
 impl Subject for Twice {
-    ghost use Rattle.std.specs.Prelude.{◌≡◌, None};
+    ghost use Rattle.std.specs.Prelude.{◌≡◌};
     ghost use Rattle.mc_tree.specs.facts.Order.{pairs_in_order};
     ghost use Rattle.mc_explore.specs.inner.Once.{begins};
     ghost use Rattle.mc_boot.specs.Plan.{PowerOn};
@@ -57,8 +57,6 @@ impl Subject for Twice {
 
     type Cursor = CampaignCursor;
 
-    type Until = ();
-
     // Each row is told by the flash, and none ahead.
     type Kept = ();
 
@@ -75,8 +73,6 @@ impl Subject for Twice {
     ghost shown = { states.told };
 
     ghost fields = { fields_of };
-
-    ghost until_of = { λ _. None };
 
     ghost holds = { λ _ _ _. Unit {0} };
 
@@ -146,9 +142,13 @@ impl Subject for Twice {
         row.campaign
     }
 
+    fn end(row: &CampaignRow) -> Outcome {
+        row.end()
+    }
+
     #[inline]
-    fn is_before(_row: &CampaignRow, _until: &()) -> bool {
-        true
+    fn is_before(row: &CampaignRow, key: &Campaign) -> bool {
+        row.campaign.is_before(key)
     }
 
     fn restarts() {
@@ -183,6 +183,10 @@ impl Subject for Twice {
 
     fn put_row(row: &CampaignRow, line: &mut Line, labels: &Labels) {
         row.put_into(line, labels);
+    }
+
+    fn put_key(key: &Campaign, line: &mut Line) {
+        key.put_into(line);
     }
 
     fn put_cursor(cursor: &CampaignCursor, line: &mut Line) {

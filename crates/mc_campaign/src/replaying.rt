@@ -12,13 +12,14 @@ ghost use Rattle.mc_explore.specs.inner.Once as trees;
 ghost use Rattle.mc_explore.specs.Schedules as replays;
 ghost use Rattle.mc_start.specs.Start.{begun};
 ghost use Rattle.mc_explore.specs.inner.View.{begun_with};
-ghost use Rattle.mc_campaign.specs.Campaigns.{AreReplayed, Refuses};
+ghost use Rattle.mc_boot.specs.Plan.{again};
+ghost use Rattle.mc_campaign.specs.Campaigns.{AreReplayed, BeginsSecond, Refuses};
 ghost use Rattle.mc_campaign.specs.Rows.{Restarts};
 
 use crate::campaign::{Campaign, Round};
 use crate::rounds::go_between;
 use mc_boot::{Outcome, restart_law};
-use mc_explore::{Once, ReplayError, Start, load_for, replay_on};
+use mc_explore::{Once, ReplayError, Schedule, Start, load_for, replay_on};
 use mc_flash::{Flash, Slot};
 use std::alloc::Global;
 
@@ -62,6 +63,60 @@ fn settle<F: Flash>(confirms: bool, flash: &mut F) -> Result<(), ReplayError>
 {
     go_between(confirms, flash)?;
     Ok(())
+}
+
+/// The start of the second round: the flash that the first round leaves, whose cuts those are, once the image has confirmed itself,
+/// where it does. The first round has a flash of its own, which is loaded for three boots more than it has cuts. What the slots then
+/// hold is hashed.
+///
+/// # Errors
+///
+/// `CannotOccur` with the place of the first cut that is not less than the operations that its boot makes uncut; `Memory`.
+pub fn start_of_second<F: Flash>(
+    alloc: Global,
+    start: &Start,
+    cuts: &Schedule,
+    confirms: bool,
+) -> Result<Start, ReplayError>
+    ensures { let s = begun start.now in MatchResult result
+        (λ then. BeginsSecond s confirms cuts.now (begun then))
+        (λ e. replays.Refuses s cuts.now e) }
+{
+    let once = Once {
+        rules: start.rules(),
+        layout: *start.layout(),
+    };
+    let cuts = cuts.cuts();
+    let boots = cuts.len() as u8 + 3;
+    let (primary, secondary) = (start.primary(), start.secondary());
+    let (_one, mut middle) = replay_round::<F>(
+        alloc, &once, primary, secondary, cuts, boots, start,
+    )?;
+    settle(confirms, &mut middle)?;
+    start_on(alloc, start, &middle)
+}
+
+// The start under the same rules from the flash as it is.
+fn start_on<F: Flash>(alloc: Global, start: &Start, flash: &F) -> Result<Start, ReplayError>
+    requires { (F.seen flash.now).geometry ≡ start.now.geometry }
+    ensures { MatchResult result
+        (λ then. begun then ≡ again (begun start.now) (F.seen flash.now).content)
+        (λ e. e ≡ ReplayError.Memory) }
+{
+    let mut bytes = match flash.read(Slot::Primary).to_vec(alloc) {
+        Ok(bytes) => bytes,
+        Err(_) => return Err(ReplayError::Memory),
+    };
+    if bytes
+        .extend_from_slice(flash.read(Slot::Secondary))
+        .is_err()
+    {
+        return Err(ReplayError::Memory);
+    }
+    match Start::from_flash(alloc, start.layout(), &bytes) {
+        Ok(then) => Ok(then.with_rules(start.rules())),
+        Err(_) => Err(ReplayError::Memory),
+    }
 }
 
 /// The outcomes of both rounds of a campaign from a start, between which the image confirms itself or not, and the flash that the

@@ -1,6 +1,10 @@
 //! A campaign with its outcomes.
+ghost use Rattle.std.specs.Prelude.{◌≡◌};
+ghost use Rattle.mc_boot.specs.Outcome.{shown};
+ghost use Rattle.mc_campaign.specs.Rows.{end_of, told};
+
 use crate::Campaign;
-use mc_boot::Outcome;
+use mc_boot::{BootResult, Outcome};
 
 /// A campaign, and the outcomes of the boots that end its rounds.
 #[derive(Clone, Copy, Debug)]
@@ -8,4 +12,16 @@ pub struct CampaignRow {
     pub campaign: Campaign,
     pub first: Outcome,
     pub second: Outcome,
+}
+
+impl CampaignRow {
+    /// How the campaign ends: as its first round does, where that does not end in a boot, else as its second.
+    pub fn end(&self) -> Outcome
+        ensures { shown result ≡ end_of (told self.now) }
+    {
+        match self.first.result {
+            BootResult::Boot => self.second,
+            BootResult::None | BootResult::Panic | BootResult::Fault => self.first,
+        }
+    }
 }

@@ -1,17 +1,17 @@
 -- The verdict on rows is the first of what was asked for that does not hold.
 use Rattle.std.proofs.Common.{Bool, List, None, Option, Result, Some, false, not, refl, true, ◌≡◌, ◌↔◌}
 use Rattle.std.specs.Prelude.{IfSome, is_none, is_some}
-use Rattle.mc_explore.specs.Right.{AllRight}
-use Rattle.mc_explore.specs.Rows.{Told}
-use Rattle.mc_explore.specs.Survey.{AllBoot}
+use Rattle.mc_boot.specs.Outcome.{Report}
+use Rattle.mc_explore.specs.Right.{AllEndRight}
+use Rattle.mc_explore.specs.Survey.{AllEndInBoot}
 use Rattle.mc_explore.specs.declared.expectation.Expectation.{Expectation}
-use Rattle.mc_explore.specs.declared.rights.Rights.{Rights}
+use Rattle.mc_explore.specs.declared.rights.RightsOf.{RightsOf}
 use Rattle.mc_command.specs.Verdicts.{IsVerdict, verdict_of}
 use Rattle.mc_command.specs.declared.verdict.Asked.{Asked}
 use Rattle.mc_command.specs.declared.refusal.Refusal.{Refusal}
 
 -- That holds where it was counted.
-where_counted : (P : Type 0) (o : Option Rights) → P → IfSome o (λ _. P)
+where_counted : {K : Type 0} (P : Type 0) (o : Option (RightsOf K)) → P → IfSome o (λ _. P)
 where_counted P None p = tt
 where_counted P (Some r) p = p
 
@@ -22,23 +22,23 @@ none_is None false is = absurd cc
 none_is (Some x) true is = absurd cc
 none_is (Some x) false is = refl
 
-module _ (a : Asked) (e : Expectation) (rows : List Told) (rights : Option Rights) where
+module _ {R K : Type 0} (ends : R → Report) (a : Asked) (e : Expectation) (rows : List R) (rights : Option (RightsOf K)) where
   -- By what was asked, and by what holds.
-  by : (boot right : Bool) → a.all_boot ≡ boot → a.all_right ≡ right → (boots all whole : Bool) → ((boots ≡ true) ↔ AllBoot rows)
-      → ((all ≡ true) ↔ IfSome rights (λ _. AllRight e rows)) → IsVerdict a e rows rights whole (verdict_of a boots all whole)
+  by : (boot right : Bool) → a.all_boot ≡ boot → a.all_right ≡ right → (boots all whole : Bool) → ((boots ≡ true) ↔ AllEndInBoot ends rows)
+      → ((all ≡ true) ↔ IfSome rights (λ _. AllEndRight ends e rows)) → IsVerdict ends a e rows rights whole (verdict_of a boots all whole)
   by true right asks_boot asks_right false all whole boots_is all_is = rw asks_boot (refl, λ boot. let no : false ≡ true = boots_is.1 boot in absurd (cc))
   by true true asks_boot asks_right true false whole boots_is all_is =
-      rw (asks_boot, asks_right) (refl, λ good. let no : false ≡ true = all_is.1 (where_counted (AllRight e rows) rights good) in absurd (cc))
+      rw (asks_boot, asks_right) (refl, λ good. let no : false ≡ true = all_is.1 (where_counted (AllEndRight ends e rows) rights good) in absurd (cc))
   by true true asks_boot asks_right true true false boots_is all_is = rw (asks_boot, asks_right) (refl, refl)
   by true true asks_boot asks_right true true true boots_is all_is = rw (asks_boot, asks_right) (λ _. boots_is.0 refl, λ _. all_is.0 refl, λ _. refl)
   by true false asks_boot asks_right true all false boots_is all_is = rw (asks_boot, asks_right) (refl, refl)
   by true false asks_boot asks_right true all true boots_is all_is = rw (asks_boot, asks_right) (λ _. boots_is.0 refl, λ no. absurd (cc), λ _. refl)
   by false true asks_boot asks_right boots false whole boots_is all_is =
-      rw (asks_boot, asks_right) (refl, λ good. let no : false ≡ true = all_is.1 (where_counted (AllRight e rows) rights good) in absurd (cc))
+      rw (asks_boot, asks_right) (refl, λ good. let no : false ≡ true = all_is.1 (where_counted (AllEndRight ends e rows) rights good) in absurd (cc))
   by false true asks_boot asks_right boots true false boots_is all_is = rw (asks_boot, asks_right) (refl, refl)
   by false true asks_boot asks_right boots true true boots_is all_is = rw (asks_boot, asks_right) (λ no. absurd (cc), λ _. all_is.0 refl, λ _. refl)
   by false false asks_boot asks_right boots all whole boots_is all_is = rw (asks_boot, asks_right) (λ no. absurd (cc), λ no. absurd (cc), λ no. absurd (cc))
 
-  pub is_verdict : (boots all whole : Bool) (r : Result (Unit {0}) Refusal) → ((boots ≡ true) ↔ AllBoot rows) → ((all ≡ true) ↔ IfSome rights (λ _. AllRight e rows))
-      → r ≡ verdict_of a boots all whole → IsVerdict a e rows rights whole r
+  pub is_verdict : (boots all whole : Bool) (r : Result (Unit {0}) Refusal) → ((boots ≡ true) ↔ AllEndInBoot ends rows) → ((all ≡ true) ↔ IfSome rights (λ _. AllEndRight ends e rows))
+      → r ≡ verdict_of a boots all whole → IsVerdict ends a e rows rights whole r
   is_verdict boots all whole r boots_is all_is is = rw is (by a.all_boot a.all_right refl refl boots all whole boots_is all_is)

@@ -8,10 +8,7 @@ use Rattle.mc_command.specs.Numbers.{TellsNumber, MayTellNumber, IsUnit}
 use Rattle.mc_command.specs.declared.numbers.NumberOption.TheVariants as numbers
 use Rattle.mc_flash.specs.Geometry.{Geometry}
 use Rattle.mc_flash.specs.declared.layout.LayoutError.{LayoutError}
-use Rattle.mc_start.specs.Cursor.{cursor_text, IsCursor}
-use Rattle.mc_campaign.specs.Texts as campaigns
-use Rattle.mc_campaign.specs.declared.cursor.CampaignCursor.{CampaignCursor}
-use Rattle.mc_start.specs.Start.{schedule_text, IsSchedule}
+use Rattle.mc_start.specs.Start.{schedule_text}
 use Rattle.mc_boot.specs.declared.kind.Kind.{Kind}
 use Rattle.mc_boot.specs.declared.kind.Kind.TheVariants as kinds
 use Rattle.mc_flash.specs.Flash.{grain_text}
@@ -128,19 +125,15 @@ MayTellSchedule found name schedule = first_value found name ≡ option_map sche
 abbrev pub tells_both : Found → Bool
 tells_both found = is_some (first_value found (codes "cursor")) && is_some (first_value found (codes "after"))
 
--- the arguments tell where an exploration goes on, in one way or not at all, and where it stops
-pub record TellsRange (found : Found) (o : RangeOptions) : Type 0 where
+-- the arguments tell where an exploration goes on, in one way or not at all, and where it stops, by the texts of cursors and keys
+pub record TellsRange {U K : Type 0} (cursor_text : U → List ℕ) (key_text : K → List ℕ) (found : Found) (o : RangeOptions U K) : Type 0 where
   pub cursor : first_value found (codes "cursor") ≡ option_map cursor_text o.cursor
-  pub after : MayTellSchedule found (codes "after") o.after
-  pub until : MayTellSchedule found (codes "until") o.until
+  pub after : first_value found (codes "after") ≡ option_map key_text o.after
+  pub until : first_value found (codes "until") ≡ option_map key_text o.until
   pub one : tells_both found ≡ false
 
--- the cursor and the schedules, where there are some, are such that have texts of their own
-pub record HasTexts (o : RangeOptions) : Type 0 where
+-- the cursor and the keys, where there are some, are such that have texts of their own
+pub record HasTexts {U K : Type 0} (IsCursor : U → Type 0) (IsKey : K → Type 0) (o : RangeOptions U K) : Type 0 where
   pub cursor : IfSome o.cursor IsCursor
-  pub after : IfSome o.after IsSchedule
-  pub until : IfSome o.until IsSchedule
-
--- the arguments tell after which campaign an exploration goes on, or none
-abbrev pub MayTellCampaign : Found → Option CampaignCursor → Type 0
-MayTellCampaign found o = first_value found (codes "cursor") ≡ option_map campaigns.cursor_text o
+  pub after : IfSome o.after IsKey
+  pub until : IfSome o.until IsKey

@@ -4,4 +4,3 @@ pub mod Statuses
 pub mod Verdicts
 pub mod Sources
 pub mod Sessions
-pub mod CampaignSessions

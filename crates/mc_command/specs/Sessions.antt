@@ -1,31 +1,35 @@
 -- The starts and the explorations that the words of a command tell.
-use Rattle.std.specs.Prelude.{◌≡◌, ℕ, List, Option, Some, None, Result, Ok, Err, option_map, unwrap_or}
+use Rattle.std.specs.Prelude.{◌≡◌, ℕ, Bool, List, Option, Some, None, Result, Ok, Err, false, not, option_map, true, unwrap_or}
 use Rattle.clap.specs.declared.parser.matches.Found.{Found}
 use Rattle.mc_boot.specs.Plan.{PowerOn}
+use Rattle.mc_boot.specs.declared.kind.Kind.{Kind}
+use Rattle.mc_boot.specs.declared.kind.Kind.TheVariants as starts
 use Rattle.mc_explore.specs.Census.{IsCensus}
-use Rattle.mc_explore.specs.Rows.{Resumes, Explored, State, at_start}
-use Rattle.mc_explore.specs.Right.{AreRights, SurveysRight}
-use Rattle.mc_explore.specs.declared.expectation.Expectation.{Expectation}
-use Rattle.mc_explore.specs.declared.rights.Rights.{Rights}
-use Rattle.mc_command.specs.Verdicts.{IsExpectation, TellsAsked}
-use Rattle.mc_command.specs.declared.commands.census.Counts.{Counts}
-use Rattle.mc_command.specs.declared.verdict.Asked.{Asked}
-use Rattle.mc_explore.specs.Page.{ShownIsOut}
-use Rattle.mc_explore.specs.declared.surveying.Tally.{Tally}
+use Rattle.mc_explore.specs.Pages.{ShownIsOut}
+use Rattle.mc_explore.specs.Right.{AreRights, Rights, SurveysRows}
+use Rattle.mc_explore.specs.Subject.{Explored, GoesOnBehind, Resumes, State, Subject, at_start, rows_of}
 use Rattle.mc_explore.specs.declared.error.ExploreError.{ExploreError}
 use Rattle.mc_explore.specs.declared.error.ExploreError.TheVariants as errors
-use Rattle.mc_start.specs.Cursor.{cursor_of}
-use Rattle.mc_start.specs.declared.cursor.Cursor.{Cursor}
+use Rattle.mc_explore.specs.declared.expectation.Expectation.{Expectation}
+use Rattle.mc_explore.specs.declared.expectation.Wanted.TheVariants as wanted
+use Rattle.mc_explore.specs.declared.rights.RightsOf.{RightsOf}
+use Rattle.mc_explore.specs.declared.subject.Fields.{Fields}
+use Rattle.mc_explore.specs.declared.surveying.TallyOf.{TallyOf}
+use Rattle.mc_image.specs.Valid.{Identity}
 use Rattle.mc_start.specs.Start.{Started, begun}
 use Rattle.mc_command.specs.Arguments.{TellsExtent, TellsFlash, TellsRange}
 use Rattle.mc_command.specs.Numbers.{TellsNumber}
 use Rattle.mc_command.specs.Sources.{IsStartOf}
+use Rattle.mc_command.specs.Verdicts.{IsExpectation, TellsAsked}
+use Rattle.mc_command.specs.declared.commands.census.Counts.{Counts}
 use Rattle.mc_command.specs.declared.commands.explore.Exploration.{Exploration}
 use Rattle.mc_command.specs.declared.numbers.NumberOption.TheVariants as numbers
 use Rattle.mc_command.specs.declared.options.FlashOptions.{FlashOptions}
+use Rattle.mc_command.specs.declared.options.Source.{Source}
+use Rattle.mc_command.specs.declared.options.Source.TheVariants as sources
 use Rattle.mc_command.specs.declared.refusal.Refusal.{Refusal}
 use Rattle.mc_command.specs.declared.refusal.Refusal.TheVariants as refusals
-use Rattle.mc_explore.specs.declared.expectation.Wanted.TheVariants as wanted
+use Rattle.mc_command.specs.declared.verdict.Asked.{Asked}
 
 -- The arguments tell a source, and the start is of its files.
 pub record TellsStart (found : Found) (s : Started) : Type 0 where
@@ -33,46 +37,73 @@ pub record TellsStart (found : Found) (s : Started) : Type 0 where
   pub told : TellsFlash found options
   pub made : IsStartOf options s
 
--- The arguments tell an exploration: its start, how far it goes, and which rows it gives.
-pub record TellsExploration (found : Found) (e : Exploration) : Type 0 where
-  pub start : TellsStart found e.start
+-- Whether the images of a source lie at the end where they would without the swap, by the kind of its start and what is chosen.
+abbrev pub back_from : {C : Type 0} → (Kind → C → Bool) → Source → C → Bool
+back_from is_back (sources.Flash path) choice = false
+back_from is_back (sources.Images kind a b) choice = is_back kind choice
+
+-- So it is after two rounds of a test that does not confirm itself.
+abbrev pub is_left_alone : Kind → Bool → Bool
+is_left_alone starts.None confirms = false
+is_left_alone starts.Test confirms = not confirms
+is_left_alone starts.Perm confirms = false
+is_left_alone starts.Revert confirms = false
+
+-- The image that is to lie in the primary at the end, and the one in the secondary.
+abbrev pub ends_of : Bool → Option (Identity × Identity) → Option (Identity × Identity)
+ends_of back None = None
+ends_of true (Some (one, other)) = Some (other, one)
+ends_of false (Some (one, other)) = Some (one, other)
+
+-- The arguments tell an exploration: its start, what is chosen, how far it goes, and which rows it gives.
+pub record TellsExploration {C K R U : Type 0} (x : Subject C K R U) (IsChoice : Found → C → Type 0) (is_back : Kind → C → Bool) (found : Found) (e : Exploration C U K) : Type 0 where
+  pub options : FlashOptions
+  pub options_told : TellsFlash found options
+  pub start : IsStartOf options e.start
+  pub choice : IsChoice found e.choice
+  pub back : e.back ≡ back_from is_back options.source e.choice
   pub extent : TellsExtent found e.extent
-  pub range : TellsRange found e.range
+  pub range : TellsRange x.cursor_text x.key_text found e.range
 
--- An explorer behind the schedule, behind that of the cursor, or at the start; or why there is none.
-abbrev pub Begins : PowerOn → ℕ → Option (List ℕ) → Option Cursor → Result Explored ExploreError → Type 0
-Begins start bound (Some last) cursor made = Resumes start bound (cursor_of start bound last) made
-Begins start bound None (Some cursor) made = Resumes start bound cursor made
-Begins start bound None None (Ok explorer) = explorer.state ≡ at_start start bound
-Begins start bound None None (Err e) = e ≡ errors.Memory
+module _ {C K R U : Type 0} (x : Subject C K R U) (fields : U → Fields C K) where
+  -- An explorer after the key, after that of the cursor, or at the start; or why there is none.
+  abbrev pub Begins : PowerOn → C → ℕ → Option K → Option U → Result (Explored C K) ExploreError → Type 0
+  Begins start choice bound (Some last) cursor made = GoesOnBehind x start choice bound last made
+  Begins start choice bound None (Some cursor) made = Resumes x start choice bound (fields cursor) made
+  Begins start choice bound None None (Ok explorer) = explorer.state ≡ at_start start choice bound
+  Begins start choice bound None None (Err e) = e ≡ errors.Memory
 
--- The explorer that the words tell, or why the program has none.
-abbrev pub Explores : Exploration → Result Explored Refusal → Type 0
-Explores e (Ok explorer) = Begins (begun e.start) e.extent.cuts e.range.after e.range.cursor (Ok explorer)
-Explores e (Err (refusals.Explore error)) = Begins (begun e.start) e.extent.cuts e.range.after e.range.cursor (Err error)
-Explores e (Err _) = ⊥
+  -- The explorer of an exploration.
+  abbrev pub BeginsAs : Exploration C U K → Result (Explored C K) ExploreError → Type 0
+  BeginsAs e = Begins (begun e.start) e.choice e.extent.cuts e.range.after e.range.cursor
 
--- The tally of the rows that the words tell, and how many of them are right.
-pub record TalliesUntil (e : Exploration) (x : Expectation) (tally : Tally) (rights : Rights) : Type 0 where
-  pub explorer : Explored
-  pub begins : Begins (begun e.start) e.extent.cuts e.range.after e.range.cursor (Ok explorer)
-  pub new : State
-  pub counts : SurveysRight x e.range.until explorer.state new e.extent.limit tally rights
+  -- The explorer that the words tell, or why the program has none.
+  abbrev pub Explores : Exploration C U K → Result (Explored C K) Refusal → Type 0
+  Explores e (Ok explorer) = BeginsAs e (Ok explorer)
+  Explores e (Err (refusals.Explore error)) = BeginsAs e (Err error)
+  Explores e (Err _) = ⊥
 
--- And only where that is asked, for what the words expect of the slots.
-pub record TalliesAsked (e : Exploration) (a : Asked) (tally : Tally) (shown : Option Rights) : Type 0 where
-  pub expectation : Option Expectation
-  pub expects : IsExpectation a e.start.named (Ok expectation)
-  pub rights : Rights
-  pub tallies : TalliesUntil e (unwrap_or expectation (record { primary = wanted.Anything; secondary = wanted.Anything })) tally rights
-  pub shown_is : shown ≡ option_map (λ _. rights) expectation
+  -- The tally of the rows that the words tell, and how many of them are right.
+  pub record TalliesUntil (e : Exploration C U K) (expectation : Expectation) (tally : TallyOf U) (rights : RightsOf K) : Type 0 where
+    pub explorer : Explored C K
+    pub begins : BeginsAs e (Ok explorer)
+    pub new : State C K
+    pub counts : SurveysRows x expectation e.range.until explorer.state new e.extent.limit tally rights
 
--- The page of the rows that the words tell is out.
-pub record PrintsUntil (e : Exploration) (before after : Option (List ℕ)) : Type 0 where
-  pub explorer : Explored
-  pub begins : Begins (begun e.start) e.extent.cuts e.range.after e.range.cursor (Ok explorer)
-  pub new : State
-  pub out : ShownIsOut e.range.until explorer.state new e.extent.limit before after
+  -- And only where that is asked, for what the words expect of the slots.
+  pub record TalliesAsked (e : Exploration C U K) (a : Asked) (tally : TallyOf U) (shown : Option (RightsOf K)) : Type 0 where
+    pub expectation : Option Expectation
+    pub expects : IsExpectation a (ends_of e.back e.start.named) (Ok expectation)
+    pub rights : RightsOf K
+    pub tallies : TalliesUntil e (unwrap_or expectation (record { primary = wanted.Anything; secondary = wanted.Anything })) tally rights
+    pub shown_is : shown ≡ option_map (λ _. rights) expectation
+
+  -- The page of the rows that the words tell is out.
+  pub record PrintsUntil (e : Exploration C U K) (before after : Option (List ℕ)) : Type 0 where
+    pub explorer : Explored C K
+    pub begins : BeginsAs e (Ok explorer)
+    pub new : State C K
+    pub out : ShownIsOut (rows_of x) e.range.until explorer.state new e.extent.limit before after
 
 -- What of the rows of a start is right, where that is asked.
 abbrev pub AreRightsIf : Option Expectation → PowerOn → ℕ → Option Rights → Type 0

@@ -87,6 +87,7 @@ status_of (refusals.Version _) = 2
 status_of refusals.Source = 2
 status_of (refusals.Layout _) = 2
 status_of (refusals.Schedule _) = 2
+status_of (refusals.Campaign _) = 2
 status_of (refusals.Start e) = status_of_start e
 status_of (refusals.Replay e) = status_of_replay e
 status_of (refusals.Trace e) = status_of_trace e

@@ -2,12 +2,13 @@
 use Rattle.std.specs.Prelude.{◌≡◌, ℕ, Bool, true, false, List, Option, Some, None, [], Result, Ok, Err, IfSome, codes, if◌then◌else◌, is_some, not, ◌&&◌, ◌||◌}
 use Rattle.clap.specs.Words.{first_value}
 use Rattle.clap.specs.declared.parser.matches.Found.{Found}
-use Rattle.mc_explore.specs.Right.{AllRight, Wants, rights_of, rights_text}
-use Rattle.mc_explore.specs.Rows.{Told}
-use Rattle.mc_explore.specs.Survey.{AllBoot}
+use Rattle.mc_boot.specs.Outcome.{Report}
+use Rattle.mc_explore.specs.Right.{AllEndRight, Wants, rights_by, rights_text}
+use Rattle.mc_explore.specs.Subject.{Subject}
+use Rattle.mc_explore.specs.Survey.{AllEndInBoot}
 use Rattle.mc_explore.specs.declared.expectation.Expectation.{Expectation}
 use Rattle.mc_explore.specs.declared.expectation.Wanted.{Wanted}
-use Rattle.mc_explore.specs.declared.rights.Rights.{Rights}
+use Rattle.mc_explore.specs.declared.rights.RightsOf.{RightsOf}
 use Rattle.mc_image.specs.Valid.{Identity}
 use Rattle.mc_command.specs.Arguments.{IsFlag}
 use Rattle.mc_command.specs.declared.verdict.Asked.{Asked}
@@ -54,14 +55,14 @@ IsExpectation a named (Ok None) = is_of_slots a ≡ false
 IsExpectation a named (Ok (Some e)) = (is_of_slots a ≡ true) × (expectation_of a named ≡ Some e)
 IsExpectation a named (Err refusal) = (refusal ≡ refusals.Expectation) × (is_of_slots a ≡ true) × (expectation_of a named ≡ None)
 
--- What was counted of some rows, if that was asked for.
-abbrev pub AreCounted : Expectation → List Told → Option Rights → Type 0
-AreCounted e rows rights = IfSome rights (λ r. r ≡ rights_of e rows)
+-- What was counted of some rows of what is explored, if that was asked for.
+abbrev pub AreCounted : {C K R U : Type 0} → Subject C K R U → Expectation → List R → Option (RightsOf K) → Type 0
+AreCounted x e rows rights = IfSome rights (λ r. r ≡ rights_by x.ends x.key e rows)
 
 -- The lines of it.
-abbrev pub lines_of : Option Rights → List ℕ
-lines_of None = []
-lines_of (Some rights) = rights_text rights
+abbrev pub lines_of : {C K R U : Type 0} → Subject C K R U → Option (RightsOf K) → List ℕ
+lines_of x None = []
+lines_of x (Some rights) = rights_text x rights
 
 -- The first of what was asked for that does not hold.
 abbrev pub verdict_of : Asked → Bool → Bool → Bool → Result (Unit {0}) Refusal
@@ -72,11 +73,12 @@ verdict_of a boots right whole =
     else Ok tt
 
 -- How a survey or a census of some rows ends: with the first of what was asked for that does not hold. A part of the rows to come is
--- no verdict. Else only a write is refused.
-abbrev pub IsVerdict : Asked → Expectation → List Told → Option Rights → Bool → Result (Unit {0}) Refusal → Type 0
-IsVerdict a e rows rights whole (Ok done) =
-    (a.all_boot ≡ true → AllBoot rows) × (a.all_right ≡ true → IfSome rights (λ _. AllRight e rows)) × ((a.all_boot || a.all_right) ≡ true → whole ≡ true)
-IsVerdict a e rows rights whole (Err refusals.NotAllBoot) = (a.all_boot ≡ true) × (AllBoot rows → ⊥)
-IsVerdict a e rows rights whole (Err refusals.NotAllRight) = (a.all_right ≡ true) × (AllRight e rows → ⊥)
-IsVerdict a e rows rights whole (Err refusals.NotWhole) = ((a.all_boot || a.all_right) ≡ true) × (whole ≡ false)
-IsVerdict a e rows rights whole (Err refusal) = refusal ≡ refusals.Write
+-- no verdict.
+abbrev pub IsVerdict : {R K : Type 0} → (R → Report) → Asked → Expectation → List R → Option (RightsOf K) → Bool → Result (Unit {0}) Refusal → Type 0
+IsVerdict ends a e rows rights whole (Ok done) =
+    (a.all_boot ≡ true → AllEndInBoot ends rows) × (a.all_right ≡ true → IfSome rights (λ _. AllEndRight ends e rows))
+    × ((a.all_boot || a.all_right) ≡ true → whole ≡ true)
+IsVerdict ends a e rows rights whole (Err refusals.NotAllBoot) = (a.all_boot ≡ true) × (AllEndInBoot ends rows → ⊥)
+IsVerdict ends a e rows rights whole (Err refusals.NotAllRight) = (a.all_right ≡ true) × (AllEndRight ends e rows → ⊥)
+IsVerdict ends a e rows rights whole (Err refusals.NotWhole) = ((a.all_boot || a.all_right) ≡ true) × (whole ≡ false)
+IsVerdict ends a e rows rights whole (Err refusal) = ⊥

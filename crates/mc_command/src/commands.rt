@@ -3,7 +3,6 @@ ghost use Rattle.std.specs.Prelude.{IfOk};
 ghost use Rattle.std.specs.Io.Buffered.{writer_contents};
 ghost use Rattle.std.specs.Io.KnownBytes.{Keeps};
 
-pub mod campaign;
 pub mod census;
 pub mod create;
 pub mod dumpinfo;
@@ -13,6 +12,7 @@ mod infile;
 pub mod layout;
 pub mod life;
 pub mod replay;
+pub mod rounds;
 mod schedule;
 pub mod trace;
 pub mod trailers;

@@ -7,6 +7,7 @@ mod command;
 mod commands;
 mod creation;
 mod explanations;
+mod explored;
 mod numbers;
 mod options;
 mod refusal;
@@ -16,6 +17,9 @@ mod verdict;
 
 use clap::error::ErrorKind;
 use clap::{ArgMatches, Error};
+use mc_campaign::Twice;
+use mc_explore::Once;
+use options::has_two_rounds;
 pub use refusal::Refusal;
 use std::alloc::Global;
 use std::io::{Read, Write};
@@ -95,10 +99,26 @@ fn run_boots<F: Files, O: Write>(
     match name {
         "type" => commands::trailers::run(files, alloc, arguments, out),
         "boot" => commands::replay::boot(files, alloc, arguments, out),
-        "replay" => commands::replay::run(files, alloc, arguments, out),
-        "trace" => commands::trace::run(files, alloc, arguments, out),
-        "sectors" => commands::trace::sectors(files, alloc, arguments, out),
+        "replay" | "trace" | "sectors" => run_schedule(files, alloc, name, arguments, out),
         _ => run_exploration(files, alloc, name, arguments, out),
+    }
+}
+
+/// Runs a command on one schedule of power cuts, or on one campaign of two rounds.
+fn run_schedule<F: Files, O: Write>(
+    files: &F,
+    alloc: Global,
+    name: &str,
+    arguments: &ArgMatches<'_>,
+    out: &mut O,
+) -> Result<(), Refusal> {
+    match (name, has_two_rounds(arguments)?) {
+        ("replay", true) => commands::rounds::replay(files, alloc, arguments, out),
+        ("trace", true) => commands::rounds::trace(files, alloc, arguments, out),
+        (_, true) => commands::rounds::sectors(files, alloc, arguments, out),
+        ("replay", false) => commands::replay::run(files, alloc, arguments, out),
+        ("trace", false) => commands::trace::run(files, alloc, arguments, out),
+        (_, false) => commands::trace::sectors(files, alloc, arguments, out),
     }
 }
 
@@ -111,10 +131,24 @@ fn run_exploration<F: Files, O: Write>(
     out: &mut O,
 ) -> Result<(), Refusal> {
     match name {
-        "explore" => commands::explore::run(files, alloc, arguments, out),
-        "campaign" => commands::campaign::run(files, alloc, arguments, out),
-        "survey" => commands::explore::survey(files, alloc, arguments, out),
+        "explore" => commands::explore::run::<Once, F, O>(files, alloc, arguments, out),
+        "campaign" => commands::explore::run::<Twice, F, O>(files, alloc, arguments, out),
+        "survey" => run_survey(files, alloc, arguments, out),
         "census" => commands::census::run(files, alloc, arguments, out),
         _ => Err(Refusal::Argument),
+    }
+}
+
+/// Runs a survey of schedules, or of campaigns of two rounds.
+fn run_survey<F: Files, O: Write>(
+    files: &F,
+    alloc: Global,
+    arguments: &ArgMatches<'_>,
+    out: &mut O,
+) -> Result<(), Refusal> {
+    if has_two_rounds(arguments)? {
+        commands::explore::survey::<Twice, F, O>(files, alloc, arguments, out)
+    } else {
+        commands::explore::survey::<Once, F, O>(files, alloc, arguments, out)
     }
 }

@@ -1,18 +1,16 @@
 //! What the words of a command line say.
-ghost use Rattle.std.specs.Prelude.{◌≡◌, ◌≤◌, ℕ, List, Option, codes, true, false, Some, None, Err, IfOk, IfSome, IsOk, MatchResult, MatchOption};
+ghost use Rattle.std.specs.Prelude.{◌≡◌, ◌↔◌, ◌≤◌, ℕ, Option, codes, true, false, Some, None, Err, IfOk, IfSome, IsOk, MatchResult, MatchOption, option_map};
 ghost use Rattle.clap.specs.Matches.{found_of};
 ghost use Rattle.clap.specs.Words.{first_value};
 ghost use Rattle.mc_command.specs.Numbers.{TellsNumber, IsUnit};
 ghost use Rattle.mc_flash.specs.Geometry.{Geometry, refusal_of};
 ghost use Rattle.mc_command.specs.Arguments.{TellsCreate, TellsLayout, Judges, TellsSource, RefusesSource, is_source, kind_text};
-ghost use Rattle.mc_command.specs.Arguments.{TellsRules, TellsFlash, TellsExtent, TellsRange, HasTexts, MayTellSchedule, MayTellCampaign, tells_both};
-ghost use Rattle.mc_start.specs.Start.{IsSchedule};
-ghost use Rattle.mc_campaign.specs.Texts.{IsCursor};
+ghost use Rattle.mc_command.specs.Arguments.{TellsRules, TellsFlash, TellsExtent, TellsRange, HasTexts, tells_both};
 
 use crate::numbers::NumberOption;
 use crate::refusal::Refusal;
 use clap::ArgMatches;
-use mc_campaign::CampaignCursor;
+use mc_campaign::{Campaign, CampaignCursor};
 use mc_explore::{Cursor, Kind, Schedule};
 use mc_flash::{Grain, Layout};
 use mc_image::Version;
@@ -191,6 +189,22 @@ pub fn flash_options<'a>(arguments: &ArgMatches<'a>) -> Result<FlashOptions<'a>,
     })
 }
 
+/// Whether two rounds of boots are asked for.
+///
+/// # Errors
+///
+/// `Argument` where the image is to confirm itself after the only round.
+pub fn has_two_rounds(arguments: &ArgMatches<'_>) -> Result<bool, Refusal>
+    ensures { MatchResult result (λ two. (two ≡ true) ↔ (first_value (found_of arguments.now)
+        (codes "rounds") ≡ Some (codes "2"))) (λ e. e ≡ Refusal.Argument) }
+{
+    let two = matches!(arguments.get_str("rounds"), Some("2"));
+    if arguments.get_flag("confirm") && !two {
+        return Err(Refusal::Argument);
+    }
+    Ok(two)
+}
+
 /// How far an exploration goes.
 #[derive(Clone, Copy, Debug)]
 pub struct ExploreOptions {
@@ -235,27 +249,94 @@ pub fn explore_options(arguments: &ArgMatches<'_>) -> Result<ExploreOptions, Ref
 
 /// Which of the rows an exploration gives.
 #[derive(Clone, Copy, Debug)]
-pub struct RangeOptions {
+pub struct RangeOptions<U, K> {
     /// The cursor of an earlier page, after which it goes on.
-    pub cursor: Option<Cursor>,
-    /// Or the schedule after which it goes on.
-    pub after: Option<Schedule>,
-    /// The schedule before which it stops.
-    pub until: Option<Schedule>,
+    pub cursor: Option<U>,
+    /// Or the key after which it goes on.
+    pub after: Option<K>,
+    /// The key before which it stops.
+    pub until: Option<K>,
 }
 
-/// The schedule that an option tells, if it is given.
+/// What an option is given by its text.
+pub trait Spelled: Copy {
+    ghost use Rattle.std.specs.Prelude.{◌≡◌, ℕ, List, IfOk, IsOk};
+
+    ghost spelling: { Self → List ℕ };
+
+    ghost IsSpelled: { Self → Type 0 };
+
+    /// What has that text.
+    ///
+    /// # Errors
+    ///
+    /// Of a text that is none of it.
+    fn of_text(text: &str) -> Result<Self, Refusal>
+        ensures told { IfOk result (λ value. text.now ≡ spelling value) }
+        ensures taken { (value : Self) → IsSpelled value → text.now ≡ spelling value → IsOk result };
+}
+
+impl Spelled for Schedule {
+    ghost use Rattle.mc_start.specs.Start.{IsSchedule, schedule_text};
+
+    ghost spelling = { schedule_text };
+
+    ghost IsSpelled = { IsSchedule };
+
+    fn of_text(text: &str) -> Result<Schedule, Refusal> {
+        Ok(Schedule::read(text)?)
+    }
+}
+
+impl Spelled for Cursor {
+    ghost use Rattle.mc_start.specs.Cursor.{cursor_text, IsCursor};
+
+    ghost spelling = { cursor_text };
+
+    ghost IsSpelled = { IsCursor };
+
+    fn of_text(text: &str) -> Result<Cursor, Refusal> {
+        Ok(Cursor::read(text)?)
+    }
+}
+
+impl Spelled for Campaign {
+    ghost use Rattle.mc_campaign.specs.Texts.{campaign_text, IsCampaign};
+
+    ghost spelling = { campaign_text };
+
+    ghost IsSpelled = { IsCampaign };
+
+    fn of_text(text: &str) -> Result<Campaign, Refusal> {
+        Ok(Campaign::read(text)?)
+    }
+}
+
+impl Spelled for CampaignCursor {
+    ghost use Rattle.mc_campaign.specs.Texts.{cursor_text, IsCursor};
+
+    ghost spelling = { cursor_text };
+
+    ghost IsSpelled = { IsCursor };
+
+    fn of_text(text: &str) -> Result<CampaignCursor, Refusal> {
+        Ok(CampaignCursor::read(text)?)
+    }
+}
+
+/// What an option is given, if anything.
 ///
 /// # Errors
 ///
-/// `Schedule` where its text is no schedule's.
-fn schedule_option(arguments: &ArgMatches<'_>, name: &str) -> Result<Option<Schedule>, Refusal>
-    ensures told { IfOk result (MayTellSchedule (found_of arguments.now) name.now) }
-    ensures taken { (o : Option (List ℕ)) → IfSome o IsSchedule
-        → MayTellSchedule (found_of arguments.now) name.now o → IsOk result }
+/// Where its text is none of it.
+fn option_of<T: Spelled>(arguments: &ArgMatches<'_>, name: &str) -> Result<Option<T>, Refusal>
+    ensures told { IfOk result (λ o. first_value (found_of arguments.now) name.now
+        ≡ option_map T.spelling o) }
+    ensures taken { (o : Option T) → IfSome o T.IsSpelled
+        → first_value (found_of arguments.now) name.now ≡ option_map T.spelling o → IsOk result }
 {
     match arguments.get_str(name) {
-        Some(text) => Ok(Some(Schedule::read(text)?)),
+        Some(text) => Ok(Some(T::of_text(text)?)),
         None => Ok(None),
     }
 }
@@ -264,42 +345,23 @@ fn schedule_option(arguments: &ArgMatches<'_>, name: &str) -> Result<Option<Sche
 ///
 /// # Errors
 ///
-/// `CursorOptions` where `--after` and `--cursor` are both given; `Cursor` and `Schedule` where a text is no cursor's or no
-/// schedule's.
-pub fn range_options(arguments: &ArgMatches<'_>) -> Result<RangeOptions, Refusal>
-    ensures told { IfOk result (TellsRange (found_of arguments.now)) }
-    ensures taken { (o : RangeOptions) → HasTexts o → TellsRange (found_of arguments.now) o
-        → IsOk result }
+/// `CursorOptions` where `--after` and `--cursor` are both given; `Cursor`, `Schedule` and `Campaign` where a text is none of what it
+/// is read as.
+pub fn range_options<U: Spelled, K: Spelled>(
+    arguments: &ArgMatches<'_>,
+) -> Result<RangeOptions<U, K>, Refusal>
+    ensures told { IfOk result (TellsRange U.spelling K.spelling (found_of arguments.now)) }
+    ensures taken { (o : RangeOptions U K) → HasTexts U.IsSpelled K.IsSpelled o
+        → TellsRange U.spelling K.spelling (found_of arguments.now) o → IsOk result }
     ensures both { tells_both (found_of arguments.now) ≡ true → result
         ≡ Err Refusal.CursorOptions }
 {
-    let cursor = arguments.get_str("cursor");
-    if cursor.is_some() && arguments.get_str("after").is_some() {
+    if arguments.get_str("cursor").is_some() && arguments.get_str("after").is_some() {
         return Err(Refusal::CursorOptions);
     }
-    let cursor = match cursor {
-        Some(text) => Some(Cursor::read(text)?),
-        None => None,
-    };
     Ok(RangeOptions {
-        cursor,
-        after: schedule_option(arguments, "after")?,
-        until: schedule_option(arguments, "until")?,
+        cursor: option_of(arguments, "cursor")?,
+        after: option_of(arguments, "after")?,
+        until: option_of(arguments, "until")?,
     })
-}
-
-/// The campaign of an earlier page, after which an exploration goes on, if one is told.
-///
-/// # Errors
-///
-/// `Cursor` where the text is no cursor's of campaigns.
-pub fn campaign_cursor(arguments: &ArgMatches<'_>) -> Result<Option<CampaignCursor>, Refusal>
-    ensures told { IfOk result (MayTellCampaign (found_of arguments.now)) }
-    ensures taken { (o : Option CampaignCursor) → IfSome o IsCursor
-        → MayTellCampaign (found_of arguments.now) o → IsOk result }
-{
-    match arguments.get_str("cursor") {
-        Some(text) => Ok(Some(CampaignCursor::read(text)?)),
-        None => Ok(None),
-    }
 }

@@ -4,6 +4,7 @@ ghost use Rattle.mc_command.specs.Statuses.{status_of, status_of_start, status_o
 ghost use Rattle.mc_command.specs.Statuses.{status_of_exploration, status_of_life, status_of_script};
 
 use crate::numbers::NumberOption;
+use mc_campaign::CampaignError;
 use mc_explore::{CursorError, ExploreError, ReplayError, ScheduleError, StartError};
 use mc_flash::{FlashError, LayoutError};
 use mc_image::{ImageError, VersionError};
@@ -37,6 +38,9 @@ pub enum Refusal {
     /// The text of a schedule is refused.
     #[error(transparent)]
     Schedule(#[from] ScheduleError),
+    /// The text of a campaign is refused.
+    #[error(transparent)]
+    Campaign(#[from] CampaignError),
     /// The text of a cursor is refused.
     #[error(transparent)]
     Cursor(#[from] CursorError),
@@ -129,6 +133,7 @@ impl Refusal {
             | Refusal::SameFile
             | Refusal::Layout(_)
             | Refusal::Schedule(_)
+            | Refusal::Campaign(_)
             | Refusal::Cursor(_) => 2,
             Refusal::NotAllBoot | Refusal::NotAllRight | Refusal::NotWhole => 1,
             Refusal::Script(error) => script_status(*error),

@@ -1,17 +1,17 @@
 //! What the words ask of each row that is counted, and whether it is so.
-ghost use Rattle.std.specs.Prelude.{◌≡◌, ◌↔◌, ◌||◌, true, IfOk, IfSome, List, Some, option_map};
+ghost use Rattle.std.specs.Prelude.{◌≡◌, ◌↔◌, ◌||◌, true, IfOk, IfSome, List, OnOk, option_map};
+ghost use Rattle.std.specs.Io.KnownBytes.{Appends};
 ghost use Rattle.clap.specs.Matches.{found_of};
 ghost use Rattle.mc_boot.specs.Plan.{identity_of};
 ghost use Rattle.mc_explore.specs.declared.expectation.Expectation.{Expectation as Expected};
-ghost use Rattle.mc_explore.specs.Right.{AllRight};
-ghost use Rattle.mc_explore.specs.Rows.{Told};
+ghost use Rattle.mc_explore.specs.Right.{AllEndRight};
 ghost use Rattle.mc_command.specs.Verdicts.{AreCounted, IsExpectation, MayTellWanted, TellsAsked, is_of_slots, lines_of, verdict_of, wanted_of};
 
 use crate::refusal::Refusal;
 use clap::ArgMatches;
 use mc_boot::ImageId;
-use mc_explore::{Expectation, Rights, Start, Wanted};
-use std::fmt;
+use mc_explore::{Expectation, RightsOf, Subject, Wanted, all_right, write_rights};
+use std::io::Write;
 
 /// What the words ask of each row that is counted.
 #[derive(Clone, Copy, Debug)]
@@ -83,19 +83,23 @@ impl Asked {
         self.is_of_slots() || self.all_boot
     }
 
-    /// What the slots are to hold at the end, from a start, where that is asked: by default the named image of two is to lie in the
-    /// primary, and the other one in the secondary.
+    /// What the slots are to hold at the end, where that is asked: by default those images, where they are known, the first in the
+    /// primary and the other one in the secondary.
     ///
     /// # Errors
     ///
     /// `Expectation` where each row is to be right, from a flash, and a slot's expectation is not told.
-    pub fn expectation(&self, start: &Start) -> Result<Option<Expectation>, Refusal>
-        ensures { IsExpectation self.now start.now.named result }
+    pub fn expectation(
+        &self,
+        images: Option<(ImageId, ImageId)>,
+    ) -> Result<Option<Expectation>, Refusal>
+        ensures { IsExpectation self.now
+            (option_map (λ p. (identity_of p.0, identity_of p.1)) images) result }
     {
         if !self.is_of_slots() {
             return Ok(None);
         }
-        let (named, other) = match start.named() {
+        let (named, other) = match images {
             Some((named, other)) => (Some(named), Some(other)),
             None => (None, None),
         };
@@ -129,28 +133,31 @@ impl Asked {
     }
 }
 
-/// The lines of what is right, where that was asked.
-#[derive(Clone, Copy)]
-pub struct Lines(pub Option<Rights>);
-
-impl fmt::Display for Lines {
-    ghost output = { λ lines. Some (lines_of lines.0) };
-
-    fn fmt<W: fmt::Write>(&self, f: &mut fmt::Formatter<W>) -> fmt::Result {
-        match self.0 {
-            Some(rights) => write!(f, "{rights}"),
-            None => Ok(()),
-        }
+/// Writes the lines of what is right, where that was asked.
+///
+/// # Errors
+///
+/// `Explore` where the output cannot be written.
+pub fn write_lines<X: Subject, O: Write>(
+    rights: &Option<RightsOf<X::Key>>,
+    out: &mut O,
+) -> Result<(), Refusal>
+    ensures whole { OnOk result (Appends (O.contents out.old) (O.contents out.new)
+        (lines_of X.subject rights.now)) }
+{
+    if let Some(rights) = rights {
+        write_rights::<X, O>(rights, out)?;
     }
+    Ok(())
 }
 
 /// Whether all rows are right, where that was counted.
-pub fn all_right(rights: &Option<Rights>) -> bool
-    ensures { (e : Expected) (rows : List Told) → AreCounted e rows rights.now
-        → (result ≡ true) ↔ IfSome rights.now (λ _. AllRight e rows) }
+pub fn right_if_asked<X: Subject>(rights: &Option<RightsOf<X::Key>>) -> bool
+    ensures { (e : Expected) (rows : List X.Shown) → AreCounted X.subject e rows rights.now
+        → (result ≡ true) ↔ IfSome rights.now (λ _. AllEndRight X.subject.ends e rows) }
 {
     match rights {
-        Some(rights) => rights.all_right(),
+        Some(rights) => all_right::<X>(rights),
         None => true,
     }
 }

@@ -13,9 +13,9 @@ use Rattle.mc_boot.specs.Plan.{PowerOn, power_on}
 use Rattle.mc_boot.specs.Rejoin.{IsRejoined, place_of}
 use Rattle.mc_boot.specs.declared.rejoining.Rejoin.{Rejoin}
 use Rattle.mc_boot.specs.facts.Run.{outcome_defined}
-use Rattle.mc_explore.specs.Census.{Totals, both, census_of, count_if, cut_off, first_not_boot, no_totals, row_totals, totals}
+use Rattle.mc_explore.specs.Census.{Totals, both, census_of, cut_off, first_not_boot, no_totals, row_totals, totals}
 use Rattle.mc_explore.specs.Rows.{Told}
-use Rattle.mc_explore.specs.Survey.{is_boot, is_fault, is_none, is_panic, most_ops_of, rows_with}
+use Rattle.mc_explore.specs.Survey.{count_if, is_boot, is_fault, is_none, is_panic, most_ops_of, rows_with}
 use Rattle.mc_explore.specs.Right.{IsCensusOf, judged_row}
 use Rattle.mc_explore.specs.declared.census.Census.{Census}
 use Rattle.mc_explore.specs.declared.expectation.Expectation.{Expectation}

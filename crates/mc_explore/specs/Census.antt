@@ -5,7 +5,7 @@ use Rattle.std.specs.Prelude.{Bool, List, None, Option, Some, [], codes, decimal
 use Rattle.mc_boot.specs.Outcome.{Report}
 use Rattle.mc_boot.specs.Plan.{PowerOn}
 use Rattle.mc_explore.specs.Rows.{IsRest, Told, at_start}
-use Rattle.mc_explore.specs.Survey.{is_boot, is_fault, is_none, is_panic, most_ops_of, rows_with}
+use Rattle.mc_explore.specs.Survey.{count_if, is_boot, is_fault, is_none, is_panic, most_ops_of, rows_with}
 use Rattle.mc_explore.specs.declared.census.Census.{Census}
 use Rattle.mc_start.specs.Start.{lowered, schedule_text}
 use Rattle.mc_tree.specs.inner.Weights.{Weighing}
@@ -74,11 +74,6 @@ with_first f a = record a { first = option_map f a.first }
 -- Rows whose schedules have a cut in front, or whose first cut is that much earlier.
 abbrev pub totals : Weighing Totals
 totals = record { none = no_totals; both = both; behind = λ i. with_first (λ l. i ∷ l); back = λ j. with_first (lowered j) }
-
--- One where the test holds.
-abbrev pub count_if : Bool → ℕ
-count_if true = 1
-count_if false = 0
 
 -- The totals of a row.
 abbrev pub row_totals : Told → Totals

@@ -1,24 +1,27 @@
 -- What the slots are to hold at the end, which outcomes are right then, and how many rows have them.
 use Rattle.std.specs.List.{find}
-use Rattle.std.specs.Prelude.{All, Bool, List, None, Option, Some, codes, count_by, false, if◌then◌else◌, length, map, not, option_map, true, ℕ, ◌&&◌, ◌++◌, ◌==◌, ◌≡◌}
+use Rattle.std.specs.Option.{option_or}
+use Rattle.std.specs.Prelude.{All, Bool, List, None, Option, Some, codes, count_by, false, if◌then◌else◌, length, map, not, option_map, true, ℕ, ◌&&◌, ◌++◌, ◌+◌, ◌==◌, ◌≡◌}
 use Rattle.std.specs.Str.{bytes_eq}
 use Rattle.hex.specs.Hex.{IsBytes, encode_lower}
 use Rattle.mc_boot.specs.Outcome.{Report}
 use Rattle.mc_boot.specs.Plan.{PowerOn}
-use Rattle.mc_explore.specs.Census.{census_of, count_text, cut_number, first_text}
-use Rattle.mc_explore.specs.Page.{Page, TakesPage}
-use Rattle.mc_explore.specs.Rows.{IsRest, State, Told, at_start}
-use Rattle.mc_explore.specs.Survey.{is_boot, tally_of}
+use Rattle.mc_explore.specs.Census.{census_of, count_text, cut_number}
+use Rattle.mc_explore.specs.Rows.{IsRest, State, Told, at_start, report_of, subject}
+use Rattle.mc_explore.specs.Subject.{Subject, rows_of}
+use Rattle.mc_explore.specs.Survey.{Tally, is_boot, tally_by}
 use Rattle.mc_explore.specs.declared.census.Census.{Census}
 use Rattle.mc_explore.specs.declared.expectation.Expectation.{Expectation}
 use Rattle.mc_explore.specs.declared.expectation.Wanted.{Wanted}
-use Rattle.mc_explore.specs.declared.rights.Rights.{Rights}
-use Rattle.mc_explore.specs.declared.surveying.Tally.{Tally}
+use Rattle.mc_explore.specs.declared.rights.RightsOf.{RightsOf}
+use Rattle.mc_explore.specs.declared.surveying.TallyOf.{TallyOf}
 use Rattle.mc_image.specs.Valid.{Identity}
 use Rattle.mc_image.specs.VersionText.{Names}
 use Rattle.mc_image.specs.declared.version.Version.{Version}
 use Rattle.mc_boot.specs.declared.outcome.BootResult.TheVariants as results
 use Rattle.mc_explore.specs.declared.expectation.Wanted.TheVariants as wanted
+use Rattle.mc_explore.specs.Pages as pages
+use Rattle.mc_explore.specs.Subject as states
 
 -- What a slot is to hold, and its text: a version, no image, or an image by the digits of its digest.
 abbrev pub Wants : List ℕ → Wanted → Type 0
@@ -54,12 +57,44 @@ is_met e o = is_held e.primary o.primary && is_held e.secondary o.secondary
 abbrev pub is_right : Expectation → Report → Bool
 is_right e o = is_met e o && is_boot o.result
 
--- How many rows are right, cut off at the largest 128-bit number, and the schedule of the first one that is not.
-abbrev pub rights_of : Expectation → List Told → Rights
-rights_of e rows = record {
-  right = cut_number (count_by (λ row. is_right e row.outcome) rows);
-  first_not_right = option_map (λ row. row.schedule) (find (λ row. not (is_right e row.outcome)) rows);
+-- Rows of whatever is explored are right by how each of them ends.
+abbrev pub AllEndRight : {R : Type 0} → (R → Report) → Expectation → List R → Type 0
+AllEndRight ends e rows = All (λ row. is_right e (ends row) ≡ true) rows
+
+-- How many rows are right, cut off at the largest 128-bit number, and the key of the first one that is not.
+abbrev pub rights_by : {R K : Type 0} → (R → Report) → (R → K) → Expectation → List R → RightsOf K
+rights_by ends key e rows = record {
+  right = cut_number (count_by (λ row. is_right e (ends row)) rows);
+  first_not_right = option_map key (find (λ row. not (is_right e (ends row))) rows);
 }
+
+-- Of no rows, and with one row more of that key, which ends so.
+abbrev pub no_rights : {K : Type 0} → RightsOf K
+no_rights = record { right = 0; first_not_right = None }
+
+abbrev pub one_judged_more : {K : Type 0} → Expectation → K → Report → RightsOf K → RightsOf K
+one_judged_more e key report r =
+    if is_right e report then record { right = cut_number (r.right + 1); first_not_right = r.first_not_right }
+    else record { right = r.right; first_not_right = option_or r.first_not_right (Some key) }
+
+-- The page of the rows to come before a key has that tally, and so many of its rows are right; and its rows are taken.
+abbrev pub SurveysRows : {C K R U : Type 0} → Subject C K R U → Expectation → Option K → states.State C K → states.State C K → ℕ → TallyOf U → RightsOf K → Type 0
+SurveysRows {C} {K} {R} {U} x e until old new limit tally rights =
+    (page : pages.Page R U) × pages.TakesPage (rows_of x) until old new limit page × (tally ≡ tally_by x.ends page) × (rights ≡ rights_by x.ends x.key e page.rows)
+
+-- Rows of schedules.
+
+abbrev pub Rights : Type 0
+Rights = RightsOf (List ℕ)
+
+abbrev pub schedule_of : Told → List ℕ
+schedule_of row = row.schedule
+
+abbrev pub AllRight : Expectation → List Told → Type 0
+AllRight = AllEndRight report_of
+
+abbrev pub rights_of : Expectation → List Told → Rights
+rights_of = rights_by report_of schedule_of
 
 -- That is so of the one list of the rows of a start, for at most so many cuts.
 pub record AreRights (e : Expectation) (start : PowerOn) (bound : ℕ) (rights : Rights) : Type 0 where
@@ -69,16 +104,16 @@ pub record AreRights (e : Expectation) (start : PowerOn) (bound : ℕ) (rights :
 
 -- And of the page of the rows to come before a schedule, whose tally is that, and its rows are taken.
 abbrev pub SurveysRight : Expectation → Option (List ℕ) → State → State → ℕ → Tally → Rights → Type 0
-SurveysRight e until old new limit tally rights =
-    (page : Page) × TakesPage until old new limit page × (tally ≡ tally_of page) × (rights ≡ rights_of e page.rows)
+SurveysRight = SurveysRows subject
 
--- Each row is right.
-abbrev pub AllRight : Expectation → List Told → Type 0
-AllRight e rows = All (λ row. is_right e row.outcome ≡ true) rows
+-- A key, or that there is none.
+abbrev pub key_or_none : {K : Type 0} → (K → List ℕ) → Option K → List ℕ
+key_or_none text None = codes "none"
+key_or_none text (Some key) = text key
 
 -- Two lines.
-abbrev pub rights_text : Rights → List ℕ
-rights_text r = codes "right " ++ (count_text r.right ++ (codes "\nfirst-not-right " ++ (first_text r.first_not_right ++ codes "\n")))
+abbrev pub rights_text : {C K R U : Type 0} → Subject C K R U → RightsOf K → List ℕ
+rights_text x r = (codes "right " ++ (count_text r.right ++ codes "\nfirst-not-right ")) ++ (key_or_none x.key_text r.first_not_right ++ codes "\n")
 
 -- Rows as they are counted where only a right outcome is to count as a boot: any other boot counts as none.
 abbrev pub judged : Expectation → Report → Report

@@ -49,6 +49,10 @@ pub record Told : Type 0 where
 abbrev pub told : Row → Told
 told row = record { schedule = row.schedule; outcome = shown row.outcome }
 
+-- A row ends as its boot does.
+abbrev pub report_of : Told → Report
+report_of row = row.outcome
+
 -- The outcome of the uncut boot from the flash that a schedule leaves.
 unfoldable pub outcome_after : PowerOn → List ℕ → Option Report
 outcome_after start l =
@@ -108,8 +112,10 @@ subject = record {
   IsListed = λ start _. IsMember start;
   Before = Precedes;
   key = λ row. row.schedule;
+  key_text = schedule_text;
   row_text = row_text;
   no_key = [];
+  ends = report_of;
   HasOutcome = λ start _. HasOutcome start;
   Restarts = λ start _. RowRestarts start;
   most_for_row = most_for_row;

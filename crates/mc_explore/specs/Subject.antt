@@ -1,5 +1,6 @@
 -- What is explored, of whatever kind: which keys can occur from a start, where an explorer has come to, its rows, and where a cursor serves.
 use Rattle.std.specs.Prelude.{Bool, Err, List, None, Ok, Option, Result, Some, false, refl, ℕ, ◌≡◌, ◌≢◌, ◌⊎◌}
+use Rattle.mc_boot.specs.Outcome.{Report}
 use Rattle.mc_boot.specs.Plan.{PowerOn}
 use Rattle.mc_explore.specs.Explores.{ExploresOn}
 use Rattle.mc_explore.specs.Pages.{IsLawful, IsRest, Listing}
@@ -22,10 +23,13 @@ pub record Subject (C K R U : Type 0) : Type 1 where
   -- the keys of at most so many cuts that can occur, and their order
   pub IsListed : PowerOn → C → ℕ → K → Type 0
   pub Before : K → K → Type 0
-  -- by what a row is found, its text, and what stands in place of the last key where there was no row
+  -- by what a row is found, the texts of both, and what stands in place of the last key where there was no row
   pub key : R → K
+  pub key_text : K → List ℕ
   pub row_text : R → List ℕ
   pub no_key : K
+  -- how a row ends, by which rows are counted
+  pub ends : R → Report
   -- the row tells the outcomes of its key, and what the restart theorem says of that
   pub HasOutcome : PowerOn → C → R → Type 0
   pub Restarts : PowerOn → C → R → Type 0

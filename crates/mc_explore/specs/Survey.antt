@@ -1,11 +1,15 @@
 -- What is counted of the rows of a page in place of their text.
-use Rattle.std.specs.Prelude.{All, Bool, List, None, Option, Some, [], codes, count_by, decimal, drop, false, fold, length, map, max, true, ℕ, ◌++◌, ◌<◌, ◌∷◌, ◌≡◌, ◌⊎◌}
+use Rattle.std.specs.Prelude.{All, Bool, List, None, Option, Some, [], codes, count_by, decimal, drop, false, fold, length, map, max, true, ℕ, ◌++◌, ◌+◌, ◌<◌, ◌∷◌, ◌≡◌, ◌≤◌, ◌⊎◌}
 use Rattle.std.specs.Str.Iter.{LacksByte}
+use Rattle.mc_boot.specs.Outcome.{Report}
 use Rattle.mc_boot.specs.declared.outcome.BootResult.{BootResult}
-use Rattle.mc_explore.specs.Page.{Page, TakesPage, last_line, page_at, row_line, state_past}
-use Rattle.mc_explore.specs.Rows.{IsRest, State, Told, moved_to, row_text}
-use Rattle.mc_explore.specs.declared.surveying.Tally.{Tally}
+use Rattle.mc_explore.specs.Page.{Page, TakesPage, page_at, row_line, state_past}
+use Rattle.mc_explore.specs.Rows.{IsRest, State, Told, moved_to, report_of, row_text}
+use Rattle.mc_explore.specs.Subject.{Subject, rows_of}
+use Rattle.mc_explore.specs.declared.surveying.TallyOf.{TallyOf}
 use Rattle.mc_start.specs.Start.{IsSchedule, schedule_text}
+use Rattle.mc_start.specs.declared.cursor.Cursor.{Cursor}
+use Rattle.mc_explore.specs.Pages as pages
 use Rattle.mc_boot.specs.declared.outcome.BootResult.TheVariants as results
 
 -- The tests of a result.
@@ -33,40 +37,89 @@ is_fault results.None = false
 is_fault results.Panic = false
 is_fault results.Fault = true
 
--- Each of some rows ends in a boot.
-abbrev pub AllBoot : List Told → Type 0
-AllBoot rows = All (λ row. row.outcome.result ≡ results.Boot) rows
+-- Rows of whatever is explored are counted by how each of them ends.
+module _ {R : Type 0} (ends : R → Report) where
+  -- Each of some rows ends in a boot.
+  abbrev pub AllEndInBoot : List R → Type 0
+  AllEndInBoot rows = All (λ row. (ends row).result ≡ results.Boot) rows
 
--- How many of some rows have such a result.
-abbrev pub rows_with : (BootResult → Bool) → List Told → ℕ
-rows_with test rows = count_by (λ row. test row.outcome.result) rows
+  -- How many of some rows end with such a result.
+  abbrev pub ending_with : (BootResult → Bool) → List R → ℕ
+  ending_with test rows = count_by (λ row. test (ends row).result) rows
 
--- The greatest number of operations among some rows, 0 where there are none.
-abbrev pub most_ops_of : List Told → ℕ
-most_ops_of rows = fold (λ most row. max most row.outcome.ops) 0 rows
+  -- The greatest number of operations among some rows, 0 where there are none.
+  abbrev pub most_ops : List R → ℕ
+  most_ops rows = fold (λ most row. max most (ends row).ops) 0 rows
 
--- How many rows a page has, how many with each result, the greatest number of operations, and where to go on.
-abbrev pub tally_of : Page → Tally
-tally_of page = record {
-  rows = length page.rows;
-  boot = rows_with is_boot page.rows;
-  none = rows_with is_none page.rows;
-  panic = rows_with is_panic page.rows;
-  fault = rows_with is_fault page.rows;
-  most_ops = most_ops_of page.rows;
-  next = page.goes_on;
+  -- How many rows a page has, how many with each result, the greatest number of operations, and where to go on.
+  abbrev pub tally_by : {U : Type 0} → pages.Page R U → TallyOf U
+  tally_by page = record {
+    rows = length page.rows;
+    boot = ending_with is_boot page.rows;
+    none = ending_with is_none page.rows;
+    panic = ending_with is_panic page.rows;
+    fault = ending_with is_fault page.rows;
+    most_ops = most_ops page.rows;
+    next = page.goes_on;
+  }
+
+  -- The tally of rows that do not fill a page.
+  abbrev pub tally_by_now : {U : Type 0} → List R → TallyOf U
+  tally_by_now rows = tally_by (record { rows = rows; goes_on = None })
+
+-- One where the test holds.
+abbrev pub count_if : Bool → ℕ
+count_if true = 1
+count_if false = 0
+
+-- A tally of no rows, and with one row more, which ends so.
+abbrev pub no_tally : {U : Type 0} → TallyOf U
+no_tally = record { rows = 0; boot = 0; none = 0; panic = 0; fault = 0; most_ops = 0; next = None }
+
+abbrev pub one_row_more : {U : Type 0} → Report → TallyOf U → TallyOf U
+one_row_more report t = record {
+  rows = t.rows + 1;
+  boot = t.boot + count_if (is_boot report.result);
+  none = t.none + count_if (is_none report.result);
+  panic = t.panic + count_if (is_panic report.result);
+  fault = t.fault + count_if (is_fault report.result);
+  most_ops = max t.most_ops report.ops;
+  next = t.next;
 }
 
--- The tally of rows that do not fill a page.
-abbrev pub tally_so_far : List Told → Tally
-tally_so_far rows = tally_of (record { rows = rows; goes_on = None })
+-- No result was counted more often than there are rows.
+pub record IsWithin {U : Type 0} (t : TallyOf U) : Type 0 where
+  pub boot : t.boot ≤ t.rows
+  pub none : t.none ≤ t.rows
+  pub panic : t.panic ≤ t.rows
+  pub fault : t.fault ≤ t.rows
 
--- Six lines of numbers, and the last line of the page.
-abbrev pub tally_text : Tally → List ℕ
-tally_text t =
+-- Rows of schedules.
+
+abbrev pub Tally : Type 0
+Tally = TallyOf Cursor
+
+abbrev pub AllBoot : List Told → Type 0
+AllBoot = AllEndInBoot report_of
+
+abbrev pub rows_with : (BootResult → Bool) → List Told → ℕ
+rows_with = ending_with report_of
+
+abbrev pub most_ops_of : List Told → ℕ
+most_ops_of = most_ops report_of
+
+abbrev pub tally_of : Page → Tally
+tally_of = tally_by report_of
+
+-- Six lines of numbers.
+abbrev pub counts_text : {U : Type 0} → TallyOf U → List ℕ
+counts_text t =
     (codes "rows " ++ (decimal t.rows ++ (codes "\nboot " ++ (decimal t.boot ++ (codes "\nnone " ++ (decimal t.none ++ codes "\n"))))))
-    ++ ((codes "panic " ++ (decimal t.panic ++ (codes "\nfault " ++ (decimal t.fault ++ (codes "\nmost-ops " ++ (decimal t.most_ops ++ codes "\n"))))))
-    ++ last_line t.next)
+    ++ (codes "panic " ++ (decimal t.panic ++ (codes "\nfault " ++ (decimal t.fault ++ (codes "\nmost-ops " ++ (decimal t.most_ops ++ codes "\n"))))))
+
+-- And the last line of the page.
+abbrev pub tally_text : {C K R U : Type 0} → Subject C K R U → TallyOf U → List ℕ
+tally_text x t = counts_text t ++ pages.last_line (rows_of x) t.next
 
 -- That is the tally of the page of the rows to come before the schedule, and its rows are taken.
 abbrev pub SurveysUntil : Option (List ℕ) → State → State → ℕ → Tally → Type 0

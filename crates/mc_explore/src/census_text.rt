@@ -6,7 +6,7 @@ use crate::census::Census;
 use mc_start::Schedule;
 use std::fmt;
 
-// A number of schedules, with `>=` before it where it was cut off.
+// A number of rows, with `>=` before it where it was cut off.
 #[derive(Clone, Copy)]
 pub(crate) struct Count(pub u128);
 
@@ -24,7 +24,7 @@ impl fmt::Display for Count {
 
 // A schedule, if there is one.
 #[derive(Clone, Copy)]
-pub(crate) struct First(pub Option<Schedule>);
+struct First(Option<Schedule>);
 
 impl fmt::Display for First {
     ghost output = { λ first. Some (first_text first.0) };

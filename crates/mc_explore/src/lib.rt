@@ -47,12 +47,14 @@ pub use once::{Once, Told};
 pub use output::write_text;
 pub use pages::{write_page, write_page_until, write_rows};
 pub use replaying::{ReplayError, flash_at_cut, replay, replay_on};
-pub use rights::Rights;
+pub use rights::{Rights, RightsOf, all_right, write_rights};
 pub use row::Row;
 pub use row_text::{put_outcome, put_slots};
 pub use source::RowSource;
 pub use subject::{Fields, Subject};
-pub use surveying::{Tally, survey, survey_right, survey_until};
+pub use surveying::{
+    Tally, TallyOf, all_boot, survey, survey_right, survey_rows, survey_until, write_tally,
+};
 pub use taking::{take_census, take_rights};
 pub use torn::last_row;
 pub use tree_explorer::TreeExplorer;

@@ -1,63 +1,86 @@
 //! How many schedules of power cuts come to what is right, and the first that does not.
-ghost use Rattle.std.specs.Prelude.{◌≡◌, ◌↔◌, true, List, ◌∷◌, ◌++◌, [], Some};
-ghost use Rattle.mc_explore.specs.Right.{rights_of, rights_text, AllRight};
-ghost use Rattle.mc_explore.specs.Rows.{Told, told};
+ghost use Rattle.std.specs.Prelude.{◌≡◌, ◌↔◌, true, List, IfErr, OnOk};
+ghost use Rattle.std.specs.Io.KnownBytes.{Appends};
+ghost use Rattle.mc_boot.specs.Outcome.{shown};
+ghost use Rattle.mc_explore.specs.Right.{AllEndRight, no_rights, one_judged_more, rights_by, rights_text};
 ghost use Rattle.mc_explore.specs.declared.expectation.Expectation.{Expectation as Expected};
 
-use crate::census_text::{Count, First};
+use crate::census_text::Count;
+use crate::error::ExploreError;
 use crate::expectation::Expectation;
-use crate::row::Row;
-use mc_start::Schedule;
-use std::fmt;
+use crate::output::write_text;
+use crate::subject::Subject;
+use mc_boot::Outcome;
+use mc_start::{Line, Schedule};
+use std::io::Write;
 
-/// How many rows come to what is right, cut off at the largest `u128`, and the first of them that does not.
+/// How many rows come to what is right, cut off at the largest `u128`, and the key of the first of them that does not.
 #[derive(Clone, Copy, Debug)]
-pub struct Rights {
+pub struct RightsOf<K> {
     pub right: u128,
-    /// The first schedule, in their order, that does not end right.
-    pub first_not_right: Option<Schedule>,
+    /// By what the first row is found, in their order, that does not end right.
+    pub first_not_right: Option<K>,
 }
 
-impl Rights {
+/// How many schedules are right, and the first that is not.
+pub type Rights = RightsOf<Schedule>;
+
+impl<K: Copy> RightsOf<K> {
     // Of no rows.
-    #[tactic(auto, unfolding(crate::specs::Census::cut_number))]
-    pub(crate) fn new() -> Rights
-        ensures { (e : Expected) → result ≡ rights_of e [] }
+    pub(crate) fn new() -> RightsOf<K>
+        ensures { result ≡ no_rights }
     {
-        Rights {
+        RightsOf {
             right: 0,
             first_not_right: None,
         }
     }
 
-    // Counts one row more.
-    pub(crate) fn add(&mut self, expectation: &Expectation, row: &Row)
-        ensures { (rows : List Told) → self.old ≡ rights_of expectation.now rows → self.new
-            ≡ rights_of expectation.now (rows ++ told row.now ∷ []) }
+    // Counts one row more, of that key, which ends so.
+    #[tactic(auto, unfolding(crate::specs::Census::cut_number))]
+    pub(crate) fn add(&mut self, expectation: &Expectation, key: K, end: &Outcome)
+        ensures { self.new ≡ one_judged_more expectation.now key (shown end.now) self.old }
     {
-        if expectation.is_right(&row.outcome) {
+        if expectation.is_right(end) {
             self.right = self.right.saturating_add(1);
         } else {
-            self.first_not_right = self.first_not_right.or(Some(row.schedule));
+            self.first_not_right = self.first_not_right.or(Some(key));
         }
-    }
-
-    /// Whether each of the rows comes to what is right.
-    pub fn all_right(&self) -> bool
-        ensures { (e : Expected) (rows : List Told) → self.now ≡ rights_of e rows
-            → (result ≡ true) ↔ AllRight e rows }
-    {
-        self.first_not_right.is_none()
     }
 }
 
-/// Two lines: how many are right, and the first schedule that is not, or `none`. A number that was cut off has `>=` before it.
-impl fmt::Display for Rights {
-    ghost output = { λ rights. Some (rights_text rights) };
+/// Whether each of the rows comes to what is right.
+pub fn all_right<X: Subject>(rights: &RightsOf<X::Key>) -> bool
+    ensures { (e : Expected) (rows : List X.Shown) → rights.now
+        ≡ rights_by X.subject.ends X.subject.key e rows
+        → (result ≡ true) ↔ AllEndRight X.subject.ends e rows }
+{
+    rights.first_not_right.is_none()
+}
 
-    fn fmt<W: fmt::Write>(&self, f: &mut fmt::Formatter<W>) -> fmt::Result {
-        let right = Count(self.right);
-        let first = First(self.first_not_right);
-        write!(f, "right {right}\nfirst-not-right {first}\n")
+/// Writes two lines: how many rows are right, and the key of the first that is not, or `none`. A number that was cut off has `>=`
+/// before it.
+///
+/// # Errors
+///
+/// `Write` where a write fails or takes no bytes.
+pub fn write_rights<X: Subject, W: Write>(
+    rights: &RightsOf<X::Key>,
+    writer: &mut W,
+) -> Result<(), ExploreError>
+    ensures whole { OnOk result (Appends (W.contents writer.old) (W.contents writer.new)
+        (rights_text X.subject rights.now)) }
+    ensures err { IfErr result (λ e. e ≡ ExploreError.Write) }
+{
+    let right = Count(rights.right);
+    if write!(writer, "right {right}\nfirst-not-right ").is_err() {
+        return Err(ExploreError::Write);
     }
+    let mut line = Line::new();
+    match &rights.first_not_right {
+        Some(key) => X::put_key(key, &mut line),
+        None => line.put("none"),
+    }
+    line.put("\n");
+    write_text(writer, line.as_str().as_bytes())
 }

@@ -5,7 +5,7 @@ use crate::last_cuts::AtCuts;
 use crate::once::Once;
 use crate::row::Row;
 use crate::subject::{Fields, Subject};
-use mc_boot::{Rejoin, restart_law};
+use mc_boot::{Outcome, Rejoin, restart_law};
 use mc_flash::{Flash, FlashError, most_operations};
 use mc_start::{Cursor, Line, Schedule, Start};
 use mc_walk::Walk;
@@ -37,8 +37,6 @@ impl Subject for Once {
 
     type Cursor = Cursor;
 
-    type Until = Option<Schedule>;
-
     type Kept = AtCuts;
 
     type Ahead = Rejoin;
@@ -54,8 +52,6 @@ impl Subject for Once {
     ghost shown = { states.told };
 
     ghost fields = { fields_of };
-
-    ghost until_of = { λ until. until };
 
     ghost holds = { λ o c kept. AreAtCuts (begins o c) kept.of kept.outcomes.items };
 
@@ -136,12 +132,13 @@ impl Subject for Once {
         row.schedule
     }
 
+    fn end(row: &Row) -> Outcome {
+        row.outcome
+    }
+
     #[inline]
-    fn is_before(row: &Row, until: &Option<Schedule>) -> bool {
-        match until {
-            Some(until) => row.schedule.is_before(until),
-            None => true,
-        }
+    fn is_before(row: &Row, key: &Schedule) -> bool {
+        row.schedule.is_before(key)
     }
 
     fn restarts() {
@@ -174,6 +171,10 @@ impl Subject for Once {
 
     fn put_row(row: &Row, line: &mut Line, labels: &Labels) {
         row.put_into(line, labels);
+    }
+
+    fn put_key(key: &Schedule, line: &mut Line) {
+        key.put_into(line);
     }
 
     fn put_cursor(cursor: &Cursor, line: &mut Line) {

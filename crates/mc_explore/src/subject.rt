@@ -1,6 +1,7 @@
 //! What is explored.
 use crate::ahead::RowsAhead;
 use crate::labels::Labels;
+use mc_boot::Outcome;
 use mc_flash::{Flash, FlashError};
 use mc_start::{Line, Schedule, Start};
 use mc_trailer::Rules;
@@ -19,17 +20,17 @@ pub struct Fields<C, K> {
 
 /// A kind of tree whose paths are gone through as rows, each found by a key.
 pub trait Subject: Branches<Known = Start> {
-    ghost use Rattle.std.specs.Prelude.{◌≡◌, ◌≢◌, ◌↔◌, ℕ, ◌+◌, ◌<◌, ◌≤◌, Bool, ◌^◌, List, [], ◌∷◌, length, ◌++◌, Option, true, false, IfOk, IfErr, IfSome, IsSomeAnd, OnOk};
+    ghost use Rattle.std.specs.Prelude.{◌≡◌, ◌≢◌, ◌↔◌, ℕ, ◌+◌, ◌<◌, ◌≤◌, Bool, ◌^◌, List, [], ◌∷◌, length, ◌++◌, true, false, IfOk, IfErr, IfSome, IsSomeAnd, OnOk};
     ghost use Rattle.mc_tree.specs.Tree.{Allowed};
     ghost use Rattle.mc_tree.specs.facts.Order.{IsOrder};
     ghost use Rattle.mc_flash.specs.Flash.{Content};
     ghost use Rattle.mc_flash.specs.Geometry.{IsLayout};
     ghost use Rattle.mc_flash.specs.Usage.{Seen};
+    ghost use Rattle.mc_boot.specs.Outcome as outcomes;
     ghost use Rattle.mc_boot.specs.Plan.{PowerOn};
     ghost use Rattle.mc_start.specs.Start.{begun, start_digest};
     ghost use Rattle.mc_walk.specs.Walks.{IsClear, IsPath, origin_of};
     ghost use Rattle.mc_explore.specs.Pages.{IsRest};
-    ghost use Rattle.mc_explore.specs.Pages.{IsBefore};
     ghost use Rattle.mc_explore.specs.Subject as subjects;
     ghost use Rattle.mc_explore.specs.declared.subject.Fields.{Fields as FieldsOf};
     ghost use Rattle.mc_explore.specs.inner.Exploring.{FollowsKey, IsCalm, IsCheapFor};
@@ -53,9 +54,6 @@ pub trait Subject: Branches<Known = Start> {
     /// Where to go on.
     type Cursor: Copy;
 
-    /// What the rows of a page must come before, if anything.
-    type Until;
-
     /// What is kept of nodes for the rows that are told without the flash.
     type Kept: Drop;
 
@@ -73,8 +71,6 @@ pub trait Subject: Branches<Known = Start> {
     ghost shown: { Self.Row → Shown };
 
     ghost fields: { Self.Cursor → FieldsOf Self.Choice Self.Key };
-
-    ghost until_of: { Self.Until → Option Self.Key };
 
     ghost holds: { Self → Content → Self.Kept → Type 0 };
 
@@ -172,10 +168,13 @@ pub trait Subject: Branches<Known = Start> {
     fn key(row: &Self::Row) -> Self::Key
         ensures { result ≡ subject.key (shown row.now) };
 
-    /// Whether a row comes before that, if anything is told.
-    fn is_before(row: &Self::Row, until: &Self::Until) -> bool
-        ensures { (result ≡ true) ↔ IsBefore (rows_of subject) (until_of until.now)
-            (subject.key (shown row.now)) };
+    /// How a row ends, by which rows are counted.
+    fn end(row: &Self::Row) -> Outcome
+        ensures { outcomes.shown result ≡ subject.ends (shown row.now) };
+
+    /// Whether a row comes before a key, in their order.
+    fn is_before(row: &Self::Row, key: &Self::Key) -> bool
+        ensures { (result ≡ true) ↔ subject.Before (subject.key (shown row.now)) key.now };
 
     /// What the restart theorem says of the rows.
     fn restarts()
@@ -197,6 +196,12 @@ pub trait Subject: Branches<Known = Start> {
         requires { line.old ≡ [] }
         ensures text { line.new ≡ subject.row_text (shown row.now) }
         ensures length { length line.new < 512 };
+
+    /// Adds the text of a key to a line.
+    fn put_key(key: &Self::Key, line: &mut Line)
+        requires { length line.old + 208 ≤ 512 }
+        ensures text { line.new ≡ line.old ++ subject.key_text key.now }
+        ensures length { length line.new ≤ length line.old + 208 };
 
     /// Adds the text of a cursor to a line.
     fn put_cursor(cursor: &Self::Cursor, line: &mut Line)

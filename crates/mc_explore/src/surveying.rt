@@ -1,25 +1,30 @@
 //! What the rows of an exploration come to.
-ghost use Rattle.std.specs.Prelude.{◌≡◌, ◌+◌, ◌-◌, ◌*◌, ◌^◌, ◌<◌, ◌≤◌, ◌⊎◌, ◌↔◌, true, List, ◌∷◌, ◌++◌, [], Some, IfOk, IfErr, OnOk, OnErr, IsErrOf, length};
+ghost use Rattle.std.specs.Prelude.{◌≡◌, ◌+◌, ◌-◌, ◌*◌, ◌^◌, ◌<◌, ◌≤◌, ◌⊎◌, ◌↔◌, true, Some, IfOk, IfErr, OnOk};
+ghost use Rattle.std.specs.Io.KnownBytes.{Appends};
+ghost use Rattle.mc_boot.specs.Outcome.{shown};
 ghost use Rattle.mc_explore.specs.Rows.{most_for_row};
-ghost use Rattle.mc_explore.specs.Rows.{Told, told};
-ghost use Rattle.mc_explore.specs.Page.{Page};
-ghost use Rattle.mc_explore.specs.Survey.{AllBoot, Surveys, SurveysUntil, tally_of, tally_so_far, tally_text};
-ghost use Rattle.mc_explore.specs.Right.{SurveysRight};
+ghost use Rattle.mc_explore.specs.Pages.{Page};
+ghost use Rattle.mc_explore.specs.Survey.{AllEndInBoot, IsWithin, Surveys, SurveysUntil, counts_text, no_tally, one_row_more, tally_by, tally_text};
+ghost use Rattle.mc_explore.specs.Right.{SurveysRight, SurveysRows};
 ghost use Rattle.mc_explore.specs.Subject.{Explores};
 
 use crate::error::ExploreError;
 use crate::expectation::Expectation;
 use crate::explorer::Explorer;
-use crate::rights::Rights;
-use crate::row::Row;
-use mc_boot::BootResult;
+use crate::output::write_text;
+use crate::rights::{Rights, RightsOf};
+use crate::source::RowSource;
+use crate::subject::Subject;
+use crate::tree_explorer::TreeExplorer;
+use mc_boot::{BootResult, Outcome};
 use mc_flash::Flash;
-use mc_start::{Cursor, Schedule};
+use mc_start::{Cursor, Line, Schedule};
 use std::fmt;
+use std::io::Write;
 
-/// How many rows a page would have, how many of them with each result, and where it would go on.
+/// How many rows a page would have, how many of them end with each result, and where it would go on.
 #[derive(Clone, Copy, Debug)]
-pub struct Tally {
+pub struct TallyOf<C> {
     pub rows: u32,
     /// How many end in a boot.
     pub boot: u32,
@@ -32,15 +37,18 @@ pub struct Tally {
     /// The greatest number of operations of a last boot, 0 where there are no rows.
     pub most_ops: u32,
     /// The cursor of the last row, where the page would be full.
-    pub next: Option<Cursor>,
+    pub next: Option<C>,
 }
 
-impl Tally {
+/// The tally of a page of schedules.
+pub type Tally = TallyOf<Cursor>;
+
+impl<C: Copy> TallyOf<C> {
     // Of no rows.
-    fn new() -> Tally
-        ensures { result ≡ tally_so_far [] }
+    fn new() -> TallyOf<C>
+        ensures { result ≡ no_tally }
     {
-        Tally {
+        TallyOf {
             rows: 0,
             boot: 0,
             none: 0,
@@ -51,50 +59,116 @@ impl Tally {
         }
     }
 
-    // Counts one row more.
-    fn add(&mut self, row: &Row)
-        requires { (rows : List Told) × (self.old ≡ tally_so_far rows)
-            × (length rows < 2 ^ 32 - 1) }
-        ensures { (rows : List Told) → self.old ≡ tally_so_far rows → self.new
-            ≡ tally_so_far (rows ++ told row.now ∷ []) }
+    // Counts one row more, which ends so.
+    fn add(&mut self, end: &Outcome)
+        requires room { self.old.rows < 2 ^ 32 - 1 }
+        requires within { IsWithin self.old }
+        ensures { self.new ≡ one_row_more (shown end.now) self.old }
     {
         self.rows += 1;
-        match row.outcome.result {
+        match end.result {
             BootResult::Boot => self.boot += 1,
             BootResult::None => self.none += 1,
             BootResult::Panic => self.panic += 1,
             BootResult::Fault => self.fault += 1,
         }
-        self.most_ops = self.most_ops.max(row.outcome.ops);
-    }
-
-    /// Whether each of the rows that it counts ends in a boot.
-    pub fn all_boot(&self) -> bool
-        ensures { (page : Page) → self.now ≡ tally_of page → (result ≡ true) ↔ AllBoot page.rows }
-    {
-        self.boot == self.rows
+        self.most_ops = self.most_ops.max(end.ops);
     }
 }
 
-/// Seven lines: how many rows, how many of them with each result, the greatest number of operations; then where to go on, or
-/// `end`.
-impl fmt::Display for Tally {
-    ghost output = { λ tally. Some (tally_text tally) };
+/// Whether each of the rows that a tally counts ends in a boot.
+pub fn all_boot<X: Subject>(tally: &TallyOf<X::Cursor>) -> bool
+    ensures { (page : Page X.Shown X.Cursor) → tally.now ≡ tally_by X.subject.ends page
+        → (result ≡ true) ↔ AllEndInBoot X.subject.ends page.rows }
+{
+    tally.boot == tally.rows
+}
+
+// The first six lines of a tally: how many rows, how many of them with each result, the greatest number of operations.
+#[derive(Clone, Copy)]
+struct Counts<'a, C>(&'a TallyOf<C>);
+
+impl<'a, C: Copy> fmt::Display for Counts<'a, C> {
+    ghost output = { λ counts. Some (counts_text counts.0.now) };
 
     fn fmt<W: fmt::Write>(&self, f: &mut fmt::Formatter<W>) -> fmt::Result {
-        let rows = self.rows;
-        let boot = self.boot;
-        let none = self.none;
+        let rows = self.0.rows;
+        let boot = self.0.boot;
+        let none = self.0.none;
         write!(f, "rows {rows}\nboot {boot}\nnone {none}\n")?;
-        let panic = self.panic;
-        let fault = self.fault;
-        let most_ops = self.most_ops;
-        write!(f, "panic {panic}\nfault {fault}\nmost-ops {most_ops}\n")?;
-        let Some(cursor) = self.next else {
-            return f.write_str("end\n");
-        };
-        write!(f, "next {cursor}\n")
+        let panic = self.0.panic;
+        let fault = self.0.fault;
+        let most_ops = self.0.most_ops;
+        write!(f, "panic {panic}\nfault {fault}\nmost-ops {most_ops}\n")
     }
+}
+
+/// Writes seven lines: how many rows, how many of them with each result, the greatest number of operations; then where to go on,
+/// or `end`.
+///
+/// # Errors
+///
+/// `Write` where a write fails or takes no bytes.
+pub fn write_tally<X: Subject, W: Write>(
+    tally: &TallyOf<X::Cursor>,
+    writer: &mut W,
+) -> Result<(), ExploreError>
+    ensures whole { OnOk result (Appends (W.contents writer.old) (W.contents writer.new)
+        (tally_text X.subject tally.now)) }
+    ensures err { IfErr result (λ e. e ≡ ExploreError.Write) }
+{
+    let counts = Counts(tally);
+    if write!(writer, "{counts}").is_err() {
+        return Err(ExploreError::Write);
+    }
+    let mut line = Line::new();
+    match &tally.next {
+        Some(cursor) => {
+            line.put("next ");
+            X::put_cursor(cursor, &mut line);
+            line.put("\n");
+        }
+        None => line.put("end\n"),
+    }
+    write_text(writer, line.as_str().as_bytes())
+}
+
+/// Counts the next rows that come before that key, if one is told, at most so many, and how many of them are right: the rows of
+/// the page that `write_rows` would write. The explorer is where that page would have left it. It takes no memory but through the
+/// flash.
+///
+/// # Errors
+///
+/// `Memory`, `Failed`: those of `next_row`.
+pub fn survey_rows<F: Flash + Drop, X: Subject>(
+    explorer: &mut TreeExplorer<'_, F, X>,
+    until: &Option<X::Key>,
+    limit: u32,
+    expectation: &Expectation,
+) -> Result<(TallyOf<X::Cursor>, RightsOf<X::Key>), ExploreError>
+    requires { 1 ≤ limit }
+    ensures surveys { IfOk result (λ counted. SurveysRows X.subject expectation.now
+        until.now explorer.old.state explorer.new.state limit counted.0 counted.1) }
+    // Each row takes as much as one by itself.
+    ensures applied { let s = explorer.old.state.start in OnOk result (explorer.new.usage.applied
+        ≤ explorer.old.usage.applied + limit * X.subject.most_for_row s.rules s.geometry) }
+    ensures explores { Explores F.counted explorer.old result explorer.new }
+    ensures err { IfErr result (λ e. (e ≡ ExploreError.Memory) ⊎ (e ≡ ExploreError.Failed)) }
+{
+    let mut tally = TallyOf::new();
+    let mut rights = RightsOf::new();
+    'rows: while tally.rows < limit {
+        match explorer.next_before(until)? {
+            Some(row) => {
+                let end = X::end(&row);
+                tally.add(&end);
+                rights.add(expectation, X::key(&row), &end);
+            }
+            None => return Ok((tally, rights)),
+        }
+    }
+    tally.next = Some(explorer.cursor());
+    Ok((tally, rights))
 }
 
 /// Counts the next rows that come before that schedule, if one is told, at most so many, and how many of them are right: the rows
@@ -119,19 +193,7 @@ pub fn survey_right<F: Flash + Drop>(
     ensures explores { Explores F.counted explorer.old result explorer.new }
     ensures err { IfErr result (λ e. (e ≡ ExploreError.Memory) ⊎ (e ≡ ExploreError.Failed)) }
 {
-    let mut tally = Tally::new();
-    let mut rights = Rights::new();
-    'rows: while tally.rows < limit {
-        match explorer.next_before(&until)? {
-            Some(row) => {
-                tally.add(&row);
-                rights.add(expectation, &row);
-            }
-            None => return Ok((tally, rights)),
-        }
-    }
-    tally.next = Some(explorer.cursor());
-    Ok((tally, rights))
+    survey_rows(&mut explorer.inner, &until, limit, expectation)
 }
 
 /// Counts the next rows that come before that schedule, if one is told, at most so many: the rows of the page that

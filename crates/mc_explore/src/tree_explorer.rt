@@ -1,10 +1,11 @@
 //! Goes through the rows of a kind of tree, one after another.
-ghost use Rattle.std.specs.Prelude.{◌≡◌, ◌+◌, ◌≤◌, true, length, option_map, IfOk, IfErr, ◌⊎◌};
+ghost use Rattle.std.specs.Prelude.{◌≡◌, ◌↔◌, ◌+◌, ◌≤◌, true, length, option_map, IfOk, IfErr, ◌⊎◌};
+ghost use Rattle.mc_explore.specs.Pages.{IsBefore};
 ghost use Rattle.mc_flash.specs.Usage.{limits_for};
 ghost use Rattle.mc_start.specs.Start.{begun};
 ghost use Rattle.mc_tree.specs.Tree.{After};
 ghost use Rattle.mc_explore.specs.Subject.{Resumes};
-ghost use Rattle.mc_explore.specs.Subject.{Explores, Finds, GoesOnBehind, Restarts, at_start, row_cost, state_after};
+ghost use Rattle.mc_explore.specs.Subject.{Explores, Finds, GoesOnBehind, Restarts, at_start, row_cost, rows_of, state_after};
 
 use crate::error::ExploreError;
 use crate::labels::Labels;
@@ -209,9 +210,21 @@ impl<'a, F: Flash + Drop, X: Subject> TreeExplorer<'a, F, X> {
     }
 }
 
+// Whether a row comes before that key, if one is told.
+#[inline]
+fn comes_before<X: Subject>(row: &X::Row, until: &Option<X::Key>) -> bool
+    ensures { (result ≡ true) ↔ IsBefore (rows_of X.subject) until.now
+        (X.subject.key (X.shown row.now)) }
+{
+    match until {
+        Some(key) => X::is_before(row, key),
+        None => true,
+    }
+}
+
 impl<'a, F: Flash + Drop, X: Subject> RowSource for TreeExplorer<'a, F, X> {
     ghost use Rattle.std.specs.Prelude.{refl};
-    ghost use Rattle.mc_explore.specs.Subject.{are_lawful, rows_of};
+    ghost use Rattle.mc_explore.specs.Subject.{are_lawful};
     ghost use Rattle.mc_explore.specs.Subject as states;
 
     ghost State = { states.State X.Choice X.Key };
@@ -224,7 +237,7 @@ impl<'a, F: Flash + Drop, X: Subject> RowSource for TreeExplorer<'a, F, X> {
 
     type Row = X::Row;
 
-    type Until = X::Until;
+    type Until = Option<X::Key>;
 
     ghost listing = { rows_of X.subject };
 
@@ -238,17 +251,17 @@ impl<'a, F: Flash + Drop, X: Subject> RowSource for TreeExplorer<'a, F, X> {
 
     ghost shown = { X.shown };
 
-    ghost until_of = { X.until_of };
+    ghost until_of = { λ until. until };
 
     ghost most_for_row = { λ s. X.subject.most_for_row s.start.rules s.start.geometry };
 
     ghost cost_stays = { λ s k. refl };
 
     #[inline]
-    fn next_before(&mut self, until: &X::Until) -> Result<Option<X::Row>, ExploreError> {
+    fn next_before(&mut self, until: &Option<X::Key>) -> Result<Option<X::Row>, ExploreError> {
         let found = self.next_row()?;
         if let Some(row) = &found {
-            if !X::is_before(row, until) {
+            if !comes_before::<X>(row, until) {
                 return Ok(None);
             }
         }

@@ -9,6 +9,7 @@ mod layouts;
 mod lives;
 mod pages;
 mod rights;
+mod rounds;
 mod sixteen;
 mod support;
 mod texts;

@@ -26,6 +26,7 @@ pub enum Group {
     Trace,
     Sectors,
     Exploration,
+    Rounds,
     Verdict,
     Census,
     Campaign,
@@ -48,6 +49,7 @@ impl Group {
             Group::Trace => Some("Trace"),
             Group::Sectors => Some("Sectors"),
             Group::Exploration | Group::Campaign => Some("Exploration"),
+            Group::Rounds => Some("Rounds"),
             Group::Verdict => Some("Verdict"),
             Group::Census => Some("Census"),
             Group::Delivery => Some("Device (--flash or --image)"),
@@ -69,6 +71,7 @@ impl Group {
             Group::Replay => &REPLAY,
             Group::Trace | Group::Sectors => &SCHEDULE_IF_ANY,
             Group::Exploration => &EXPLORATION,
+            Group::Rounds => &ROUNDS,
             Group::Verdict => &VERDICT,
             Group::Census => &CENSUS,
             Group::Campaign => &CAMPAIGN,
@@ -389,13 +392,32 @@ static EXPLORATION: [Word; 6] = [
     },
 ];
 
+/// Whether the image confirms itself between two rounds.
+const CONFIRM: Word = Word {
+    name: "confirm",
+    help: "The image confirms itself between the rounds",
+    ..FLAG
+};
+
+/// One round of boots, or two. With two, what tells cuts is a campaign.
+static ROUNDS: [Word; 2] = [
+    Word {
+        name: "rounds",
+        takes: Takes::OneOf("N", &["1", "2"]),
+        default: Some("1"),
+        help: "2: two rounds of boots, with cuts as 1.0,2.5 (a campaign)",
+        ..FLAG
+    },
+    CONFIRM,
+];
+
 /// What a slot is to hold at the end.
 const EXPECTED: Word = Word {
     takes: Takes::Value("V"),
     ..FLAG
 };
 
-/// What `explore`, `survey` and `census` are asked for: a verdict on all that they list or count.
+/// What is asked of all rows that `explore` and `campaign` list, and that `survey` and `census` count.
 static VERDICT: [Word; 4] = [
     Word {
         name: "all-boot",
@@ -423,7 +445,7 @@ static VERDICT: [Word; 4] = [
 static CENSUS: [Word; 1] = [CUTS];
 
 /// What tells an exploration of campaigns.
-static CAMPAIGN: [Word; 5] = [
+static CAMPAIGN: [Word; 7] = [
     Word {
         name: "cuts",
         takes: Takes::Value("K"),
@@ -435,10 +457,16 @@ static CAMPAIGN: [Word; 5] = [
     ALL,
     CURSOR,
     Word {
-        name: "confirm",
-        help: "The image confirms itself between the rounds",
-        ..FLAG
+        name: "after",
+        help: "Go on after this campaign, as 1.9,2.4 (- is the first), in place of --cursor",
+        ..SCHEDULE
     },
+    Word {
+        name: "until",
+        help: "Stop before this campaign",
+        ..SCHEDULE
+    },
+    CONFIRM,
 ];
 
 /// What a device is delivered with.
@@ -532,7 +560,10 @@ Seven lines: how many rows the page of explore would have, how many of them with
 none, panic, fault), the most operations of a last boot, and next CURSOR or end, as the page.
 Where something is expected of the slots, two lines more: how many rows boot with the expected
 images, and the first that does not. --all-right expects of two images the named one in the primary
-at the end and the other in the secondary. A survey of a part of the rows gives no verdict (E77).";
+at the end and the other in the secondary. A survey of a part of the rows gives no verdict (E77).
+With --rounds 2 the rows are those of campaign, each counted by how its second round ends, or its
+first where that does not end in a boot. --all-right expects a test that does not confirm itself to
+be taken back: each image where it was at the start.";
 
 const AFTER_CENSUS: &str = "\
 Seven lines: how many schedules of at most K power cuts can occur, how many of them have each RESULT
@@ -551,7 +582,8 @@ Two rounds, each power-on with its cuts and one whole boot: here the first round
 second power fails after 4 operations of its first boot. RESULT TYPE OPS stand for the boots that end the
 rounds; what lies in the slots, and the next type, for the end. Between the rounds the image in the
 primary confirms itself with --confirm, else not.
-Rows come in this order: -, 1.0, 1.0,1.0, .., 1.0,2.0, .., 1.1, .., 2.0, 2.0,2.0, ..";
+Rows come in this order: -, 1.0, 1.0,1.0, .., 1.0,2.0, .., 1.1, .., 2.0, 2.0,2.0, ..
+With a verdict the rows are counted once more; see mcsim survey --help, --rounds 2.";
 
 const AFTER_LIFE: &str = "\
 Events, a line each; blank lines, and lines that begin with #, tell none. At the start the power is off:
@@ -632,7 +664,13 @@ static COMMANDS: [Subcommand; 15] = [
         about: "Run boots cut as a schedule says, then one whole boot; print its outcome",
         usage: Some("mcsim replay <LAYOUT> <SOURCE> --schedule <S> [OPTIONS]"),
         after_help: None,
-        groups: &[Group::Layout, Group::Source, Group::Rules, Group::Replay],
+        groups: &[
+            Group::Layout,
+            Group::Source,
+            Group::Rules,
+            Group::Replay,
+            Group::Rounds,
+        ],
     },
     Subcommand {
         name: "trace",
@@ -640,7 +678,13 @@ static COMMANDS: [Subcommand; 15] = [
         about: "Print the operations of boots cut as a schedule says, and of one whole boot",
         usage: Some("mcsim trace <LAYOUT> <SOURCE> [OPTIONS]"),
         after_help: Some(AFTER_TRACE),
-        groups: &[Group::Layout, Group::Source, Group::Rules, Group::Trace],
+        groups: &[
+            Group::Layout,
+            Group::Source,
+            Group::Rules,
+            Group::Trace,
+            Group::Rounds,
+        ],
     },
     Subcommand {
         name: "sectors",
@@ -648,7 +692,13 @@ static COMMANDS: [Subcommand; 15] = [
         about: "Print what lies in each sector when the last cut of a schedule falls",
         usage: Some("mcsim sectors <LAYOUT> <SOURCE> [OPTIONS]"),
         after_help: Some(AFTER_SECTORS),
-        groups: &[Group::Layout, Group::Source, Group::Rules, Group::Sectors],
+        groups: &[
+            Group::Layout,
+            Group::Source,
+            Group::Rules,
+            Group::Sectors,
+            Group::Rounds,
+        ],
     },
     Subcommand {
         name: "explore",
@@ -675,6 +725,7 @@ static COMMANDS: [Subcommand; 15] = [
             Group::Source,
             Group::Rules,
             Group::Exploration,
+            Group::Rounds,
             Group::Verdict,
         ],
     },
@@ -698,7 +749,13 @@ static COMMANDS: [Subcommand; 15] = [
         about: "List every campaign of at most K power cuts in two rounds, with both outcomes",
         usage: Some("mcsim campaign <LAYOUT> <SOURCE> --cuts <K> [OPTIONS]"),
         after_help: Some(AFTER_CAMPAIGN),
-        groups: &[Group::Layout, Group::Source, Group::Rules, Group::Campaign],
+        groups: &[
+            Group::Layout,
+            Group::Source,
+            Group::Rules,
+            Group::Campaign,
+            Group::Verdict,
+        ],
     },
     Subcommand {
         name: "life",

@@ -1,21 +1,19 @@
 //! `census`: what all schedules of power cuts come to, without listing them.
-ghost use Rattle.std.specs.Prelude.{◌≡◌, ◌++◌, ◌≤◌, List, Err, IfOk, true};
-ghost use Rattle.std.specs.Io.KnownBytes.{Appends};
+ghost use Rattle.std.specs.Prelude.{◌≡◌, ◌≤◌, List, IfOk, true};
 ghost use Rattle.mc_explore.specs.Census.{census_of};
-ghost use Rattle.mc_explore.specs.Census.{census_text};
-ghost use Rattle.mc_explore.specs.Rows.{Told};
+ghost use Rattle.mc_explore.specs.Rows.{Told, report_of, subject};
 ghost use Rattle.mc_explore.specs.declared.expectation.Expectation.{Expectation as Expected};
 ghost use Rattle.clap.specs.Matches.{found_of};
 ghost use Rattle.mc_command.specs.Sessions.{TellsCensus, AreRightsIf};
-ghost use Rattle.mc_command.specs.Verdicts.{AreCounted, IsVerdict, lines_of};
+ghost use Rattle.mc_command.specs.Verdicts.{AreCounted, IsVerdict};
 ghost use Rattle.mc_start.specs.Start.{begun};
 
 use crate::options::{census_options, flash_options};
 use crate::refusal::Refusal;
 use crate::source::read_start;
-use crate::verdict::{Asked, Lines, all_right};
+use crate::verdict::{Asked, right_if_asked, write_lines};
 use clap::ArgMatches;
-use mc_explore::{Census, Expectation, Rights, Start, take_census, take_rights};
+use mc_explore::{Census, Expectation, Once, Rights, Start, take_census, take_rights};
 use mc_flash::JournalFlash;
 use std::alloc::Global;
 use std::io::Write;
@@ -73,7 +71,7 @@ fn read_census<F: Files>(
     let cuts = census_options(arguments)?;
     let asked = Asked::read(arguments)?;
     let start = read_start(files, alloc, &options)?;
-    let expectation = asked.expectation(&start)?;
+    let expectation = asked.expectation(start.named())?;
     let rights = rights_if(alloc, &start, cuts, &expectation)?;
     let census = take_census::<JournalFlash>(alloc, &start, u32::from(cuts))?;
     Ok(Counts {
@@ -98,30 +96,23 @@ pub fn run<F: Files, O: Write>(
     out: &mut O,
 ) -> Result<(), Refusal> {
     let counts = read_census(files, alloc, arguments)?;
-    print_census(&counts.census, &counts.rights, &counts.asked, out)
+    let census = counts.census;
+    write!(out, "{census}").map_err(|_| Refusal::Write)?;
+    write_lines::<Once, O>(&counts.rights, out)?;
+    judge(&counts)
 }
 
-/// Prints a census, and what of it is right where that was asked. Once it is printed it is refused where what is asked does not hold.
+/// The verdict on the schedules that were counted.
 ///
 /// # Errors
 ///
-/// `Write` where the output cannot be written; `NotAllBoot`; `NotAllRight`.
-fn print_census<O: Write>(
-    census: &Census,
-    rights: &Option<Rights>,
-    asked: &Asked,
-    out: &mut O,
-) -> Result<(), Refusal>
-    ensures verdict { (e : Expected) (rows : List Told) → census.now ≡ census_of rows
-        → AreCounted e rows rights.now → IsVerdict asked.now e rows rights.now true result }
-    // The census is out, unless the write failed.
-    ensures written { (result ≡ Err Refusal.Write → ⊥)
-        → Appends (O.contents out.old) (O.contents out.new)
-        (census_text census.now ++ lines_of rights.now) }
+/// The first of `NotAllBoot` and `NotAllRight` that was asked for and does not hold.
+fn judge(counts: &Counts) -> Result<(), Refusal>
+    ensures { (e : Expected) (rows : List Told) → counts.now.census ≡ census_of rows
+        → AreCounted subject e rows counts.now.rights
+        → IsVerdict report_of counts.now.asked e rows counts.now.rights true result }
 {
-    let lines = Lines(*rights);
-    write!(out, "{census}{lines}").map_err(|_| Refusal::Write)?;
-    let boots = census.all_boot();
-    let right = all_right(rights);
-    asked.verdict(boots, right, true)
+    let boots = counts.census.all_boot();
+    let right = right_if_asked::<Once>(&counts.rights);
+    counts.asked.verdict(boots, right, true)
 }

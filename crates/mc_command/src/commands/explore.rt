@@ -1,181 +1,217 @@
-//! `explore` and `survey`: every schedule of power cuts, with what the boot after it does, and how many do what.
+//! `explore`, `campaign` and `survey`: every schedule of power cuts, or every campaign of two rounds, with what the boots after them
+//! do, and how many do what.
 ghost use Rattle.std.specs.Prelude.{◌≡◌, ◌++◌, ◌≤◌, Err, IfOk, is_none};
-ghost use Rattle.mc_explore.specs.declared.expectation.Expectation.{Expectation as Expected};
 ghost use Rattle.std.specs.Io.KnownBytes.{Appends};
-ghost use Rattle.mc_explore.specs.Page.{Page};
-ghost use Rattle.mc_explore.specs.Survey.{tally_of, tally_text};
 ghost use Rattle.clap.specs.Matches.{found_of};
-ghost use Rattle.mc_command.specs.Sessions.{TellsExploration, Explores, TalliesAsked, TalliesUntil, PrintsUntil};
+ghost use Rattle.mc_explore.specs.Pages.{Page};
+ghost use Rattle.mc_explore.specs.Survey.{tally_by, tally_text};
+ghost use Rattle.mc_explore.specs.declared.expectation.Expectation.{Expectation as Expected};
+ghost use Rattle.mc_command.specs.Sessions.{Explores, PrintsUntil, TalliesAsked, TalliesUntil, TellsExploration, back_from, ends_of};
 ghost use Rattle.mc_command.specs.Verdicts.{AreCounted, IsVerdict, lines_of};
+ghost use Rattle.mc_boot.specs.Plan.{identity_of};
+ghost use Rattle.std.specs.Prelude.{option_map};
 
 use super::{finish, in_blocks};
-use crate::options::{ExploreOptions, RangeOptions, explore_options, flash_options, range_options};
+use crate::explored::Explored;
+use crate::options::{ExploreOptions, RangeOptions, Source, explore_options, flash_options};
 use crate::refusal::Refusal;
 use crate::source::read_start;
-use crate::verdict::{Asked, Lines, all_right};
+use crate::verdict::{Asked, right_if_asked, write_lines};
 use clap::ArgMatches;
-use mc_explore::{Expectation, Explorer, Rights, Start, Tally, survey_right, write_page_until};
+use mc_boot::ImageId;
+use mc_explore::{
+    Expectation, RightsOf, Start, TallyOf, TreeExplorer, all_boot, survey_rows, write_rows,
+    write_tally,
+};
 use mc_flash::JournalFlash;
 use std::alloc::Global;
 use std::io::Write;
 use std::rt::Files;
 
-/// An exploration that the words tell: where it starts, and the rows that are wanted of it.
+/// An exploration that the words ask for: where it starts, and the rows that are wanted of it.
 #[derive(Drop)]
-struct Exploration {
+struct Exploration<C: Copy, U: Copy, K: Copy> {
     start: Start,
+    /// What is chosen besides the start.
+    choice: C,
+    /// Whether both images are to lie at the end where they would without the swap.
+    back: bool,
     extent: ExploreOptions,
-    range: RangeOptions,
+    range: RangeOptions<U, K>,
+}
+
+/// Whether both images of a source are to lie at the end where they would without the swap.
+fn is_taken_back<X: Explored>(source: &Source<'_>, choice: X::Choice) -> bool
+    ensures { result ≡ back_from X.is_taken_back source.now choice }
+{
+    match source {
+        Source::Flash(_) => false,
+        Source::Images { kind, .. } => X::takes_back(*kind, choice),
+    }
+}
+
+/// The image that is to lie in the primary at the end, and the one in the secondary.
+fn ends(back: bool, named: Option<(ImageId, ImageId)>) -> Option<(ImageId, ImageId)>
+    ensures { option_map (λ p. (identity_of p.0, identity_of p.1)) result ≡ ends_of back
+        (option_map (λ p. (identity_of p.0, identity_of p.1)) named) }
+{
+    match named {
+        Some((one, other)) if back => Some((other, one)),
+        named => named,
+    }
 }
 
 /// Reads the words, and the start that they tell. The words are checked before a file is touched.
 ///
 /// # Errors
 ///
-/// `Source`, `Layout`, the numbers, `CursorOptions`, `Cursor` and `Schedule` of the words; what `read_start` refuses.
-fn read<F: Files>(
+/// `Source`, `Layout`, the numbers, `CursorOptions`, `Cursor`, `Schedule` and `Campaign` of the words; what `read_start` refuses.
+fn read<X: Explored, F: Files>(
     files: &F,
     alloc: Global,
     arguments: &ArgMatches<'_>,
-) -> Result<Exploration, Refusal>
-    ensures told { IfOk result (TellsExploration (found_of arguments.now)) }
+) -> Result<Exploration<X::Choice, X::Cursor, X::Key>, Refusal>
+    ensures told { IfOk result (TellsExploration X.subject X.IsChoice X.is_taken_back
+        (found_of arguments.now)) }
     ensures range { IfOk result (λ e. (e.extent.cuts ≤ 16) × (1 ≤ e.extent.limit)) }
 {
     let options = match flash_options(arguments) {
         Ok(options) => options,
         Err(refusal) => return Err(refusal),
     };
+    let extent = explore_options(arguments)?;
+    let range = X::range(arguments)?;
+    let choice = X::chosen(arguments);
     Ok(Exploration {
-        extent: explore_options(arguments)?,
-        range: range_options(arguments)?,
+        choice,
+        back: is_taken_back::<X>(&options.source, choice),
+        extent,
+        range,
         start: read_start(files, alloc, &options)?,
     })
 }
 
-impl Exploration {
-    /// Makes an explorer at the first row, or behind the one that the words tell.
-    ///
-    /// # Errors
-    ///
-    /// `Explore` where the cursor or the schedule does not serve here, or an allocation failed.
-    fn explorer(&self, alloc: Global) -> Result<Explorer<'_, JournalFlash>, Refusal>
-        requires { self.now.extent.cuts ≤ 16 }
-        ensures { Explores self.now result }
-    {
-        let (start, cuts) = (&self.start, self.extent.cuts);
-        if let Some(after) = &self.range.after {
-            return Ok(Explorer::behind(alloc, start, cuts, after)?);
-        }
-        match &self.range.cursor {
-            Some(cursor) => Ok(Explorer::resume(alloc, start, cuts, cursor)?),
-            None => Ok(Explorer::start(alloc, start, cuts)?),
-        }
+/// Makes an explorer at the first row, or after the one that the words name.
+///
+/// # Errors
+///
+/// `Explore` where the cursor or the key does not serve here, or an allocation failed.
+fn explorer<'a, X: Explored>(
+    exploration: &'a Exploration<X::Choice, X::Cursor, X::Key>,
+    alloc: Global,
+) -> Result<TreeExplorer<'a, JournalFlash, X>, Refusal>
+    requires { exploration.now.extent.cuts ≤ 16 }
+    ensures { Explores X.subject X.fields exploration.now result }
+{
+    let (start, cuts) = (&exploration.start, exploration.extent.cuts);
+    let choice = exploration.choice;
+    if let Some(after) = &exploration.range.after {
+        return Ok(TreeExplorer::after(alloc, start, cuts, choice, after)?);
     }
-
-    /// Prints the page, and gives back the writer that has it.
-    ///
-    /// # Errors
-    ///
-    /// Those of `explorer`, and `Explore` where memory failed, or the output cannot be written.
-    fn print<O: Write + Drop>(&self, alloc: Global, out: O) -> Result<O, Refusal>
-        requires cuts { self.now.extent.cuts ≤ 16 }
-        requires limit { 1 ≤ self.now.extent.limit }
-        // It is said of the writer that is given back. Where that is a reference, no contract of a page says that it is still the
-        // one that was handed in, so `run` can't say it of `out`.
-        ensures { IfOk result
-            (λ written. PrintsUntil self.now (O.contents out) (O.contents written)) }
-    {
-        let mut explorer = self.explorer(alloc)?;
-        let (until, limit) = (self.range.until, self.extent.limit);
-        let mut blocks = in_blocks(alloc, out)?;
-        write_page_until(&mut explorer, until, limit, &mut blocks)?;
-        Ok(finish(blocks)?)
-    }
-
-    /// Counts the rows of the page, and how many of them are right.
-    ///
-    /// # Errors
-    ///
-    /// Those of `explorer`, and `Explore` where memory failed.
-    fn tally(&self, alloc: Global, expectation: &Expectation) -> Result<(Tally, Rights), Refusal>
-        requires cuts { self.now.extent.cuts ≤ 16 }
-        requires limit { 1 ≤ self.now.extent.limit }
-        ensures { IfOk result (λ counted. TalliesUntil self.now expectation.now counted.0
-            counted.1) }
-    {
-        let mut explorer = self.explorer(alloc)?;
-        let (until, limit) = (self.range.until, self.extent.limit);
-        Ok(survey_right(&mut explorer, until, limit, expectation)?)
-    }
-
-    /// Counts the rows of the page, and how many of them are right where that is asked.
-    ///
-    /// # Errors
-    ///
-    /// `Expectation`; those of `tally`.
-    fn counts(&self, alloc: Global, asked: &Asked) -> Result<(Tally, Option<Rights>), Refusal>
-        requires cuts { self.now.extent.cuts ≤ 16 }
-        requires limit { 1 ≤ self.now.extent.limit }
-        ensures { IfOk result (λ counted. TalliesAsked self.now asked.now counted.0 counted.1) }
-    {
-        let wanted = asked.expectation(&self.start)?;
-        let expectation = wanted.unwrap_or(Expectation::any());
-        let (tally, rights) = self.tally(alloc, &expectation)?;
-        match wanted {
-            Some(_) => Ok((tally, Some(rights))),
-            None => Ok((tally, None)),
-        }
+    match &exploration.range.cursor {
+        Some(cursor) => Ok(TreeExplorer::resume(alloc, start, cuts, choice, cursor)?),
+        None => Ok(TreeExplorer::start(alloc, start, cuts, choice)?),
     }
 }
 
-/// Prints a page of rows: one for each schedule of at most so many cuts that can occur, in their order, from the first or
-/// after the one that the words tell, up to one that they tell. Where something is asked of the rows, they are counted once more, and
-/// how many are right follows, and the first that is not.
+/// Prints the page, and gives back the writer that has it.
+///
+/// # Errors
+///
+/// Those of `explorer`, and `Explore` where memory failed, or the output cannot be written.
+fn print<X: Explored, O: Write + Drop>(
+    exploration: &Exploration<X::Choice, X::Cursor, X::Key>,
+    alloc: Global,
+    out: O,
+) -> Result<O, Refusal>
+    requires cuts { exploration.now.extent.cuts ≤ 16 }
+    requires limit { 1 ≤ exploration.now.extent.limit }
+    // It is said of the writer that is given back. Where that is a reference, no contract of a page says that it is still the
+    // one that was handed in, so `run` can't say it of `out`.
+    ensures { IfOk result (λ written. PrintsUntil X.subject X.fields exploration.now
+        (O.contents out) (O.contents written)) }
+{
+    let mut explorer = explorer::<X>(exploration, alloc)?;
+    let mut blocks = in_blocks(alloc, out)?;
+    write_rows(
+        &mut explorer,
+        &exploration.range.until,
+        exploration.extent.limit,
+        &mut blocks,
+    )?;
+    Ok(finish(blocks)?)
+}
+
+/// Counts the rows of the page, and how many of them are right.
+///
+/// # Errors
+///
+/// Those of `explorer`, and `Explore` where memory failed.
+fn tally<X: Explored>(
+    exploration: &Exploration<X::Choice, X::Cursor, X::Key>,
+    alloc: Global,
+    expectation: &Expectation,
+) -> Result<(TallyOf<X::Cursor>, RightsOf<X::Key>), Refusal>
+    requires cuts { exploration.now.extent.cuts ≤ 16 }
+    requires limit { 1 ≤ exploration.now.extent.limit }
+    ensures { IfOk result (λ counted. TalliesUntil X.subject X.fields exploration.now
+        expectation.now counted.0 counted.1) }
+{
+    let mut explorer = explorer::<X>(exploration, alloc)?;
+    let (until, limit) = (&exploration.range.until, exploration.extent.limit);
+    Ok(survey_rows(&mut explorer, until, limit, expectation)?)
+}
+
+/// Counts the rows of the page, and how many of them are right where that is asked.
+///
+/// # Errors
+///
+/// `Expectation`; those of `tally`.
+fn counts<X: Explored>(
+    exploration: &Exploration<X::Choice, X::Cursor, X::Key>,
+    alloc: Global,
+    asked: &Asked,
+) -> Result<(TallyOf<X::Cursor>, Option<RightsOf<X::Key>>), Refusal>
+    requires cuts { exploration.now.extent.cuts ≤ 16 }
+    requires limit { 1 ≤ exploration.now.extent.limit }
+    ensures { IfOk result (λ counted. TalliesAsked X.subject X.fields exploration.now asked.now
+        counted.0 counted.1) }
+{
+    let named = exploration.start.named();
+    let wanted = asked.expectation(ends(exploration.back, named))?;
+    let expectation = wanted.unwrap_or(Expectation::any());
+    let (tally, rights) = tally::<X>(exploration, alloc, &expectation)?;
+    match wanted {
+        Some(_) => Ok((tally, Some(rights))),
+        None => Ok((tally, None)),
+    }
+}
+
+/// Prints a page of rows: one for each schedule, or campaign, of at most so many cuts that can occur, in their order, from the first
+/// or after the one that the words name, up to one that they name. Where something is asked of the rows, they are counted once more,
+/// and how many are right follows, and the first that is not.
 ///
 /// # Errors
 ///
 /// What refuses the words or their files; `Expectation`; `Explore` where memory failed, or the output cannot be written. What is asked
 /// of the rows is refused as of a survey, once the page is out.
-pub fn run<F: Files, O: Write>(
+pub fn run<X: Explored, F: Files, O: Write>(
     files: &F,
     alloc: Global,
     arguments: &ArgMatches<'_>,
     out: &mut O,
 ) -> Result<(), Refusal> {
     let asked = Asked::read(arguments)?;
-    let exploration = read(files, alloc, arguments)?;
-    let _known = asked.expectation(&exploration.start)?;
-    exploration.print(alloc, &mut *out)?;
+    let exploration = read::<X, F>(files, alloc, arguments)?;
+    let named = exploration.start.named();
+    let _known = asked.expectation(ends(exploration.back, named))?;
+    print::<X, &mut O>(&exploration, alloc, &mut *out)?;
     if !asked.is_any() {
         return Ok(());
     }
-    let (tally, rights) = exploration.counts(alloc, &asked)?;
-    print_rights(&tally, &rights, &asked, out)
-}
-
-/// Prints what of a page is right, where that was asked. Once it is printed the page is refused where what is asked does not hold.
-///
-/// # Errors
-///
-/// `Write` where the output cannot be written; `NotAllBoot`; `NotAllRight`; `NotWhole`.
-fn print_rights<O: Write>(
-    tally: &Tally,
-    rights: &Option<Rights>,
-    asked: &Asked,
-    out: &mut O,
-) -> Result<(), Refusal>
-    ensures verdict { (e : Expected) (page : Page) → tally.now ≡ tally_of page
-        → AreCounted e page.rows rights.now
-        → IsVerdict asked.now e page.rows rights.now (is_none page.goes_on) result }
-    // The lines are out, unless the write failed.
-    ensures written { (result ≡ Err Refusal.Write → ⊥)
-        → Appends (O.contents out.old) (O.contents out.new) (lines_of rights.now) }
-{
-    let lines = Lines(*rights);
-    write!(out, "{lines}").map_err(|_| Refusal::Write)?;
-    let boots = tally.all_boot();
-    let right = all_right(rights);
-    asked.verdict(boots, right, tally.next.is_none())
+    let (tally, rights) = counts::<X>(&exploration, alloc, &asked)?;
+    write_lines::<X, O>(&rights, out)?;
+    judge::<X>(&tally, &rights, &asked)
 }
 
 /// Prints how many rows that page would have, how many of them with each result, the greatest number of operations, and where
@@ -183,43 +219,38 @@ fn print_rights<O: Write>(
 ///
 /// # Errors
 ///
-/// What refuses the words or their files; `Expectation`; `Explore` where memory failed; `Write` where the output cannot be written.
+/// What refuses the words or their files; `Expectation`; `Explore` where memory failed or the output cannot be written.
 /// With `--all-boot` also `NotAllBoot` where a row does not end in a boot, with `--all-right` `NotAllRight` where one is not right,
 /// and with either `NotWhole` where the page would go on; the output is written then.
-pub fn survey<F: Files, O: Write>(
+pub fn survey<X: Explored, F: Files, O: Write>(
     files: &F,
     alloc: Global,
     arguments: &ArgMatches<'_>,
     out: &mut O,
 ) -> Result<(), Refusal> {
     let asked = Asked::read(arguments)?;
-    let exploration = read(files, alloc, arguments)?;
-    let (tally, rights) = exploration.counts(alloc, &asked)?;
-    print_tally(&tally, &rights, &asked, out)
+    let exploration = read::<X, F>(files, alloc, arguments)?;
+    let (tally, rights) = counts::<X>(&exploration, alloc, &asked)?;
+    write_tally::<X, O>(&tally, out)?;
+    write_lines::<X, O>(&rights, out)?;
+    judge::<X>(&tally, &rights, &asked)
 }
 
-/// Prints a tally, and what of it is right where that was asked. Once it is printed it is refused where what is asked does not hold.
+/// The verdict on the rows that were counted.
 ///
 /// # Errors
 ///
-/// `Write` where the output cannot be written; `NotAllBoot`; `NotAllRight`; `NotWhole`.
-fn print_tally<O: Write>(
-    tally: &Tally,
-    rights: &Option<Rights>,
+/// The first of `NotAllBoot`, `NotAllRight` and `NotWhole` that was asked for and does not hold.
+fn judge<X: Explored>(
+    tally: &TallyOf<X::Cursor>,
+    rights: &Option<RightsOf<X::Key>>,
     asked: &Asked,
-    out: &mut O,
 ) -> Result<(), Refusal>
-    ensures verdict { (e : Expected) (page : Page) → tally.now ≡ tally_of page
-        → AreCounted e page.rows rights.now
-        → IsVerdict asked.now e page.rows rights.now (is_none page.goes_on) result }
-    // The tally is out, unless the write failed.
-    ensures written { (result ≡ Err Refusal.Write → ⊥)
-        → Appends (O.contents out.old) (O.contents out.new)
-        (tally_text tally.now ++ lines_of rights.now) }
+    ensures { (e : Expected) (page : Page X.Shown X.Cursor) → tally.now
+        ≡ tally_by X.subject.ends page → AreCounted X.subject e page.rows rights.now
+        → IsVerdict X.subject.ends asked.now e page.rows rights.now (is_none page.goes_on) result }
 {
-    let lines = Lines(*rights);
-    write!(out, "{tally}{lines}").map_err(|_| Refusal::Write)?;
-    let boots = tally.all_boot();
-    let right = all_right(rights);
+    let boots = all_boot::<X>(tally);
+    let right = right_if_asked::<X>(rights);
     asked.verdict(boots, right, tally.next.is_none())
 }

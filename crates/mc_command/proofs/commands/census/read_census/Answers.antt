@@ -1,4 +1,6 @@
-use Rattle.std.proofs.Common.{rules}
+use Rattle.std.proofs.Common.{Ok, Option, rules, subst}
+use Rattle.mc_image.specs.Valid.{Identity}
+use Rattle.mc_command.specs.Verdicts.{IsExpectation}
 use Rattle.mc_command.proofs.commands.census.read_census.Goals as goal
 
 pub returns : goal.returns
@@ -10,6 +12,6 @@ returns g c = record {
   comes_to = search rules;
   asked = c.in_ok-asked.ensures;
   expectation = c.in_ok-expectation.expectation;
-  expects = c.in_ok-expectation.ensures;
+  expects = subst (λ (named : Option (Identity × Identity)). IsExpectation c.in_ok-asked.asked named (Ok c.in_ok-expectation.expectation)) c.named.ensures c.in_ok-expectation.ensures;
   rights = c.in_ok-rights.ensures;
 }

@@ -1,25 +1,25 @@
 use Rattle.std.proofs.Common.{◌≡◌, ◌+◌, ◌-◌, ◌*◌, ◌<◌, ◌≤◌, suc, Ok, Err, refl, sym, ap, subst, ◌∙◌, arith}
-use Rattle.mc_explore.specs.Rows.{most_for_row, State, told}
 use Rattle.mc_tree.specs.Tree.{Lost, After}
 use Rattle.mc_boot.specs.Plan.{PowerOn}
+use Rattle.mc_explore.specs.Subject.{State}
 use Rattle.mc_explore.specs.declared.error.ExploreError.TheVariants as errors
-use Rattle.mc_explore.specs.declared.surveying.Tally.{Tally}
-use Rattle.mc_explore.proofs.Counted.{count_begin, count_on, counted_full, counted_short, last_counted, one_counted}
+use Rattle.mc_explore.specs.declared.surveying.TallyOf.{TallyOf}
+use Rattle.mc_explore.proofs.Counted.{count_begin, count_on, counted_full, counted_short, counted_within, last_counted}
 use Rattle.mc_explore.proofs.PageRows.{row_paid}
-use Rattle.mc_explore.proofs.surveying.survey_right.Given.{Over}
-use Rattle.mc_explore.proofs.surveying.survey_right.Goals as goal
-use Rattle.mc_explore.proofs.surveying.survey_right.Goals.{After-add}
+use Rattle.mc_explore.proofs.surveying.survey_rows.Given.{Over}
+use Rattle.mc_explore.proofs.surveying.survey_rows.Goals as goal
+use Rattle.mc_explore.proofs.surveying.survey_rows.Goals.{After-add}
 
 pub rows-init : goal.rows-init
 rows-init g c =
-    let until = c.args.until in
-    let old = c.args.explorer.now.state in
-    let none : c.new-tally.result.rows ≡ 0 = ap (λ (t : Tally). t.rows) c.new-tally.ensures in
+    let x = g.X.Subject.subject in
+    let start = c.args.explorer.now.state.start in
+    let none : c.new-tally.result.rows ≡ 0 = ap (λ (t : TallyOf g.row.X-Cursor.Denot). t.rows) c.new-tally.ensures in
     let room : c.new-tally.result.rows < c.args.limit = omega (arith, none, c.requires) in
     let all : c.args.limit - c.new-tally.result.rows ≡ c.args.limit = omega (arith, none) in
-    let cost = most_for_row old.start.rules old.start.geometry in
+    let cost = x.most_for_row start.rules start.geometry in
     record {
-      counted = rw c.new-tally.ensures (count_begin c.args.expectation.now until old c.args.limit c.new-rights.result (c.new-rights.ensures c.args.expectation.now));
+      counted = rw (c.new-tally.ensures, c.new-rights.ensures) (count_begin _ _ _ _ _ _);
       not_lost = λ e. e;
       stuck = λ e. (e, room);
       still = λ e. refl;
@@ -28,28 +28,38 @@ rows-init g c =
       applied = subst (λ n. c.args.explorer.now.usage.applied + n * cost ≤ c.args.explorer.now.usage.applied + c.args.limit * cost) (sym all) (omega arith);
     }
 
+pub add-requires-clause-within : goal.add-requires-clause-within
+add-requires-clause-within g c = counted_within c.rows.invariant.counted
+
 -- One row more is counted.
 more : (g : Over) (c : After-add g) → c.add.new.self.rows ≡ c.rows.tally.rows + 1
-more g c =
-    let p = c.rows.invariant.counted in
-    one_counted p (told c.in-Some.row) c.add.new.self (c.add.ensures p.some p.tally_is)
+more g c = ap (λ (t : TallyOf g.row.X-Cursor.Denot). t.rows) c.add.ensures
 
 pub rows-smaller : goal.rows-smaller
 rows-smaller g c = let n = more g (goal.at.rows-smaller g c).After-add in omega (arith, n, c.rows-test.true)
 
+-- After a row an explorer has not failed.
+not_lost : {P K : Type 0} (k : K) → Lost ≡ After k → P
+not_lost k is = absurd cc
+
+not_failed : {P A : Type 0} (a : A) → Ok a ≡ Err errors.Failed → P
+not_failed a is = absurd cc
+
 pub rows-preserved : goal.rows-preserved
 rows-preserved g c =
+    let x = g.X.Subject.subject in
+    let row = g.X.Subject.shown c.in-Some.row in
     let n = more g (goal.at.rows-preserved g c).After-add in
     let found = rw c.in-Some.is at c.in_ok-row.ensures.found in
     let moved = found.2 in
     let room : c.args.limit - c.rows.tally.rows ≡ suc (c.args.limit - c.add.new.self.rows) = omega (arith, n, c.rows-test.true) in
-    let cost = ap (λ (s : PowerOn). most_for_row s.rules s.geometry) c.rows.invariant.start in
+    let cost = ap (λ (s : PowerOn). x.most_for_row s.rules s.geometry) c.rows.invariant.start in
     record {
-      counted = count_on c.rows.invariant.counted _ (told c.in-Some.row) c.add.new.self c.add-in-Some.new.self room found c.add.ensures c.add-in-Some.ensures (omega (arith, n, c.rows-test.true));
-      not_lost = λ e. let q : Lost ≡ After c.in-Some.row.schedule = sym e ∙ ap (λ (s : State). s.position) moved in absurd cc;
-      stuck = λ e. let q : Ok c.in_ok-row.field-0 ≡ Err errors.Failed = rw c.in_ok-row.was at (c.next_before.ensures.explores.goes.stays_lost (c.rows.invariant.stuck e).0) in absurd cc;
-      still = λ e. let q : Lost ≡ After c.in-Some.row.schedule = sym e ∙ ap (λ (s : State). s.position) moved in absurd cc;
-      start = ap (λ (s : State). s.start) moved ∙ c.rows.invariant.start;
+      counted = count_on c.rows.invariant.counted _ row c.add.new.self c.add-in-Some.new.self room found (rw (sym c.end-end.ensures) c.add.ensures) (rw (sym c.key.ensures, sym c.end-end.ensures) c.add-in-Some.ensures) (omega (arith, n, c.rows-test.true));
+      not_lost = λ e. not_lost (x.key row) (sym e ∙ ap (λ (s : State g.row.X-Choice.Denot g.row.X-Key.Denot). s.position) moved);
+      stuck = λ e. not_failed c.in_ok-row.field-0 (rw c.in_ok-row.was at (c.next_before.ensures.explores.goes.stays_lost (c.rows.invariant.stuck e).0));
+      still = λ e. not_lost (x.key row) (sym e ∙ ap (λ (s : State g.row.X-Choice.Denot g.row.X-Key.Denot). s.position) moved);
+      start = ap (λ (s : State g.row.X-Choice.Denot g.row.X-Key.Denot). s.start) moved ∙ c.rows.invariant.start;
       limits = c.next_before.ensures.explores.goes.limits ∙ c.rows.invariant.limits;
       applied = row_paid _ _ (c.args.limit - c.rows.tally.rows) (c.args.limit - c.add.new.self.rows) _ _ room (omega (arith, c.in_ok-row.ensures.applied, cost)) c.rows.invariant.applied;
     }

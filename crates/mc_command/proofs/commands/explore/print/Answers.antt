@@ -1,9 +1,9 @@
 use Rattle.mc_command.proofs.Blocks.{appended}
-use Rattle.mc_command.proofs.commands.explore.Exploration.print.Goals as goal
+use Rattle.mc_command.proofs.commands.explore.print.Goals as goal
 
 pub returns : goal.returns
 returns g c =
-    let page = c.in_ok-write_page_until.ensures.page in
+    let page = c.in_ok-write_rows.ensures.page in
     record {
       explorer = c.in_ok-explorer.explorer;
       begins = c.in_ok-explorer.ensures;

@@ -1,0 +1,46 @@
+-- Where the second round of a campaign begins.
+use Rattle.std.proofs.Common.{ap, arith, drop, length, subst, sym, take, ◌∙◌}
+use Rattle.std.proofs.lemmas.Bool.Decides.{nat_tests}
+use Rattle.std.proofs.lemmas.List.{drop_at, length-append, take_at}
+use Rattle.std.specs.Prelude.{Bool, Err, List, MatchResult, Ok, Result, if◌then◌else◌, true, ℕ, ◌++◌, ◌+◌, ◌==◌, ◌≡◌}
+use Rattle.mc_boot.specs.Outcome.{Report}
+use Rattle.mc_boot.specs.Plan.{PowerOn, again, power_on}
+use Rattle.mc_boot.specs.Restart.{confirmed_if}
+use Rattle.mc_campaign.specs.Campaigns.{BeginsSecond}
+use Rattle.mc_explore.specs.Schedules.{IsReplayed}
+use Rattle.mc_flash.specs.Flash.{Content, size_of}
+use Rattle.mc_flash.specs.Geometry.{Geometry}
+use Rattle.mc_flash.specs.declared.op.Slot.TheVariants.{Primary, Secondary}
+use Rattle.mc_start.specs.Start.{of_flash}
+use Rattle.mc_start.specs.declared.start.StartError.{StartError}
+use Rattle.mc_trailer.specs.declared.tables.Rules.{Rules}
+use Rattle.mc_start.specs.declared.start.StartError.TheVariants as errors
+
+-- The flash of the bytes of both slots, one behind the other, has these.
+pub of_both : (g : Geometry) (p s : List ℕ) (x : Content) → length p ≡ size_of g Primary → length s ≡ size_of g Secondary → of_flash g (p ++ s) ≡ Ok x
+    → x ≡ record { primary = p; secondary = s }
+of_both g p s x low high is =
+    let long : (length (p ++ s) == size_of g Primary + size_of g Secondary) ≡ true = grind (arith, nat_tests, length-append p s) in
+    let first : take (size_of g Primary) (p ++ s) ≡ p = take_at p s (size_of g Primary) low in
+    let rest : drop (size_of g Primary) (p ++ s) ≡ s = drop_at p s (size_of g Primary) low in
+    let both : Content = record { primary = take (size_of g Primary) (p ++ s); secondary = drop (size_of g Primary) (p ++ s) } in
+    let made : of_flash g (p ++ s) ≡ Ok both = ap (λ (b : Bool). if b then Ok both else Err errors.FlashSize) long in
+    let same : Ok x ≡ Ok both = sym is ∙ made in
+    cc
+
+-- The second round begins where the first leaves the flash, once the image has confirmed itself or not.
+pub begins_second : (start : PowerOn) (confirms : Bool) (r : Rules) (g : Geometry) (rules : r ≡ start.rules) (layout : g ≡ start.geometry) (p q cuts : List ℕ) (one : Report)
+    (middle left : Content) (at : Geometry) → p ≡ start.content.primary → q ≡ start.content.secondary
+    → IsReplayed (power_on r g (record { primary = p; secondary = q })) cuts one middle → at ≡ g → left ≡ confirmed_if confirms at middle
+    → (y : PowerOn) → y ≡ again start left → BeginsSecond start confirms cuts y
+begins_second start confirms r g rules layout p q cuts one middle left at p_is q_is replayed same left_is y is = record {
+  one = one;
+  middle = middle;
+  first = rw (sym rules, sym layout, sym p_is, sym q_is) replayed;
+  begins = is ∙ ap (again start) (left_is ∙ ap (λ z. confirmed_if confirms z middle) (same ∙ layout));
+}
+
+-- What holds of both ways of an answer, and what follows.
+pub either_way : {A E : Type 0} {P P' : A → Type 0} {Q Q' : E → Type 0} (r : Result A E) → MatchResult r P Q → ((a : A) → P a → P' a) → ((e : E) → Q e → Q' e) → MatchResult r P' Q'
+either_way (Ok a) p good bad = good a p
+either_way (Err e) q good bad = bad e q

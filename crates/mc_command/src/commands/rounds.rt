@@ -1,0 +1,169 @@
+//! `replay`, `trace` and `sectors` of a campaign of two rounds of boots.
+ghost use Rattle.std.specs.Prelude.{◌≡◌, IfOk, codes};
+ghost use Rattle.clap.specs.Matches.{found_of};
+ghost use Rattle.mc_campaign.specs.Texts.{campaign_text};
+ghost use Rattle.mc_command.specs.Arguments.{IsFlag};
+ghost use Rattle.mc_command.specs.Sessions.{TellsStart};
+
+use crate::commands::replay::write_file;
+use crate::options::{flash_options, required};
+use crate::refusal::Refusal;
+use crate::source::read_start;
+use clap::ArgMatches;
+use mc_boot::Outcome;
+use mc_campaign::{Campaign, Round, replay_campaign, start_of_second};
+use mc_explore::{Start, flash_at_cut};
+use mc_flash::JournalFlash;
+use mc_trace::{write_sectors, write_trace};
+use std::alloc::Global;
+use std::io::Write;
+use std::rt::Files;
+
+/// A start, a campaign from it, and whether the image confirms itself between the rounds.
+#[derive(Drop)]
+struct Campaigned {
+    start: Start,
+    campaign: Campaign,
+    confirms: bool,
+}
+
+/// The start of a source, and the campaign that the words tell. The words are checked before a file is touched.
+///
+/// # Errors
+///
+/// `Source`, `Layout` and `Campaign` of the words, in this order; what `read_start` refuses.
+fn read<F: Files>(
+    files: &F,
+    alloc: Global,
+    arguments: &ArgMatches<'_>,
+) -> Result<Campaigned, Refusal>
+    ensures start { IfOk result (λ c. TellsStart (found_of arguments.now) c.start) }
+    ensures confirms { IfOk result (λ c. IsFlag (found_of arguments.now) (codes "confirm")
+        c.confirms) }
+{
+    let options = match flash_options(arguments) {
+        Ok(options) => options,
+        Err(refusal) => return Err(refusal),
+    };
+    let campaign = Campaign::read(required(arguments, "schedule")?)?;
+    Ok(Campaigned {
+        start: read_start(files, alloc, &options)?,
+        campaign,
+        confirms: arguments.get_flag("confirm"),
+    })
+}
+
+impl Campaigned {
+    /// The start of the second round.
+    ///
+    /// # Errors
+    ///
+    /// `Replay` where a cut of the first round can't occur, or for want of memory.
+    fn second(&self, alloc: Global) -> Result<Start, Refusal> {
+        let cuts = self.campaign.places(Round::First);
+        Ok(start_of_second::<JournalFlash>(alloc, &self.start, &cuts, self.confirms)?)
+    }
+
+    /// The outcomes of both rounds, and the flash that is left.
+    ///
+    /// # Errors
+    ///
+    /// `Replay` where a cut can't occur, or for want of memory.
+    fn replay(&self, alloc: Global) -> Result<(Outcome, Outcome, JournalFlash), Refusal> {
+        Ok(replay_campaign(alloc, &self.start, &self.campaign, self.confirms)?)
+    }
+
+    /// Writes the flash as it was when the last cut fell.
+    ///
+    /// # Errors
+    ///
+    /// `Replay` where a cut can't occur, or for want of memory; `Open`; `Write`.
+    fn write_cut<F: Files>(&self, files: &F, alloc: Global, path: &str) -> Result<(), Refusal> {
+        let (firsts, seconds) = (
+            self.campaign.places(Round::First),
+            self.campaign.places(Round::Second),
+        );
+        let flash: JournalFlash = if seconds.cuts().is_empty() {
+            flash_at_cut(alloc, &self.start, &firsts)?
+        } else {
+            flash_at_cut(alloc, &self.second(alloc)?, &seconds)?
+        };
+        write_file(files, path, &flash)
+    }
+}
+
+/// Replays a campaign from a source, and prints the outcomes of both rounds. Where `--at-cut` names a file, the flash as it was when
+/// the last cut fell is written to it first, and then, where `--out` does, the flash that is left. The words are checked before a
+/// file is touched.
+///
+/// # Errors
+///
+/// Those of `read`; `Replay` where a cut can't occur, or for want of memory; `Open` and `Write` of the files and the output.
+pub fn replay<F: Files, O: Write>(
+    files: &F,
+    alloc: Global,
+    arguments: &ArgMatches<'_>,
+    out: &mut O,
+) -> Result<(), Refusal> {
+    let campaigned = read(files, alloc, arguments)?;
+    let (first, second, flash) = campaigned.replay(alloc)?;
+    if let Some(path) = arguments.get_str("at-cut") {
+        campaigned.write_cut(files, alloc, path)?;
+    }
+    if let Some(path) = arguments.get_str("out") {
+        write_file(files, path, &flash)?;
+    }
+    write!(out, "round 1\n{first}round 2\n{second}").map_err(|_| Refusal::Write)
+}
+
+/// Prints the operations of the boots of both rounds, each round under a line of its own, with its outcome.
+///
+/// # Errors
+///
+/// Those of `read`; `Replay` where a cut can't occur, which is found before anything is printed; `Trace` for want of memory, or where
+/// the output fails.
+pub fn trace<F: Files, O: Write>(
+    files: &F,
+    alloc: Global,
+    arguments: &ArgMatches<'_>,
+    out: &mut O,
+) -> Result<(), Refusal> {
+    let campaigned = read(files, alloc, arguments)?;
+    let _outcomes = campaigned.replay(alloc)?;
+    let second = campaigned.second(alloc)?;
+    let (firsts, seconds) = (
+        campaigned.campaign.places(Round::First),
+        campaigned.campaign.places(Round::Second),
+    );
+    write!(out, "round 1\n").map_err(|_| Refusal::Write)?;
+    write_trace::<JournalFlash, O>(alloc, &campaigned.start, &firsts, out)?;
+    write!(out, "round 2\n").map_err(|_| Refusal::Write)?;
+    write_trace::<JournalFlash, O>(alloc, &second, &seconds, out)?;
+    Ok(())
+}
+
+/// Prints what lies in each sector when the last cut of each round falls, each round under a line of its own, by what lay there at its
+/// start.
+///
+/// # Errors
+///
+/// Those of `trace`.
+pub fn sectors<F: Files, O: Write>(
+    files: &F,
+    alloc: Global,
+    arguments: &ArgMatches<'_>,
+    out: &mut O,
+) -> Result<(), Refusal> {
+    let campaigned = read(files, alloc, arguments)?;
+    let _outcomes = campaigned.replay(alloc)?;
+    let second = campaigned.second(alloc)?;
+    let (firsts, seconds) = (
+        campaigned.campaign.places(Round::First),
+        campaigned.campaign.places(Round::Second),
+    );
+    write!(out, "round 1\n").map_err(|_| Refusal::Write)?;
+    write_sectors::<JournalFlash, O>(alloc, &campaigned.start, &firsts, out)?;
+    write!(out, "round 2\n").map_err(|_| Refusal::Write)?;
+    write_sectors::<JournalFlash, O>(alloc, &second, &seconds, out)?;
+    Ok(())
+}
