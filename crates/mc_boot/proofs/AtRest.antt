@@ -40,7 +40,7 @@ use Rattle.mc_trailer.specs.declared.tables.Profile.TheVariants as profiles
 pub record AtRest (g : Geometry) (s : Content) : Type 0 where
   pub sized : IsSized g s
   pub primary : HasImage s.primary
-  pub few : image_size s.primary ≤ greatest_sectors g * g.sector
+  pub at_most : image_size s.primary ≤ greatest_sectors g * g.sector
   pub secondary : is_valid s.secondary ≡ true → HasImage s.secondary
   pub rest : is_at_rest (trailer_of g s Primary) ≡ true
 
@@ -54,7 +54,7 @@ pub record Idles (x : PowerOn) : Type 0 where
 pub record Wants (x : PowerOn) (kind : SwapType) : Type 0 where
   pub table : table_of x.rules.profile x.geometry x.content ≡ kind
   pub valid : is_valid x.content.secondary ≡ true
-  pub few : count_of x.geometry x.content ≤ greatest_sectors x.geometry
+  pub at_most : count_of x.geometry x.content ≤ greatest_sectors x.geometry
   pub planned : plan x ≡ starting x.rules.grain x.geometry kind (larger_size x.content) (count_of x.geometry x.content)
 
 abbrev pub RestsOrWants : PowerOn → Type 0
@@ -89,8 +89,8 @@ fails c g images kind is = rw is refl
 or_parts : (a b : Bool) → (not a || b) ≡ false → (a ≡ true) × (b ≡ false)
 or_parts a b is = grind (arith, is)
 
-at_most : (m n : ℕ) → nat_lt n m ≡ false → m ≤ n
-at_most m n is = grind (arith, nat_tests)
+is_at_most : (m n : ℕ) → nat_lt n m ≡ false → m ≤ n
+is_at_most m n is = grind (arith, nat_tests)
 
 asked_or_fails : (x : PowerOn) (kind : SwapType) → table_of x.rules.profile x.geometry x.content ≡ kind
     → plan x ≡ new_swap x.rules.grain x.geometry (images_of x.content) kind → Idles x ⊎ Wants x kind
@@ -101,12 +101,12 @@ asked_or_fails x kind table is = go (not (images_of x.content).valid || nat_lt (
     go false may =
         let parts = or_parts (images_of x.content).valid (nat_lt (greatest_sectors x.geometry) (div_ceil (images_of x.content).size x.geometry.sector)) may in
         let count : div_ceil (images_of x.content).size x.geometry.sector ≡ count_of x.geometry x.content = ap (λ n. div_ceil n x.geometry.sector) (images_larger x.content) in
-        let few = at_most (div_ceil (images_of x.content).size x.geometry.sector) (greatest_sectors x.geometry) parts.1 in
-        let less : count_of x.geometry x.content ≤ greatest_sectors x.geometry = omega (arith, few, count) in
+        let at_most = is_at_most (div_ceil (images_of x.content).size x.geometry.sector) (greatest_sectors x.geometry) parts.1 in
+        let less : count_of x.geometry x.content ≤ greatest_sectors x.geometry = omega (arith, at_most, count) in
         inr (record {
           table = table;
           valid = sym (images_valid x.content) ∙ parts.0;
-          few = less;
+          at_most = less;
           planned = is ∙ new_swap_is x.rules.grain x.geometry (images_of x.content) kind (larger_size x.content) (count_of x.geometry x.content) parts.0 (images_larger x.content) refl less;
         })
 
@@ -149,7 +149,7 @@ pub swap_sectors : (x : PowerOn) (kind : SwapType) → is_at_rest (trailer_of x.
 swap_sectors x kind rest is some made = go (rests_or_wants x rest)
   where
     by : (k : SwapType) → Wants x k → ((plan x).sectors ≡ count_of x.geometry x.content) × ((plan x).sectors ≤ greatest_sectors x.geometry)
-    by k wants = let same = ap (λ (p : Plan). p.sectors) wants.planned in let few = wants.few in (same, omega (arith, same, few))
+    by k wants = let same = ap (λ (p : Plan). p.sectors) wants.planned in let at_most = wants.at_most in (same, omega (arith, same, at_most))
 
     go : RestsOrWants x → ((plan x).sectors ≡ count_of x.geometry x.content) × ((plan x).sectors ≤ greatest_sectors x.geometry)
     go (inl idle) =
@@ -191,15 +191,15 @@ table_asks profile p q =
 -- ---- whether it can be done
 
 few_small : (g : Geometry) (x : ℕ) → IsLayout g → div_ceil x g.sector ≤ greatest_sectors g → x ≤ greatest_sectors g * g.sector
-few_small g x ok few =
+few_small g x ok at_most =
     let wide = ok.least_sector in
     let rows : x ≤ div_ceil x g.sector * g.sector = (div_ceil_times x g.sector (omega (arith, wide))).0 in
-    let most : div_ceil x g.sector * g.sector ≤ greatest_sectors g * g.sector = mul-le-mul_right g.sector few in
+    let most : div_ceil x g.sector * g.sector ≤ greatest_sectors g * g.sector = mul-le-mul_right g.sector at_most in
     omega (arith, rows, most)
 
 small_few : (g : Geometry) (x : ℕ) → IsLayout g → x ≤ greatest_sectors g * g.sector → div_ceil x g.sector ≤ greatest_sectors g
 small_few g x ok small = elim (cases_lt (greatest_sectors g) (div_ceil x g.sector)) [
-  | inr few ↦ few
+  | inr at_most ↦ at_most
   | inl more ↦ absurd (
       let wide = ok.least_sector in
       let rows = (div_ceil_times x g.sector (omega (arith, wide))).1 in
@@ -209,7 +209,7 @@ small_few g x ok small = elim (cases_lt (greatest_sectors g) (div_ceil x g.secto
 ]
 
 fits_of : (g : Geometry) (x : ℕ) → IsLayout g → div_ceil x g.sector ≤ greatest_sectors g → fits g x ≡ true
-fits_of g x ok few = ap (int_le (pos (div_ceil x g.sector))) (greatest_is g ok) ∙ less (div_ceil x g.sector) (greatest_sectors g) few
+fits_of g x ok at_most = ap (int_le (pos (div_ceil x g.sector))) (greatest_is g ok) ∙ less (div_ceil x g.sector) (greatest_sectors g) at_most
   where
     less : (a b : ℕ) → a ≤ b → int_le (pos a) (pos b) ≡ true
     less a b h = grind (arith, nat_tests)
@@ -227,13 +227,13 @@ both_true v f e h = rw e (rw h refl)
 module _ (g : Geometry) (ok : IsLayout g) (s : Content) (rest : AtRest g s) where
   counts : (f : Bool) → fits g (image_size s.secondary) ≡ f → nat_lt (greatest_sectors g) (div_ceil (larger_size s) g.sector) ≡ not f
   counts true fit =
-      let few = few_small g (image_size s.secondary) ok (fits_few g (image_size s.secondary) ok fit) in
-      let own = rest.few in
-      not_below (div_ceil (larger_size s) g.sector) (greatest_sectors g) (small_few g (larger_size s) ok (omega (arith, few, own)))
+      let at_most = few_small g (image_size s.secondary) ok (fits_few g (image_size s.secondary) ok fit) in
+      let own = rest.at_most in
+      not_below (div_ceil (larger_size s) g.sector) (greatest_sectors g) (small_few g (larger_size s) ok (omega (arith, at_most, own)))
   counts false none = elim (cases_lt (greatest_sectors g) (div_ceil (larger_size s) g.sector)) [
     | inl more ↦ below (div_ceil (larger_size s) g.sector) (greatest_sectors g) more
-    | inr few ↦ absurd (
-        let small = few_small g (larger_size s) ok few in
+    | inr at_most ↦ absurd (
+        let small = few_small g (larger_size s) ok at_most in
         let fit = fits_of g (image_size s.secondary) ok (small_few g (image_size s.secondary) ok (omega (arith, small))) in
         clash (sym none ∙ fit)
         )

@@ -6,17 +6,15 @@ use Rattle.std.proofs.lemmas.List.{drop-drop, length-drop, length-take}
 use Rattle.std.proofs.lemmas.List.FromFn.{length-map-range_with_len}
 use Rattle.std.specs.Bool.{beq}
 use Rattle.std.specs.List.{AllByRecursion, between, range_with_len}
-use Rattle.std.specs.Prelude.{Bool, IfSome, List, Option, Some, [], drop, false, flat_map, if◌then◌else◌, length, map, nat_le, not, option_map, refl, slice_get, suc, take, true, zero, ℕ, ◌&&◌}
-use Rattle.std.specs.Prelude.{◌*◌, ◌++◌, ◌+◌, ◌-◌, ◌/◌, ◌<◌, ◌==◌, ◌||◌, ◌∷◌, ◌≡◌, ◌≤◌}
+use Rattle.std.specs.Prelude.{Bool, IfSome, List, Option, Some, [], drop, false, flat_map, if◌then◌else◌, length, map, nat_le, not, option_map, refl, slice_get, suc, take, true, zero, ℕ, ◌&&◌, ◌*◌, ◌++◌, ◌+◌, ◌-◌, ◌/◌, ◌<◌, ◌==◌, ◌||◌, ◌∷◌, ◌≡◌, ◌≤◌}
 use Rattle.mc_boot.proofs.Courses.{drop_at_place, length-steps, length-transfers}
 use Rattle.mc_boot.proofs.Joins.{IsJoined, Joins, are_equal, are_same, chosen, is_less, is_most, joined, less}
 use Rattle.mc_boot.proofs.Meets.{AreThere, BeginsIn, IsListed, IsRestOf, Meets, Sector, WritesIn, erase_of, target_of}
 use Rattle.mc_boot.proofs.Transfers.{fits_at, there_is}
 use Rattle.mc_boot.specs.Boot.{IsBootOf, IsCold, Progress, all_saves, begun, course_list, list_from, progress, whole_list}
-use Rattle.mc_boot.specs.Joins.{IsCut, comes_to, erases_at, erases_of, is_same_grain, is_same_swap, joins_from, joins_of, opening_reach, starts_as, transfer_reach}
+use Rattle.mc_boot.specs.Joins.{IsCut, comes_to, erases_at, erases_of, is_same_grain, is_same_swap, kept_from, kept_of, harmless_opening_len, starts_as, harmless_transfer_len}
 use Rattle.mc_boot.specs.Outcome.{Report, applied, at, left_by, ops_of, outcome_of}
-use Rattle.mc_boot.specs.Plan.{Plan, PowerOn, again, closing, copy_of, entry_of, from_transfer, image_ok_write, is_revert, is_test, marking, new_list, number_of, opening_writes, piece, plan}
-use Rattle.mc_boot.specs.Plan.{powered, preparation_writes, resumed_list, steps, swap_list, trailer_erase, trailer_erases, transfers, write}
+use Rattle.mc_boot.specs.Plan.{Plan, PowerOn, again, closing, copy_of, entry_of, from_transfer, image_ok_write, is_revert, is_test, marking, new_list, number_of, opening_writes, piece, plan, powered, preparation_writes, resumed_list, steps, swap_list, trailer_erase, trailer_erases, transfers, write}
 use Rattle.mc_boot.specs.declared.boot.Boot.{Boot}
 use Rattle.mc_boot.specs.declared.course.Course.{Course}
 use Rattle.mc_boot.specs.declared.course.Opening.{Opening}
@@ -47,16 +45,16 @@ use Rattle.mc_trailer.specs.declared.tables.SwapType.TheVariants as kinds
 
 -- ---- lists
 
-pub all_front : {A : Type 0} (P : A → Type 0) (xs ys : List A) (k : ℕ) → k ≤ length xs → AllByRecursion P xs → AllByRecursion P (take k (xs ++ ys))
-all_front P xs ys zero few all = tt
-all_front P [] ys (suc k) few all = absurd (omega (arith, few))
-all_front P (x ∷ xs) ys (suc k) few all = (all.0, all_front P xs ys k (omega (arith, few)) all.1)
+pub all_prefix : {A : Type 0} (P : A → Type 0) (xs ys : List A) (k : ℕ) → k ≤ length xs → AllByRecursion P xs → AllByRecursion P (take k (xs ++ ys))
+all_prefix P xs ys zero at_most all = tt
+all_prefix P [] ys (suc k) at_most all = absurd (omega (arith, at_most))
+all_prefix P (x ∷ xs) ys (suc k) at_most all = (all.0, all_prefix P xs ys k (omega (arith, at_most)) all.1)
 
 all_less : {A : Type 0} (P : A → Type 0) (xs : List A) (k n : ℕ) → k ≤ n → AllByRecursion P (take n xs) → AllByRecursion P (take k xs)
-all_less P xs zero n few all = tt
-all_less P [] (suc k) n few all = tt
-all_less P (x ∷ xs) (suc k) zero few all = absurd (omega (arith, few))
-all_less P (x ∷ xs) (suc k) (suc n) few all = (all.0, all_less P xs k n (omega (arith, few)) all.1)
+all_less P xs zero n at_most all = tt
+all_less P [] (suc k) n at_most all = tt
+all_less P (x ∷ xs) (suc k) zero at_most all = absurd (omega (arith, at_most))
+all_less P (x ∷ xs) (suc k) (suc n) at_most all = (all.0, all_less P xs k n (omega (arith, at_most)) all.1)
 
 pub all_mapped : {A : Type 0} (P : A → Type 0) (f : ℕ → A) (a n : ℕ) → ((i : ℕ) → i < a + n → P (f i)) → AllByRecursion P (map f (range_with_len a n))
 all_mapped P f a zero each = tt
@@ -65,17 +63,17 @@ all_mapped P f a (suc n) each = (each a (omega arith), all_mapped P f (a + 1) n 
 -- Without its first k pieces, where all have one length.
 drop_pieces : {A B : Type 0} (f : A → List B) (w : ℕ) → ((x : A) → length (f x) ≡ w) → (xs : List A) (ys : List B) (k : ℕ) → k ≤ length xs
     → drop (k * w) (flat_map f xs ++ ys) ≡ flat_map f (drop k xs) ++ ys
-drop_pieces f w even xs ys zero few = ap (λ n. drop n (flat_map f xs ++ ys)) (zero-mul w)
-drop_pieces f w even [] ys (suc k) few = absurd (omega (arith, few))
-drop_pieces f w even (x ∷ xs) ys (suc k) few =
+drop_pieces f w even xs ys zero at_most = ap (λ n. drop n (flat_map f xs ++ ys)) (zero-mul w)
+drop_pieces f w even [] ys (suc k) at_most = absurd (omega (arith, at_most))
+drop_pieces f w even (x ∷ xs) ys (suc k) at_most =
     ap (drop (suc k * w)) (append_assoc (f x) (flat_map f xs) ys)
     ∙ ap (λ n. drop n (f x ++ (flat_map f xs ++ ys))) (omega (arith, even x))
     ∙ drop-append-add (f x) (flat_map f xs ++ ys) (k * w)
-    ∙ drop_pieces f w even xs ys k (omega (arith, few))
+    ∙ drop_pieces f w even xs ys k (omega (arith, at_most))
 
 -- What follows a prefix is a rest of the whole.
-behind_front : (front ops rest : List Op) → IsRestOf rest ops → IsRestOf rest (front ++ ops)
-behind_front front ops rest is = (length front + is.0, omega (arith, is.1, length-append front ops), is.2 ∙ sym (drop-append-add front ops is.0))
+beyond_prefix : (prefix ops rest : List Op) → IsRestOf rest ops → IsRestOf rest (prefix ++ ops)
+beyond_prefix prefix ops rest is = (length prefix + is.0, omega (arith, is.1, length-append prefix ops), is.2 ∙ sym (drop-append-add prefix ops is.0))
 
 pub whole_rest : (ops : List Op) → IsRestOf ops ops
 whole_rest ops = (0, omega arith, refl)
@@ -119,12 +117,12 @@ from_rest g n a b image_ok low high = (
 resumed_rest : (g : Geometry) (n start first : ℕ) (erases image_ok : Bool) → start ≤ first → first ≤ 3 * n → IsRestOf (from_transfer g n first image_ok) (resumed_list g n start erases image_ok)
 resumed_rest g n start first false image_ok low high = from_rest g n start first image_ok low high
 resumed_rest g n start first true image_ok low high =
-    behind_front (trailer_erases g Secondary) (from_transfer g n start image_ok) (from_transfer g n first image_ok) (from_rest g n start first image_ok low high)
+    beyond_prefix (trailer_erases g Secondary) (from_transfer g n start image_ok) (from_transfer g n first image_ok) (from_rest g n start first image_ok low high)
 
 swap_rest : (c : Grain) (g : Geometry) (kind : SwapType) (size n : ℕ) (rest : List Op) → IsRestOf rest (resumed_list g n 0 true false) → IsRestOf rest (swap_list c g kind size n)
 swap_rest c g kind size n rest is =
-    behind_front (trailer_erases g Primary) (opening_writes c g kind size ++ resumed_list g n 0 true false) rest
-    (behind_front (opening_writes c g kind size) (resumed_list g n 0 true false) rest is)
+    beyond_prefix (trailer_erases g Primary) (opening_writes c g kind size ++ resumed_list g n 0 true false) rest
+    (beyond_prefix (opening_writes c g kind size) (resumed_list g n 0 true false) rest is)
 
 pub new_rest : (c : Grain) (g : Geometry) (kind : SwapType) (size n : ℕ) (rest : List Op) → IsRestOf rest (resumed_list g n 0 true false) → IsRestOf rest (new_list c g kind size n)
 new_rest c g kind size n rest is = by (is_revert kind)
@@ -132,8 +130,8 @@ new_rest c g kind size n rest is = by (is_revert kind)
     by : (b : Bool) → IsRestOf rest (if b then trailer_erases g Secondary ++ (preparation_writes c g size ++ swap_list c g kind size n) else swap_list c g kind size n)
     by false = swap_rest c g kind size n rest is
     by true =
-        behind_front (trailer_erases g Secondary) (preparation_writes c g size ++ swap_list c g kind size n) rest
-        (behind_front (preparation_writes c g size) (swap_list c g kind size n) rest (swap_rest c g kind size n rest is))
+        beyond_prefix (trailer_erases g Secondary) (preparation_writes c g size ++ swap_list c g kind size n) rest
+        (beyond_prefix (preparation_writes c g size) (swap_list c g kind size n) rest (swap_rest c g kind size n rest is))
 
 rest_of_rest : (xs ys zs : List Op) → IsRestOf xs ys → IsRestOf ys zs → IsRestOf xs zs
 rest_of_rest xs ys zs one two = (
@@ -240,8 +238,8 @@ transfer_begins g n first image_ok t there here =
       erases = ap (take 1) whole.1;
       inside =
           let P : List Op → Type 0 = λ ops. AllByRecursion (WritesIn g (target t ∷ [])) (take (g.sector / g.chunk + 1) ops) in
-          let few = length-map-range_with_len (copy_of g t) 0 (g.sector / g.chunk) in
-          subst P (sym whole.1) (all_front (WritesIn g (target t ∷ [])) (target_steps g t) whole.0 (g.sector / g.chunk + 1) (omega (arith, few)) (writes_target g t));
+          let at_most = length-map-range_with_len (copy_of g t) 0 (g.sector / g.chunk) in
+          subst P (sym whole.1) (all_prefix (WritesIn g (target t ∷ [])) (target_steps g t) whole.0 (g.sector / g.chunk + 1) (omega (arith, at_most)) (writes_target g t));
     }
 
 -- The pieces of a layout play no part in where its operations write.
@@ -260,11 +258,11 @@ pub there_pieces : (c : Grain) (g : Geometry) (xs : List Sector) → AreThere (i
 there_pieces c g [] all = tt
 there_pieces c g (x ∷ xs) all = (omega (arith, all.0, sectors_pieces c g x.slot), there_pieces c g xs all.1)
 
-pub begins_pieces : (c : Grain) (g : Geometry) (ops : List Op) (es : List Sector) (reach : ℕ) → BeginsIn (in_pieces c g) ops es reach → BeginsIn g ops es reach
-begins_pieces c g ops es reach b = record {
+pub begins_pieces : (c : Grain) (g : Geometry) (ops : List Op) (es : List Sector) (harmless_len : ℕ) → BeginsIn (in_pieces c g) ops es harmless_len → BeginsIn g ops es harmless_len
+begins_pieces c g ops es harmless_len b = record {
   there = there_pieces c g es b.there;
   erases = b.erases;
-  inside = all_inside (take reach ops) b.inside;
+  inside = all_inside (take harmless_len ops) b.inside;
 }
   where
     all_inside : (xs : List Op) → AllByRecursion (WritesIn (in_pieces c g) es) xs → AllByRecursion (WritesIn g es) xs
@@ -287,19 +285,19 @@ met_joins x u c j erases ops rest m sized cut early list_s list_u = record {
   inside =
       let P : List Op → Type 0 = λ xs. AllByRecursion (WritesIn x.geometry m.sectors) (take (c - j) xs) in
       let high = m.reached in
-      subst P (sym list_u) (all_less (WritesIn x.geometry m.sectors) rest (c - j) m.reach (omega (arith, high)) m.begins.inside);
+      subst P (sym list_u) (all_less (WritesIn x.geometry m.sectors) rest (c - j) m.harmless_len (omega (arith, high)) m.begins.inside);
 }
 
 -- ---- erases before others
 
-listed_behind : (es fs : List Sector) (slot : Slot) (index : ℕ) → IsListed fs slot index → IsListed (es ++ fs) slot index
-listed_behind [] fs slot index listed = listed
-listed_behind (e ∷ es) fs slot index listed = inr (listed_behind es fs slot index listed)
+listed_beyond : (es fs : List Sector) (slot : Slot) (index : ℕ) → IsListed fs slot index → IsListed (es ++ fs) slot index
+listed_beyond [] fs slot index listed = listed
+listed_beyond (e ∷ es) fs slot index listed = inr (listed_beyond es fs slot index listed)
 
-listed_front : (es fs : List Sector) (slot : Slot) (index : ℕ) → IsListed es slot index → IsListed (es ++ fs) slot index
-listed_front [] fs slot index listed = absurd listed
-listed_front (e ∷ es) fs slot index (inl here) = inl here
-listed_front (e ∷ es) fs slot index (inr listed) = inr (listed_front es fs slot index listed)
+listed_prefix : (es fs : List Sector) (slot : Slot) (index : ℕ) → IsListed es slot index → IsListed (es ++ fs) slot index
+listed_prefix [] fs slot index listed = absurd listed
+listed_prefix (e ∷ es) fs slot index (inl here) = inl here
+listed_prefix (e ∷ es) fs slot index (inr listed) = inr (listed_prefix es fs slot index listed)
 
 there_both : (g : Geometry) (es fs : List Sector) → AreThere g es → AreThere g fs → AreThere g (es ++ fs)
 there_both g [] fs one two = two
@@ -308,32 +306,33 @@ there_both g (e ∷ es) fs one two = (one.0, there_both g es fs one.1 two)
 writes_more : (g : Geometry) (es fs : List Sector) (ops : List Op) → AllByRecursion (WritesIn g fs) ops → AllByRecursion (WritesIn g (es ++ fs)) ops
 writes_more g es fs [] all = tt
 writes_more g es fs (op ∷ ops) all = (
-  record { index = all.0.index; listed = listed_behind es fs (target_of op) all.0.index all.0.listed; from = all.0.from; to = all.0.to },
+  record { index = all.0.index; listed = listed_beyond es fs (target_of op) all.0.index all.0.listed; from = all.0.from; to = all.0.to },
   writes_more g es fs ops all.1,
 )
 
-pub writes_erases : (g : Geometry) (es xs : List Sector) (rest : List Op) (reach : ℕ) → ((slot : Slot) (index : ℕ) → IsListed xs slot index → IsListed es slot index)
-    → AllByRecursion (WritesIn g es) (take reach rest) → AllByRecursion (WritesIn g es) (take (length xs + reach) (map erase_of xs ++ rest))
-writes_erases g es [] rest reach listed all = let P : ℕ → Type 0 = λ n. AllByRecursion (WritesIn g es) (take n rest) in subst P (omega arith) all
-writes_erases g es (x ∷ xs) rest reach listed all =
+pub writes_erases : (g : Geometry) (es xs : List Sector) (rest : List Op) (harmless_len : ℕ) → ((slot : Slot) (index : ℕ) → IsListed xs slot index → IsListed es slot index)
+    → AllByRecursion (WritesIn g es) (take harmless_len rest) → AllByRecursion (WritesIn g es) (take (length xs + harmless_len) (map erase_of xs ++ rest))
+writes_erases g es [] rest harmless_len listed all = let P : ℕ → Type 0 = λ n. AllByRecursion (WritesIn g es) (take n rest) in subst P (omega arith) all
+writes_erases g es (x ∷ xs) rest harmless_len listed all =
     let P : ℕ → Type 0 = λ n. AllByRecursion (WritesIn g es) (take n (erase_of x ∷ (map erase_of xs ++ rest))) in
     subst P (next (length xs)) (
       record { index = x.index; listed = listed x.slot x.index (inl (refl, refl)); from = omega arith; to = omega arith },
-      writes_erases g es xs rest reach (λ slot index is. listed slot index (inr is)) all,
+      writes_erases g es xs rest harmless_len (λ slot index is. listed slot index (inr is)) all,
     )
   where
-    next : (n : ℕ) → suc (n + reach) ≡ suc n + reach
+    next : (n : ℕ) → suc (n + harmless_len) ≡ suc n + harmless_len
     next n = omega arith
 
 first_erases : (es fs : List Sector) (rest : List Op) → take (length fs) rest ≡ map erase_of fs → take (length (es ++ fs)) (map erase_of es ++ rest) ≡ map erase_of (es ++ fs)
 first_erases [] fs rest is = is
 first_erases (e ∷ es) fs rest is = ap (λ (ops : List Op). erase_of e ∷ ops) (first_erases es fs rest is)
 
-erases_begin : (g : Geometry) (es fs : List Sector) (rest : List Op) (reach : ℕ) → AreThere g es → BeginsIn g rest fs reach → BeginsIn g (map erase_of es ++ rest) (es ++ fs) (length es + reach)
-erases_begin g es fs rest reach there begins = record {
+erases_begin : (g : Geometry) (es fs : List Sector) (rest : List Op) (harmless_len : ℕ) → AreThere g es → BeginsIn g rest fs harmless_len
+    → BeginsIn g (map erase_of es ++ rest) (es ++ fs) (length es + harmless_len)
+erases_begin g es fs rest harmless_len there begins = record {
   there = there_both g es fs there begins.there;
   erases = first_erases es fs rest begins.erases;
-  inside = writes_erases g (es ++ fs) es rest reach (λ slot index is. listed_front es fs slot index is) (writes_more g es fs (take reach rest) begins.inside);
+  inside = writes_erases g (es ++ fs) es rest harmless_len (λ slot index is. listed_prefix es fs slot index is) (writes_more g es fs (take harmless_len rest) begins.inside);
 }
 
 -- The sectors of a slot's trailer, from the last downward.
@@ -357,28 +356,28 @@ trailer_erased g slot = each (range_with_len 0 (trailer_sectors g))
     each [] = refl
     each (i ∷ is) = ap (λ (ops : List Op). trailer_erase g slot i ∷ ops) (each is)
 
-trailer_begins : (g : Geometry) (slot : Slot) (fs : List Sector) (rest : List Op) (reach : ℕ) → IsLayout g → BeginsIn g rest fs reach
-    → BeginsIn g (trailer_erases g slot ++ rest) (trailer_of_slot g slot ++ fs) (trailer_sectors g + reach)
-trailer_begins g slot fs rest reach ok begins =
-    let P : List Op → Type 0 = λ ops. BeginsIn g (ops ++ rest) (trailer_of_slot g slot ++ fs) (trailer_sectors g + reach) in
-    let Q : ℕ → Type 0 = λ n. BeginsIn g (map erase_of (trailer_of_slot g slot) ++ rest) (trailer_of_slot g slot ++ fs) (n + reach) in
+trailer_begins : (g : Geometry) (slot : Slot) (fs : List Sector) (rest : List Op) (harmless_len : ℕ) → IsLayout g → BeginsIn g rest fs harmless_len
+    → BeginsIn g (trailer_erases g slot ++ rest) (trailer_of_slot g slot ++ fs) (trailer_sectors g + harmless_len)
+trailer_begins g slot fs rest harmless_len ok begins =
+    let P : List Op → Type 0 = λ ops. BeginsIn g (ops ++ rest) (trailer_of_slot g slot ++ fs) (trailer_sectors g + harmless_len) in
+    let Q : ℕ → Type 0 = λ n. BeginsIn g (map erase_of (trailer_of_slot g slot) ++ rest) (trailer_of_slot g slot ++ fs) (n + harmless_len) in
     subst P (trailer_erased g slot) (subst Q (length-map-range_with_len (trailer_sector g slot) 0 (trailer_sectors g))
-    (erases_begin g (trailer_of_slot g slot) fs rest reach (trailer_there g slot ok) begins))
+    (erases_begin g (trailer_of_slot g slot) fs rest harmless_len (trailer_there g slot ok) begins))
 
 -- A course from a transfer on begins with the erase of its target and copies into it, after the erases of the secondary's
 -- trailer where no entry was written. After the last transfer it begins with no erase.
 begins_so : (l : Geometry) (n first : ℕ) (erases image_ok last : Bool) → IsLayout l → n ≤ greatest_sectors l → first ≤ 3 * n → (first == 3 * n) ≡ last
     → (es : List Sector) × (length es ≡ (if last then 0 else (if erases then trailer_sectors l else 0) + 1))
     × BeginsIn l (resumed_list l n first erases image_ok) es (if last then 0 else (if erases then trailer_sectors l else 0) + (l.sector / l.chunk + 1))
-begins_so l n first erases image_ok true ok few high is = ([], refl, record { there = tt; erases = refl; inside = tt })
-begins_so l n first false image_ok false ok few high is =
+begins_so l n first erases image_ok true ok at_most high is = ([], refl, record { there = tt; erases = refl; inside = tt })
+begins_so l n first false image_ok false ok at_most high is =
     let there = there_is l n first (is_less first (3 * n) high is) in
-    let fits = fits_at l n first there.0 ok few there.1 in
+    let fits = fits_at l n first there.0 ok at_most there.1 in
     let P : ℕ → Type 0 = λ k. BeginsIn l (from_transfer l n first image_ok) (target there.0 ∷ []) k in
     (target there.0 ∷ [], omega arith, subst P (omega arith) (transfer_begins l n first image_ok there.0 fits.inside.to there.1))
-begins_so l n first true image_ok false ok few high is =
+begins_so l n first true image_ok false ok at_most high is =
     let there = there_is l n first (is_less first (3 * n) high is) in
-    let fits = fits_at l n first there.0 ok few there.1 in (
+    let fits = fits_at l n first there.0 ok at_most there.1 in (
       trailer_of_slot l Secondary ++ target there.0 ∷ [],
       omega (arith, length-append (trailer_of_slot l Secondary) (target there.0 ∷ []), length-trailer l Secondary),
       trailer_begins l Secondary (target there.0 ∷ []) (from_transfer l n first image_ok) (l.sector / l.chunk + 1) ok (transfer_begins l n first image_ok there.0 fits.inside.to there.1),
@@ -387,10 +386,10 @@ begins_so l n first true image_ok false ok few high is =
 -- A course goes on with another of the same grain and sectors.
 pub course_meets : (g : Geometry) (a b : Course) (first : ℕ) (erases image_ok : Bool) (done less : ℕ) → a.layout ≡ in_pieces a.grain g → b.layout ≡ in_pieces b.grain g → IsLayout b.layout
     → a.grain ≡ b.grain → a.sectors ≡ b.sectors → b.opening ≡ Resumed first erases image_ok → first ≤ 3 * b.sectors → comes_to b.sectors a.opening first erases image_ok ≡ true
-    → less ≡ length (course_list a) - length (course_list b) → less ≤ done → done ≤ less + transfer_reach b.layout b.sectors first erases
+    → less ≡ length (course_list a) - length (course_list b) → less ≤ done → done ≤ less + harmless_transfer_len b.layout b.sectors first erases
     → Meets g (course_list a) (course_list b) done less (erases_at b.layout b.sectors (Resumed first erases image_ok))
 course_meets g a b first erases image_ok done less layout_a layout_b ok grain sectors opening high comes count low far =
-    let reach : ℕ = transfer_reach b.layout b.sectors first erases in
+    let harmless_len : ℕ = harmless_transfer_len b.layout b.sectors first erases in
     let same : course_list b ≡ resumed_list b.layout b.sectors first erases image_ok = ap (list_from b.grain b.layout b.sectors) opening in
     let layouts : a.layout ≡ b.layout = layout_a ∙ ap (λ (c : Grain). in_pieces c g) grain ∙ sym layout_b in
     let lists : course_list a ≡ list_from a.grain b.layout b.sectors a.opening =
@@ -399,15 +398,15 @@ course_meets g a b first erases image_ok done less layout_a layout_b ok grain se
     let begins = begins_so b.layout b.sectors first erases image_ok (first == 3 * b.sectors) ok b.fits high refl in
     let P : List Op → Type 0 = λ ops. IsRestOf (resumed_list b.layout b.sectors first erases image_ok) ops in
     let Q : List Op → Type 0 = λ ops. IsRestOf ops (course_list a) in
-    let R : List Op → Type 0 = λ ops. BeginsIn b.layout ops begins.0 reach in
-    let S : Geometry → Type 0 = λ x. BeginsIn x (course_list b) begins.0 reach in
+    let R : List Op → Type 0 = λ ops. BeginsIn b.layout ops begins.0 harmless_len in
+    let S : Geometry → Type 0 = λ x. BeginsIn x (course_list b) begins.0 harmless_len in
     record {
       count = count;
       is_rest = subst Q (sym same) (subst P (sym lists) rest);
       sectors = begins.0;
       so_many = begins.1;
-      reach = reach;
-      begins = begins_pieces b.grain g (course_list b) begins.0 reach (subst S layout_b (subst R (sym same) begins.2));
+      harmless_len = harmless_len;
+      begins = begins_pieces b.grain g (course_list b) begins.0 harmless_len (subst S layout_b (subst R (sym same) begins.2));
       passed = low;
       reached = far;
     }
@@ -457,8 +456,8 @@ writes_pieces_of grains.Unit g slot f new ok short =
     all_mapped (WritesIn g (trailer_of_slot g slot)) (piece g slot (place g slot f) new) 0 (length new / g.unit) (λ j h.
     let row : (j + 1) * g.unit ≤ length new / g.unit * g.unit = mul-le-mul_right g.unit (omega (arith, h)) in
     let parts = mod-add-div' (length new) g.unit in
-    let few : length (between (j * g.unit) (j * g.unit + g.unit) new) ≤ g.unit = omega (arith, length-take (j * g.unit + g.unit - j * g.unit) (drop (j * g.unit) new)) in
-    writes_part g slot f (j * g.unit) (between (j * g.unit) (j * g.unit + g.unit) new) ok (omega (arith, row, parts, few, short)))
+    let at_most : length (between (j * g.unit) (j * g.unit + g.unit) new) ≤ g.unit = omega (arith, length-take (j * g.unit + g.unit - j * g.unit) (drop (j * g.unit) new)) in
+    writes_part g slot f (j * g.unit) (between (j * g.unit) (j * g.unit + g.unit) new) ok (omega (arith, row, parts, at_most, short)))
 
 pub all_both : {A : Type 0} (P : A → Type 0) (xs ys : List A) → AllByRecursion P xs → AllByRecursion P ys → AllByRecursion P (xs ++ ys)
 all_both P [] ys one two = two
@@ -497,11 +496,11 @@ trailer_opens g slot writes rest ok all =
       there = trailer_there g slot ok;
       erases = first_only es (writes ++ rest);
       inside = subst Q (length-map-range_with_len (trailer_sector g slot) 0 (trailer_sectors g))
-          (writes_erases g es es (writes ++ rest) (length writes) (λ o index is. is) (all_front (WritesIn g es) writes rest (length writes) (omega arith) all));
+          (writes_erases g es es (writes ++ rest) (length writes) (λ o index is. is) (all_prefix (WritesIn g es) writes rest (length writes) (omega arith) all));
     })
 
 new_begins : (c : Grain) (g : Geometry) (kind : SwapType) (size n : ℕ) → IsLayout g
-    → (es : List Sector) × (length es ≡ trailer_sectors g) × BeginsIn g (new_list c g kind size n) es (opening_reach c g kind size)
+    → (es : List Sector) × (length es ≡ trailer_sectors g) × BeginsIn g (new_list c g kind size n) es (harmless_opening_len c g kind size)
 new_begins c g kind size n ok = by (is_revert kind)
   where
     by : (b : Bool) → (es : List Sector) × (length es ≡ trailer_sectors g) × BeginsIn g
@@ -512,7 +511,7 @@ new_begins c g kind size n ok = by (is_revert kind)
 
 -- A swap that begins anew goes on with the same swap, where that was cut in the opening.
 pub anew_meets : (g : Geometry) (a b : Course) (kind : SwapType) (size done : ℕ) → a.layout ≡ in_pieces a.grain g → b.layout ≡ in_pieces b.grain g → a.grain ≡ b.grain → a.sectors ≡ b.sectors
-    → a.opening ≡ New kind size → b.opening ≡ New kind size → IsLayout b.layout → done ≤ opening_reach b.grain b.layout kind size
+    → a.opening ≡ New kind size → b.opening ≡ New kind size → IsLayout b.layout → done ≤ harmless_opening_len b.grain b.layout kind size
     → Meets g (course_list a) (course_list b) done 0 (trailer_sectors b.layout)
 anew_meets g a b kind size done layout_a layout_b grain sectors opening_a opening_b ok far =
     let layouts : a.layout ≡ b.layout = layout_a ∙ ap (λ (c : Grain). in_pieces c g) grain ∙ sym layout_b in
@@ -523,16 +522,16 @@ anew_meets g a b kind size done layout_a layout_b grain sectors opening_a openin
     ∙ ap (λ (l : Geometry). list_from b.grain l a.sectors a.opening) (sym layouts)
     ∙ ap (λ (c : Grain). list_from c a.layout a.sectors a.opening) (sym grain) in
     let begins = new_begins b.grain b.layout kind size b.sectors ok in
-    let P : List Op → Type 0 = λ ops. BeginsIn b.layout ops begins.0 (opening_reach b.grain b.layout kind size) in
-    let Q : Geometry → Type 0 = λ x. BeginsIn x (course_list b) begins.0 (opening_reach b.grain b.layout kind size) in
+    let P : List Op → Type 0 = λ ops. BeginsIn b.layout ops begins.0 (harmless_opening_len b.grain b.layout kind size) in
+    let Q : Geometry → Type 0 = λ x. BeginsIn x (course_list b) begins.0 (harmless_opening_len b.grain b.layout kind size) in
     let R : List Op → Type 0 = λ ops. IsRestOf (course_list b) ops in
     record {
       count = omega (arith, ap (λ (ops : List Op). length ops) same);
       is_rest = subst R same (whole_rest (course_list b));
       sectors = begins.0;
       so_many = begins.1;
-      reach = opening_reach b.grain b.layout kind size;
-      begins = begins_pieces b.grain g (course_list b) begins.0 (opening_reach b.grain b.layout kind size) (subst Q layout_b (subst P (sym list_b) begins.2));
+      harmless_len = harmless_opening_len b.grain b.layout kind size;
+      begins = begins_pieces b.grain g (course_list b) begins.0 (harmless_opening_len b.grain b.layout kind size) (subst Q layout_b (subst P (sym list_b) begins.2));
       passed = omega arith;
       reached = omega (arith, far);
     }
@@ -558,7 +557,7 @@ kind_back kinds.Revert = refl
 kind_back kinds.Fail = refl
 kind_back kinds.Panic = refl
 
--- A type is told by its number.
+-- A type is known by its number.
 same_kind : (k l : SwapType) → (number_of k == number_of l) ≡ true → k ≡ l
 same_kind k l is = sym (kind_back k) ∙ ap kind_at (are_equal (number_of k) (number_of l) is) ∙ kind_back l
 
@@ -569,32 +568,32 @@ same_start (New before whole) kind size is =
     ap (λ (k : SwapType). New k whole) (same_kind before kind parts.0) ∙ ap (λ n. New kind n) (are_equal whole size parts.1)
 
 from_opening : (g : Geometry) (a b : Course) (done j : ℕ) (opening : Opening) → b.opening ≡ opening → IsLayout b.layout → a.layout ≡ in_pieces a.grain g → b.layout ≡ in_pieces b.grain g
-    → joins_from a done b opening ≡ Some j → Meets g (course_list a) (course_list b) done j (erases_at b.layout b.sectors opening)
+    → kept_from a done b opening ≡ Some j → Meets g (course_list a) (course_list b) done j (erases_at b.layout b.sectors opening)
 from_opening g a b done j (New kind size) at_b ok layout_a layout_b is =
-    let far : Bool = nat_le done (opening_reach b.grain b.layout kind size) in
+    let far : Bool = nat_le done (harmless_opening_len b.grain b.layout kind size) in
     let found = chosen (is_same_swap a b && starts_as a.opening kind size && far) 0 j is in
     let parts = and_parts (is_same_swap a b && starts_as a.opening kind size) far found.0 in
     let starts = and_parts (is_same_swap a b) (starts_as a.opening kind size) parts.0 in
     let swaps = and_parts (is_same_grain a.grain b.grain) (a.sectors == b.sectors) starts.0 in
     let P : ℕ → Type 0 = λ n. Meets g (course_list a) (course_list b) done n (trailer_sectors b.layout) in
     subst P found.1 (anew_meets g a b kind size done layout_a layout_b (same_grain a.grain b.grain swaps.0) (are_equal a.sectors b.sectors swaps.1)
-    (same_start a.opening kind size starts.1) at_b ok (is_most done (opening_reach b.grain b.layout kind size) parts.1))
+    (same_start a.opening kind size starts.1) at_b ok (is_most done (harmless_opening_len b.grain b.layout kind size) parts.1))
 from_opening g a b done j (Resumed first erases image_ok) at_b ok layout_a layout_b is =
     let less = length (course_list a) - length (course_list b) in
-    let reach : ℕ = transfer_reach b.layout b.sectors first erases in
+    let harmless_len : ℕ = harmless_transfer_len b.layout b.sectors first erases in
     let comes : Bool = comes_to b.sectors a.opening first erases image_ok in
     let inside : Bool = nat_le first (3 * b.sectors) in
-    let found = chosen (is_same_swap a b && inside && comes && nat_le less done && nat_le done (less + reach)) less j is in
-    let far = and_parts (is_same_swap a b && inside && comes && nat_le less done) (nat_le done (less + reach)) found.0 in
+    let found = chosen (is_same_swap a b && inside && comes && nat_le less done && nat_le done (less + harmless_len)) less j is in
+    let far = and_parts (is_same_swap a b && inside && comes && nat_le less done) (nat_le done (less + harmless_len)) found.0 in
     let low = and_parts (is_same_swap a b && inside && comes) (nat_le less done) far.0 in
     let goes = and_parts (is_same_swap a b && inside) comes low.0 in
     let high = and_parts (is_same_swap a b) inside goes.0 in
     let swaps = and_parts (is_same_grain a.grain b.grain) (a.sectors == b.sectors) high.0 in
     let P : ℕ → Type 0 = λ n. Meets g (course_list a) (course_list b) done n (erases_at b.layout b.sectors (Resumed first erases image_ok)) in
     subst P found.1 (course_meets g a b first erases image_ok done less layout_a layout_b ok (same_grain a.grain b.grain swaps.0) (are_equal a.sectors b.sectors swaps.1)
-    at_b (is_most first (3 * b.sectors) high.1) goes.1 refl (is_most less done low.1) (is_most done (less + reach) far.1))
+    at_b (is_most first (3 * b.sectors) high.1) goes.1 refl (is_most less done low.1) (is_most done (less + harmless_len) far.1))
 
-pub joins_meet : (g : Geometry) (a b : Course) (done j : ℕ) → IsLayout b.layout → a.layout ≡ in_pieces a.grain g → b.layout ≡ in_pieces b.grain g → joins_of a done b ≡ Some j
+pub joins_meet : (g : Geometry) (a b : Course) (done j : ℕ) → IsLayout b.layout → a.layout ≡ in_pieces a.grain g → b.layout ≡ in_pieces b.grain g → kept_of a done b ≡ Some j
     → Meets g (course_list a) (course_list b) done j (erases_of b)
 joins_meet g a b done j ok layout_a layout_b is = from_opening g a b done j b.opening refl ok layout_a layout_b is
 
@@ -616,7 +615,7 @@ is_cold r f b ok sized is of =
       boot = is;
       list = begun_list r (plan x) b is;
       layout = of;
-      few = subst (λ (p : Progress). length p.to_come ≤ most_operations r.grain f.geometry) (sym is) (plan_few x ok);
+      at_most = subst (λ (p : Progress). length p.to_come ≤ most_operations r.grain f.geometry) (sym is) (plan_few x ok);
       saves = subst (λ (p : Progress). all_saves f.geometry p.to_come ≤ most_saved f.geometry) (sym is) (plan_saves x ok);
       sized = sized;
     }
@@ -634,7 +633,7 @@ at_start from u cut whole is none =
 -- After a cut the next boot goes on as the one that was cut would have, where the test of their courses gives a number.
 module _ (from : PowerOn) (u : Content) (cut next : Boot) (a b : Course) (whole : Report) (j : ℕ) where
   module _ (is : IsCut from u cut whole) (at_a : cut.course ≡ Some a) (at_b : next.course ≡ Some b) where
-    module _ (of : IsBootOf from.geometry next) (start : progress next ≡ begun from.rules (plan (again from u))) (ok : IsLayout b.layout) (joins : joins_of a cut.done b ≡ Some j) where
+    module _ (of : IsBootOf from.geometry next) (start : progress next ≡ begun from.rules (plan (again from u))) (ok : IsLayout b.layout) (joins : kept_of a cut.done b ≡ Some j) where
       follows : IsJoined from u j
       follows =
           let meets = joins_meet from.geometry a b cut.done j ok (layout_is from.geometry cut.course a at_a is.layout) (layout_is from.geometry next.course b at_b of) joins in

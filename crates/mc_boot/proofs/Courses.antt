@@ -5,12 +5,10 @@ use Rattle.std.proofs.lemmas.List.{length-drop, length-replicate, length-take}
 use Rattle.std.proofs.lemmas.List.FromFn.{length-map-range_with_len, length-range_with_len}
 use Rattle.std.proofs.lemmas.Nat.{mod_below}
 use Rattle.std.specs.List.{range_with_len}
-use Rattle.std.specs.Prelude.{Bool, IfSome, List, None, Option, Some, [], drop, false, flat_map, length, map, max, refl, replicate, slice_get, suc, take, true, zero, ℕ, ◌%◌, ◌*◌, ◌++◌, ◌+◌, ◌-◌}
-use Rattle.std.specs.Prelude.{◌/◌, ◌<◌, ◌^◌, ◌∷◌, ◌≡◌, ◌≤◌, ◌⊎◌}
+use Rattle.std.specs.Prelude.{Bool, IfSome, List, None, Option, Some, [], drop, false, flat_map, length, map, max, refl, replicate, slice_get, suc, take, true, zero, ℕ, ◌%◌, ◌*◌, ◌++◌, ◌+◌, ◌-◌, ◌/◌, ◌<◌, ◌^◌, ◌∷◌, ◌≡◌, ◌≤◌, ◌⊎◌}
 use Rattle.byteorder.specs.Endian.{little_bytes}
 use Rattle.mc_boot.specs.Boot.{IsInside}
-use Rattle.mc_boot.specs.Plan.{brought_in, closing, copy_of, entry_of, from_transfer, marking, moved_up, opening_writes, piece, resumed_list, steps, swap_list, taken_out, trailer_erase}
-use Rattle.mc_boot.specs.Plan.{trailer_erases, transfers, write, write_count}
+use Rattle.mc_boot.specs.Plan.{brought_in, closing, copy_of, entry_of, from_transfer, marking, moved_up, opening_writes, piece, resumed_list, steps, swap_list, taken_out, trailer_erase, trailer_erases, transfers, write, write_count}
 use Rattle.mc_boot.specs.declared.transfer.Transfer.{Transfer}
 use Rattle.mc_flash.specs.Flash.{CanTry, IsRange, sectors_of, size_of}
 use Rattle.mc_flash.specs.Geometry.{Geometry, IsLayout, greatest_sectors, in_pieces, trailer_sectors}
@@ -26,17 +24,17 @@ use Rattle.mc_trailer.specs.declared.tables.SwapType.{SwapType}
 use Rattle.mc_trailer.specs.declared.places.Field.TheVariants as field
 use Rattle.mc_flash.specs.declared.flash.Grain.TheVariants as grains
 
--- Elements of lists by their place.
+-- Elements of lists by their number.
 
-pub get_front : {A : Type 0} (xs ys : List A) (k : ℕ) (x : A) → slice_get xs k ≡ Some x → slice_get (xs ++ ys) k ≡ Some x
-get_front [] ys k x h = cc
-get_front (y ∷ xs) ys zero x h = h
-get_front (y ∷ xs) ys (suc k) x h = get_front xs ys k x h
+pub get_prefix : {A : Type 0} (xs ys : List A) (k : ℕ) (x : A) → slice_get xs k ≡ Some x → slice_get (xs ++ ys) k ≡ Some x
+get_prefix [] ys k x h = cc
+get_prefix (y ∷ xs) ys zero x h = h
+get_prefix (y ∷ xs) ys (suc k) x h = get_prefix xs ys k x h
 
-pub get_behind : {A : Type 0} (xs ys : List A) (k j : ℕ) → k ≡ length xs + j → slice_get (xs ++ ys) k ≡ slice_get ys j
-get_behind [] ys k j e = ap (slice_get ys) (omega (arith, e))
-get_behind (x ∷ xs) ys zero j e = absurd (omega (arith, e))
-get_behind (x ∷ xs) ys (suc k) j e = get_behind xs ys k j (omega (arith, e))
+pub get_beyond : {A : Type 0} (xs ys : List A) (k j : ℕ) → k ≡ length xs + j → slice_get (xs ++ ys) k ≡ slice_get ys j
+get_beyond [] ys k j e = ap (slice_get ys) (omega (arith, e))
+get_beyond (x ∷ xs) ys zero j e = absurd (omega (arith, e))
+get_beyond (x ∷ xs) ys (suc k) j e = get_beyond xs ys k j (omega (arith, e))
 
 pub get_mapped : {A : Type 0} (f : ℕ → A) (a n k : ℕ) → k < n → slice_get (map f (range_with_len a n)) k ≡ Some (f (a + k))
 get_mapped f a zero k h = absurd (omega arith)
@@ -65,7 +63,7 @@ get_piece f w even (y ∷ xs) k zero j x h b e =
     let is : k ≡ j = omega (arith, e) in
     ap (slice_get (f y ++ flat_map f xs)) is ∙ get_within (f y) (flat_map f xs) j (omega (arith, even y)) ∙ ap (λ z. slice_get (f z) j) same
 get_piece f w even (y ∷ xs) k (suc i) j x h b e =
-    get_behind (f y) (flat_map f xs) k (i * w + j) (omega (arith, e, even y)) ∙ get_piece f w even xs (i * w + j) i j x h b refl
+    get_beyond (f y) (flat_map f xs) k (i * w + j) (omega (arith, e, even y)) ∙ get_piece f w even xs (i * w + j) i j x h b refl
 
 pub get_dropped : {A : Type 0} (i : ℕ) (xs : List A) (k : ℕ) → slice_get (drop i xs) k ≡ slice_get xs (i + k)
 get_dropped zero xs k = ap (slice_get xs) (omega arith)
@@ -153,7 +151,7 @@ unit_within n u k h =
     let parts = mod-add-div' n u in
     omega (arith, row, parts)
 
--- the place of unit k of bytes that are written at a place of a slot
+-- the offset of unit k of bytes that are written at an offset of a slot
 pub unit_range : (g : Geometry) (slot : Slot) (at before n k len : ℕ) → IsLayout g → at + before ≡ size_of g slot → n ≤ before → at % g.unit ≡ 0 → k * g.unit + g.unit ≤ n → len ≡ g.unit
     → IsRange g slot (at + k * g.unit) len
 unit_range g slot at before n k len ok ends fits start within is =
@@ -197,31 +195,31 @@ length-marking c g slot size =
 -- the size comes first
 pub get_size : (c : Grain) (g : Geometry) (slot : Slot) (size k : ℕ) (op : Op) → slice_get (write c g slot field.SwapSize (size_bytes g size)) k ≡ Some op
     → slice_get (marking c g slot size) k ≡ Some op
-get_size c g slot size k op at = get_front (write c g slot field.SwapSize (size_bytes g size)) (write c g slot field.Magic magic_bytes) k op at
+get_size c g slot size k op at = get_prefix (write c g slot field.SwapSize (size_bytes g size)) (write c g slot field.Magic magic_bytes) k op at
 
--- behind the size comes the magic
+-- after the size comes the magic
 pub get_magic : (c : Grain) (g : Geometry) (slot : Slot) (size k count : ℕ) → count ≡ write_count c g (max g.unit 4) → count ≤ k
     → slice_get (marking c g slot size) k ≡ slice_get (write c g slot field.Magic magic_bytes) (k - count)
-get_magic c g slot size k count is behind =
+get_magic c g slot size k count is beyond =
     let len : length (write c g slot field.SwapSize (size_bytes g size)) ≡ count = length-write c g slot field.SwapSize (size_bytes g size) ∙ ap (write_count c g) (length-size_bytes g size) ∙ sym is
     in
-    get_behind (write c g slot field.SwapSize (size_bytes g size)) (write c g slot field.Magic magic_bytes) k (k - count) (omega (arith, len, behind))
+    get_beyond (write c g slot field.SwapSize (size_bytes g size)) (write c g slot field.Magic magic_bytes) k (k - count) (omega (arith, len, beyond))
 
 -- what a course of a layout in pieces may try, its flash lets it try
 pub can_of : (c : Grain) (g l : Geometry) (o : Option Op) → l ≡ in_pieces c g → IfSome o (λ op. CanTry l op) → IfSome o (λ op. CanTry g op)
 can_of c g l None e h = h
 can_of c g l (Some op) e h = let E : Geometry → Type 0 = λ x. CanTry x op in pieces_can c g op (subst E e h)
 
--- The sections of a course by their place.
+-- The sections of a course by their number.
 
 pub get_erase : (g : Geometry) (slot : Slot) (rest : List Op) (k : ℕ) → k < trailer_sectors g → slice_get (trailer_erases g slot ++ rest) k ≡ Some (trailer_erase g slot k)
 get_erase g slot rest k h =
-    get_front (trailer_erases g slot) rest k (trailer_erase g slot k)
+    get_prefix (trailer_erases g slot) rest k (trailer_erase g slot k)
     (get_mapped (trailer_erase g slot) 0 (trailer_sectors g) k h ∙ ap (λ i. Some (trailer_erase g slot i)) (zero-add k))
 
 pub get_after_erases : (g : Geometry) (slot : Slot) (rest : List Op) (k : ℕ) → trailer_sectors g ≤ k → slice_get (trailer_erases g slot ++ rest) k ≡ slice_get rest (k - trailer_sectors g)
 get_after_erases g slot rest k h =
-    get_behind (trailer_erases g slot) rest k (k - trailer_sectors g) (omega (arith, length-map-range_with_len (trailer_erase g slot) 0 (trailer_sectors g)))
+    get_beyond (trailer_erases g slot) rest k (k - trailer_sectors g) (omega (arith, length-map-range_with_len (trailer_erase g slot) 0 (trailer_sectors g)))
 
 -- how many operations a transfer has
 pub length-steps : (g : Geometry) (t : Transfer) → length (steps g t) ≡ g.sector / g.chunk + 2
@@ -248,7 +246,7 @@ get_transfer g n first image_ok k t op at here =
     let w = g.sector / g.chunk + 2 in
     let below : k % w < w = mod_below k w (omega arith) in
     let parts : k ≡ k / w * w + k % w = omega (arith, mod-add-div' k w) in
-    get_front (flat_map (steps g) (drop first (transfers g n))) (closing g image_ok) k op
+    get_prefix (flat_map (steps g) (drop first (transfers g n))) (closing g image_ok) k op
     (get_piece (steps g) w (length-steps g) (drop first (transfers g n)) k (k / w) (k % w) t (get_dropped first (transfers g n) (k / w) ∙ at) below parts ∙ here)
 
 -- the finish
@@ -261,7 +259,7 @@ get_closing g n first image_ok k past =
     let before : (3 * n - first) * w ≤ k = omega (arith, most, parts) in
     let count : length (drop first (transfers g n)) ≡ 3 * n - first = length-drop first (transfers g n) ∙ ap (λ m. m - first) (length-transfers g n) in
     let len : length (flat_map (steps g) (drop first (transfers g n))) ≡ (3 * n - first) * w = length_pieces (steps g) w (length-steps g) (drop first (transfers g n)) ∙ ap (λ m. m * w) count in
-    (before, get_behind (flat_map (steps g) (drop first (transfers g n))) (closing g image_ok) k (k - (3 * n - first) * w) (omega (arith, len, before)))
+    (before, get_beyond (flat_map (steps g) (drop first (transfers g n))) (closing g image_ok) k (k - (3 * n - first) * w) (omega (arith, len, before)))
 
 pub length-from_transfer : (g : Geometry) (n first : ℕ) (image_ok : Bool) → length (from_transfer g n first image_ok) ≡ (3 * n - first) * (g.sector / g.chunk + 2) + length (closing g image_ok)
 length-from_transfer g n first image_ok =
@@ -278,9 +276,9 @@ length-erases g slot rest =
 pub few_transfers : (g : Geometry) (n first : ℕ) → IsLayout g → n ≤ greatest_sectors g → (3 * n - first) * (g.sector / g.chunk + 2) ≤ 201332736
 few_transfers g n first ok fits =
     let w = g.sector / g.chunk + 2 in
-    let few : n ≤ g.max_sectors = omega arith in
+    let at_most : n ≤ g.max_sectors = omega arith in
     let most = ok.few_sectors in
-    let rows : (3 * n - first) * w ≤ 3072 * w = mul-le-mul_right w (omega (arith, few, most)) in
+    let rows : (3 * n - first) * w ≤ 3072 * w = mul-le-mul_right w (omega (arith, at_most, most)) in
     let wide : g.sector / g.chunk ≤ 65536 = no_wider (g.sector / g.chunk) (chunks_cover g ok) in
     omega (arith, rows, wide)
   where
@@ -297,15 +295,15 @@ length-swap_list c g kind size n =
     length-erases g Primary (opening_writes c g kind size ++ resumed_list g n 0 true false)
     ∙ ap (λ m. trailer_sectors g + m) (length-append (opening_writes c g kind size) (resumed_list g n 0 true false))
 
--- The transfers by their place.
+-- The transfers by their number.
 
 pub get_moved : (g : Geometry) (n t : ℕ) → t < n → slice_get (transfers g n) t ≡ Some (moved_up n t)
 get_moved g n t h =
-    get_front (map (moved_up n) (range_with_len 0 n)) _ t (moved_up n t) (get_mapped (moved_up n) 0 n t h ∙ ap (λ i. Some (moved_up n i)) (zero-add t))
+    get_prefix (map (moved_up n) (range_with_len 0 n)) _ t (moved_up n t) (get_mapped (moved_up n) 0 n t h ∙ ap (λ i. Some (moved_up n i)) (zero-add t))
 
 get_pair : (g : Geometry) (n t i j : ℕ) → i < n → j < 2 → t ≡ n + (i * 2 + j) → slice_get (transfers g n) t ≡ slice_get (brought_in g i ∷ taken_out g i ∷ []) j
 get_pair g n t i j h b e =
-    get_behind (map (moved_up n) (range_with_len 0 n)) (flat_map (λ i. brought_in g i ∷ taken_out g i ∷ []) (range_with_len 0 n)) t (i * 2 + j)
+    get_beyond (map (moved_up n) (range_with_len 0 n)) (flat_map (λ i. brought_in g i ∷ taken_out g i ∷ []) (range_with_len 0 n)) t (i * 2 + j)
     (omega (arith, e, length-map-range_with_len (moved_up n) 0 n))
     ∙ get_piece (λ i. brought_in g i ∷ taken_out g i ∷ []) 2 (λ _. refl) (range_with_len 0 n) (i * 2 + j) i j i (get_counted n i h) b refl
 
@@ -318,14 +316,14 @@ get_taken g n t i h e = get_pair g n t i 1 h (omega arith) e
 pub get_copy : (g : Geometry) (t : Transfer) (k : ℕ) → 0 < k → k ≤ g.sector / g.chunk → slice_get (steps g t) k ≡ Some (copy_of g t (k - 1))
 get_copy g t zero some below = absurd (omega arith)
 get_copy g t (suc c) some below =
-    get_front (map (copy_of g t) (range_with_len 0 (g.sector / g.chunk))) (entry_of g t ∷ []) c (copy_of g t c)
+    get_prefix (map (copy_of g t) (range_with_len 0 (g.sector / g.chunk))) (entry_of g t ∷ []) c (copy_of g t c)
     (get_mapped (copy_of g t) 0 (g.sector / g.chunk) c (omega arith) ∙ ap (λ i. Some (copy_of g t i)) (zero-add c))
     ∙ ap (λ i. Some (copy_of g t i)) (omega arith)
 
 pub get_entry : (g : Geometry) (t : Transfer) (k : ℕ) → k ≡ g.sector / g.chunk + 1 → slice_get (steps g t) k ≡ Some (entry_of g t)
 get_entry g t zero e = absurd (omega arith)
 get_entry g t (suc c) e =
-    get_behind (map (copy_of g t) (range_with_len 0 (g.sector / g.chunk))) (entry_of g t ∷ []) c 0 (omega (arith, e, length-map-range_with_len (copy_of g t) 0 (g.sector / g.chunk)))
+    get_beyond (map (copy_of g t) (range_with_len 0 (g.sector / g.chunk))) (entry_of g t ∷ []) c 0 (omega (arith, e, length-map-range_with_len (copy_of g t) 0 (g.sector / g.chunk)))
 
 -- A trailer takes a sector at least.
 pub some_trailer : (g : Geometry) → IsLayout g → 0 < trailer_sectors g

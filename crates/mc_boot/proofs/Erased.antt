@@ -52,7 +52,7 @@ module _ (g : Geometry) where
         | inl low ↦ after.before at low ∙ was
         | inr high ↦ elim (cases_lt at (f.index * g.sector + g.sector)) [
           | inl low ↦ inner (at - f.index * g.sector) (omega (arith, high)) (omega (arith, low, high))
-          | inr behind ↦ after.behind at (omega (arith, wide, behind)) ∙ was
+          | inr beyond ↦ after.beyond at (omega (arith, wide, beyond)) ∙ was
         ]
       ]
         where
@@ -84,7 +84,7 @@ module _ (g : Geometry) where
         | inl low ↦ after.before i low
         | inr high ↦ elim (cases_lt i (e.index * g.sector + g.sector)) [
           | inl low ↦ inner i (i - e.index * g.sector) (omega (arith, high)) (omega (arith, low, high))
-          | inr behind ↦ after.behind i (omega (arith, wide, behind))
+          | inr beyond ↦ after.beyond i (omega (arith, wide, beyond))
         ]
       ]
 
@@ -124,20 +124,20 @@ module _ (g : Geometry) where
       ((blank_stays (e ∷ []) es (erase_in g s e) fit (becomes s e fits.0, tt)).0, blank_erased es (erase_in g s e) fit)
 
 -- The first of sectors that are erased.
-pub erased_front : (g : Geometry) (es : List Sector) (s : Content) (i : ℕ) → AreErased g es s → AreErased g (take i es) s
-erased_front g es s zero are = tt
-erased_front g [] s (suc i) are = tt
-erased_front g (e ∷ es) s (suc i) are = (are.0, erased_front g es s i are.1)
+pub erased_prefix : (g : Geometry) (es : List Sector) (s : Content) (i : ℕ) → AreErased g es s → AreErased g (take i es) s
+erased_prefix g es s zero are = tt
+erased_prefix g [] s (suc i) are = tt
+erased_prefix g (e ∷ es) s (suc i) are = (are.0, erased_prefix g es s i are.1)
 
-pub fit_front : (g : Geometry) (es : List Sector) (s : Content) (i : ℕ) → Fit g es s → Fit g (take i es) s
-fit_front g es s zero fits = tt
-fit_front g [] s (suc i) fits = tt
-fit_front g (e ∷ es) s (suc i) fits = (fits.0, fit_front g es s i fits.1)
+pub fit_prefix : (g : Geometry) (es : List Sector) (s : Content) (i : ℕ) → Fit g es s → Fit g (take i es) s
+fit_prefix g es s zero fits = tt
+fit_prefix g [] s (suc i) fits = tt
+fit_prefix g (e ∷ es) s (suc i) fits = (fits.0, fit_prefix g es s i fits.1)
 
-pub fit_behind : (g : Geometry) (es : List Sector) (s : Content) (i : ℕ) → Fit g es s → Fit g (drop i es) s
-fit_behind g es s zero fits = fits
-fit_behind g [] s (suc i) fits = tt
-fit_behind g (e ∷ es) s (suc i) fits = fit_behind g es s i fits.1
+pub fit_beyond : (g : Geometry) (es : List Sector) (s : Content) (i : ℕ) → Fit g es s → Fit g (drop i es) s
+fit_beyond g es s zero fits = fits
+fit_beyond g [] s (suc i) fits = tt
+fit_beyond g (e ∷ es) s (suc i) fits = fit_beyond g es s i fits.1
 
 pub fit_blanked : (g : Geometry) (es xs : List Sector) (s : Content) → Fit g es s → Fit g xs s → Fit g xs (blank g es s)
 fit_blanked g [] xs s fits fit = fit

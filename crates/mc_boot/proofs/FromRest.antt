@@ -5,23 +5,18 @@ use Rattle.std.proofs.lemmas.Bool.{cases_lt}
 use Rattle.std.proofs.lemmas.Grind.{div_ceil_times}
 use Rattle.std.proofs.lemmas.List.Edits.{get_or-between}
 use Rattle.std.specs.List.{range_with_len}
-use Rattle.std.specs.Prelude.{Bool, List, Option, Some, [], false, if◌then◌else◌, length, map, refl, replicate, slice_index, suc, true, zero, ℕ, ◌&&◌, ◌*◌, ◌++◌, ◌+◌, ◌-◌, ◌<◌, ◌∷◌, ◌≡◌, ◌≢◌}
-use Rattle.std.specs.Prelude.{◌≤◌, ◌⊎◌}
+use Rattle.std.specs.Prelude.{Bool, List, Option, Some, [], false, if◌then◌else◌, length, map, refl, replicate, slice_index, suc, true, zero, ℕ, ◌&&◌, ◌*◌, ◌++◌, ◌+◌, ◌-◌, ◌<◌, ◌∷◌, ◌≡◌, ◌≢◌, ◌≤◌, ◌⊎◌}
 use Rattle.mc_boot.proofs.AtRest.{AtRest, Idles, Wants, rests_or_wants}
-use Rattle.mc_boot.proofs.Courses.{slot_small}
+use Rattle.mc_boot.proofs.Courses.{slot_small, some_trailer}
 use Rattle.mc_boot.proofs.Images.{ImageLaws, SameImage, has_same, some_size}
-use Rattle.mc_boot.proofs.InPieces.{Steps, cycle, exchanged_pieces, keeps_more, pieces_again, plan_in_pieces, primary_pieces, primary_whole, secondary_pieces, secondary_whole, sized_whole}
-use Rattle.mc_boot.proofs.InPieces.{steps_by, swap_pieces}
+use Rattle.mc_boot.proofs.InPieces.{Steps, cycle, exchanged_pieces, keeps_more, pieces_again, plan_in_pieces, primary_pieces, primary_whole, secondary_pieces, secondary_whole, sized_whole, steps_by, swap_pieces}
 use Rattle.mc_boot.proofs.Keeps.{Erased, Keeps, erase_inside, erased_here}
 use Rattle.mc_boot.proofs.Meets.{same_bytes, same_content as equal_content, which_slot}
 use Rattle.mc_boot.proofs.Moving.{data_begin}
-use Rattle.mc_boot.proofs.Phases.{Ended, IsSwapOf, Phase, Quiet, Swap, Waiting, asked, asked_from, asks, larger_size, new_is, not_when_done, plan_tested, quiet_reverts, set_is, starting, swap_of}
-use Rattle.mc_boot.proofs.Phases.{tested, tested_from, unasked}
-use Rattle.mc_boot.proofs.Courses.{some_trailer}
+use Rattle.mc_boot.proofs.Phases.{Ended, IsSwapOf, Phase, MagicUnset, Swap, Waiting, asked, asked_from, asks, larger_size, new_is, not_when_done, plan_tested, magic_unset_reverts, set_is, starting, swap_of, tested, tested_from, unasked}
 use Rattle.mc_boot.proofs.Starts.{count_of}
-use Rattle.mc_boot.proofs.SwapEnds.{Crossed, Nothing, asked_boots, asked_swaps, crossed, exchanges, front_at_start, front_inside, image_there, running_swaps, sees_start, settled_end, settled_on}
-use Rattle.mc_boot.proofs.SwapEnds.{tested_end, tested_fields, tested_on}
-use Rattle.mc_boot.proofs.SwapsKeep.{data_erased, quiet_blank, revert_keeps}
+use Rattle.mc_boot.proofs.SwapEnds.{Crossed, Nothing, asked_boots, asked_swaps, crossed, exchanges, prefix_at_start, prefix_inside, image_there, running_swaps, sees_start, settled_end, settled_on, tested_end, tested_fields, tested_on}
+use Rattle.mc_boot.proofs.SwapsKeep.{data_erased, magic_unset_blank, revert_keeps}
 use Rattle.mc_boot.specs.Life.{DeviceState, EndsWell, Forgets, Leaves, LeavesBytes, booted, booted_by, device_state, is_at_rest, is_on_trial}
 use Rattle.mc_boot.specs.Outcome.{after}
 use Rattle.mc_boot.specs.Plan.{Plan, PowerOn, new_list, nothing, plan, power_on, trailer_erase}
@@ -134,7 +129,7 @@ again_same s t u slot at new one two o i = by (which_slot o slot)
       | inl low ↦ two.before i low
       | inr from ↦ elim (cases_lt i (at + length new)) [
         | inl below ↦ inside (i - at) (omega (arith, from, below)) (omega (arith, from))
-        | inr above ↦ two.behind i above
+        | inr above ↦ two.beyond i above
       ]
     ]
 
@@ -157,9 +152,9 @@ from_first g P Q f (suc m) rest s t some begin makes still keeps =
     (begin, (t, makes, subst E same keeps.1.2))
 
 -- a magic that is quiet is not good
-quiet_not_good : (c : Grain) (g : Geometry) (t : Content) → IsLayout g → IsSized g t → Quiet c g t → is_good (trailer_of g t Secondary).magic ≡ false
-quiet_not_good grains.Call g t ok sized quiet = ap is_good (reads_absent g t Secondary ok sized quiet)
-quiet_not_good grains.Unit g t ok sized quiet = reads_not_good g t Secondary quiet
+magic_unset_not_good : (c : Grain) (g : Geometry) (t : Content) → IsLayout g → IsSized g t → MagicUnset c g t → is_good (trailer_of g t Secondary).magic ≡ false
+magic_unset_not_good grains.Call g t ok sized magic_unset = ap is_good (reads_absent g t Secondary ok sized magic_unset)
+magic_unset_not_good grains.Unit g t ok sized magic_unset = reads_not_good g t Secondary magic_unset
 
 -- nothing is asked for, at a magic that is neither good nor one that the profile reverts at
 none_when_lost : (profile : Profile) (p q : Trailer) → is_good q.magic ≡ false → reverts_at profile q.magic ≡ false
@@ -207,7 +202,7 @@ module _ (r : Rules) (g : Geometry) (s : Content) (size n : ℕ) (whole : in_pie
       forgotten : (b : Bool) → forgets_reverts r.grain r.profile ≡ b → reverts_at r.profile (trailer_of g t Secondary).magic ≡ false → forgets_reverts r.grain r.profile ≡ true
       forgotten true rules kept = rules
       forgotten false rules kept =
-          let e : true ≡ false = sym (quiet_reverts r.grain r.profile g t rules w.ok is.data_.sized is.quiet) ∙ kept in absurd cc
+          let e : true ≡ false = sym (magic_unset_reverts r.grain r.profile g t rules w.ok is.data_.sized is.magic_unset) ∙ kept in absurd cc
 
       go : (b : Bool) → reverts_at r.profile (trailer_of g t Secondary).magic ≡ b → Steps (power_on r g t) Reverts (MadeOrLost t)
       go true reverts =
@@ -216,10 +211,10 @@ module _ (r : Rules) (g : Geometry) (s : Content) (size n : ℕ) (whole : in_pie
           (reads_good g t Primary w.ok is.data_.sized (is.primary field.Magic))
           (reads_image_ok g t Primary 255 [] (is.primary field.ImageOk))
           (reads_copy_done g t Primary 1 [] (is.primary field.CopyDone))
-          reverts (sees_start g s size n t w is.data_) w.count w.few)
+          reverts (sees_start g s size n t w is.data_) w.count w.at_most)
           (λ e. cc) (listed t (from_waiting t t is))
       go false kept =
-          let bad = quiet_not_good r.grain g t w.ok is.data_.sized is.quiet in
+          let bad = magic_unset_not_good r.grain g t w.ok is.data_.sized is.magic_unset in
           let set = reads_copy_done g t Primary 1 [] (is.primary field.CopyDone) in
           let table = (types_are_rows r.profile (trailer_of g t Primary) (trailer_of g t Secondary) kinds.None).1
           (none_when_lost r.profile (trailer_of g t Primary) (trailer_of g t Secondary) bad kept) in
@@ -233,7 +228,7 @@ module _ (r : Rules) (g : Geometry) (s : Content) (size n : ℕ) (whole : in_pie
     taken : (t : Content) → Erased g Secondary 0 s t → Waiting r.grain g s n t
     taken t ch = record {
       primary = fields_same g s t Primary tested w.ok (λ p h. ch.other Primary p (λ e. cc)) tested_is;
-      quiet = quiet_blank r.grain g t (blank_field g t Secondary field.Magic (λ i h. erased_here g Secondary 0 s t (place g Secondary field.Magic + i) ch (last.0 i) (last.1 i h)));
+      magic_unset = magic_unset_blank r.grain g t (blank_field g t Secondary field.Magic (λ i h. erased_here g Secondary 0 s t (place g Secondary field.Magic + i) ch (last.0 i) (last.1 i h)));
       data_ = data_erased g Secondary n s 0 0 s t (some_trailer g w.ok) ch (data_begin g n s w.sized);
     }
       where
@@ -274,13 +269,13 @@ module _ (r : Rules) (g : Geometry) (s : Content) (size n : ℕ) (whole : in_pie
         let swaps = asked_swaps Waits (power_on r g s) size n false whole w t is in
         record {
           keeps = keeps_more g Reverts Reverts (Ended g s size n false) (MadeOrLost t) (plan (power_on r g t)).list t (λ x k. k) (made t) swaps.keeps;
-          calm = λ panic. no_panic false swaps.planned.kind swaps.planned.of (sym swaps.planned.is ∙ panic);
+          not_panic = λ panic. no_panic false swaps.planned.kind swaps.planned.of (sym swaps.planned.is ∙ panic);
         }
     revert_steps t (inr (inr is)) =
         let swaps = running_swaps Waits (power_on r g s) size n false is.0 is.1 whole w is.2 is.3 t is.4 in
         record {
           keeps = keeps_more g Reverts Reverts (Ended g s size n false) (MadeOrLost t) (plan (power_on r g t)).list t (λ x k. k) (made t) swaps.keeps;
-          calm = λ panic. no_panic false swaps.planned.kind swaps.planned.of (sym swaps.planned.is ∙ panic);
+          not_panic = λ panic. no_panic false swaps.planned.kind swaps.planned.of (sym swaps.planned.is ∙ panic);
         }
 
 -- What power-on after power-on leaves of a device at rest, however often the boots are cut.
@@ -329,7 +324,7 @@ unset_of flags.Bad is = absurd cc
 module _ (laws : ImageLaws) (g : Geometry) (ok : IsLayout g) (s : Content) (rest : AtRest g s) where
   -- the swap of the images that a flash at rest holds
   pub swap_at : is_valid s.secondary ≡ true → count_of g s ≤ greatest_sectors g → Swap g s (larger_size s) (count_of g s)
-  swap_at valid few = record {
+  swap_at valid at_most = record {
     laws = laws;
     ok = ok;
     sized = rest.sized;
@@ -338,8 +333,8 @@ module _ (laws : ImageLaws) (g : Geometry) (ok : IsLayout g) (s : Content) (rest
     larger = refl;
     count = refl;
     some = at_least (count_of g s) rows;
-    few = few;
-    small = let small = slot_small g Primary ok in omega (arith, rows, front_inside g (count_of g s) Primary ok few, small);
+    at_most = at_most;
+    small = let small = slot_small g Primary ok in omega (arith, rows, prefix_inside g (count_of g s) Primary ok at_most, small);
   }
     where
       rows : larger_size s ≤ count_of g s * g.sector
@@ -353,20 +348,20 @@ module _ (laws : ImageLaws) (g : Geometry) (ok : IsLayout g) (s : Content) (rest
       at_least (suc n) h = omega arith
 
   -- an image of it is in front of the trailers
-  in_front : is_valid s.secondary ≡ true → count_of g s ≤ greatest_sectors g → larger_size s ≤ greatest_sectors g * g.sector
-  in_front valid few =
+  in_prefix : is_valid s.secondary ≡ true → count_of g s ≤ greatest_sectors g → larger_size s ≤ greatest_sectors g * g.sector
+  in_prefix valid at_most =
       let wide = ok.least_sector in
       let rows : larger_size s ≤ count_of g s * g.sector = (div_ceil_times (larger_size s) g.sector (omega (arith, wide))).0 in
-      let most : count_of g s * g.sector ≤ greatest_sectors g * g.sector = mul-le-mul_right g.sector few in
+      let most : count_of g s * g.sector ≤ greatest_sectors g * g.sector = mul-le-mul_right g.sector at_most in
       omega (arith, rows, most)
 
   -- what is left rests
   module _ (z : Content) where
     pub rests_crossed : is_valid s.secondary ≡ true → count_of g s ≤ greatest_sectors g → IsSized g z → Crossed s z → (trailer_of g z Primary).copy_done ≡ flags.Set → AtRest g z
-    rests_crossed valid few sized held set = record {
+    rests_crossed valid at_most sized held set = record {
       sized = sized;
       primary = has_same s.secondary z.primary (rest.secondary valid) held.primary;
-      few = let front = in_front valid few in let same = held.primary.size in omega (arith, front, same);
+      at_most = let prefix = in_prefix valid at_most in let same = held.primary.size in omega (arith, prefix, same);
       secondary = λ _. has_same s.primary z.secondary rest.primary held.secondary;
       rest = done_rests (trailer_of g z Primary) set;
     }
@@ -375,7 +370,7 @@ module _ (laws : ImageLaws) (g : Geometry) (ok : IsLayout g) (s : Content) (rest
     rests_same valid sized one two set = record {
       sized = sized;
       primary = has_same s.primary z.primary rest.primary one;
-      few = let few = rest.few in let same = one.size in omega (arith, few, same);
+      at_most = let at_most = rest.at_most in let same = one.size in omega (arith, at_most, same);
       secondary = λ _. has_same s.secondary z.secondary (rest.secondary valid) two;
       rest = done_rests (trailer_of g z Primary) set;
     }
@@ -404,8 +399,8 @@ module _ (laws : ImageLaws) (r : Rules) (g : Geometry) (ok : IsLayout g) (s : Co
       let end = cycle r g (λ t. t ≡ s) (λ t z. z ≡ s) steps (λ t z. valid z) cuts s u refl is in
       (end.0, end.1, idle_rests i u end.0 end.2)
     where
-      calm : i.kind ≢ kinds.Panic
-      calm panic = elim i.either [ inl e ↦ clash kinds.None (sym e ∙ panic) | inr e ↦ clash_fail (sym e ∙ panic) ]
+      not_panic : i.kind ≢ kinds.Panic
+      not_panic panic = elim i.either [ inl e ↦ clash kinds.None (sym e ∙ panic) | inr e ↦ clash_fail (sym e ∙ panic) ]
         where
           clash : (k : SwapType) → kinds.None ≡ kinds.Panic → ⊥
           clash k e = cc
@@ -414,7 +409,7 @@ module _ (laws : ImageLaws) (r : Rules) (g : Geometry) (ok : IsLayout g) (s : Co
           clash_fail e = cc
 
       steps : (t : Content) → t ≡ s → Steps (power_on r G t) (λ t. t ≡ s) (λ t. t ≡ s)
-      steps t same = rw same (steps_by (power_on r G s) (λ t. t ≡ s) (λ t. t ≡ s) (nothing i.kind) (plan_in_pieces r g s ∙ i.planned) calm refl)
+      steps t same = rw same (steps_by (power_on r G s) (λ t. t ≡ s) (λ t. t ≡ s) (nothing i.kind) (plan_in_pieces r g s ∙ i.planned) not_panic refl)
 
       valid : (z : Content) → z ≡ s → is_valid z.primary ≡ true
       valid z same = ap (λ (t : Content). is_valid t.primary) same ∙ rest.primary.same.valid
@@ -422,7 +417,7 @@ module _ (laws : ImageLaws) (r : Rules) (g : Geometry) (ok : IsLayout g) (s : Co
   -- a swap that is made
   module _ (kind : SwapType) (wants : Wants (power_on r g s) kind) where
     whole_swap : Swap g s (larger_size s) (count_of g s)
-    whole_swap = swap_at laws g ok s rest wants.valid wants.few
+    whole_swap = swap_at laws g ok s rest wants.valid wants.at_most
 
     in_parts : Swap G s (larger_size s) (count_of g s)
     in_parts = swap_pieces r.grain g s (larger_size s) (count_of g s) whole_swap
@@ -456,7 +451,7 @@ module _ (laws : ImageLaws) (r : Rules) (g : Geometry) (ok : IsLayout g) (s : Co
               (plan (power_on r g z)).kind k held.primary.id tried held.secondary.id next
               ∙ sym names ∙ sym booted_is;
         });
-        rest = rests_crossed laws g ok s rest z wants.valid wants.few sized held set;
+        rest = rests_crossed laws g ok s rest z wants.valid wants.at_most sized held set;
       }
 
   -- what holds before a swap that is asked for by the secondary
@@ -474,7 +469,7 @@ module _ (laws : ImageLaws) (r : Rules) (g : Geometry) (ok : IsLayout g) (s : Co
       steps : (t : Content) → Bears t → Steps (power_on r G t) Bears (Ended G s (larger_size s) (count_of g s) b)
       steps t at =
           let swaps = asked_boots r g s (larger_size s) (count_of g s) b (whole_swap kind wants) t at in
-          record { keeps = swaps.keeps; calm = λ panic. no_panic swaps.planned.kind swaps.planned.of (sym swaps.planned.is ∙ panic) }
+          record { keeps = swaps.keeps; not_panic = λ panic. no_panic swaps.planned.kind swaps.planned.of (sym swaps.planned.is ∙ panic) }
 
       valid : (z : Content) → Ended G s (larger_size s) (count_of g s) b z → is_valid z.primary ≡ true
       valid z e = (held kind wants b z e).primary.valid
@@ -548,11 +543,11 @@ module _ (laws : ImageLaws) (r : Rules) (g : Geometry) (ok : IsLayout g) (s : Co
 
     waits_primary : (u : Content) → Waiting r.grain G s (count_of g s) u → SameImage s.primary u.primary
     waits_primary u is =
-        image_there G s (larger_size s) (count_of g s) u Primary Primary pieces is.data_.sized (front_at_start G s (count_of g s) u Primary pieces.ok pieces.some pieces.few is.data_)
+        image_there G s (larger_size s) (count_of g s) u Primary Primary pieces is.data_.sized (prefix_at_start G s (count_of g s) u Primary pieces.ok pieces.some pieces.at_most is.data_)
 
     waits_secondary : (u : Content) → Waiting r.grain G s (count_of g s) u → SameImage s.secondary u.secondary
     waits_secondary u is =
-        image_there G s (larger_size s) (count_of g s) u Secondary Secondary pieces is.data_.sized (front_at_start G s (count_of g s) u Secondary pieces.ok pieces.some pieces.few is.data_)
+        image_there G s (larger_size s) (count_of g s) u Secondary Secondary pieces is.data_.sized (prefix_at_start G s (count_of g s) u Secondary pieces.ok pieces.some pieces.at_most is.data_)
 
     lost_rests : (u z : Content) → is_on_trial (trailer_of g s Primary) ≡ true → LostAt u z → RestsAgain r g s u z
     lost_rests u z tried l =

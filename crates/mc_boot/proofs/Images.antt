@@ -14,7 +14,7 @@ use Rattle.mc_flash.specs.Flash.{Content}
 use Rattle.mc_image.specs.Image.{Begins, Image, IsBytes, IsGood, covered_text, digest_of, header_text, image_in, image_text}
 use Rattle.mc_image.specs.Valid.{Identity, first_fault, id_of, identity, is_good, is_valid}
 use Rattle.mc_image.specs.declared.error.ImageError.{ImageError}
-use Rattle.mc_image.specs.facts.Valid.{front_within}
+use Rattle.mc_image.specs.facts.Valid.{prefix_within}
 use Rattle.sha2.specs.Sha256.{sha256}
 
 -- All that a swap uses of images: bytes that agree with a valid image as far as it goes begin with it too.
@@ -24,9 +24,9 @@ pub record ImageLaws : Type 0 where
   pub begins : (b : List ℕ) → IsBytes b → first_fault b ≡ None → Begins b (image_in b)
   pub same : (b c : List ℕ) (i : Identity) → IsBytes b → id_of b ≡ Some i → take i.size c ≡ take i.size b → id_of c ≡ Some i
 
--- two lists of one front
-pub same_fronts : (xs ys : List ℕ) (n : ℕ) → n ≤ length xs → n ≤ length ys → ((i : ℕ) → i < n → slice_index ys i ≡ slice_index xs i) → take n ys ≡ take n xs
-same_fronts xs ys n at_xs at_ys same =
+-- two lists of one prefix
+pub same_prefixes : (xs ys : List ℕ) (n : ℕ) → n ≤ length xs → n ≤ length ys → ((i : ℕ) → i < n → slice_index ys i ≡ slice_index xs i) → take n ys ≡ take n xs
+same_prefixes xs ys n at_xs at_ys same =
     same_number_lists (take n ys) (take n xs) (length-take-le n ys (omega (arith, at_ys)) ∙ sym (length-take-le n xs (omega (arith, at_xs))))
     (λ i below.
     let short : i < n = omega (arith, below, length-take-le n ys (omega (arith, at_ys))) in
@@ -68,27 +68,27 @@ pub some_size : (b : List ℕ) → is_valid b ≡ true → 0 < image_size b
 some_size b valid = omega (arith, size_valid b valid, some_text (image_in b))
 
 pub inside_size : (b : List ℕ) → ImageLaws → IsBytes b → is_valid b ≡ true → image_size b ≤ length b
-inside_size b laws bytes valid = omega (arith, size_valid b valid, front_within b (image_in b) (laws.begins b bytes (no_fault b valid)))
+inside_size b laws bytes valid = omega (arith, size_valid b valid, prefix_within b (image_in b) (laws.begins b bytes (no_fault b valid)))
 
 -- the same image
 pub record SameImage (xs ys : List ℕ) : Type 0 where
   pub valid : is_valid ys ≡ true
   pub size : image_size ys ≡ image_size xs
   pub id : id_of ys ≡ id_of xs
-  pub front : take (image_size xs) ys ≡ take (image_size xs) xs
+  pub prefix : take (image_size xs) ys ≡ take (image_size xs) xs
 
-pub image_front : (xs ys : List ℕ) → ImageLaws → IsBytes xs → is_valid xs ≡ true → take (image_size xs) ys ≡ take (image_size xs) xs → SameImage xs ys
-image_front xs ys laws bytes valid front =
+pub image_prefix : (xs ys : List ℕ) → ImageLaws → IsBytes xs → is_valid xs ≡ true → take (image_size xs) ys ≡ take (image_size xs) xs → SameImage xs ys
+image_prefix xs ys laws bytes valid prefix =
     let at_xs = id_valid xs valid in
     let size = size_valid xs valid in
-    let long : take (length (image_text (image_in xs))) ys ≡ take (length (image_text (image_in xs))) xs = ap (λ n. take n ys) size ∙ front ∙ ap (λ n. take n xs) (sym size) in
+    let long : take (length (image_text (image_in xs))) ys ≡ take (length (image_text (image_in xs))) xs = ap (λ n. take n ys) size ∙ prefix ∙ ap (λ n. take n xs) (sym size) in
     let at_ys = laws.same xs ys (identity (image_in xs)) bytes at_xs long in
     let parts = id_parts ys (identity (image_in xs)) at_ys in
     record {
       valid = parts.0;
       size = sym (size_valid ys parts.0) ∙ ap (λ (i : Identity). i.size) parts.1 ∙ size;
       id = at_ys ∙ sym at_xs;
-      front = front;
+      prefix = prefix;
     }
 
 -- and on to a third list
@@ -97,7 +97,7 @@ same_then xs ys zs one two = record {
   valid = two.valid;
   size = two.size ∙ one.size;
   id = two.id ∙ one.id;
-  front = ap (λ n. take n zs) (sym one.size) ∙ two.front ∙ ap (λ n. take n ys) one.size ∙ one.front;
+  prefix = ap (λ n. take n zs) (sym one.size) ∙ two.prefix ∙ ap (λ n. take n ys) one.size ∙ one.prefix;
 }
 
 -- bytes that begin with the valid image of a list of bytes
@@ -110,10 +110,10 @@ pub record HasImage (ys : List ℕ) : Type 0 where
 pub same_image : (ys zs : List ℕ) → ImageLaws → HasImage ys → image_size ys ≤ length ys → image_size ys ≤ length zs → ((i : ℕ) → i < image_size ys → slice_index zs i ≡ slice_index ys i)
     → SameImage ys zs
 same_image ys zs laws has at_ys at_zs same =
-    let front : take (image_size ys) zs ≡ take (image_size ys) ys = same_fronts ys zs (image_size ys) at_ys at_zs same in
+    let prefix : take (image_size ys) zs ≡ take (image_size ys) ys = same_prefixes ys zs (image_size ys) at_ys at_zs same in
     let one = has.same in
-    let two = image_front has.image zs laws has.bytes has.valid (ap (λ n. take n zs) (sym one.size) ∙ front ∙ ap (λ n. take n ys) one.size ∙ one.front) in
-    record { valid = two.valid; size = two.size ∙ sym one.size; id = two.id ∙ sym one.id; front = front }
+    let two = image_prefix has.image zs laws has.bytes has.valid (ap (λ n. take n zs) (sym one.size) ∙ prefix ∙ ap (λ n. take n ys) one.size ∙ one.prefix) in
+    record { valid = two.valid; size = two.size ∙ sym one.size; id = two.id ∙ sym one.id; prefix = prefix }
 
 pub has_same : (ys zs : List ℕ) → HasImage ys → SameImage ys zs → HasImage zs
 has_same ys zs has same = record { image = has.image; bytes = has.bytes; valid = has.valid; same = same_then has.image ys zs has.same same }
@@ -175,7 +175,7 @@ module _ (s : Content) (first second : List ℕ) (at_first : first ≡ s.primary
   images_read size held images size_is held_is id_is valid_is max_is =
       images_are s images.valid images.size (valid_is ∙ valid_held second held.id id_is ∙ ap is_valid at_second) (larger size held.size images.size size_is held_is max_is)
 
--- the size of an image that was told apart
+-- the size of an image that was distinguished
 pub known_size : (b : List ℕ) (id : ImageId) → id_of b ≡ Some (identity_of id) → id.size ≡ image_size b
 known_size b id is =
     let parts = id_parts b (identity_of id) is in

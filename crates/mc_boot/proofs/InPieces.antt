@@ -74,7 +74,7 @@ swap_pieces grains.Unit g start size n w = record {
   larger = w.larger;
   count = w.count;
   some = w.some;
-  few = w.few;
+  at_most = w.at_most;
   small = w.small;
 }
 
@@ -108,12 +108,12 @@ asked_pieces c g start n b sized are = record { secondary = secondary_pieces c g
 -- The boot from x keeps P, and ends in Q.
 pub record Steps (x : PowerOn) (P Q : Content → Type 0) : Type 0 where
   pub keeps : Keeps x.geometry P (plan x).list x.content Q
-  pub calm : (plan x).kind ≢ kinds.Panic
+  pub not_panic : (plan x).kind ≢ kinds.Panic
 
 pub steps_by : (x : PowerOn) (P Q : Content → Type 0) (p : Plan) → plan x ≡ p → p.kind ≢ kinds.Panic → Keeps x.geometry P p.list x.content Q → Steps x P Q
-steps_by x P Q p is calm keeps = record {
+steps_by x P Q p is not_panic keeps = record {
   keeps = let E : Plan → Type 0 = λ q. Keeps x.geometry P q.list x.content Q in subst E (sym is) keeps;
-  calm = λ panic. calm (ap (λ (q : Plan). q.kind) (sym is) ∙ panic);
+  not_panic = λ panic. not_panic (ap (λ (q : Plan). q.kind) (sym is) ∙ panic);
 }
 
 -- the same, said weaker
@@ -127,13 +127,13 @@ pub cycle : (r : Rules) (g : Geometry) (P : Content → Type 0) (Q : Content →
 cycle r g P Q boots valid cuts s u begin is =
     let at_u = restart r g P (λ z. Unit {0}) (λ t at. keeps_more g P P (Q t) (λ z. Unit {0}) (plan (power_on r g t)).list t (λ x k. k) (λ x k. tt) (keeps_on t at)) cuts s u begin is in
     let end = ends r g P (Q u) u (keeps_on u at_u) in
-    let calm : (plan (power_on r g u)).kind ≢ kinds.Panic = λ panic. (boots u at_u).calm (ap (λ (q : Plan). q.kind) (plan_in_pieces r g u) ∙ panic) in (
+    let not_panic : (plan (power_on r g u)).kind ≢ kinds.Panic = λ panic. (boots u at_u).not_panic (ap (λ (q : Plan). q.kind) (plan_in_pieces r g u) ∙ panic) in (
       end.0,
       record {
         end = end.1.end;
         whole = end.1.whole;
-        calm = calm;
-        result = boots_so (power_on r g u) end.0 end.1.end end.1.whole calm (valid u end.0 end.1.so);
+        not_panic = not_panic;
+        result = boots_so (power_on r g u) end.0 end.1.end end.1.whole not_panic (valid u end.0 end.1.so);
         valid = valid u end.0 end.1.so;
       },
       end.1.so,

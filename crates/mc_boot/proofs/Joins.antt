@@ -6,14 +6,13 @@ use Rattle.std.proofs.lemmas.List.{length-drop, length-take, length-take-le}
 use Rattle.std.specs.Bool.{beq}
 use Rattle.std.specs.Int.{div_ceil}
 use Rattle.std.specs.List.{AllByRecursion}
-use Rattle.std.specs.Prelude.{Bool, List, None, Option, Some, [], drop, false, if◌then◌else◌, length, map, nat_le, nat_lt, not, option_and_then, option_map, refl, suc, take, true, zero, ℕ, ◌++◌}
-use Rattle.std.specs.Prelude.{◌+◌, ◌-◌, ◌<◌, ◌==◌, ◌||◌, ◌∷◌, ◌≡◌, ◌≤◌}
+use Rattle.std.specs.Prelude.{Bool, List, None, Option, Some, [], drop, false, if◌then◌else◌, length, map, nat_le, nat_lt, not, option_and_then, option_map, refl, suc, take, true, zero, ℕ, ◌++◌, ◌+◌, ◌-◌, ◌<◌, ◌==◌, ◌||◌, ◌∷◌, ◌≡◌, ◌≤◌}
 use Rattle.mc_boot.proofs.Meets.{AreThere, Fit, Sector, WritesIn, blank, erase_in, erase_of, fit_longer, fit_there, op_blanked, op_longer}
 use Rattle.mc_boot.specs.Outcome.{Report, applied, at, first_then, happening, is_faulted, is_panic, left_by, ops_of, outcome_of, report, result_of}
 use Rattle.mc_boot.specs.Plan.{Plan, PowerOn, again, first_left, images_of, new_list, new_plan, new_swap, nothing, plan, plan_with, power_on, resumed_from, resumed_plan, resumed_swap}
 use Rattle.mc_boot.specs.declared.image.Images.{Images}
 use Rattle.mc_boot.specs.declared.outcome.BootResult.{BootResult}
-use Rattle.mc_boot.specs.facts.Run.{happening_front, left_defined}
+use Rattle.mc_boot.specs.facts.Run.{happening_prefix, left_defined}
 use Rattle.mc_flash.specs.Flash.{Content, IsSized, apply, bytes_of}
 use Rattle.mc_flash.specs.Geometry.{Geometry, greatest_sectors, in_pieces}
 use Rattle.mc_flash.specs.declared.flash.Grain.{Grain}
@@ -29,7 +28,7 @@ use Rattle.mc_trailer.specs.declared.trailer.Flag.{Flag}
 use Rattle.mc_trailer.specs.declared.trailer.Trailer.{Trailer}
 use Rattle.mc_trailer.specs.declared.tables.SwapType.TheVariants as kinds
 
--- What tests tell where they hold.
+-- What tests show where they hold.
 
 pub are_same : (a b : Bool) → beq a b ≡ true → a ≡ b
 are_same true true is = refl
@@ -85,28 +84,28 @@ pub record IsJoined (x : PowerOn) (u : Content) (j : ℕ) : Type 0 where
 
 -- ---- lists of operations, some of which may be refused
 
-first_front : (g : Geometry) (op : Op) (ops : List Op) (c : ℕ) → ((t : Content) → c ≤ length (happening g ops t) → take c (happening g ops t) ≡ take c ops)
+first_prefix : (g : Geometry) (op : Op) (ops : List Op) (c : ℕ) → ((t : Content) → c ≤ length (happening g ops t) → take c (happening g ops t) ≡ take c ops)
     → (o : Option Content) → suc c ≤ length (first_then op (λ t. happening g ops t) o) → take (suc c) (first_then op (λ t. happening g ops t) o) ≡ op ∷ take c ops
-first_front g op ops c behind None below = absurd (omega (arith, below))
-first_front g op ops c behind (Some t) below = ap (λ (xs : List Op). op ∷ xs) (behind t (omega (arith, below)))
+first_prefix g op ops c beyond None below = absurd (omega (arith, below))
+first_prefix g op ops c beyond (Some t) below = ap (λ (xs : List Op). op ∷ xs) (beyond t (omega (arith, below)))
 
 -- What happens of a list is a prefix of it.
-happens_front : (g : Geometry) (ops : List Op) (c : ℕ) (s : Content) → c ≤ length (happening g ops s) → take c (happening g ops s) ≡ take c ops
-happens_front g [] zero s below = refl
-happens_front g [] (suc c) s below = refl
-happens_front g (op ∷ ops) zero s below = refl
-happens_front g (op ∷ ops) (suc c) s below = first_front g op ops c (λ t b. happens_front g ops c t b) (apply g op s) below
+happens_prefix : (g : Geometry) (ops : List Op) (c : ℕ) (s : Content) → c ≤ length (happening g ops s) → take c (happening g ops s) ≡ take c ops
+happens_prefix g [] zero s below = refl
+happens_prefix g [] (suc c) s below = refl
+happens_prefix g (op ∷ ops) zero s below = refl
+happens_prefix g (op ∷ ops) (suc c) s below = first_prefix g op ops c (λ t b. happens_prefix g ops c t b) (apply g op s) below
 
 pub happens_few : (g : Geometry) (ops : List Op) (s : Content) → length (happening g ops s) ≤ length ops
 happens_few g ops s =
-    let all = happens_front g ops (length (happening g ops s)) s (omega arith) in
+    let all = happens_prefix g ops (length (happening g ops s)) s (omega arith) in
     omega (arith, length-take (length (happening g ops s)) ops, ap (λ (xs : List Op). length xs) (sym (take-length (happening g ops s)) ∙ all))
 
 -- A list that can be applied, in two parts.
 split_on : (g : Geometry) (xs ys : List Op) (t : Content) → ((x : Content) → applied g (xs ++ ys) x ≡ Some t → (v : Content) × (applied g xs x ≡ Some v) × (applied g ys v ≡ Some t))
     → (o : Option Content) → option_and_then (λ x. applied g (xs ++ ys) x) o ≡ Some t → (v : Content) × (option_and_then (λ x. applied g xs x) o ≡ Some v) × (applied g ys v ≡ Some t)
-split_on g xs ys t behind None is = absurd cc
-split_on g xs ys t behind (Some x) is = behind x is
+split_on g xs ys t beyond None is = absurd cc
+split_on g xs ys t beyond (Some x) is = beyond x is
 
 applied_parts : (g : Geometry) (xs ys : List Op) (s t : Content) → applied g (xs ++ ys) s ≡ Some t → (v : Content) × (applied g xs s ≡ Some v) × (applied g ys v ≡ Some t)
 applied_parts g [] ys s t is = (s, refl, is)
@@ -114,12 +113,12 @@ applied_parts g (x ∷ xs) ys s t is = split_on g xs ys t (λ y e. applied_parts
 
 join_on : (g : Geometry) (xs ys : List Op) (v : Content) → ((x : Content) → applied g xs x ≡ Some v → applied g (xs ++ ys) x ≡ applied g ys v)
     → (o : Option Content) → option_and_then (λ x. applied g xs x) o ≡ Some v → option_and_then (λ x. applied g (xs ++ ys) x) o ≡ applied g ys v
-join_on g xs ys v behind None is = absurd cc
-join_on g xs ys v behind (Some x) is = behind x is
+join_on g xs ys v beyond None is = absurd cc
+join_on g xs ys v beyond (Some x) is = beyond x is
 
-pub applied_behind : (g : Geometry) (xs ys : List Op) (s v : Content) → applied g xs s ≡ Some v → applied g (xs ++ ys) s ≡ applied g ys v
-applied_behind g [] ys s v is = let same : s ≡ v = cc in ap (applied g ys) same
-applied_behind g (x ∷ xs) ys s v is = join_on g xs ys v (λ y e. applied_behind g xs ys y v e) (apply g x s) is
+pub applied_beyond : (g : Geometry) (xs ys : List Op) (s v : Content) → applied g xs s ≡ Some v → applied g (xs ++ ys) s ≡ applied g ys v
+applied_beyond g [] ys s v is = let same : s ≡ v = cc in ap (applied g ys) same
+applied_beyond g (x ∷ xs) ys s v is = join_on g xs ys v (λ y e. applied_beyond g xs ys y v e) (apply g x s) is
 
 -- Erases are never refused, and give the content blanked.
 pub erases_applied : (g : Geometry) (es : List Sector) (s : Content) → applied g (map erase_of es) s ≡ Some (blank g es s)
@@ -130,8 +129,8 @@ erases_applied g (e ∷ es) s = erases_applied g es (erase_in g s e)
 longer_on : (g : Geometry) (ops : List Op) (s t : Content) → ((x : Content) → applied g ops x ≡ Some t → (o : Slot) → length (bytes_of x o) ≤ length (bytes_of t o))
     → (a : Option Content) → ((x : Content) → a ≡ Some x → (o : Slot) → length (bytes_of s o) ≤ length (bytes_of x o)) → option_and_then (λ x. applied g ops x) a ≡ Some t
     → (o : Slot) → length (bytes_of s o) ≤ length (bytes_of t o)
-longer_on g ops s t behind None first is = absurd cc
-longer_on g ops s t behind (Some x) first is = λ o. omega (arith, first x refl o, behind x is o)
+longer_on g ops s t beyond None first is = absurd cc
+longer_on g ops s t beyond (Some x) first is = λ o. omega (arith, first x refl o, beyond x is o)
 
 pub applied_longer : (g : Geometry) (ops : List Op) (s t : Content) → applied g ops s ≡ Some t → (o : Slot) → length (bytes_of s o) ≤ length (bytes_of t o)
 applied_longer g [] s t is = let same : s ≡ t = cc in λ o. omega (arith, ap (λ (x : Content). length (bytes_of x o)) same)
@@ -139,8 +138,8 @@ applied_longer g (op ∷ ops) s t is = longer_on g ops s t (λ x e. applied_long
 
 blanked_on : (g : Geometry) (es : List Sector) (ops : List Op) (s t : Content) → ((x : Content) → Fit g es x → applied g ops x ≡ Some t → blank g es t ≡ blank g es x)
     → (a : Option Content) → ((x : Content) → a ≡ Some x → (blank g es x ≡ blank g es s) × Fit g es x) → option_and_then (λ x. applied g ops x) a ≡ Some t → blank g es t ≡ blank g es s
-blanked_on g es ops s t behind None first is = absurd cc
-blanked_on g es ops s t behind (Some x) first is = let now = first x refl in behind x now.1 is ∙ now.0
+blanked_on g es ops s t beyond None first is = absurd cc
+blanked_on g es ops s t beyond (Some x) first is = let now = first x refl in beyond x now.1 is ∙ now.0
 
 -- Operations that write in these sectors alone do not change what blanking gives.
 pub applied_blanked : (g : Geometry) (es : List Sector) (ops : List Op) (s t : Content) → AllByRecursion (WritesIn g es) ops → Fit g es s → applied g ops s ≡ Some t → blank g es t ≡ blank g es s
@@ -159,76 +158,76 @@ same_run g es ops v u first same = record {
   leaves = run v ∙ ap (λ (x : Content). applied g (happening g (drop (length es) ops) x) x) (sym same) ∙ sym (run u);
 }
   where
-    front : (x : Content) → applied g (take (length es) ops) x ≡ Some (blank g es x)
-    front x = ap (λ (xs : List Op). applied g xs x) first ∙ erases_applied g es x
+    prefix : (x : Content) → applied g (take (length es) ops) x ≡ Some (blank g es x)
+    prefix x = ap (λ (xs : List Op). applied g xs x) first ∙ erases_applied g es x
 
     from : (x : Content) → happening g ops x ≡ take (length es) ops ++ happening g (drop (length es) ops) (blank g es x)
-    from x = happening_front g ops (length es) x (blank g es x) (front x)
+    from x = happening_prefix g ops (length es) x (blank g es x) (prefix x)
 
     run : (x : Content) → applied g (happening g ops x) x ≡ applied g (happening g (drop (length es) ops) (blank g es x)) (blank g es x)
     run x =
         ap (λ (xs : List Op). applied g xs x) (from x)
-        ∙ applied_behind g (take (length es) ops) (happening g (drop (length es) ops) (blank g es x)) x (blank g es x) (front x)
+        ∙ applied_beyond g (take (length es) ops) (happening g (drop (length es) ops) (blank g es x)) x (blank g es x) (prefix x)
 
 -- ---- a boot with operations is no panic
 
-abbrev IsCalm : Plan → Type 0
-IsCalm p = 0 < length p.list → is_panic p.kind ≡ false
+abbrev IsNoPanic : Plan → Type 0
+IsNoPanic p = 0 < length p.list → is_panic p.kind ≡ false
 
-idle_calm : (kind : SwapType) → IsCalm (nothing kind)
-idle_calm kind some = absurd (omega (arith, some))
+idle_not_panic : (kind : SwapType) → IsNoPanic (nothing kind)
+idle_not_panic kind some = absurd (omega (arith, some))
 
-either_calm : (b : Bool) (p q : Plan) → IsCalm p → IsCalm q → IsCalm (if b then p else q)
-either_calm true p q one two = one
-either_calm false p q one two = two
+either_not_panic : (b : Bool) (p q : Plan) → IsNoPanic p → IsNoPanic q → IsNoPanic (if b then p else q)
+either_not_panic true p q one two = one
+either_not_panic false p q one two = two
 
-new_swap_calm : (c : Grain) (g : Geometry) (images : Images) (kind : SwapType) → is_panic kind ≡ false → IsCalm (new_swap c g images kind)
-new_swap_calm c g images kind calm =
+new_swap_not_panic : (c : Grain) (g : Geometry) (images : Images) (kind : SwapType) → is_panic kind ≡ false → IsNoPanic (new_swap c g images kind)
+new_swap_not_panic c g images kind not_panic =
     let n = div_ceil images.size g.sector in
-    either_calm (not images.valid || nat_lt (greatest_sectors g) n) (nothing kinds.Fail) (record { kind = kind; sectors = n; list = new_list c (in_pieces c g) kind images.size n })
-    (idle_calm kinds.Fail) (λ _. calm)
+    either_not_panic (not images.valid || nat_lt (greatest_sectors g) n) (nothing kinds.Fail) (record { kind = kind; sectors = n; list = new_list c (in_pieces c g) kind images.size n })
+    (idle_not_panic kinds.Fail) (λ _. not_panic)
 
-new_plan_calm : (c : Grain) (g : Geometry) (images : Images) (kind : SwapType) → IsCalm (new_plan c g images kind)
-new_plan_calm c g images kinds.None = idle_calm kinds.None
-new_plan_calm c g images kinds.Test = new_swap_calm c g images kinds.Test refl
-new_plan_calm c g images kinds.Perm = new_swap_calm c g images kinds.Perm refl
-new_plan_calm c g images kinds.Revert = new_swap_calm c g images kinds.Revert refl
-new_plan_calm c g images kinds.Fail = idle_calm kinds.Fail
-new_plan_calm c g images kinds.Panic = idle_calm kinds.Panic
+new_plan_not_panic : (c : Grain) (g : Geometry) (images : Images) (kind : SwapType) → IsNoPanic (new_plan c g images kind)
+new_plan_not_panic c g images kinds.None = idle_not_panic kinds.None
+new_plan_not_panic c g images kinds.Test = new_swap_not_panic c g images kinds.Test refl
+new_plan_not_panic c g images kinds.Perm = new_swap_not_panic c g images kinds.Perm refl
+new_plan_not_panic c g images kinds.Revert = new_swap_not_panic c g images kinds.Revert refl
+new_plan_not_panic c g images kinds.Fail = idle_not_panic kinds.Fail
+new_plan_not_panic c g images kinds.Panic = idle_not_panic kinds.Panic
 
-resumed_from_calm : (c : Grain) (g : Geometry) (image_ok : Flag) (highest : Option ℕ) (kind : SwapType) (n : ℕ) (first : Option ℕ) → is_panic kind ≡ false
-    → IsCalm (resumed_from c g image_ok highest kind n first)
-resumed_from_calm c g image_ok highest kind n None calm = idle_calm kinds.Panic
-resumed_from_calm c g image_ok highest kind n (Some first) calm = λ _. calm
+resumed_from_not_panic : (c : Grain) (g : Geometry) (image_ok : Flag) (highest : Option ℕ) (kind : SwapType) (n : ℕ) (first : Option ℕ) → is_panic kind ≡ false
+    → IsNoPanic (resumed_from c g image_ok highest kind n first)
+resumed_from_not_panic c g image_ok highest kind n None not_panic = idle_not_panic kinds.Panic
+resumed_from_not_panic c g image_ok highest kind n (Some first) not_panic = λ _. not_panic
 
-resumed_swap_calm : (c : Grain) (g : Geometry) (image_ok : Flag) (highest : Option ℕ) (kind : SwapType) (n : ℕ) → is_panic kind ≡ false → IsCalm (resumed_swap c g image_ok highest kind n)
-resumed_swap_calm c g image_ok highest kind n calm =
-    either_calm (n == 0 || nat_lt (greatest_sectors g) n) (nothing kinds.Panic) (resumed_from c g image_ok highest kind n (first_left g n highest))
-    (idle_calm kinds.Panic) (resumed_from_calm c g image_ok highest kind n (first_left g n highest) calm)
+resumed_swap_not_panic : (c : Grain) (g : Geometry) (image_ok : Flag) (highest : Option ℕ) (kind : SwapType) (n : ℕ) → is_panic kind ≡ false → IsNoPanic (resumed_swap c g image_ok highest kind n)
+resumed_swap_not_panic c g image_ok highest kind n not_panic =
+    either_not_panic (n == 0 || nat_lt (greatest_sectors g) n) (nothing kinds.Panic) (resumed_from c g image_ok highest kind n (first_left g n highest))
+    (idle_not_panic kinds.Panic) (resumed_from_not_panic c g image_ok highest kind n (first_left g n highest) not_panic)
 
-resumed_plan_calm : (c : Grain) (g : Geometry) (t : Trailer) (highest : Option ℕ) → IsCalm (resumed_plan c g t highest)
-resumed_plan_calm c g t highest =
+resumed_plan_not_panic : (c : Grain) (g : Geometry) (t : Trailer) (highest : Option ℕ) → IsNoPanic (resumed_plan c g t highest)
+resumed_plan_not_panic c g t highest =
     let n = div_ceil t.swap_size g.sector in
     let test : Plan = resumed_swap c g t.image_ok highest kinds.Test n in
     let perm : Plan = resumed_swap c g t.image_ok highest kinds.Perm n in
     let revert : Plan = resumed_swap c g t.image_ok highest kinds.Revert n in
-    either_calm (t.swap_info == 2) test (if t.swap_info == 3 then perm else if t.swap_info == 4 then revert else nothing kinds.None)
-    (resumed_swap_calm c g t.image_ok highest kinds.Test n refl)
-    (either_calm (t.swap_info == 3) perm (if t.swap_info == 4 then revert else nothing kinds.None)
-    (resumed_swap_calm c g t.image_ok highest kinds.Perm n refl)
-    (either_calm (t.swap_info == 4) revert (nothing kinds.None)
-    (resumed_swap_calm c g t.image_ok highest kinds.Revert n refl)
-    (idle_calm kinds.None)))
+    either_not_panic (t.swap_info == 2) test (if t.swap_info == 3 then perm else if t.swap_info == 4 then revert else nothing kinds.None)
+    (resumed_swap_not_panic c g t.image_ok highest kinds.Test n refl)
+    (either_not_panic (t.swap_info == 3) perm (if t.swap_info == 4 then revert else nothing kinds.None)
+    (resumed_swap_not_panic c g t.image_ok highest kinds.Perm n refl)
+    (either_not_panic (t.swap_info == 4) revert (nothing kinds.None)
+    (resumed_swap_not_panic c g t.image_ok highest kinds.Revert n refl)
+    (idle_not_panic kinds.None)))
 
-pub plan_calm : (x : PowerOn) → 0 < length (plan x).list → is_panic (plan x).kind ≡ false
+pub plan_not_panic : (x : PowerOn) → 0 < length (plan x).list → is_panic (plan x).kind ≡ false
 unfolding plan plan_with
-plan_calm x =
+plan_not_panic x =
     let g = x.geometry in
     let s = x.content in
     let c = x.rules.grain in
-    either_calm (is_resumed g s) (resumed_plan c g (trailer_of g s Primary) (highest_entry g s)) (new_plan c g (images_of s) (table_of x.rules.profile g s))
-    (resumed_plan_calm c g (trailer_of g s Primary) (highest_entry g s))
-    (new_plan_calm c g (images_of s) (table_of x.rules.profile g s))
+    either_not_panic (is_resumed g s) (resumed_plan c g (trailer_of g s Primary) (highest_entry g s)) (new_plan c g (images_of s) (table_of x.rules.profile g s))
+    (resumed_plan_not_panic c g (trailer_of g s Primary) (highest_entry g s))
+    (new_plan_not_panic c g (images_of s) (table_of x.rules.profile g s))
 
 -- ---- the lemma
 
@@ -249,12 +248,12 @@ meets x u c j es joins =
     let cut : applied g (take c (happening g (plan x).list s)) s ≡ Some u = joins.cut in
     let early = joins.early in
     let passed = joins.passed in
-    let front : take c (happening g (plan x).list s) ≡ take j (plan x).list ++ take (c - j) (plan (again x u)).list =
-    happens_front g (plan x).list c s (omega (arith, early))
+    let prefix : take c (happening g (plan x).list s) ≡ take j (plan x).list ++ take (c - j) (plan (again x u)).list =
+    happens_prefix g (plan x).list c s (omega (arith, early))
     ∙ ap (λ (n : ℕ). take n (plan x).list) (omega (arith, passed))
     ∙ take-add j (c - j) (plan x).list
     ∙ ap (λ (xs : List Op). take j (plan x).list ++ take (c - j) xs) (sym joins.rest) in
-    let parts = applied_parts g (take j (plan x).list) (take (c - j) (plan (again x u)).list) s u (ap (λ (xs : List Op). applied g xs s) (sym front) ∙ cut) in
+    let parts = applied_parts g (take j (plan x).list) (take (c - j) (plan (again x u)).list) s u (ap (λ (xs : List Op). applied g xs s) (sym prefix) ∙ cut) in
     let fits : Fit g es parts.0 = fit_longer g es s parts.0 (applied_longer g (take j (plan x).list) s parts.0 parts.1) (fit_there g es s joins.sized joins.there) in
     let alike = applied_blanked g es (take (c - j) (plan (again x u)).list) parts.0 u joins.inside fits parts.2 in
     record {
@@ -275,7 +274,7 @@ pub happens_all : (x : PowerOn) (u : Content) (c j : ℕ) (es : List Sector) →
 unfolding ops_of
 happens_all x u c j es joins =
     let met = meets x u c j es joins in
-    happening_front x.geometry (plan x).list j x.content met.from met.start
+    happening_prefix x.geometry (plan x).list j x.content met.from met.start
     ∙ ap (λ (xs : List Op). take j (plan x).list ++ happening x.geometry xs met.from) (sym joins.rest)
     ∙ ap (λ (xs : List Op). take j (plan x).list ++ xs) met.run.happens
 
@@ -286,20 +285,20 @@ left_is x = ap (λ (xs : List Op). applied x.geometry xs x.content) (take-length
 same_fault : (n m a b j : ℕ) → n + j ≡ m → a + j ≡ b → nat_lt n a ≡ nat_lt m b
 same_fault n m a b j p q = grind (arith, nat_tests)
 
-calm_result : (k l : SwapType) (faulted boots : Bool) → is_panic k ≡ false → is_panic l ≡ false → result_of k faulted boots ≡ result_of l faulted boots
-calm_result k l faulted boots one two = rw (one, two) refl
+not_panic_result : (k l : SwapType) (faulted boots : Bool) → is_panic k ≡ false → is_panic l ≡ false → result_of k faulted boots ≡ result_of l faulted boots
+not_panic_result k l faulted boots one two = rw (one, two) refl
 
 module _ (r : Rules) (g : Geometry) (k l : SwapType) (n m j : ℕ) (one : is_panic k ≡ false) (two : is_panic l ≡ false) (count : n + j ≡ m) where
   less_report : (faulted : Bool) (z : Content) → report r g k n faulted z ≡ less k j (report r g l m faulted z)
   unfolding report
   less_report faulted z =
       let here : BootResult → ℕ → Report = λ x i. record { result = x; kind = k; ops = i; primary = id_of z.primary; secondary = id_of z.secondary; next = (plan (power_on r g z)).kind } in
-      ap (λ x. here x n) (calm_result k l faulted (is_valid z.primary) one two)
+      ap (λ x. here x n) (not_panic_result k l faulted (is_valid z.primary) one two)
       ∙ ap (λ i. here (result_of l faulted (is_valid z.primary)) i) (omega (arith, count))
 
-  told_less : (f h : Bool) (a b : Option Content) (z : Content) → f ≡ h → a ≡ b → b ≡ Some z
+  reported_less : (f h : Bool) (a b : Option Content) (z : Content) → f ≡ h → a ≡ b → b ≡ Some z
       → option_map (λ x. report r g k n f x) a ≡ option_map (less k j) (option_map (λ x. report r g l m h x) b)
-  told_less f h a b z faults same left =
+  reported_less f h a b z faults same left =
       ap (option_map (λ x. report r g k n f x)) (same ∙ left)
       ∙ ap (λ (x : Bool). Some (report r g k n x z)) faults
       ∙ ap (λ (o : Report). Some o) (less_report h z)
@@ -313,11 +312,11 @@ joined x u c j es joins = record { count = count; faulted = faulted; left = left
     met : Met x u j es
     met = meets x u c j es joins
 
-    few : length (happening x.geometry (plan x).list x.content) ≤ length (plan x).list
-    few = happens_few x.geometry (plan x).list x.content
+    at_most : length (happening x.geometry (plan x).list x.content) ≤ length (plan x).list
+    at_most = happens_few x.geometry (plan x).list x.content
 
     begins : length (take j (plan x).list) ≡ j
-    begins = length-take-le j (plan x).list (let a = joins.early in let b = joins.passed in omega (arith, a, b, few))
+    begins = length-take-le j (plan x).list (let a = joins.early in let b = joins.passed in omega (arith, a, b, at_most))
 
     all : happening x.geometry (plan x).list x.content ≡ take j (plan x).list ++ happening x.geometry (plan (again x u)).list u
     all = happens_all x u c j es joins
@@ -326,7 +325,7 @@ joined x u c j es joins = record { count = count; faulted = faulted; left = left
     count = omega (arith, begins, ap (λ (xs : List Op). length xs) all, length-append (take j (plan x).list) (happening x.geometry (plan (again x u)).list u))
 
     lists : length (plan (again x u)).list + j ≡ length (plan x).list
-    lists = let a = joins.early in let b = joins.passed in omega (arith, a, b, few, ap (λ (xs : List Op). length xs) joins.rest, length-drop j (plan x).list)
+    lists = let a = joins.early in let b = joins.passed in omega (arith, a, b, at_most, ap (λ (xs : List Op). length xs) joins.rest, length-drop j (plan x).list)
 
     faulted : nat_lt (length (happening x.geometry (plan (again x u)).list u)) (length (plan (again x u)).list) ≡ nat_lt (length (happening x.geometry (plan x).list x.content)) (length (plan x).list)
     faulted = same_fault (length (happening x.geometry (plan (again x u)).list u)) (length (happening x.geometry (plan x).list x.content)) (length (plan (again x u)).list)
@@ -337,17 +336,17 @@ joined x u c j es joins = record { count = count; faulted = faulted; left = left
         left_is (again x u)
         ∙ sym met.run.leaves
         ∙ ap (λ (xs : List Op). applied x.geometry xs met.from) met.run.happens
-        ∙ sym (applied_behind x.geometry (take j (plan x).list) (happening x.geometry (plan (again x u)).list u) x.content met.from met.start)
+        ∙ sym (applied_beyond x.geometry (take j (plan x).list) (happening x.geometry (plan (again x u)).list u) x.content met.from met.start)
         ∙ ap (λ (xs : List Op). applied x.geometry xs x.content) (sym all)
         ∙ sym (left_is x)
 
-    calm_s : is_panic (plan x).kind ≡ false
-    calm_s = plan_calm x (let a = joins.early in omega (arith, a, few))
+    not_panic_s : is_panic (plan x).kind ≡ false
+    not_panic_s = plan_not_panic x (let a = joins.early in omega (arith, a, at_most))
 
-    calm_u : is_panic (plan (again x u)).kind ≡ false
-    calm_u = plan_calm (again x u) (let a = joins.early in let b = joins.passed in omega (arith, a, b, few, lists))
+    not_panic_u : is_panic (plan (again x u)).kind ≡ false
+    not_panic_u = plan_not_panic (again x u) (let a = joins.early in let b = joins.passed in omega (arith, a, b, at_most, lists))
 
     outcome : outcome_of (again x u) ≡ option_map (less (plan (again x u)).kind j) (outcome_of x)
     outcome =
         let z = left_defined x in
-        told_less x.rules x.geometry (plan (again x u)).kind (plan x).kind _ _ j calm_u calm_s count _ _ (left_by (again x u)) (left_by x) z.0 faulted left z.1
+        reported_less x.rules x.geometry (plan (again x u)).kind (plan x).kind _ _ j not_panic_u not_panic_s count _ _ (left_by (again x u)) (left_by x) z.0 faulted left z.1

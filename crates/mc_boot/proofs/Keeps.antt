@@ -6,8 +6,7 @@ use Rattle.std.proofs.lemmas.Bool.Decides.{nat_tests}
 use Rattle.std.proofs.lemmas.List.{get_or-replicate, get_or-take, length-replicate, length-take-le}
 use Rattle.std.proofs.lemmas.List.Edits.{get_or-between, length-between}
 use Rattle.std.specs.List.{between, range_with_len}
-use Rattle.std.specs.Prelude.{Bool, List, None, Option, Some, [], false, if◌then◌else◌, length, map, nat_lt, option_and_then, option_map, refl, replicate, slice_index, suc, take, true, zero, ℕ}
-use Rattle.std.specs.Prelude.{◌%◌, ◌*◌, ◌++◌, ◌+◌, ◌-◌, ◌/◌, ◌<◌, ◌∷◌, ◌≡◌, ◌≢◌, ◌≤◌}
+use Rattle.std.specs.Prelude.{Bool, List, None, Option, Some, [], false, if◌then◌else◌, length, map, nat_lt, option_and_then, option_map, refl, replicate, slice_index, suc, take, true, zero, ℕ, ◌%◌, ◌*◌, ◌++◌, ◌+◌, ◌-◌, ◌/◌, ◌<◌, ◌∷◌, ◌≡◌, ◌≢◌, ◌≤◌}
 use Rattle.mc_boot.proofs.Transfers.{take_whole}
 use Rattle.mc_boot.specs.Outcome.{after, applied, at, first_then, happening, is_faulted, left_by, ops_of, outcome_of, report, result_of}
 use Rattle.mc_boot.specs.Plan.{PowerOn, piece, plan, power_on, trailer_erase, trailer_erases, write}
@@ -19,14 +18,14 @@ use Rattle.mc_flash.specs.declared.op.Op.{Op}
 use Rattle.mc_flash.specs.declared.op.Op.TheVariants.{Program}
 use Rattle.mc_flash.specs.declared.op.Slot.{Slot}
 use Rattle.mc_flash.specs.facts.Changes.{Changed, erase_changes, program_changes, sized_is}
-use Rattle.mc_flash.specs.facts.Layouts.{data_end, sector_inside, trailer_leaves_one, trailer_sector_behind_data}
+use Rattle.mc_flash.specs.facts.Layouts.{data_end, sector_inside, trailer_leaves_one, trailer_sector_beyond_data}
 use Rattle.mc_image.specs.Valid.{is_valid}
 use Rattle.mc_trailer.specs.Trailer.{place, room}
 use Rattle.mc_trailer.specs.declared.places.Field.{Field}
 use Rattle.mc_trailer.specs.declared.tables.Rules.{Rules}
 use Rattle.mc_trailer.specs.declared.tables.SwapType.{SwapType}
 use Rattle.mc_trailer.specs.facts.Fields.{FieldIs, blank_byte, field_write}
-use Rattle.mc_trailer.specs.facts.Places.{field_behind_data, field_ends}
+use Rattle.mc_trailer.specs.facts.Places.{field_beyond_data, field_ends}
 use borrow.Author.Tests.{ltb-true}
 use Rattle.mc_flash.specs.declared.flash.Grain.TheVariants as grains
 use Rattle.mc_trailer.specs.declared.tables.SwapType.TheVariants as kinds
@@ -112,9 +111,9 @@ keeps_then g P Q R (op ∷ ops) s then_ k = (k.0, (k.1.0, k.1.1, keeps_then g P 
 
 -- The erases of a trailer.
 
--- the i-th erase of a trailer is behind the data, and in the slot
-pub erase_behind_data : (g : Geometry) (o : Slot) (i : ℕ) → i < trailer_sectors g → data_end g o ≤ (sectors_of g o - 1 - i) * g.sector
-erase_behind_data g o i below = trailer_sector_behind_data g o (sectors_of g o - 1 - i) (omega arith)
+-- the i-th erase of a trailer is after the data, and in the slot
+pub erase_beyond_data : (g : Geometry) (o : Slot) (i : ℕ) → i < trailer_sectors g → data_end g o ≤ (sectors_of g o - 1 - i) * g.sector
+erase_beyond_data g o i below = trailer_sector_beyond_data g o (sectors_of g o - 1 - i) (omega arith)
 
 pub erase_inside : (g : Geometry) (o : Slot) (i : ℕ) → IsLayout g → i < trailer_sectors g → (sectors_of g o - 1 - i) * g.sector + g.sector ≤ size_of g o
 erase_inside g o i ok below = sector_inside g o (sectors_of g o - 1 - i) (let leaves = trailer_leaves_one g o ok in omega arith)
@@ -141,11 +140,11 @@ erased_still g slot i s t p ch was = at ((sectors_of g slot - 1 - i) * g.sector)
       | inl low ↦ ch.before p (omega (arith, is, low)) ∙ was
       | inr from ↦ elim (cases_lt p (z + g.sector)) [
         | inl below ↦ erased_here g slot i s t p ch (omega (arith, is, from)) (omega (arith, is, below))
-        | inr above ↦ ch.behind p (omega (arith, is, above, length-replicate {A = ℕ} g.sector 255)) ∙ was
+        | inr above ↦ ch.beyond p (omega (arith, is, above, length-replicate {A = ℕ} g.sector 255)) ∙ was
       ]
     ]
 
--- R holds before the i-th erase; after the last the slot is 0xff behind its data sectors.
+-- R holds before the i-th erase; after the last the slot is 0xff after its data sectors.
 pub erases_keep : (g : Geometry) (slot : Slot) (P : Content → Type 0) (R : ℕ → Content → Type 0) (s : Content) → IsLayout g
     → ((i : ℕ) (t : Content) → R i t → P t × IsSized g t)
     → ((i : ℕ) (t u : Content) → i < trailer_sectors g → R i t → Erased g slot i t u → R (i + 1) u)
@@ -193,7 +192,7 @@ none_yet : (s : Content) (slot : Slot) (at : ℕ) (new : List ℕ) → Part s sl
 none_yet s slot at new = record {
   inside = λ i h. absurd (omega (arith, h, length-take-le 0 new (omega arith)));
   before = λ i _. refl;
-  behind = λ i _. refl;
+  beyond = λ i _. refl;
   other = λ o i _. refl;
   sizes = λ o. refl;
 }
@@ -204,14 +203,14 @@ piece_more g s t u slot at new k fits so ch = record {
   inside = λ i h.
       let short : i < k + g.unit = omega (arith, h, all) in
       elim (cases_lt i k) [
-        | inl low ↦ ch.before (at + i) (omega (arith, low)) ∙ so.inside i (omega (arith, low, front)) ∙ get_or-take k new i 0 low ∙ sym (get_or-take (k + g.unit) new i 0 short)
+        | inl low ↦ ch.before (at + i) (omega (arith, low)) ∙ so.inside i (omega (arith, low, prefix)) ∙ get_or-take k new i 0 low ∙ sym (get_or-take (k + g.unit) new i 0 short)
         | inr high ↦
             ap (byte u slot) (omega (arith, high)) ∙ ch.inside (i - k) (omega (arith, high, short, part))
             ∙ get_or-between new k (k + g.unit) (i - k) 0 (omega (arith, high, short))
             ∙ ap (slice_index new) (omega (arith, high)) ∙ sym (get_or-take (k + g.unit) new i 0 short)
       ];
   before = λ i h. ch.before i (omega (arith, h)) ∙ so.before i h;
-  behind = λ i h. ch.behind i (omega (arith, h, all, part)) ∙ so.behind i (omega (arith, h, all, front));
+  beyond = λ i h. ch.beyond i (omega (arith, h, all, part)) ∙ so.beyond i (omega (arith, h, all, prefix));
   other = λ o i away. ch.other o i away ∙ so.other o i away;
   sizes = λ o. ch.sizes o ∙ so.sizes o;
 }
@@ -219,8 +218,8 @@ piece_more g s t u slot at new k fits so ch = record {
     all : length (take (k + g.unit) new) ≡ k + g.unit
     all = length-take-le (k + g.unit) new fits
 
-    front : length (take k new) ≡ k
-    front = length-take-le k new (omega (arith, fits))
+    prefix : length (take k new) ≡ k
+    prefix = length-take-le k new (omega (arith, fits))
 
     part : length (between k (k + g.unit) new) ≡ g.unit
     part = length-between new k (k + g.unit) fits ∙ omega arith
@@ -230,9 +229,9 @@ piece_step : (g : Geometry) (s t : Content) (slot : Slot) (at : ℕ) (new : List
     → (u : Content) × (apply g (Program slot (at + k) (between k (k + g.unit) new)) t ≡ Some u) × Part s slot at new (k + g.unit) u
 piece_step g s t slot at new k fits free within so =
     let part : length (between k (k + g.unit) new) ≡ g.unit = length-between new k (k + g.unit) within ∙ omega arith in
-    let front : length (take k new) ≡ k = length-take-le k new (omega (arith, within)) in
+    let prefix : length (take k new) ≡ k = length-take-le k new (omega (arith, within)) in
     let does = program_changes g t slot (at + k) (between k (k + g.unit) new) (omega (arith, fits, within, part, so.sizes slot))
-    (λ i h. ap (byte t slot) (omega arith) ∙ so.behind (at + (k + i)) (omega (arith, front)) ∙ free (k + i) (omega (arith, h, part, within))) in
+    (λ i h. ap (byte t slot) (omega arith) ∙ so.beyond (at + (k + i)) (omega (arith, prefix)) ∙ free (k + i) (omega (arith, h, part, within))) in
     (does.0, does.1, piece_more g s t does.0 slot at new k within so does.2)
 
 -- m pieces are the whole write; P has to bear each part of it
@@ -279,8 +278,8 @@ field_write_keeps g P s grains.Unit slot f new ok sized free short whole p bears
     units = let parts = mod-add-div' (length new) g.unit in omega (arith, parts, whole)
 
 -- fields and entries are in the trailer
-pub place_behind_data : (g : Geometry) (slot : Slot) (f : Field) → IsLayout g → data_end g slot ≤ place g slot f
-place_behind_data g slot f ok = let behind = field_behind_data g slot f ok in omega (arith, behind)
+pub place_beyond_data : (g : Geometry) (slot : Slot) (f : Field) → IsLayout g → data_end g slot ≤ place g slot f
+place_beyond_data g slot f ok = let beyond = field_beyond_data g slot f ok in omega (arith, beyond)
 
 -- A boot whose list can be applied whole.
 
@@ -307,20 +306,20 @@ ends r g P Q u keeps =
     (end.0, record { end = left_whole (power_on r g u) end.0 whole end.1; whole = not_faulted (power_on r g u) whole; so = end.2 })
 
 -- a boot that is not faulted and does not panic boots what it left, where that is valid
-calm_boots : (kind : SwapType) → kind ≢ kinds.Panic → result_of kind false true ≡ results.Boot
-calm_boots kinds.None calm = refl
-calm_boots kinds.Test calm = refl
-calm_boots kinds.Perm calm = refl
-calm_boots kinds.Revert calm = refl
-calm_boots kinds.Fail calm = refl
-calm_boots kinds.Panic calm = absurd (calm refl)
+not_panic_boots : (kind : SwapType) → kind ≢ kinds.Panic → result_of kind false true ≡ results.Boot
+not_panic_boots kinds.None not_panic = refl
+not_panic_boots kinds.Test not_panic = refl
+not_panic_boots kinds.Perm not_panic = refl
+not_panic_boots kinds.Revert not_panic = refl
+not_panic_boots kinds.Fail not_panic = refl
+not_panic_boots kinds.Panic not_panic = absurd (not_panic refl)
 
 pub boots_so : (x : PowerOn) (z : Content) → left_by x ≡ Some z → is_faulted x ≡ false → (plan x).kind ≢ kinds.Panic → is_valid z.primary ≡ true
     → option_map (λ o. o.result) (outcome_of x) ≡ Some results.Boot
 unfolding outcome_of report
-boots_so from z end whole calm valid =
+boots_so from z end whole not_panic valid =
     let kind : SwapType = (plan from).kind in
     ap (λ (x : Option Content). option_map (λ o. o.result) (option_map (λ y. report from.rules from.geometry (plan from).kind (length (ops_of from)) (is_faulted from) y) x)) end
     ∙ ap (λ (e : Bool). Some (result_of (plan from).kind e (is_valid z.primary))) whole
     ∙ ap (λ (e : Bool). Some (result_of (plan from).kind false e)) valid
-    ∙ ap (λ (e : BootResult). Some e) (calm_boots (plan from).kind calm)
+    ∙ ap (λ (e : BootResult). Some e) (not_panic_boots (plan from).kind not_panic)

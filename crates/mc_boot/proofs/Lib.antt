@@ -19,6 +19,6 @@ pub mod AtRest
 pub mod FromRest
 pub mod LifeProof
 pub mod Erased
-pub mod Rejoins
-pub mod Rejoined
+pub mod SharedTails
+pub mod SharedTailProof
 pub mod RestartProof

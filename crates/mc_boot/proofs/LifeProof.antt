@@ -1,18 +1,16 @@
 -- The life law.
-use Rattle.std.specs.Prelude.{◌≡◌, ◌⊎◌, ℕ, ◌*◌, ◌<◌, ◌≤◌, slice_index, ◌&&◌, ◌-◌, Bool, true, false, if◌then◌else◌, List, [], ◌∷◌, ◌++◌, replicate, Option, Some, None, option_and_then}
-use Rattle.std.specs.Prelude.{option_map, refl, length}
+use Rattle.std.specs.Prelude.{◌≡◌, ◌⊎◌, ℕ, ◌*◌, ◌<◌, ◌≤◌, slice_index, ◌&&◌, ◌-◌, Bool, true, false, if◌then◌else◌, List, [], ◌∷◌, ◌++◌, replicate, Option, Some, None, option_and_then, option_map, refl, length}
 use Rattle.std.specs.Int.{div_ceil}
 use Rattle.std.proofs.Common.{arith, sym, ap, subst, ◌∙◌, inl, inr}
 use Rattle.std.proofs.lemmas.Grind.{div_ceil_times}
 use Rattle.std.proofs.Math.Nat.{mul-le-mul_right}
 use Rattle.mc_boot.proofs.AtRest.{AtRest, next_is}
-use Rattle.mc_boot.proofs.Keeps.{place_behind_data}
+use Rattle.mc_boot.proofs.Keeps.{place_beyond_data}
 use Rattle.mc_boot.proofs.Images.{HasImage, ImageLaws, SameImage, has_same, same_image}
 use Rattle.mc_boot.proofs.FromRest.{done_rests, no_trial, rest_law, same_names, set_of}
 use Rattle.mc_boot.specs.Restart.{confirmed, may_confirm}
 use Rattle.mc_boot.specs.Plan.{image_size, PowerOn, power_on, plan}
-use Rattle.mc_boot.specs.Life.{AreSecondary, Event, Forgets, AllStored, IsDelivered, Leads, LifeLaw, Lives, Moment, NextLaw, OnlyLaw, DeviceState, Predicts, Leaves, asked_of, booted_by}
-use Rattle.mc_boot.specs.Life.{can_swap, confirmed_by, done_or_fails, is_boot, is_on_trial, resting, device_state, starts_image, cut, boot, store, confirm, mark}
+use Rattle.mc_boot.specs.Life.{AreSecondary, Event, Forgets, AllStored, IsDelivered, Leads, LifeLaw, Lives, Moment, NextLaw, OnlyLaw, DeviceState, Predicts, Leaves, asked_of, booted_by, can_swap, confirmed_by, done_or_fails, is_boot, is_on_trial, resting, device_state, starts_image, cut, boot, store, confirm, mark}
 use Rattle.mc_boot.specs.Outcome.{Report, outcome_of, after, cut_at}
 use Rattle.mc_boot.specs.declared.outcome.BootResult.TheVariants as results
 use Rattle.mc_flash.specs.Flash.{is_blank, Content, put, with_bytes}
@@ -36,13 +34,13 @@ use Rattle.mc_trailer.specs.declared.trailer.Flag.TheVariants as flags
 
 -- valid bytes begin with their own image
 its_own : (xs : List ℕ) → IsBytes xs → is_valid xs ≡ true → HasImage xs
-its_own xs bytes valid = record { image = xs; bytes = bytes; valid = valid; same = record { valid = valid; size = refl; id = refl; front = refl } }
+its_own xs bytes valid = record { image = xs; bytes = bytes; valid = valid; same = record { valid = valid; size = refl; id = refl; prefix = refl } }
 
 pub rests_delivered : (g : Geometry) (s : Content) → IsLayout g → IsDelivered g s → AtRest g s
 rests_delivered g s ok is = record {
   sized = is.sized;
   primary = its_own s.primary is.primary is.valid;
-  few =
+  at_most =
       let wide = ok.least_sector in
       let rows : image_size s.primary ≤ div_ceil (image_size s.primary) g.sector * g.sector = (div_ceil_times (image_size s.primary) g.sector (omega (arith, wide))).0 in
       let most : div_ceil (image_size s.primary) g.sector * g.sector ≤ greatest_sectors g * g.sector = mul-le-mul_right g.sector (fits_few g (image_size s.primary) ok is.fitting) in
@@ -57,7 +55,7 @@ unfolding trailer_of
 rests_stored g s bytes rest are = record {
   sized = record { primary = rest.sized.primary; secondary = are.sized };
   primary = rest.primary;
-  few = rest.few;
+  at_most = rest.at_most;
   secondary = λ valid. its_own bytes are.numbers valid;
   rest = rest.rest;
 }
@@ -70,9 +68,9 @@ module _ (laws : ImageLaws) (g : Geometry) (ok : IsLayout g) (s : Content) (rest
   -- the image ends before the trailer
   before_trailer : image_size s.primary ≤ place g Primary field.ImageOk
   before_trailer =
-      let few = rest.few in
+      let at_most = rest.at_most in
       let rows : greatest_sectors g * g.sector ≤ data_end g Primary = mul-le-mul_right g.sector (image_is_data g Primary (greatest_sectors g) (omega arith)) in
-      omega (arith, few, rows, place_behind_data g Primary field.ImageOk ok)
+      omega (arith, at_most, rows, place_beyond_data g Primary field.ImageOk ok)
 
   -- any bytes at image-ok, where the swap is finished
   module _ (new : List ℕ) (short : length new ≤ room field.ImageOk) where
@@ -96,7 +94,7 @@ module _ (laws : ImageLaws) (g : Geometry) (ok : IsLayout g) (s : Content) (rest
         record {
           sized = changed_sized g s with_mark Primary (place g Primary field.ImageOk) new marks rest.sized;
           primary = has_same s.primary with_mark.primary rest.primary kept_mark;
-          few = let few = rest.few in let same = kept_mark.size in omega (arith, few, same);
+          at_most = let at_most = rest.at_most in let same = kept_mark.size in omega (arith, at_most, same);
           secondary = rest.secondary;
           rest = done_rests (trailer_of g with_mark Primary) copied;
         }

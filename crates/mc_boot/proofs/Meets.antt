@@ -57,10 +57,10 @@ abbrev pub AreThere : Geometry → List Sector → Type 0
 AreThere g es = AllByRecursion (λ e. e.index < sectors_of g e.slot) es
 
 -- A list begins with the erases of these sectors, and its first operations write in them alone.
-pub record BeginsIn (g : Geometry) (ops : List Op) (es : List Sector) (reach : ℕ) : Type 0 where
+pub record BeginsIn (g : Geometry) (ops : List Op) (es : List Sector) (harmless_len : ℕ) : Type 0 where
   pub there : AreThere g es
   pub erases : take (length es) ops ≡ map erase_of es
-  pub inside : AllByRecursion (WritesIn g es) (take reach ops)
+  pub inside : AllByRecursion (WritesIn g es) (take harmless_len ops)
 
 -- One list is a rest of another.
 abbrev pub IsRestOf : List Op → List Op → Type 0
@@ -73,12 +73,12 @@ pub record Meets (g : Geometry) (ops rest : List Op) (done j erases : ℕ) : Typ
   pub is_rest : IsRestOf rest ops
   pub sectors : List Sector
   pub so_many : length sectors ≡ erases
-  pub reach : ℕ
-  pub begins : BeginsIn g rest sectors reach
+  pub harmless_len : ℕ
+  pub begins : BeginsIn g rest sectors harmless_len
   pub passed : j ≤ done
-  pub reached : done ≤ j + reach
+  pub reached : done ≤ j + harmless_len
 
--- A content with some sectors erased, and the operations that it can't be told from.
+-- A content with some sectors erased, and the operations that it can't be distinguished from.
 
 -- One sector erased, and these sectors, one after another.
 abbrev pub erase_in : Geometry → Content → Sector → Content
@@ -140,7 +140,7 @@ erase_apart g s t e es fits_s fits_t same = record {
       | inl low ↦ to.before i low ∙ beside e.slot i outside (λ _. inl low) ∙ sym (from.before i low)
       | inr high ↦ elim (cases_lt i (e.index * g.sector + g.sector)) [
         | inl low ↦ inner i (i - e.index * g.sector) (omega (arith, high)) (omega (arith, low, high))
-        | inr behind ↦ to.behind i (omega (arith, wide, behind)) ∙ beside e.slot i outside (λ _. inr behind) ∙ sym (from.behind i (omega (arith, wide, behind)))
+        | inr beyond ↦ to.beyond i (omega (arith, wide, beyond)) ∙ beside e.slot i outside (λ _. inr beyond) ∙ sym (from.beyond i (omega (arith, wide, beyond)))
       ]
     ]
 
@@ -202,7 +202,7 @@ changed_outside g es s t slot at new index ch listed from to = record {
   where
     here : (i : ℕ) → (i < index * g.sector) ⊎ (index * g.sector + g.sector ≤ i) → byte t slot i ≡ byte s slot i
     here i (inl low) = ch.before i (omega (arith, low, from))
-    here i (inr high) = ch.behind i (omega (arith, high, to))
+    here i (inr high) = ch.beyond i (omega (arith, high, to))
 
     by : (o : Slot) (i : ℕ) → IsOutside g es o i → (o ≡ slot) ⊎ (o ≢ slot) → byte t o i ≡ byte s o i
     by o i outside (inl is) =

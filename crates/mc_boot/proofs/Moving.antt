@@ -60,7 +60,7 @@ pub unchanged : (s t : Content) (slot : Slot) (at : ℕ) (new : List ℕ) (o : S
 unchanged s t slot at new o i ch out = elim (same_slot o slot) [
   | inl same ↦
       let E : Slot → Type 0 = λ p. byte t p i ≡ byte s p i in
-      subst E (sym same) (elim (out same) [ inl low ↦ ch.before i low | inr high ↦ ch.behind i high ])
+      subst E (sym same) (elim (out same) [ inl low ↦ ch.before i low | inr high ↦ ch.beyond i high ])
   | inr differ ↦ ch.other o i differ
 ]
 
@@ -80,7 +80,7 @@ after_copy g s t u x c inside room there so ch = record {
         ∙ ap (byte t x.from) (omega (arith, high))
         ∙ so.elsewhere x.from (x.from_sector * g.sector + i) (source_outside g x i inside (omega (arith, below, room)))
   ];
-  blank = λ i past short. ch.behind (x.to_sector * g.sector + i) (omega (arith, past, len)) ∙ so.blank i (omega (arith, past)) short;
+  blank = λ i past short. ch.beyond (x.to_sector * g.sector + i) (omega (arith, past, len)) ∙ so.blank i (omega (arith, past)) short;
   elsewhere = λ o i out. unchanged t u x.to _ _ o i ch (λ same. elim (out same) [ inl low ↦ inl (omega (arith, low)) | inr high ↦ inr (omega (arith, high, len, room)) ]) ∙ so.elsewhere o i out;
   sized = changed_sized g t u x.to _ _ ch so.sized;
 }
@@ -183,7 +183,7 @@ data_begin g n start sized = record {
   held = λ o i m below short away. let E : Held → Type 0 = λ f. byte_in g start o i m ≡ byte_held g start (f o i) m in subst E (sym (held_begin g n)) refl;
 }
 
--- what stands behind the data sectors doesn't matter
+-- what stands after the data sectors doesn't matter
 pub data_same : (g : Geometry) (n : ℕ) (start : Content) (k : ℕ) (s t : Content) → IsSized g t → ((o : Slot) (i : ℕ) → i < data_end g o → byte t o i ≡ byte s o i) → Data g n start k s
     → Data g n start k t
 data_same g n start k s t sized same data_ = record {
@@ -191,10 +191,10 @@ data_same g n start k s t sized same data_ = record {
   held = λ o i m below short away. same o (i * g.sector + m) (omega (arith, short, sector_in_data g o i below)) ∙ data_.held o i m below short away;
 }
 
--- a change behind the data sectors of a slot
+-- a change after the data sectors of a slot
 pub kept_below : (g : Geometry) (s t : Content) (slot : Slot) (at : ℕ) (new : List ℕ) → Changed s t slot at new → data_end g slot ≤ at → (o : Slot) (i : ℕ) → i < data_end g o → byte t o i ≡ byte s o i
-kept_below g s t slot at new ch behind o i below =
-    unchanged s t slot at new o i ch (λ same. inl (let E : Slot → Type 0 = λ p. i < data_end g p in let here : i < data_end g slot = subst E same below in omega (arith, here, behind)))
+kept_below g s t slot at new ch beyond o i below =
+    unchanged s t slot at new o i ch (λ same. inl (let E : Slot → Type 0 = λ p. i < data_end g p in let here : i < data_end g slot = subst E same below in omega (arith, here, beyond)))
 
 other_sector : (g : Geometry) (i j m : ℕ) → (i ≡ j → ⊥) → m < g.sector → (i * g.sector + m < j * g.sector) ⊎ (j * g.sector + g.sector ≤ i * g.sector + m)
 other_sector g i j m differ short = elim (cases_lt i j) [
@@ -223,15 +223,15 @@ source_no_target g n k x at inside y there slot sector =
 -- one transfer more
 pub data_step : (g : Geometry) (n : ℕ) (start : Content) (k : ℕ) (s u : Content) (x : Transfer) → IsLayout g → n ≤ greatest_sectors g → slice_get (transfers g n) k ≡ Some x → Data g n start k s
     → Copied g s u x (g.sector / g.chunk) → Data g n start (k + 1) u
-data_step g n start k s u x ok few at data_ so = record {
+data_step g n start k s u x ok at_most at data_ so = record {
   sized = so.sized;
   held = λ o i m below short away.
       let E : Held → Type 0 = λ f. byte_in g u o i m ≡ byte_held g start (f o i) m in
-      subst E (sym (held_next g n k x at)) (place o i m below short);
+      subst E (sym (held_next g n k x at)) (index o i m below short);
 }
   where
     fits : Fits g n k x
-    fits = fits_at g n k x ok few at
+    fits = fits_at g n k x ok at_most at
 
     elsewhere : (o : Slot) (i m : ℕ) → i < data_sectors g o → m < g.sector → (o ≡ x.to → i ≡ x.to_sector → ⊥) → byte_in g u o i m ≡ byte_held g start (held_after (held_at g n k) x o i) m
     elsewhere o i m below short away =
@@ -247,8 +247,8 @@ data_step g n start k s u x ok few at data_ so = record {
         ∙ data_.held x.from x.from_sector m fits.from_data short (source_no_target g n k x at fits.inside)
         ∙ ap (λ (h : Slot × ℕ). byte_held g start h m) (sym (held_here (held_at g n k) x))
 
-    place : (o : Slot) (i m : ℕ) → i < data_sectors g o → m < g.sector → byte_in g u o i m ≡ byte_held g start (held_after (held_at g n k) x o i) m
-    place o i m below short = elim (same_slot o x.to) [
+    index : (o : Slot) (i m : ℕ) → i < data_sectors g o → m < g.sector → byte_in g u o i m ≡ byte_held g start (held_after (held_at g n k) x o i) m
+    index o i m below short = elim (same_slot o x.to) [
       | inr other ↦ elsewhere o i m below short (λ slot sector. other slot)
       | inl slot ↦ elim (cases_eq i x.to_sector) [
         | inr other ↦ elsewhere o i m below short (λ _ sector. other sector)

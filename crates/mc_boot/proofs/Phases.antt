@@ -4,14 +4,12 @@ use Rattle.std.proofs.lemmas.Bool.Decides.{nat_tests}
 use Rattle.std.proofs.lemmas.List.Edits.{get_or-between}
 use Rattle.std.proofs.lemmas.Slice.Eq.{bytes_eq-Decides}
 use Rattle.std.specs.Int.{div_ceil}
-use Rattle.std.specs.Prelude.{Bool, List, Option, Some, [], bytes_eq, false, if◌then◌else◌, is_none, max, nat_lt, not, refl, replicate, slice_index, suc, true, zero, ℕ, ◌&&◌, ◌*◌, ◌+◌, ◌-◌, ◌<◌}
-use Rattle.std.specs.Prelude.{◌==◌, ◌^◌, ◌||◌, ◌∷◌, ◌≡◌, ◌≤◌, ◌⊎◌}
+use Rattle.std.specs.Prelude.{Bool, List, Option, Some, [], bytes_eq, false, if◌then◌else◌, is_none, max, nat_lt, not, refl, replicate, slice_index, suc, true, zero, ℕ, ◌&&◌, ◌*◌, ◌+◌, ◌-◌, ◌<◌, ◌==◌, ◌^◌, ◌||◌, ◌∷◌, ◌≡◌, ◌≤◌, ◌⊎◌}
 use Rattle.mc_boot.proofs.Images.{HasImage, ImageLaws}
 use Rattle.mc_boot.proofs.Moving.{Data}
 use Rattle.mc_boot.proofs.Plans.{plan_new, plan_resumed, resumed_count}
 use Rattle.mc_boot.proofs.Transfers.{Entries, entries_last, entries_not, left_at, other_number}
-use Rattle.mc_boot.specs.Plan.{Plan, PowerOn, again, confirms, first_left, image_size, images_of, is_test, new_list, new_plan, new_swap, nothing, number_of, plan, resumed_from, resumed_list}
-use Rattle.mc_boot.specs.Plan.{resumed_plan, resumed_swap}
+use Rattle.mc_boot.specs.Plan.{Plan, PowerOn, again, confirms, first_left, image_size, images_of, is_test, new_list, new_plan, new_swap, nothing, number_of, plan, resumed_from, resumed_list, resumed_plan, resumed_swap}
 use Rattle.mc_boot.specs.Restart.{forgets_reverts}
 use Rattle.mc_boot.specs.declared.image.Images.{Images}
 use Rattle.mc_flash.specs.Flash.{Content, IsSized, byte, bytes_of, is_blank}
@@ -54,7 +52,7 @@ pub record Swap (g : Geometry) (start : Content) (size n : ℕ) : Type 0 where
   pub larger : larger_size start ≡ size
   pub count : div_ceil size g.sector ≡ n
   pub some : 0 < n
-  pub few : n ≤ greatest_sectors g
+  pub at_most : n ≤ greatest_sectors g
   pub small : size < 256 ^ 4
 
 -- the types of swap that end as a test, or as one that stays
@@ -106,14 +104,14 @@ tested field.SwapSize = []
 
 -- The secondary's magic while a revert is prepared: unset; where a unit is written at once, only its last byte is 0xff for
 -- sure, since it is written upward.
-abbrev pub Quiet : Grain → Geometry → Content → Type 0
-Quiet grains.Call g s = FieldIs g s Secondary field.Magic (replicate 16 255)
-Quiet grains.Unit g s = byte s Secondary (place g Secondary field.Magic + 15) ≡ 255
+abbrev pub MagicUnset : Grain → Geometry → Content → Type 0
+MagicUnset grains.Call g s = FieldIs g s Secondary field.Magic (replicate 16 255)
+MagicUnset grains.Unit g s = byte s Secondary (place g Secondary field.Magic + 15) ≡ 255
 
 -- a test is to be reverted
 pub record Waiting (c : Grain) (g : Geometry) (start : Content) (n : ℕ) (s : Content) : Type 0 where
   pub primary : FieldsAre g s Primary tested
-  pub quiet : Quiet c g s
+  pub magic_unset : MagicUnset c g s
   pub data_ : Data g n start 0 s
 
 -- a swap is asked for; the primary's trailer may hold anything
@@ -243,12 +241,12 @@ running g kind n k erases = record { kind = kind; sectors = n; list = resumed_li
 running_is : (c : Grain) (g : Geometry) (p : Trailer) (highest : Option ℕ) (b : Bool) (kind : SwapType) (size n k : ℕ) → IsSwapOf b kind → p.swap_info ≡ number_of kind → p.swap_size ≡ size
     → div_ceil size g.sector ≡ n → 0 < n → n ≤ greatest_sectors g
     → first_left g n highest ≡ Some k → is_none highest ≡ (k == 0) → confirms kind p.image_ok ≡ false → resumed_plan c g p highest ≡ running (in_pieces c g) kind n k (k == 0)
-running_is c g p highest b kind size n k of info sized_is count some few first any settled =
+running_is c g p highest b kind size n k of info sized_is count some at_most first any settled =
     ap (by_info c g p.image_ok highest (div_ceil p.swap_size g.sector)) info
     ∙ of_kind c g p.image_ok highest (div_ceil p.swap_size g.sector) b kind of
     ∙ ap (λ z. resumed_swap c g p.image_ok highest kind (div_ceil z g.sector)) sized_is
     ∙ ap (resumed_swap c g p.image_ok highest kind) count
-    ∙ resumed_count c g p.image_ok highest kind n some few
+    ∙ resumed_count c g p.image_ok highest kind n some at_most
     ∙ ap (resumed_from c g p.image_ok highest kind n) first
     ∙ ap (λ (e : Bool). record { kind = kind; sectors = n; list = resumed_list (in_pieces c g) n k e (confirms kind p.image_ok) }) any
     ∙ ap (λ (e : Bool). record { kind = kind; sectors = n; list = resumed_list (in_pieces c g) n k (k == 0) e }) settled
@@ -257,13 +255,13 @@ confirms_not : (b : Bool) (kind : SwapType) (image_ok : Flag) → is_test kind �
 confirms_not true kind image_ok of set = rw of refl
 confirms_not false kind image_ok of set = rw of (rw (set refl) refl)
 
--- what the entries tell: the first transfer that is left, and whether any is made
+-- what the entries show: the first transfer that is left, and whether any is made
 found : (g : Geometry) (n k : ℕ) (s : Content) → IsLayout g → IsSized g s → n ≤ greatest_sectors g → k ≤ 3 * n → Entries g n k s → (first_left g n (highest_entry g s) ≡ Some k)
     × (is_none (highest_entry g s) ≡ (k == 0))
-found g n zero s ok sized few most en = let none = entries_not g n s ok sized en in (ap (first_left g n) none, ap (λ (o : Option ℕ). is_none o) none)
-found g n (suc j) s ok sized few most en =
-    let last = entries_last g n (suc j) s ok sized (omega (arith, few)) (omega arith) most en in
-    (ap (first_left g n) last ∙ left_at g n (suc j) ok few (omega arith) most, ap (λ (o : Option ℕ). is_none o) last ∙ sym (other_number (suc j) 0 (λ e. omega (arith, e))))
+found g n zero s ok sized at_most most en = let none = entries_not g n s ok sized en in (ap (first_left g n) none, ap (λ (o : Option ℕ). is_none o) none)
+found g n (suc j) s ok sized at_most most en =
+    let last = entries_last g n (suc j) s ok sized (omega (arith, at_most)) (omega arith) most en in
+    (ap (first_left g n) last ∙ left_at g n (suc j) ok at_most (omega arith) most, ap (λ (o : Option ℕ). is_none o) last ∙ sym (other_number (suc j) 0 (λ e. omega (arith, e))))
 
 -- the flag in the primary while the swap runs, and at its end
 pub image_ok_is : (g : Geometry) (s : Content) (kind : SwapType) (b : Bool) → is_test kind ≡ b → FieldIs g s Primary field.ImageOk (if is_test kind then blank_fields field.ImageOk else one_unit g 1)
@@ -282,11 +280,11 @@ plan_under x size n b kind k s w of most u =
     let absent = reads_absent x.geometry s Secondary w.ok sized (u.secondary field.Magic) in
     let info = reads_info x.geometry s Primary (number_of kind) (replicate (x.geometry.unit - 1) 255) (u.primary field.SwapInfo) in
     let sized_is = reads_size x.geometry s Primary size (replicate (x.geometry.unit - 4) 255) w.ok sized w.small (u.primary field.SwapSize) in
-    let first = found x.geometry n k s w.ok sized w.few most u.entries in
+    let first = found x.geometry n k s w.ok sized w.at_most most u.entries in
     let settled = confirms_not b kind (trailer_of x.geometry s Primary).image_ok (swap_of b kind of)
     (λ stays. image_ok_is x.geometry s kind false (swap_of b kind of ∙ stays) (u.primary field.ImageOk)) in
     plan_resumed (again x s) (resumes_when (trailer_of x.geometry s Primary) (trailer_of x.geometry s Secondary) good unset absent)
-    ∙ running_is x.rules.grain x.geometry (trailer_of x.geometry s Primary) (highest_entry x.geometry s) b kind size n k of info sized_is w.count w.some w.few first.0 first.1 settled
+    ∙ running_is x.rules.grain x.geometry (trailer_of x.geometry s Primary) (highest_entry x.geometry s) b kind size n k of info sized_is w.count w.some w.at_most first.0 first.1 settled
 
 -- the plan of a swap from its start
 abbrev pub starting : Grain → Geometry → SwapType → ℕ → ℕ → Plan
@@ -294,7 +292,7 @@ starting c g kind size n = record { kind = kind; sectors = n; list = new_list c 
 
 pub new_swap_is : (c : Grain) (g : Geometry) (images : Images) (kind : SwapType) (size n : ℕ) → images.valid ≡ true → images.size ≡ size → div_ceil size g.sector ≡ n → n ≤ greatest_sectors g
     → new_swap c g images kind ≡ starting c g kind size n
-new_swap_is c g images kind size n valid larger count few =
+new_swap_is c g images kind size n valid larger count at_most =
     ap (λ (z : ℕ). if not images.valid || nat_lt (greatest_sectors g) (div_ceil z g.sector) then nothing kinds.Fail else record {
       kind = kind;
       sectors = div_ceil z g.sector;
@@ -303,7 +301,7 @@ new_swap_is c g images kind size n valid larger count few =
     }) larger
     ∙ ap (λ (m : ℕ). if not images.valid || nat_lt (greatest_sectors g) m then nothing kinds.Fail else record { kind = kind; sectors = m; list = new_list c (in_pieces c g) kind size m }) count
     ∙ ap (λ (v : Bool). if not v || nat_lt (greatest_sectors g) n then nothing kinds.Fail else starting c g kind size n) valid
-    ∙ ap (λ (v : Bool). if v then nothing kinds.Fail else starting c g kind size n) (no_more (greatest_sectors g) few)
+    ∙ ap (λ (v : Bool). if v then nothing kinds.Fail else starting c g kind size n) (no_more (greatest_sectors g) at_most)
   where
     no_more : (most : ℕ) → n ≤ most → nat_lt most n ≡ false
     no_more most h = grind (arith, nat_tests)
@@ -333,17 +331,17 @@ plan_asked x size n b s w sees u =
     table false good are = stays_when x.rules.profile (trailer_of x.geometry s Primary) (trailer_of x.geometry s Secondary) good (reads_image_ok x.geometry s Secondary 1 [] (are field.ImageOk))
 
     swap : (e : Bool) → new_plan x.rules.grain x.geometry (images_of s) (kind_asked e) ≡ starting x.rules.grain x.geometry (kind_asked e) size n
-    swap true = new_swap_is x.rules.grain x.geometry (images_of s) kinds.Test size n sees.valid sees.larger w.count w.few
-    swap false = new_swap_is x.rules.grain x.geometry (images_of s) kinds.Perm size n sees.valid sees.larger w.count w.few
+    swap true = new_swap_is x.rules.grain x.geometry (images_of s) kinds.Test size n sees.valid sees.larger w.count w.at_most
+    swap false = new_swap_is x.rules.grain x.geometry (images_of s) kinds.Perm size n sees.valid sees.larger w.count w.at_most
 
 -- after a swap: the trailers decide
 pub plan_tested : (x : PowerOn) (size n : ℕ) → (trailer_of x.geometry x.content Primary).magic ≡ magics.Good → (trailer_of x.geometry x.content Primary).image_ok ≡ flags.Unset
     → (trailer_of x.geometry x.content Primary).copy_done ≡ flags.Set → reverts_at x.rules.profile (trailer_of x.geometry x.content Secondary).magic ≡ true
     → SeesImages x.content size → div_ceil size x.geometry.sector ≡ n → n ≤ greatest_sectors x.geometry → plan x ≡ starting x.rules.grain x.geometry kinds.Revert size n
-plan_tested x size n good unset done reverts sees count few =
+plan_tested x size n good unset done reverts sees count at_most =
     new_is x kinds.Revert (starting x.rules.grain x.geometry kinds.Revert size n) (not_when_done (trailer_of x.geometry x.content Primary) (trailer_of x.geometry x.content Secondary) done)
     (reverts_when x.rules.profile (trailer_of x.geometry x.content Primary) (trailer_of x.geometry x.content Secondary) good reverts unset done)
-    (new_swap_is x.rules.grain x.geometry (images_of x.content) kinds.Revert size n sees.valid sees.larger count few)
+    (new_swap_is x.rules.grain x.geometry (images_of x.content) kinds.Revert size n sees.valid sees.larger count at_most)
 
 pub plan_settled : (x : PowerOn) → (trailer_of x.geometry x.content Primary).copy_done ≡ flags.Set → (trailer_of x.geometry x.content Secondary).magic ≡ magics.Unset
     → (trailer_of x.geometry x.content Primary).image_ok ≡ flags.Set → plan x ≡ nothing kinds.None
@@ -362,11 +360,11 @@ pub absent_reverts : (profile : Profile) (m : Magic) → m ≡ magics.Unset → 
 absent_reverts profiles.One m is = ap (reverts_at profiles.One) is
 absent_reverts profiles.Two m is = ap (reverts_at profiles.Two) is
 
-pub quiet_reverts : (c : Grain) (profile : Profile) (g : Geometry) (s : Content) → forgets_reverts c profile ≡ false → IsLayout g → IsSized g s → Quiet c g s
+pub magic_unset_reverts : (c : Grain) (profile : Profile) (g : Geometry) (s : Content) → forgets_reverts c profile ≡ false → IsLayout g → IsSized g s → MagicUnset c g s
     → reverts_at profile (trailer_of g s Secondary).magic ≡ true
-quiet_reverts grains.Call profile g s keeps ok sized quiet = absent_reverts profile (trailer_of g s Secondary).magic (reads_absent g s Secondary ok sized quiet)
-quiet_reverts grains.Unit profiles.One g s keeps ok sized quiet = absurd cc
-quiet_reverts grains.Unit profiles.Two g s keeps ok sized quiet = ap not (reads_not_good g s Secondary quiet)
+magic_unset_reverts grains.Call profile g s keeps ok sized magic_unset = absent_reverts profile (trailer_of g s Secondary).magic (reads_absent g s Secondary ok sized magic_unset)
+magic_unset_reverts grains.Unit profiles.One g s keeps ok sized magic_unset = absurd cc
+magic_unset_reverts grains.Unit profiles.Two g s keeps ok sized magic_unset = ap not (reads_not_good g s Secondary magic_unset)
 
 -- The bytes of a trailer's fields, by what is read of them.
 

@@ -4,14 +4,12 @@ use Rattle.std.proofs.lemmas.Bool.{lt-ltb, ne_eqb}
 use Rattle.std.proofs.lemmas.Bool.Decides.{nat_tests}
 use Rattle.std.specs.Int.{div_ceil}
 use Rattle.std.specs.Option.{is_some}
-use Rattle.std.specs.Prelude.{Bool, Err, List, None, Ok, Option, Result, Some, [], drop, false, if◌then◌else◌, is_none, nat_lt, not, option_map, refl, slice_get, true, ℕ, ◌*◌, ◌+◌, ◌<◌, ◌==◌}
-use Rattle.std.specs.Prelude.{◌||◌, ◌∷◌, ◌≡◌, ◌≤◌}
+use Rattle.std.specs.Prelude.{Bool, Err, List, None, Ok, Option, Result, Some, [], drop, false, if◌then◌else◌, is_none, nat_lt, not, option_map, refl, slice_get, true, ℕ, ◌*◌, ◌+◌, ◌<◌, ◌==◌, ◌||◌, ◌∷◌, ◌≡◌, ◌≤◌}
 use Rattle.mc_boot.proofs.Courses.{drop_at_place, get_dropped}
 use Rattle.mc_boot.proofs.Images.{valid_held}
 use Rattle.mc_boot.specs.Boot.{Progress, Steps, StepsAlong, Turns, begun, progress, to_come, whole_list}
 use Rattle.mc_boot.specs.Outcome.{Report, report, result_of, shown}
-use Rattle.mc_boot.specs.Plan.{PowerOn, confirms, first_left, identity_of, images_of, new_list, new_plan, new_swap, nothing, plan, plan_with, resumed_from, resumed_list, resumed_plan}
-use Rattle.mc_boot.specs.Plan.{resumed_swap}
+use Rattle.mc_boot.specs.Plan.{PowerOn, confirms, first_left, identity_of, images_of, new_list, new_plan, new_swap, nothing, plan, plan_with, resumed_from, resumed_list, resumed_plan, resumed_swap}
 use Rattle.mc_boot.specs.declared.boot.Boot.{Boot}
 use Rattle.mc_boot.specs.declared.course.Course.{Course}
 use Rattle.mc_boot.specs.declared.image.ImageId.{ImageId}
@@ -37,15 +35,15 @@ use Rattle.mc_trailer.specs.declared.tables.SwapType.TheVariants as kinds
 -- A boot at power-on, as its plan says.
 
 may_swap : (n most : ℕ) → 0 < n → n ≤ most → (n == 0 || nat_lt most n) ≡ false
-may_swap n most some few =
+may_swap n most some at_most =
     let a : (n == 0) ≡ false = grind (arith, nat_tests) in
     let b : nat_lt most n ≡ false = grind (arith, nat_tests) in
     rw a (rw b refl)
 
 pub resumed_count : (c : Grain) (g : Geometry) (image_ok : Flag) (highest : Option ℕ) (kind : SwapType) (n : ℕ) → 0 < n → n ≤ greatest_sectors g
     → resumed_swap c g image_ok highest kind n ≡ resumed_from c g image_ok highest kind n (first_left g n highest)
-resumed_count c g image_ok highest kind n some few =
-    ap (λ b. if b then nothing kinds.Panic else resumed_from c g image_ok highest kind n (first_left g n highest)) (may_swap n (greatest_sectors g) some few)
+resumed_count c g image_ok highest kind n some at_most =
+    ap (λ b. if b then nothing kinds.Panic else resumed_from c g image_ok highest kind n (first_left g n highest)) (may_swap n (greatest_sectors g) some at_most)
 
 -- a swap of more sectors than fit panics
 pub resumed_wide : (c : Grain) (g : Geometry) (image_ok : Flag) (highest : Option ℕ) (kind : SwapType) (n : ℕ) → greatest_sectors g < n → nothing kinds.Panic ≡ resumed_swap c g image_ok highest kind n
@@ -54,12 +52,12 @@ resumed_wide c g image_ok highest kind n wide = rw (ne_eqb n 0 (λ e. absurd (om
 -- and so does one that has no transfer of the highest entry
 pub resumed_lost : (c : Grain) (g : Geometry) (image_ok : Flag) (highest : Option ℕ) (kind : SwapType) (n : ℕ) → 0 < n → n ≤ greatest_sectors g
     → first_left g n highest ≡ None → nothing kinds.Panic ≡ resumed_swap c g image_ok highest kind n
-resumed_lost c g image_ok highest kind n some few none = sym (resumed_count c g image_ok highest kind n some few ∙ ap (resumed_from c g image_ok highest kind n) none)
+resumed_lost c g image_ok highest kind n some at_most none = sym (resumed_count c g image_ok highest kind n some at_most ∙ ap (resumed_from c g image_ok highest kind n) none)
 
 -- a swap from its start, at power-on
 pub new_begun : (r : Rules) (g : Geometry) (images : Images) (kind : SwapType) (l : Geometry) (n : ℕ) → images.valid ≡ true → n ≡ div_ceil images.size g.sector → n ≤ greatest_sectors g
     → l ≡ in_pieces r.grain g → record { rules = r; kind = kind; to_come = new_list r.grain l kind images.size n; count = 0; faulted = false } ≡ begun r (new_swap r.grain g images kind)
-new_begun r g images kind l n valid is few layout_is =
+new_begun r g images kind l n valid is at_most layout_is =
     let fits : nat_lt (greatest_sectors g) (div_ceil images.size g.sector) ≡ false = grind (arith, nat_tests) in
     rw (is, layout_is, valid, fits) refl
 
@@ -74,12 +72,12 @@ pub resumed_begun : (r : Rules) (g : Geometry) (image_ok : Flag) (highest : Opti
     → first_left g n highest ≡ Some first → l ≡ in_pieces r.grain g
     → erases ≡ is_none highest → ok ≡ confirms kind image_ok → (written : Option ℕ) → highest ≡ written
     → record { rules = r; kind = kind; to_come = resumed_list l n first erases ok; count = 0; faulted = false } ≡ begun r (resumed_swap r.grain g image_ok written kind n)
-resumed_begun r g image_ok highest kind n first l erases ok some few first_is layout_is erases_is ok_is written is =
+resumed_begun r g image_ok highest kind n first l erases ok some at_most first_is layout_is erases_is ok_is written is =
     let at : Geometry → Bool → Bool → Progress = λ x e b. record { rules = r; kind = kind; to_come = resumed_list x n first e b; count = 0; faulted = false } in
     ap (λ x. at x erases ok) layout_is
     ∙ ap (λ e. at (in_pieces r.grain g) e ok) erases_is
     ∙ ap (λ b. at (in_pieces r.grain g) (is_none highest) b) ok_is
-    ∙ ap (begun r) (sym (resumed_count r.grain g image_ok highest kind n some few ∙ ap (resumed_from r.grain g image_ok highest kind n) first_is))
+    ∙ ap (begun r) (sym (resumed_count r.grain g image_ok highest kind n some at_most ∙ ap (resumed_from r.grain g image_ok highest kind n) first_is))
     ∙ ap (λ (w : Option ℕ). begun r (resumed_swap r.grain g image_ok w kind n)) is
 
 -- the two halves of a plan
@@ -150,14 +148,14 @@ module _ (b : Boot) (op : Op) (old new : Seen) (head : slice_get (to_come b) 0 �
           let same : x ≡ op = cc in
           along (progress b) _ op rest old new (Err errors.NotErased) (is ∙ ap (λ (y : Op). y ∷ rest) same) refl does
 
--- What is told of a boot, by what was read of the slots.
+-- What is reported of a boot, by what was read of the slots.
 
-pub told : (x : PowerOn) (kind next : SwapType) (ops : ℕ) (faulted boots : Bool) (result : BootResult) (primary secondary : Option ImageId)
+pub reported : (x : PowerOn) (kind next : SwapType) (ops : ℕ) (faulted boots : Bool) (result : BootResult) (primary secondary : Option ImageId)
     → result ≡ result_of kind faulted boots → boots ≡ is_some primary
     → option_map identity_of primary ≡ id_of x.content.primary → option_map identity_of secondary ≡ id_of x.content.secondary → next ≡ (plan x).kind
     → shown (record { result = result; kind = kind; ops = ops; primary = primary; secondary = secondary; next = next }) ≡ report x.rules x.geometry kind ops faulted x.content
 unfolding report
-told from kind next ops faulted boots result primary secondary result_is boots_is first second next_is =
+reported from kind next ops faulted boots result primary secondary result_is boots_is first second next_is =
     let here : BootResult → Option Identity → Option Identity → SwapType → Report = λ x p q n. record { result = x; kind = kind; ops = ops; primary = p; secondary = q; next = n } in
     let valid : boots ≡ is_valid from.content.primary = boots_is ∙ valid_held from.content.primary primary first in
     ap (λ x. here x (option_map identity_of primary) (option_map identity_of secondary) next) (result_is ∙ ap (result_of kind faulted) valid)
@@ -165,10 +163,10 @@ told from kind next ops faulted boots result primary secondary result_is boots_i
     ∙ ap (λ q. here (result_of kind faulted (is_valid from.content.primary)) (id_of from.content.primary) q next) second
     ∙ ap (λ n. here (result_of kind faulted (is_valid from.content.primary)) (id_of from.content.primary) (id_of from.content.secondary) n) next_is
 
--- How few sectors a trailer takes, by the count that a call told, and how few transfers a swap has.
+-- How few sectors a trailer takes, by the count that a call gave, and how few transfers a swap has.
 
-pub few_told : (g : Geometry) (count : ℕ) → count ≡ trailer_sectors g → IsLayout g → count ≤ 262144
-few_told g count is ok = rw is (few_trailer_sectors g ok)
+pub few_counted : (g : Geometry) (count : ℕ) → count ≡ trailer_sectors g → IsLayout g → count ≤ 262144
+few_counted g count is ok = rw is (few_trailer_sectors g ok)
 
 pub thrice : (n : ℕ) → n ≤ 1024 → Fits w32 (3 * n)
-thrice n few = omega arith
+thrice n at_most = omega arith

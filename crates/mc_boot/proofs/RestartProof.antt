@@ -8,18 +8,17 @@ use Rattle.std.specs.Prelude.{Bool, List, Some, [], false, if◌then◌else◌, 
 use Rattle.mc_boot.proofs.AtRest.{AtRest, both_true, next_is, none_idle, swap_sectors}
 use Rattle.mc_boot.proofs.DeliveredStarts.{starts_law, test_delivered}
 use Rattle.mc_boot.proofs.FromRest.{rest_law, settled_stays, unconfirmed, unmarked_stays}
-use Rattle.mc_boot.proofs.Images.{ImageLaws, SameImage, image_front, same_fronts, same_then}
+use Rattle.mc_boot.proofs.Images.{ImageLaws, SameImage, image_prefix, same_prefixes, same_then}
 use Rattle.mc_boot.proofs.InPieces.{asked_pieces}
 use Rattle.mc_boot.proofs.Joins.{happens_few}
-use Rattle.mc_boot.proofs.Keeps.{Keeps, boots_so, ends, place_behind_data, restart}
+use Rattle.mc_boot.proofs.Keeps.{Keeps, boots_so, ends, place_beyond_data, restart}
 use Rattle.mc_boot.proofs.LifeProof.{Written, confirmed_written, predicts, rests_delivered}
 use Rattle.mc_boot.proofs.Phases.{asked, larger_size, plan_asked, plan_none, sees_images, starting}
 use Rattle.mc_boot.proofs.Starts.{Holding, count_of, perm_asked, perm_holds, placed_holds, placed_unasked, primary_image, secondary_image, swap_held, test_asked, test_holds}
 use Rattle.mc_boot.specs.Life.{DeviceState, EndsWell, Forgets, IsDelivered, Leaves, LeavesBytes, asked_of, can_swap, done_or_fails, is_on_trial}
 use Rattle.mc_boot.specs.Outcome.{after, is_faulted, left_by, ops_of}
 use Rattle.mc_boot.specs.Plan.{Plan, PowerOn, again, image_size, new_list, nothing, plain, plan, power_on}
-use Rattle.mc_boot.specs.Restart.{AreBack, AreExchanged, BeginsImage, EndsAgain, EndsIn, Holds, IsIdle, IsSettled, IsSwapped, IsTested, RestartLaw, RoundsLaw, StartsExist, confirmed}
-use Rattle.mc_boot.specs.Restart.{confirmed_if, forgets_reverts, image_bytes, may_confirm, named, other, perm_flash, placed, start_flash, test_flash}
+use Rattle.mc_boot.specs.Restart.{AreBack, AreExchanged, BeginsImage, EndsAgain, EndsIn, Holds, IsIdle, IsSettled, IsSwapped, IsTested, RestartLaw, RoundsLaw, StartsExist, confirmed, confirmed_if, forgets_reverts, image_bytes, may_confirm, named, other, perm_flash, placed, start_flash, test_flash}
 use Rattle.mc_boot.specs.WholeSwap.{MakesSwap}
 use Rattle.mc_boot.specs.declared.kind.Kind.{Kind}
 use Rattle.mc_boot.specs.facts.Run.{left_defined}
@@ -53,7 +52,7 @@ use Rattle.mc_boot.specs.declared.kind.Kind.TheVariants as starts
 
 -- the same image, whole
 pub held_whole : (a xs : List ℕ) → SameImage a xs → Holds a xs
-held_whole a xs same = record { id = same.id; whole = same.front }
+held_whole a xs same = record { id = same.id; whole = same.prefix }
 
 -- no swap
 pub idle_at : (r : Rules) (g : Geometry) (a b : List ℕ) → ImageLaws → IsLayout g → BeginsImage g a → BeginsImage g b
@@ -81,13 +80,13 @@ module _ (from : PowerOn) (idle : (plan from).list ≡ []) where
       → IsSwapped (again from s) kind from.content from.content → EndsIn (again from s) kind a b from.content from.content
   idle_ends kind a b s none valid one two swapped =
       let end = ends from.rules from.geometry (λ t. t ≡ from.content) (λ t. t ≡ from.content) from.content (rests from.content refl) in
-      let calm : (plan from).kind ≢ kinds.Panic = λ panic. no_panic (sym none ∙ panic) in
+      let not_panic : (plan from).kind ≢ kinds.Panic = λ panic. no_panic (sym none ∙ panic) in
       record {
         end = idle_leaves;
         whole = end.1.whole;
-        calm = calm;
+        not_panic = not_panic;
         boots = valid;
-        result = boots_so from from.content idle_leaves end.1.whole calm valid;
+        result = boots_so from from.content idle_leaves end.1.whole not_panic valid;
         primary = one;
         secondary = two;
         swapped = swapped;
@@ -98,17 +97,17 @@ module _ (from : PowerOn) (idle : (plan from).list ≡ []) where
 
 -- ---- flashes that two images start from
 
-less_front : (m n : ℕ) (xs : List ℕ) → m ≤ n → take m (take n xs) ≡ take m xs
-less_front zero n xs less = refl
-less_front (suc m) zero xs less = absurd (omega (arith, less))
-less_front (suc m) (suc n) [] less = refl
-less_front (suc m) (suc n) (x ∷ xs) less = ap (λ (l : List ℕ). x ∷ l) (less_front m n xs (omega (arith, less)))
+less_prefix : (m n : ℕ) (xs : List ℕ) → m ≤ n → take m (take n xs) ≡ take m xs
+less_prefix zero n xs less = refl
+less_prefix (suc m) zero xs less = absurd (omega (arith, less))
+less_prefix (suc m) (suc n) [] less = refl
+less_prefix (suc m) (suc n) (x ∷ xs) less = ap (λ (l : List ℕ). x ∷ l) (less_prefix m n xs (omega (arith, less)))
 
 -- the image stands wherever so many bytes are the same
-same_in_front : (g : Geometry) (b ys zs : List ℕ) (m : ℕ) → ImageLaws → BeginsImage g b → SameImage b ys → image_size ys ≤ m → take m zs ≡ take m ys → SameImage b zs
-same_in_front g b ys zs m laws at_b same most is =
+same_in_prefix : (g : Geometry) (b ys zs : List ℕ) (m : ℕ) → ImageLaws → BeginsImage g b → SameImage b ys → image_size ys ≤ m → take m zs ≡ take m ys → SameImage b zs
+same_in_prefix g b ys zs m laws at_b same most is =
     let less : image_size b ≤ m = let size = same.size in omega (arith, size, most) in
-    image_front b zs laws at_b.bytes at_b.valid (sym (less_front (image_size b) m zs less) ∙ ap (take (image_size b)) is ∙ less_front (image_size b) m ys less ∙ same.front)
+    image_prefix b zs laws at_b.bytes at_b.valid (sym (less_prefix (image_size b) m zs less) ∙ ap (take (image_size b)) is ∙ less_prefix (image_size b) m ys less ∙ same.prefix)
 
 -- At rest, with the images of a and b in the slots, and a boot of this type is next.
 pub record Begins (r : Rules) (g : Geometry) (kind : SwapType) (a b : List ℕ) (s : Content) : Type 0 where
@@ -126,8 +125,8 @@ module _ (laws : ImageLaws) (r : Rules) (g : Geometry) (a b : List ℕ) (ok : Is
       let wide = ok.least_sector in
       let most : larger_size s ≤ count_of g s * g.sector = (div_ceil_times (larger_size s) g.sector (omega (arith, wide))).0 in
       let rows : (plan (power_on r g s)).sectors * g.sector ≡ count_of g s * g.sector = ap (λ n. n * g.sector) count in (
-        same_in_front g b s.secondary z.primary ((plan (power_on r g s)).sectors * g.sector) laws at_b begins.secondary (omega (arith, most, rows)) are.primary,
-        same_in_front g a s.primary z.secondary ((plan (power_on r g s)).sectors * g.sector) laws at_a begins.primary (omega (arith, most, rows)) are.secondary,
+        same_in_prefix g b s.secondary z.primary ((plan (power_on r g s)).sectors * g.sector) laws at_b begins.secondary (omega (arith, most, rows)) are.primary,
+        same_in_prefix g a s.primary z.secondary ((plan (power_on r g s)).sectors * g.sector) laws at_a begins.primary (omega (arith, most, rows)) are.secondary,
       )
 
   module _ (s u : Content) (cuts : List ℕ) (is : after (power_on r g s) cuts ≡ Some u) where
@@ -156,7 +155,7 @@ module _ (laws : ImageLaws) (r : Rules) (g : Geometry) (a b : List ℕ) (ok : Is
             record {
               end = well.end;
               whole = well.whole;
-              calm = well.calm;
+              not_panic = well.not_panic;
               boots = well.valid;
               result = well.result;
               primary = rw is_named (held_whole b z.primary held.0);
@@ -393,24 +392,24 @@ module _ (laws : ImageLaws) (r : Rules) (g : Geometry) (a b : List ℕ) (ok : Is
 
     settled : IsSettled (power_on r g (confirmed g x))
     settled =
-        let tells = predicts laws r g ok x round.rest in
-        let asked_not = no_request r.profile (is_on_trial (trailer_of g x Primary)) (can_swap g x.secondary) (trailer_of g x Secondary) (sym tells.next ∙ round.tested.next) in
+        let predicts_next = predicts laws r g ok x round.rest in
+        let asked_not = no_request r.profile (is_on_trial (trailer_of g x Primary)) (can_swap g x.secondary) (trailer_of g x Secondary) (sym predicts_next.next ∙ round.tested.next) in
         let next : (plan (power_on r g (confirmed g x))).kind ≡ kinds.None =
-        ap (λ (d : DeviceState). d.next) (tells.confirms round.may) ∙ ap (λ (c : Bool). if c then (plan (power_on r g x)).kind else kinds.None) asked_not in
+        ap (λ (d : DeviceState). d.next) (predicts_next.confirms round.may) ∙ ap (λ (c : Bool). if c then (plan (power_on r g x)).kind else kinds.None) asked_not in
         record { image_ok = written_there.image_ok; copy_done = written_there.copy_done; next = next; idle = none_idle (power_on r g (confirmed g x)) written_there.rested.rest next }
 
     crossing : AreExchanged g (plan (power_on r g s)).sectors s (confirmed g x)
     crossing =
-        let behind : data_end g Primary ≤ place g Primary field.ImageOk = place_behind_data g Primary field.ImageOk ok in
+        let beyond : data_end g Primary ≤ place g Primary field.ImageOk = place_beyond_data g Primary field.ImageOk ok in
         let rows : greatest_sectors g * g.sector ≤ data_end g Primary = mul-le-mul_right g.sector (image_is_data g Primary (greatest_sectors g) (omega arith)) in
-        let few : (plan (power_on r g s)).sectors * g.sector ≤ greatest_sectors g * g.sector = mul-le-mul_right g.sector sectors.1 in
+        let at_most : (plan (power_on r g s)).sectors * g.sector ≤ greatest_sectors g * g.sector = mul-le-mul_right g.sector sectors.1 in
         let ends = field_ends g Primary field.ImageOk ok in
         let old = sized_is g x Primary round.rest.sized in
         let new = sized_is g (confirmed g x) Primary written_there.rested.sized in
         record {
-          primary = same_fronts x.primary (confirmed g x).primary ((plan (power_on r g s)).sectors * g.sector) (omega (arith, behind, rows, few, ends, old))
-              (omega (arith, behind, rows, few, ends, new))
-              (λ i h. written_there.before i (omega (arith, h, behind, rows, few))) ∙ round.exchange.primary;
+          primary = same_prefixes x.primary (confirmed g x).primary ((plan (power_on r g s)).sectors * g.sector) (omega (arith, beyond, rows, at_most, ends, old))
+              (omega (arith, beyond, rows, at_most, ends, new))
+              (λ i h. written_there.before i (omega (arith, h, beyond, rows, at_most))) ∙ round.exchange.primary;
           secondary = ap (take ((plan (power_on r g s)).sectors * g.sector)) written_there.secondary ∙ round.exchange.secondary;
         }
 
@@ -460,7 +459,7 @@ rounds_law laws r g starts.Revert confirms a b s t x u first second ok at_a at_b
 -- and all of it where none is refused
 length-ops_of : (x : PowerOn) → is_faulted x ≡ false → length (ops_of x) ≡ length (plan x).list
 unfolding is_faulted ops_of
-length-ops_of x whole = let few = happens_few x.geometry (plan x).list x.content in grind (arith, nat_tests)
+length-ops_of x whole = let at_most = happens_few x.geometry (plan x).list x.content in grind (arith, nat_tests)
 
 -- A start for a test of the images that a and b begin with.
 module _ (laws : ImageLaws) (r : Rules) (g : Geometry) (a b : List ℕ) (s : Content) (ok : IsLayout g) where

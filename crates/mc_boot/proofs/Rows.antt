@@ -124,7 +124,7 @@ revert_types : types reverting (from plain reverting).list ≡ replicate 4 kinds
 unfolding trailer_of apply plan_with
 revert_types = refl
 
--- The swap for good has image-ok behind the type, and a revert the secondary's trailer first.
+-- The swap for good has image-ok after the type, and a revert the secondary's trailer first.
 perm_opens : take 5 (from plain (perm_flash q a b)).list
     ≡ Erase Primary 3
     ∷ Program Primary 984 (3 ∷ 255 ∷ 255 ∷ 255 ∷ 255 ∷ 255 ∷ 255 ∷ 255 ∷ [])

@@ -7,10 +7,10 @@ use Rattle.std.proofs.lemmas.List.{get_or-append_right, get_or-replicate, get_or
 use Rattle.std.specs.Int.{div_ceil}
 use Rattle.std.specs.Prelude.{List, [], false, length, max, refl, replicate, slice_index, suc, true, zero, ℕ, ◌*◌, ◌+◌, ◌-◌, ◌<◌, ◌∷◌, ◌≡◌, ◌≤◌, ◌⊎◌}
 use Rattle.mc_boot.proofs.Courses.{slot_small}
-use Rattle.mc_boot.proofs.Images.{ImageLaws, SameImage, image_front, inside_size, same_fronts, some_size}
-use Rattle.mc_boot.proofs.Keeps.{place_behind_data}
+use Rattle.mc_boot.proofs.Images.{ImageLaws, SameImage, image_prefix, inside_size, same_prefixes, some_size}
+use Rattle.mc_boot.proofs.Keeps.{place_beyond_data}
 use Rattle.mc_boot.proofs.Phases.{Swap, asked, larger_size, unasked}
-use Rattle.mc_boot.proofs.SwapEnds.{front_inside}
+use Rattle.mc_boot.proofs.SwapEnds.{prefix_inside}
 use Rattle.mc_boot.proofs.SwapsKeep.{unasked_from}
 use Rattle.mc_boot.specs.Plan.{image_size}
 use Rattle.mc_boot.specs.Restart.{BeginsImage, filled, image_bytes, perm_flash, placed, test_flash}
@@ -18,7 +18,7 @@ use Rattle.mc_flash.specs.Flash.{Content, IsSized, put, size_of}
 use Rattle.mc_flash.specs.Geometry.{Geometry, IsLayout, greatest_sectors}
 use Rattle.mc_flash.specs.declared.op.Slot.{Slot}
 use Rattle.mc_flash.specs.declared.op.Slot.TheVariants.{Primary, Secondary}
-use Rattle.mc_flash.specs.facts.Changes.{length-put, put_before, put_behind, put_inside}
+use Rattle.mc_flash.specs.facts.Changes.{length-put, put_before, put_beyond, put_inside}
 use Rattle.mc_flash.specs.facts.Layouts.{data_before_trailer, data_end, fits_few, image_is_data}
 use Rattle.mc_trailer.specs.Trailer.{magic_bytes, place}
 use Rattle.mc_trailer.specs.facts.Fields.{FieldsAre}
@@ -36,16 +36,17 @@ image_short g a o laws ok image =
     let wide = ok.least_sector in
     let whole = length-image g a laws image in
     let rows : image_size a ≤ div_ceil (image_size a) g.sector * g.sector = (div_ceil_times (image_size a) g.sector (omega (arith, wide))).0 in
-    let few : div_ceil (image_size a) g.sector * g.sector ≤ data_end g o = mul-le-mul_right g.sector (image_is_data g o (div_ceil (image_size a) g.sector) (fits_few g (image_size a) ok image.fitting))
+    let at_most : div_ceil (image_size a) g.sector * g.sector ≤ data_end g o = mul-le-mul_right g.sector (image_is_data g o (div_ceil (image_size a) g.sector) (fits_few g (image_size a) ok
+    image.fitting))
     in
-    omega (arith, rows, few, whole)
+    omega (arith, rows, at_most, whole)
 
 -- bytes filled up
 pub length-filled : (g : Geometry) (o : Slot) (a : List ℕ) → length a ≤ size_of g o → length (filled g o a) ≡ size_of g o
 length-filled g o a short = length-append a (replicate (size_of g o - length a) 255) ∙ ap (λ n. length a + n) (length-replicate {A = ℕ} (size_of g o - length a) 255) ∙ omega arith
 
-pub filled_front : (g : Geometry) (o : Slot) (a : List ℕ) (i : ℕ) → i < length a → slice_index (filled g o a) i ≡ slice_index a i
-filled_front g o a i below = get_or_append_left a (replicate (size_of g o - length a) 255) 0 i below
+pub filled_prefix : (g : Geometry) (o : Slot) (a : List ℕ) (i : ℕ) → i < length a → slice_index (filled g o a) i ≡ slice_index a i
+filled_prefix g o a i below = get_or_append_left a (replicate (size_of g o - length a) 255) 0 i below
 
 pub filled_free : (g : Geometry) (o : Slot) (a : List ℕ) (i : ℕ) → length a ≤ i → i < size_of g o → slice_index (filled g o a) i ≡ 255
 filled_free g o a i from below =
@@ -61,8 +62,8 @@ held_image : (g : Geometry) (a xs : List ℕ) (o : Slot) → ImageLaws → IsLay
     → ((i : ℕ) → i < length (image_bytes a) → slice_index xs i ≡ slice_index (image_bytes a) i) → SameImage a xs
 held_image g a xs o laws ok image len same =
     let whole = length-image g a laws image in
-    image_front a xs laws image.bytes image.valid
-    (same_fronts a xs (image_size a) (inside_size a laws image.bytes image.valid) (omega (arith, whole, len, image_short g a o laws ok image, data_before_trailer g o ok))
+    image_prefix a xs laws image.bytes image.valid
+    (same_prefixes a xs (image_size a) (inside_size a laws image.bytes image.valid) (omega (arith, whole, len, image_short g a o laws ok image, data_before_trailer g o ok))
     (λ i h. same i (omega (arith, h, whole)) ∙ get_or-take (image_size a) a i 0 h))
 
 pub primary_image : (g : Geometry) (a b : List ℕ) (s : Content) → ImageLaws → IsLayout g → BeginsImage g a → Holding g a b s → SameImage a s.primary
@@ -85,8 +86,8 @@ swap_held g a b s laws ok at_a at_b h = record {
   larger = refl;
   count = refl;
   some = at_least (count_of g s) rows;
-  few = few;
-  small = let small = slot_small g Primary ok in omega (arith, rows, front_inside g (count_of g s) Primary ok few, small);
+  at_most = at_most;
+  small = let small = slot_small g Primary ok in omega (arith, rows, prefix_inside g (count_of g s) Primary ok at_most, small);
 }
   where
     one : SameImage a s.primary
@@ -108,8 +109,8 @@ swap_held g a b s laws ok at_a at_b h = record {
     one_of : (x y : ℕ) → (max x y ≡ x) ⊎ (max x y ≡ y)
     one_of x y = elim (cases_lt x y) [ inl low ↦ inr (omega (arith, low)) | inr high ↦ inl (omega (arith, high)) ]
 
-    few : count_of g s ≤ greatest_sectors g
-    few = let E : ℕ → Type 0 = λ m. div_ceil m g.sector ≤ greatest_sectors g in elim (one_of (image_size s.primary) (image_size s.secondary)) [
+    at_most : count_of g s ≤ greatest_sectors g
+    at_most = let E : ℕ → Type 0 = λ m. div_ceil m g.sector ≤ greatest_sectors g in elim (one_of (image_size s.primary) (image_size s.secondary)) [
       | inl is ↦ subst E (sym (is ∙ one.size)) (fits_few g (image_size a) ok at_a.fitting)
       | inr is ↦ subst E (sym (is ∙ two.size)) (fits_few g (image_size b) ok at_b.fitting)
     ]
@@ -135,12 +136,12 @@ length-marked g y ok short =
     let len = length-filled g Secondary y (short_in g y Secondary ok short) in
     length-put (filled g Secondary y) magic_bytes (place g Secondary field.Magic) (magic_fits g (filled g Secondary y) ok len) ∙ len
 
-marked_front : (g : Geometry) (y : List ℕ) (i : ℕ) → IsLayout g → length y ≤ data_end g Secondary → i < length y → slice_index (marked g y) i ≡ slice_index y i
+marked_prefix : (g : Geometry) (y : List ℕ) (i : ℕ) → IsLayout g → length y ≤ data_end g Secondary → i < length y → slice_index (marked g y) i ≡ slice_index y i
 unfolding marked
-marked_front g y i ok short h =
+marked_prefix g y i ok short h =
     let len = length-filled g Secondary y (short_in g y Secondary ok short) in
-    put_before (filled g Secondary y) magic_bytes (place g Secondary field.Magic) i (magic_fits g (filled g Secondary y) ok len) (omega (arith, h, short, place_behind_data g Secondary field.Magic ok))
-    ∙ filled_front g Secondary y i h
+    put_before (filled g Secondary y) magic_bytes (place g Secondary field.Magic) i (magic_fits g (filled g Secondary y) ok len) (omega (arith, h, short, place_beyond_data g Secondary field.Magic ok))
+    ∙ filled_prefix g Secondary y i h
 
 magic_there : (g : Geometry) (y : List ℕ) (i : ℕ) → IsLayout g → length y ≤ data_end g Secondary → i < 16 → slice_index (marked g y) (place g Secondary field.Magic + i) ≡ slice_index magic_bytes i
 unfolding marked
@@ -155,7 +156,7 @@ ok_free g y ok short =
     let magic = place_inside g Secondary field.Magic ok in
     let image_ok = place_inside g Secondary field.ImageOk ok in
     put_before (filled g Secondary y) magic_bytes (place g Secondary field.Magic) (place g Secondary field.ImageOk) (magic_fits g (filled g Secondary y) ok len) (omega (arith, magic, image_ok))
-    ∙ filled_free g Secondary y (place g Secondary field.ImageOk) (omega (arith, short, place_behind_data g Secondary field.ImageOk ok)) (omega (arith, image_ok))
+    ∙ filled_free g Secondary y (place g Secondary field.ImageOk) (omega (arith, short, place_beyond_data g Secondary field.ImageOk ok)) (omega (arith, image_ok))
 
 -- what is there of the bytes
 record Begins (g : Geometry) (x y : List ℕ) (s : Content) : Type 0 where
@@ -166,16 +167,16 @@ record Begins (g : Geometry) (x y : List ℕ) (s : Content) : Type 0 where
 placed_begins : (g : Geometry) (x y : List ℕ) → IsLayout g → length x ≤ data_end g Primary → length y ≤ data_end g Secondary → Begins g x y (placed g x y)
 placed_begins g x y ok short_x short_y = record {
   sized = record { primary = length-filled g Primary x (short_in g x Primary ok short_x); secondary = length-filled g Secondary y (short_in g y Secondary ok short_y) };
-  primary = λ i h. filled_front g Primary x i h;
-  secondary = λ i h. filled_front g Secondary y i h;
+  primary = λ i h. filled_prefix g Primary x i h;
+  secondary = λ i h. filled_prefix g Secondary y i h;
 }
 
 test_begins : (g : Geometry) (x y : List ℕ) → IsLayout g → length x ≤ data_end g Primary → length y ≤ data_end g Secondary → Begins g x y (test_flash g x y)
 unfolding marked
 test_begins g x y ok short_x short_y = record {
   sized = record { primary = length-filled g Primary x (short_in g x Primary ok short_x); secondary = length-marked g y ok short_y };
-  primary = λ i h. filled_front g Primary x i h;
-  secondary = λ i h. marked_front g y i ok short_y h;
+  primary = λ i h. filled_prefix g Primary x i h;
+  secondary = λ i h. marked_prefix g y i ok short_y h;
 }
 
 perm_begins : (g : Geometry) (x y : List ℕ) → IsLayout g → length x ≤ data_end g Primary → length y ≤ data_end g Secondary → Begins g x y (perm_flash g x y)
@@ -186,11 +187,11 @@ perm_begins g x y ok short_x short_y = record {
     secondary =
         length-put (marked g y) (1 ∷ []) (place g Secondary field.ImageOk) (ok_fits g (marked g y) ok (length-marked g y ok short_y)) ∙ length-marked g y ok short_y;
   };
-  primary = λ i h. filled_front g Primary x i h;
+  primary = λ i h. filled_prefix g Primary x i h;
   secondary = λ i h.
       put_before (marked g y) (1 ∷ []) (place g Secondary field.ImageOk) i (ok_fits g (marked g y) ok (length-marked g y ok short_y))
-      (omega (arith, h, short_y, place_behind_data g Secondary field.ImageOk ok))
-      ∙ marked_front g y i ok short_y h;
+      (omega (arith, h, short_y, place_beyond_data g Secondary field.ImageOk ok))
+      ∙ marked_prefix g y i ok short_y h;
 }
 
 -- what is asked
@@ -210,7 +211,7 @@ unfolding marked
 perm_fields g x y ok short field.Magic i h within =
     let magic = place_inside g Secondary field.Magic ok in
     let image_ok = place_inside g Secondary field.ImageOk ok in
-    put_behind (marked g y) (1 ∷ []) (place g Secondary field.ImageOk) (place g Secondary field.Magic + i) (ok_fits g (marked g y) ok (length-marked g y ok short)) (omega (arith, magic, image_ok))
+    put_beyond (marked g y) (1 ∷ []) (place g Secondary field.ImageOk) (place g Secondary field.Magic + i) (ok_fits g (marked g y) ok (length-marked g y ok short)) (omega (arith, magic, image_ok))
     ∙ magic_there g y i ok short within
 perm_fields g x y ok short field.ImageOk i h within = put_inside (marked g y) (1 ∷ []) (place g Secondary field.ImageOk) i (ok_fits g (marked g y) ok (length-marked g y ok short)) h
 perm_fields g x y ok short field.CopyDone i h within = absurd (omega (arith, h))
@@ -244,8 +245,8 @@ pub placed_unasked : (g : Geometry) (a b : List ℕ) (o : Slot) → ImageLaws �
 placed_unasked g a b Primary laws ok at_a at_b =
     let inside = place_inside g Primary field.Magic ok in
     unasked_from g (placed g (image_bytes a) (image_bytes b)) Primary (λ i h. filled_free g Primary (image_bytes a) (place g Primary field.Magic + i)
-    (omega (arith, image_short g a Primary laws ok at_a, place_behind_data g Primary field.Magic ok)) (omega (arith, inside, h)))
+    (omega (arith, image_short g a Primary laws ok at_a, place_beyond_data g Primary field.Magic ok)) (omega (arith, inside, h)))
 placed_unasked g a b Secondary laws ok at_a at_b =
     let inside = place_inside g Secondary field.Magic ok in
     unasked_from g (placed g (image_bytes a) (image_bytes b)) Secondary (λ i h. filled_free g Secondary (image_bytes b) (place g Secondary field.Magic + i)
-    (omega (arith, image_short g b Secondary laws ok at_b, place_behind_data g Secondary field.Magic ok)) (omega (arith, inside, h)))
+    (omega (arith, image_short g b Secondary laws ok at_b, place_beyond_data g Secondary field.Magic ok)) (omega (arith, inside, h)))

@@ -1,4 +1,4 @@
--- What stands at the front of the slots on the way of a swap, what a boot keeps, and how a swap ends.
+-- What stands at the start of the slots on the way of a swap, what a boot keeps, and how a swap ends.
 use Rattle.std.proofs.Common.{ap, arith, inl, inr, subst, sym, ◌∙◌}
 use Rattle.std.proofs.Math.Nat.{mod-add-div', mul-le-mul_right}
 use Rattle.std.proofs.lemmas.Bool.{cases_lt}
@@ -6,12 +6,11 @@ use Rattle.std.proofs.lemmas.Grind.{div_ceil_times}
 use Rattle.std.proofs.lemmas.Nat.{mod_below}
 use Rattle.std.specs.Prelude.{Bool, List, [], false, if◌then◌else◌, max, refl, replicate, suc, take, true, zero, ℕ, ◌%◌, ◌*◌, ◌++◌, ◌+◌, ◌-◌, ◌/◌, ◌<◌, ◌==◌, ◌≡◌, ◌≤◌}
 use Rattle.mc_boot.proofs.Courses.{get_moved}
-use Rattle.mc_boot.proofs.Images.{HasImage, SameImage, same_fronts, same_image}
+use Rattle.mc_boot.proofs.Images.{HasImage, SameImage, same_prefixes, same_image}
 use Rattle.mc_boot.proofs.InPieces.{pieces_again, plan_in_pieces, swap_pieces, trailer_pieces}
 use Rattle.mc_boot.proofs.Keeps.{Keeps}
 use Rattle.mc_boot.proofs.Moving.{Data, IsNoTarget, byte_held}
-use Rattle.mc_boot.proofs.Phases.{Asked, Ended, IsSwapOf, Phase, SeesImages, Swap, Under, absent_reverts, closed, image_ok_is, kind_asked, larger_size, plan_asked, plan_settled, plan_tested}
-use Rattle.mc_boot.proofs.Phases.{plan_under, running, sees_images, starting, swap_of, tested}
+use Rattle.mc_boot.proofs.Phases.{Asked, Ended, IsSwapOf, Phase, SeesImages, Swap, Under, absent_reverts, closed, image_ok_is, kind_asked, larger_size, plan_asked, plan_settled, plan_tested, plan_under, running, sees_images, starting, swap_of, tested}
 use Rattle.mc_boot.proofs.SwapsKeep.{rest_keeps, resumed_keeps, swap_keeps}
 use Rattle.mc_boot.proofs.Transfers.{Held, at_start, exchanged, held_after_all, held_at, held_begin, held_end, other_number, place_below, same_transfer}
 use Rattle.mc_boot.specs.Plan.{Plan, PowerOn, again, image_size, moved_up, new_list, plan, power_on, transfers}
@@ -30,7 +29,7 @@ use Rattle.mc_trailer.specs.declared.places.Field.{Field}
 use Rattle.mc_trailer.specs.declared.tables.Rules.{Rules}
 use Rattle.mc_trailer.specs.declared.tables.SwapType.{SwapType}
 use Rattle.mc_trailer.specs.declared.trailer.Trailer.{Trailer}
-use Rattle.mc_trailer.specs.facts.Fields.{FieldsAre, blank_fields, fields_front, reads_absent, reads_copy_done, reads_good}
+use Rattle.mc_trailer.specs.facts.Fields.{FieldsAre, blank_fields, fields_prefix, reads_absent, reads_copy_done, reads_good}
 use Rattle.mc_trailer.specs.declared.places.Field.TheVariants as field
 use Rattle.mc_trailer.specs.declared.tables.SwapType.TheVariants as kinds
 
@@ -41,36 +40,36 @@ other_slot Primary = Secondary
 other_slot Secondary = Primary
 
 -- where the first n sectors of `from` stand in `o`
-front_held : (g : Geometry) (start : Content) (n k : ℕ) (s : Content) (o from : Slot) → IsLayout g → n ≤ data_sectors g o → ((i : ℕ) → i < n → held_at g n k o i ≡ (from, i))
+prefix_held : (g : Geometry) (start : Content) (n k : ℕ) (s : Content) (o from : Slot) → IsLayout g → n ≤ data_sectors g o → ((i : ℕ) → i < n → held_at g n k o i ≡ (from, i))
     → ((i : ℕ) → i < n → IsNoTarget g n k o i) → Data g n start k s
     → (p : ℕ) → p < n * g.sector → byte s o p ≡ byte start from p
-front_held g start n k s o from ok room held free data_ p below =
+prefix_held g start n k s o from ok room held free data_ p below =
     let parts = mod-add-div' p g.sector in
     let wide = ok.least_sector in
     let short : p % g.sector < g.sector = mod_below p g.sector (omega (arith, wide)) in
     let i : ℕ = p / g.sector in
-    let inside : p / g.sector < n = in_front (p / g.sector) (p % g.sector) parts in
+    let inside : p / g.sector < n = in_prefix (p / g.sector) (p % g.sector) parts in
     ap (byte s o) (omega (arith, parts))
     ∙ data_.held o (p / g.sector) (p % g.sector) (omega (arith, inside, room)) short (free (p / g.sector) inside)
     ∙ ap (λ (h : Slot × ℕ). byte_held g start h (p % g.sector)) (held (p / g.sector) inside)
     ∙ ap (byte start from) (omega (arith, parts))
   where
-    in_front : (q r : ℕ) → r + q * g.sector ≡ p → q < n
-    in_front q r e = elim (cases_lt q n) [
+    in_prefix : (q r : ℕ) → r + q * g.sector ≡ p → q < n
+    in_prefix q r e = elim (cases_lt q n) [
       | inl low ↦ low
       | inr high ↦ absurd (let rows : n * g.sector ≤ q * g.sector = mul-le-mul_right g.sector high in omega (arith, rows, e, below))
     ]
 
-pub front_inside : (g : Geometry) (n : ℕ) (o : Slot) → IsLayout g → n ≤ greatest_sectors g → n * g.sector ≤ size_of g o
-front_inside g n o ok few =
-    let rows : n * g.sector ≤ data_sectors g o * g.sector = mul-le-mul_right g.sector (image_is_data g o n few) in
+pub prefix_inside : (g : Geometry) (n : ℕ) (o : Slot) → IsLayout g → n ≤ greatest_sectors g → n * g.sector ≤ size_of g o
+prefix_inside g n o ok at_most =
+    let rows : n * g.sector ≤ data_sectors g o * g.sector = mul-le-mul_right g.sector (image_is_data g o n at_most) in
     omega (arith, rows, data_before_trailer g o ok)
 
 -- before the first transfer
-pub front_at_start : (g : Geometry) (start : Content) (n : ℕ) (s : Content) (o : Slot) → IsLayout g → 0 < n → n ≤ greatest_sectors g → Data g n start 0 s → (p : ℕ) → p < n * g.sector
+pub prefix_at_start : (g : Geometry) (start : Content) (n : ℕ) (s : Content) (o : Slot) → IsLayout g → 0 < n → n ≤ greatest_sectors g → Data g n start 0 s → (p : ℕ) → p < n * g.sector
     → byte s o p ≡ byte start o p
-front_at_start g start n s o ok some few data_ =
-    front_held g start n 0 s o o ok (image_is_data g o n few)
+prefix_at_start g start n s o ok some at_most data_ =
+    prefix_held g start n 0 s o o ok (image_is_data g o n at_most)
     (λ i h. let E : Held → Type 0 = λ f. f o i ≡ (o, i) in subst E (sym (held_begin g n)) refl)
     (λ i h x at slot sector.
     let same : moved_up n 0 ≡ x = same_transfer (moved_up n 0) x (sym (get_moved g n 0 some) ∙ at) in
@@ -78,10 +77,10 @@ front_at_start g start n s o ok some few data_ =
     omega (arith, h, sector, to)) data_
 
 -- after the last
-pub front_at_end : (g : Geometry) (start : Content) (n : ℕ) (s : Content) (o : Slot) → IsLayout g → n ≤ greatest_sectors g → Data g n start (3 * n) s → (p : ℕ) → p < n * g.sector
+pub prefix_at_end : (g : Geometry) (start : Content) (n : ℕ) (s : Content) (o : Slot) → IsLayout g → n ≤ greatest_sectors g → Data g n start (3 * n) s → (p : ℕ) → p < n * g.sector
     → byte s o p ≡ byte start (other_slot o) p
-front_at_end g start n s o ok few data_ =
-    front_held g start n (3 * n) s o (other_slot o) ok (image_is_data g o n few)
+prefix_at_end g start n s o ok at_most data_ =
+    prefix_held g start n (3 * n) s o (other_slot o) ok (image_is_data g o n at_most)
     (λ i h. let E : Held → Type 0 = λ f. f o i ≡ (other_slot o, i) in subst E (sym (held_end g n)) (swapped o i h))
     (λ i h x at slot sector. omega (arith, place_below g n (3 * n) x at)) data_
   where
@@ -90,8 +89,8 @@ front_at_end g start n s o ok few data_ =
     swapped Secondary i h = (exchanged g n).taken i h
 
 -- the images of a start end in its first n sectors
-size_in_front : (g : Geometry) (start : Content) (size n : ℕ) (o : Slot) → Swap g start size n → image_size (bytes_of start o) ≤ n * g.sector
-size_in_front g start size n o w = omega (arith, least o, rows)
+size_in_prefix : (g : Geometry) (start : Content) (size n : ℕ) (o : Slot) → Swap g start size n → image_size (bytes_of start o) ≤ n * g.sector
+size_in_prefix g start size n o w = omega (arith, least o, rows)
   where
     rows : size ≤ n * g.sector
     rows = let wide = w.ok.least_sector in let E : ℕ → Type 0 = λ m. size ≤ m * g.sector in subst E w.count (div_ceil_times size g.sector (omega (arith, wide))).0
@@ -108,28 +107,28 @@ has_image g start size n Secondary w = w.secondary
 pub image_there : (g : Geometry) (start : Content) (size n : ℕ) (s : Content) (o from : Slot) → Swap g start size n → IsSized g s → ((p : ℕ) → p < n * g.sector → byte s o p ≡ byte start from p)
     → SameImage (bytes_of start from) (bytes_of s o)
 image_there g start size n s o from w sized same =
-    let there = size_in_front g start size n from w in
+    let there = size_in_prefix g start size n from w in
     same_image (bytes_of start from) (bytes_of s o) w.laws (has_image g start size n from w)
-    (omega (arith, there, front_inside g n from w.ok w.few, sized_is g start from w.sized))
-    (omega (arith, there, front_inside g n o w.ok w.few, sized_is g s o sized)) (λ i h. same i (omega (arith, h, there)))
+    (omega (arith, there, prefix_inside g n from w.ok w.at_most, sized_is g start from w.sized))
+    (omega (arith, there, prefix_inside g n o w.ok w.at_most, sized_is g s o sized)) (λ i h. same i (omega (arith, h, there)))
 
-pub front_lists : (g : Geometry) (start : Content) (n : ℕ) (s : Content) (o from : Slot) → IsLayout g → n ≤ greatest_sectors g → IsSized g start → IsSized g s
+pub prefix_lists : (g : Geometry) (start : Content) (n : ℕ) (s : Content) (o from : Slot) → IsLayout g → n ≤ greatest_sectors g → IsSized g start → IsSized g s
     → ((p : ℕ) → p < n * g.sector → byte s o p ≡ byte start from p) → take (n * g.sector) (bytes_of s o) ≡ take (n * g.sector) (bytes_of start from)
-front_lists g start n s o from ok few sized_start sized same =
-    same_fronts (bytes_of start from) (bytes_of s o) (n * g.sector) (omega (arith, front_inside g n from ok few, sized_is g start from sized_start))
-    (omega (arith, front_inside g n o ok few, sized_is g s o sized)) same
+prefix_lists g start n s o from ok at_most sized_start sized same =
+    same_prefixes (bytes_of start from) (bytes_of s o) (n * g.sector) (omega (arith, prefix_inside g n from ok at_most, sized_is g start from sized_start))
+    (omega (arith, prefix_inside g n o ok at_most, sized_is g s o sized)) same
 
 -- the larger image before the first transfer, and after the last, and what a plan sees of them
 pub larger_start : (g : Geometry) (start : Content) (size n : ℕ) (s : Content) → Swap g start size n → Data g n start 0 s → (is_valid s.secondary ≡ true) × (larger_size s ≡ size)
 larger_start g start size n s w data_ =
-    let one = image_there g start size n s Primary Primary w data_.sized (front_at_start g start n s Primary w.ok w.some w.few data_) in
-    let two = image_there g start size n s Secondary Secondary w data_.sized (front_at_start g start n s Secondary w.ok w.some w.few data_) in
+    let one = image_there g start size n s Primary Primary w data_.sized (prefix_at_start g start n s Primary w.ok w.some w.at_most data_) in
+    let two = image_there g start size n s Secondary Secondary w data_.sized (prefix_at_start g start n s Secondary w.ok w.some w.at_most data_) in
     (two.valid, ap (λ m. max m (image_size s.secondary)) one.size ∙ ap (max (image_size start.primary)) two.size ∙ w.larger)
 
 pub larger_end : (g : Geometry) (start : Content) (size n : ℕ) (s : Content) → Swap g start size n → Data g n start (3 * n) s → (is_valid s.secondary ≡ true) × (larger_size s ≡ size)
 larger_end g start size n s w data_ =
-    let one = image_there g start size n s Primary Secondary w data_.sized (front_at_end g start n s Primary w.ok w.few data_) in
-    let two = image_there g start size n s Secondary Primary w data_.sized (front_at_end g start n s Secondary w.ok w.few data_) in
+    let one = image_there g start size n s Primary Secondary w data_.sized (prefix_at_end g start n s Primary w.ok w.at_most data_) in
+    let two = image_there g start size n s Secondary Primary w data_.sized (prefix_at_end g start n s Secondary w.ok w.at_most data_) in
     let larger = w.larger in
     (two.valid, ap (λ m. max m (image_size s.secondary)) one.size ∙ ap (max (image_size start.secondary)) two.size ∙ omega (arith, larger))
 
@@ -224,20 +223,20 @@ pub record Crossed (start z : Content) : Type 0 where
 
 pub crossed : (g : Geometry) (start : Content) (size n : ℕ) (z : Content) → Swap g start size n → Data g n start (3 * n) z → Crossed start z
 crossed g start size n z w data_ = record {
-  primary = image_there g start size n z Primary Secondary w data_.sized (front_at_end g start n z Primary w.ok w.few data_);
-  secondary = image_there g start size n z Secondary Primary w data_.sized (front_at_end g start n z Secondary w.ok w.few data_);
+  primary = image_there g start size n z Primary Secondary w data_.sized (prefix_at_end g start n z Primary w.ok w.at_most data_);
+  secondary = image_there g start size n z Secondary Primary w data_.sized (prefix_at_end g start n z Secondary w.ok w.at_most data_);
 }
 
 -- the sectors at the end
 pub exchanges : (g : Geometry) (start : Content) (size n : ℕ) (z : Content) → Swap g start size n → Data g n start (3 * n) z → AreExchanged g n start z
 exchanges g start size n z w data_ = record {
-  primary = front_lists g start n z Primary Secondary w.ok w.few w.sized data_.sized (front_at_end g start n z Primary w.ok w.few data_);
-  secondary = front_lists g start n z Secondary Primary w.ok w.few w.sized data_.sized (front_at_end g start n z Secondary w.ok w.few data_);
+  primary = prefix_lists g start n z Primary Secondary w.ok w.at_most w.sized data_.sized (prefix_at_end g start n z Primary w.ok w.at_most data_);
+  secondary = prefix_lists g start n z Secondary Primary w.ok w.at_most w.sized data_.sized (prefix_at_end g start n z Secondary w.ok w.at_most data_);
 }
 
 -- the fields of a finished test
 pub tested_fields : (g : Geometry) (start : Content) (size n : ℕ) (z : Content) (e : Ended g start size n true z) → FieldsAre g z Primary tested
-tested_fields g start size n z e = fields_front g z Primary (closed g e.0 size) tested less e.2.primary
+tested_fields g start size n z e = fields_prefix g z Primary (closed g e.0 size) tested less e.2.primary
   where
     less : (f : Field) → (rest : List ℕ) × (closed g e.0 size f ≡ tested f ++ rest)
     less field.Magic = ([], refl)
@@ -258,7 +257,7 @@ tested_end x size n z w e =
       next = ap (λ (q : Plan). q.kind) (plan_tested (again x z) size n
           (reads_good x.geometry z Primary w.ok done.data_.sized (done.primary field.Magic)) unset set
           (absent_reverts x.rules.profile (trailer_of x.geometry z Secondary).magic (reads_absent x.geometry z Secondary w.ok done.data_.sized (done.secondary field.Magic)))
-          (sees_end x.geometry x.content size n z w done.data_) w.count w.few);
+          (sees_end x.geometry x.content size n z w done.data_) w.count w.at_most);
     }
 
 pub settled_end : (x : PowerOn) (size n : ℕ) (z : Content) → Swap x.geometry x.content size n → (e : Ended x.geometry x.content size n false z) → IsSettled (again x z)

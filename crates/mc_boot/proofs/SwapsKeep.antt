@@ -1,16 +1,13 @@
 -- The phases of a swap are kept by its transfers, by the whole of it, and by the preparation of a revert.
 use Rattle.std.proofs.Common.{ap, arith, inl, inr, subst, sym, ◌∙◌}
 use Rattle.std.proofs.lemmas.List.{get_or-replicate, length-replicate, length-take-le}
-use Rattle.std.specs.Prelude.{Bool, List, None, Option, Some, [], drop, false, flat_map, if◌then◌else◌, length, refl, replicate, slice_get, suc, take, true, zero, ℕ, ◌%◌, ◌*◌, ◌++◌, ◌+◌, ◌-◌}
-use Rattle.std.specs.Prelude.{◌/◌, ◌<◌, ◌∷◌, ◌≡◌, ◌≢◌, ◌≤◌, ◌⊎◌}
-use Rattle.mc_boot.proofs.Courses.{drop_at_place, drop_past_end}
-use Rattle.mc_boot.proofs.Keeps.{Erased, Keeps, Part, erase_behind_data, erased_here, erased_still, erases_keep, field_write_keeps, keeps_append, keeps_then, place_behind_data}
+use Rattle.std.specs.Prelude.{Bool, List, None, Option, Some, [], drop, false, flat_map, if◌then◌else◌, length, refl, replicate, slice_get, suc, take, true, zero, ℕ, ◌%◌, ◌*◌, ◌++◌, ◌+◌, ◌-◌, ◌/◌, ◌<◌, ◌∷◌, ◌≡◌, ◌≢◌, ◌≤◌, ◌⊎◌}
+use Rattle.mc_boot.proofs.Courses.{drop_at_place, drop_past_end, some_trailer}
+use Rattle.mc_boot.proofs.Keeps.{Erased, Keeps, Part, erase_beyond_data, erased_here, erased_still, erases_keep, field_write_keeps, keeps_append, keeps_then, place_beyond_data}
 use Rattle.mc_boot.proofs.Moving.{Copied, Data, IsOutside, Transferred, data_half, data_same, data_step, kept_below, transfer_keeps}
-use Rattle.mc_boot.proofs.Phases.{Asked, Ended, IsSwapOf, Phase, Quiet, Swap, Under, Waiting, asked, asks, closed, opened, runs, tested, unasked, waits}
-use Rattle.mc_boot.proofs.Courses.{some_trailer}
+use Rattle.mc_boot.proofs.Phases.{Asked, Ended, IsSwapOf, Phase, MagicUnset, Swap, Under, Waiting, asked, asks, closed, opened, runs, tested, unasked, waits}
 use Rattle.mc_boot.proofs.Transfers.{Entries, Fits, entries_kept, entries_none, entry_number, entry_step, fits_at, number_below, number_up, place_below, there_is}
-use Rattle.mc_boot.specs.Plan.{closing, from_transfer, image_ok_write, info_write, is_test, marking, new_list, number_of, opening_writes, preparation_writes, resumed_list, steps, swap_list}
-use Rattle.mc_boot.specs.Plan.{trailer_erases, transfers, write}
+use Rattle.mc_boot.specs.Plan.{closing, from_transfer, image_ok_write, info_write, is_test, marking, new_list, number_of, opening_writes, preparation_writes, resumed_list, steps, swap_list, trailer_erases, transfers, write}
 use Rattle.mc_boot.specs.declared.transfer.Transfer.{Transfer}
 use Rattle.mc_flash.specs.Flash.{Content, IsSized, byte, sectors_of, size_of}
 use Rattle.mc_flash.specs.Geometry.{Geometry, IsLayout, greatest_sectors, trailer_bytes, trailer_sectors}
@@ -22,27 +19,25 @@ use Rattle.mc_flash.specs.facts.Layouts.{data_before_trailer, data_end, sector_i
 use Rattle.mc_trailer.specs.Trailer.{entry_place, magic_bytes, one_unit, place, room, size_bytes}
 use Rattle.mc_trailer.specs.declared.places.Field.{Field}
 use Rattle.mc_trailer.specs.declared.tables.SwapType.{SwapType}
-use Rattle.mc_trailer.specs.facts.Fields.{FieldIs, FieldsAre, blank_byte, blank_field, blank_fields, field_as, field_kept_beside, field_write, fields_as, fields_front, fields_same, same_field_is}
-use Rattle.mc_trailer.specs.facts.Fields.{set_field, write_field}
-use Rattle.mc_trailer.specs.facts.Places.{entry_ends, entry_inside, field_ends, magic_range, most_before_end, one_unit_fits, one_unit_len, one_unit_whole, place_inside, size_bytes_fit}
-use Rattle.mc_trailer.specs.facts.Places.{size_bytes_whole}
+use Rattle.mc_trailer.specs.facts.Fields.{FieldIs, FieldsAre, blank_byte, blank_field, blank_fields, field_as, field_kept_beside, field_write, fields_as, fields_prefix, fields_same, same_field_is, set_field, write_field}
+use Rattle.mc_trailer.specs.facts.Places.{entry_ends, entry_inside, field_ends, magic_range, most_before_end, one_unit_fits, one_unit_len, one_unit_whole, place_inside, size_bytes_fit, size_bytes_whole}
 use Rattle.mc_trailer.specs.declared.places.Field.TheVariants as field
 use Rattle.mc_flash.specs.declared.flash.Grain.TheVariants as grains
 use Rattle.mc_trailer.specs.declared.tables.SwapType.TheVariants as kinds
 
 -- The transfers that are left, and the finish.
 
--- what stands behind the data sectors of a slot is outside of a transfer's target
+-- what stands after the data sectors of a slot is outside of a transfer's target
 trailer_outside : (g : Geometry) (n k : ℕ) (x : Transfer) (o : Slot) (i : ℕ) → Fits g n k x → data_end g o ≤ i → IsOutside g x.to x.to_sector o i
-trailer_outside g n k x o i fits behind same =
+trailer_outside g n k x o i fits beyond same =
     let E : Slot → Type 0 = λ p. data_end g p ≤ i in
-    let here : data_end g x.to ≤ i = subst E same behind in
+    let here : data_end g x.to ≤ i = subst E same beyond in
     inr (omega (arith, here, sector_in_data g x.to x.to_sector fits.to_data))
 
 -- the trailers after copies of a transfer
 trailers_kept : (g : Geometry) (n k c : ℕ) (s u : Content) (x : Transfer) → IsLayout g → Fits g n k x → Copied g s u x c → (o : Slot) (i : ℕ) → size_of g o ≤ i + trailer_bytes g
     → byte u o i ≡ byte s o i
-trailers_kept g n k c s u x ok fits so o i behind = so.elsewhere o i (trailer_outside g n k x o i fits (omega (arith, behind, data_before_trailer g o ok)))
+trailers_kept g n k c s u x ok fits so o i beyond = so.elsewhere o i (trailer_outside g n k x o i fits (omega (arith, beyond, data_before_trailer g o ok)))
 
 field_in_trailer : (g : Geometry) (o : Slot) (i : ℕ) → size_of g o ≤ i + 48 → size_of g o ≤ i + trailer_bytes g
 field_in_trailer g o i h = omega (arith, h)
@@ -53,12 +48,12 @@ module _ (g : Geometry) (start : Content) (size n : ℕ) (w : Swap g start size 
   under_half : (kind : SwapType) (k c : ℕ) (s u : Content) (x : Transfer) → k ≤ 3 * n → slice_get (transfers g n) k ≡ Some x
       → Under g start size n kind k s → Copied g s u x c → Under g start size n kind k u
   under_half kind k c s u x most at is so =
-      let fits = fits_at g n k x w.ok w.few at in
+      let fits = fits_at g n k x w.ok w.at_most at in
       let kept = trailers_kept g n k c s u x w.ok fits so in
-      let few = w.few in
+      let at_most = w.at_most in
       record {
         primary = fields_same g s u Primary (opened g kind size) w.ok (λ i h. kept Primary i (field_in_trailer g Primary i h)) is.primary;
-        entries = entries_kept g n k s u w.ok (omega (arith, few)) most (λ i h _. kept Primary i h) is.entries;
+        entries = entries_kept g n k s u w.ok (omega (arith, at_most)) most (λ i h _. kept Primary i h) is.entries;
         secondary = fields_same g s u Secondary unasked w.ok (λ i h. kept Secondary i (field_in_trailer g Secondary i h)) is.secondary;
         data_ = data_half g n start k c s u x at is.data_ so;
       }
@@ -67,25 +62,25 @@ module _ (g : Geometry) (start : Content) (size n : ℕ) (w : Swap g start size 
   under_next : (kind : SwapType) (k : ℕ) (s v : Content) (x : Transfer) → slice_get (transfers g n) k ≡ Some x
       → Under g start size n kind k s → Transferred g s v x → Under g start size n kind (k + 1) v
   under_next kind k s v x at is so = record {
-    primary = fields_same g u v Primary (opened g kind size) w.ok (λ i h. written.behind i (omega (arith, h, len, ends))) half.primary;
-    entries = entry_step g n k u v w.ok (omega (arith, few)) below half.entries written;
+    primary = fields_same g u v Primary (opened g kind size) w.ok (λ i h. written.beyond i (omega (arith, h, len, ends))) half.primary;
+    entries = entry_step g n k u v w.ok (omega (arith, at_most)) below half.entries written;
     secondary = fields_same g u v Secondary unasked w.ok (λ i h. written.other Secondary i (λ e. cc)) half.secondary;
     data_ = data_same g n start (k + 1) u v (changed_sized g u v Primary _ _ written so.copied.sized)
         (kept_below g u v Primary (entry_place g (entry_number g n k)) (one_unit g 1) written (omega (arith, inside, data_before_trailer g Primary w.ok)))
-        (data_step g n start k s u x w.ok w.few at is.data_ so.copied);
+        (data_step g n start k s u x w.ok w.at_most at is.data_ so.copied);
   }
     where
       u : Content
       u = so.before_entry
 
-      few : n ≤ greatest_sectors g
-      few = w.few
+      at_most : n ≤ greatest_sectors g
+      at_most = w.at_most
 
       below : k < 3 * n
       below = place_below g n k x at
 
       fits : Fits g n k x
-      fits = fits_at g n k x w.ok w.few at
+      fits = fits_at g n k x w.ok w.at_most at
 
       half : Under g start size n kind k u
       half = under_half kind k (g.sector / g.chunk) s u x (omega (arith, below)) at is so.copied
@@ -97,20 +92,20 @@ module _ (g : Geometry) (start : Content) (size n : ℕ) (w : Swap g start size 
       len = one_unit_len g 1 w.ok
 
       ends : entry_place g (entry_number g n k) + g.unit + 48 ≤ size_of g Primary
-      ends = entry_ends g (entry_number g n k) w.ok (number_below g n k (omega (arith, few)) below)
+      ends = entry_ends g (entry_number g n k) w.ok (number_below g n k (omega (arith, at_most)) below)
 
       inside : entry_place g (entry_number g n k) + (48 + 3 * g.max_sectors * g.unit) ≡ size_of g Primary + entry_number g n k * g.unit
-      inside = entry_inside g (entry_number g n k) w.ok (number_below g n k (omega (arith, few)) below)
+      inside = entry_inside g (entry_number g n k) w.ok (number_below g n k (omega (arith, at_most)) below)
 
   module _ (R : Content → Type 0) (b : Bool) (kind : SwapType) (of : IsSwapOf b kind) where
     -- one transfer
     one_keeps : (k : ℕ) (s : Content) (x : Transfer) → slice_get (transfers g n) k ≡ Some x → Under g start size n kind k s
         → Keeps g (Phase R g start size n b) (steps g x) s (λ v. Transferred g s v x)
     one_keeps k s x at is =
-        let fits = fits_at g n k x w.ok w.few at in
-        let few = w.few in
+        let fits = fits_at g n k x w.ok w.at_most at in
+        let at_most = w.at_most in
         let below = place_below g n k x at in
-        let number = number_below g n k (omega (arith, few)) below in
+        let number = number_below g n k (omega (arith, at_most)) below in
         let E : ℕ → Type 0 = λ e. (i : ℕ) → i < g.unit → (byte s Primary (entry_place g e + i) ≡ 255) × IsOutside g x.to x.to_sector Primary (entry_place g e + i) in
         let entry : (i : ℕ) → i < g.unit → (byte s Primary (entry_place g x.entry + i) ≡ 255) × IsOutside g x.to x.to_sector Primary (entry_place g x.entry + i) =
         subst E (sym fits.entry) (λ i h. (
@@ -122,7 +117,7 @@ module _ (g : Geometry) (start : Content) (size n : ℕ) (w : Swap g start size 
         (λ u c so. runs R g start size n b kind k u of (omega (arith, below)) (under_half kind k c s u x (omega (arith, below)) at is so))
       where
         over : (k : ℕ) → 0 < k → entry_number g n (k - 1) < entry_number g n k
-        over k some = let few = w.few in number_up g n (k - 1) k (omega (arith, few)) (omega (arith, some))
+        over k some = let at_most = w.at_most in number_up g n (k - 1) k (omega (arith, at_most)) (omega (arith, some))
 
     pub transfers_keep : (m k : ℕ) (s : Content) → k + m ≡ 3 * n → Under g start size n kind k s
         → Keeps g (Phase R g start size n b) (flat_map (steps g) (drop k (transfers g n))) s (Under g start size n kind (3 * n))
@@ -159,7 +154,7 @@ module _ (g : Geometry) (start : Content) (size n : ℕ) (w : Swap g start size 
                     (one_unit_fits g 1 field.CopyDone w.ok) is.primary does.2);
                 secondary = fields_same g s does.0 Secondary unasked w.ok (λ i h. does.2.other Secondary i (λ e. cc)) is.secondary;
                 data_ = data_same g n start (3 * n) s does.0 (changed_sized g s does.0 Primary _ _ does.2 is.data_.sized)
-                    (kept_below g s does.0 Primary (place g Primary field.CopyDone) (one_unit g 1) does.2 (place_behind_data g Primary field.CopyDone w.ok)) is.data_;
+                    (kept_below g s does.0 Primary (place g Primary field.CopyDone) (one_unit g 1) does.2 (place_beyond_data g Primary field.CopyDone w.ok)) is.data_;
               },
             ),
           ),
@@ -193,11 +188,11 @@ unasked_from g s slot free field.SwapSize i h within = absurd (omega (arith, h))
 pub unasked_is : (g : Geometry) (s : Content) (i : ℕ) → FieldsAre g s Secondary unasked → i < 16 → byte s Secondary (place g Secondary field.Magic + i) ≡ 255
 unasked_is g s i are below = are field.Magic i (omega (arith, below, length-replicate {A = ℕ} 16 255)) below ∙ get_or-replicate 16 i 255 0 below
 
--- an erase behind the data of a slot
+-- an erase after the data of a slot
 pub data_erased : (g : Geometry) (slot : Slot) (n : ℕ) (start : Content) (k i : ℕ) (s t : Content) → i < trailer_sectors g → Erased g slot i s t → Data g n start k s → Data g n start k t
 data_erased g slot n start k i s t below ch data_ =
     data_same g n start k s t (changed_sized g s t slot _ _ ch data_.sized) (kept_below g s t slot ((sectors_of g slot - 1 - i) * g.sector) (replicate g.sector 255) ch
-    (erase_behind_data g slot i below)) data_
+    (erase_beyond_data g slot i below)) data_
 
 -- the primary's trailer is made, and the secondary still asks
 pub record Ready (g : Geometry) (start : Content) (size n : ℕ) (b : Bool) (kind : SwapType) (s : Content) : Type 0 where
@@ -226,7 +221,7 @@ module _ (g : Geometry) (start : Content) (size n : ℕ) (w : Swap g start size 
       → Erased g Secondary i t u → Under g start size n kind 0 u
   clears kind i t u below (inl first) ch = record {
     primary = fields_same g t u Primary (opened g kind size) w.ok (λ p h. ch.other Primary p (λ e. cc)) first.1.primary;
-    entries = let few = w.few in entries_kept g n 0 t u w.ok (omega (arith, few)) (omega arith) (λ p h l. ch.other Primary p (λ e. cc)) first.1.entries;
+    entries = let at_most = w.at_most in entries_kept g n 0 t u w.ok (omega (arith, at_most)) (omega arith) (λ p h l. ch.other Primary p (λ e. cc)) first.1.entries;
     secondary = unasked_from g u Secondary (λ p h. erased_here g Secondary i t u (place g Secondary field.Magic + p) ch (last.0 p) (last.1 p h));
     data_ = data_erased g Secondary n start 0 i t u below ch first.1.is_asked.data_;
   }
@@ -244,7 +239,7 @@ module _ (g : Geometry) (start : Content) (size n : ℕ) (w : Swap g start size 
               (λ p. omega (arith, rows, inside, wide), λ p h. omega (arith, rows, inside, h))
   clears kind i t u below (inr under) ch = record {
     primary = fields_same g t u Primary (opened g kind size) w.ok (λ p h. ch.other Primary p (λ e. cc)) under.primary;
-    entries = let few = w.few in entries_kept g n 0 t u w.ok (omega (arith, few)) (omega arith) (λ p h l. ch.other Primary p (λ e. cc)) under.entries;
+    entries = let at_most = w.at_most in entries_kept g n 0 t u w.ok (omega (arith, at_most)) (omega arith) (λ p h l. ch.other Primary p (λ e. cc)) under.entries;
     secondary = unasked_from g u Secondary (λ p h. erased_still g Secondary i t u (place g Secondary field.Magic + p) ch (unasked_is g t p under.secondary h));
     data_ = data_erased g Secondary n start 0 i t u below ch under.data_;
   }
@@ -253,7 +248,7 @@ module _ (g : Geometry) (start : Content) (size n : ℕ) (w : Swap g start size 
   asked_after : (f : Field) (new : List ℕ) (s t : Content) → Asked g start n b s → Changed s t Primary (place g Primary f) new → Asked g start n b t
   asked_after f new s t is ch = record {
     secondary = fields_same g s t Secondary (asked b) w.ok (λ i _. ch.other Secondary i (λ e. cc)) is.secondary;
-    data_ = data_same g n start 0 s t (changed_sized g s t Primary _ _ ch is.data_.sized) (kept_below g s t Primary (place g Primary f) new ch (place_behind_data g Primary f w.ok)) is.data_;
+    data_ = data_same g n start 0 s t (changed_sized g s t Primary _ _ ch is.data_.sized) (kept_below g s t Primary (place g Primary f) new ch (place_beyond_data g Primary f w.ok)) is.data_;
   }
 
   is_ready : (kind : SwapType) (v : Field → List ℕ) (t : Content) → ((f : Field) → v f ≡ opened g kind size f) → Opening g start n b v t
@@ -265,7 +260,7 @@ module _ (g : Geometry) (start : Content) (size n : ℕ) (w : Swap g start size 
       → ((p : ℕ) → data_end g Primary ≤ p → p < size_of g Primary → byte s Primary p ≡ 255) → Opening g start n b blank_fields s
   freed s is free = record {
     primary = λ f i h within.
-        free (place g Primary f + i) (omega (arith, place_behind_data g Primary f w.ok)) (omega (arith, within, field_ends g Primary f w.ok))
+        free (place g Primary f + i) (omega (arith, place_beyond_data g Primary f w.ok)) (omega (arith, within, field_ends g Primary f w.ok))
         ∙ sym (get_or-replicate (room f) i 255 0 within);
     entries = entries_none g n s (λ e i below h. free (entry_place g e + i) (omega (arith, entry_inside g e w.ok below, data_before_trailer g Primary w.ok))
         (omega (arith, h, entry_ends g e w.ok below)));
@@ -307,9 +302,9 @@ module _ (g : Geometry) (start : Content) (size n : ℕ) (w : Swap g start size 
         → Keeps g (Phase R g start size n b) (write c g Primary f new) s (Opening g start n b (set_field v f new))
     opening_field_keeps c v f new s is free short whole =
         keeps_then g (Phase R g start size n b) (λ t. Changed s t Primary (place g Primary f) new) (Opening g start n b (set_field v f new)) (write c g Primary f new) s
-        (λ t ch. let few = w.few in record {
+        (λ t ch. let at_most = w.at_most in record {
           primary = write_field g s t Primary v f new w.ok short is.primary ch;
-          entries = entries_kept g n 0 s t w.ok (omega (arith, few)) (omega arith) (λ i _ h. ch.before i (omega (arith, h, place_inside g Primary f w.ok, most_before_end f))) is.entries;
+          entries = entries_kept g n 0 s t w.ok (omega (arith, at_most)) (omega arith) (λ i _ h. ch.before i (omega (arith, h, place_inside g Primary f w.ok, most_before_end f))) is.entries;
           is_asked = asked_after f new s t is.is_asked ch;
         })
         (field_write_keeps g (Phase R g start size n b) s c Primary f new w.ok is.is_asked.data_.sized free short whole
@@ -397,15 +392,15 @@ module _ (g : Geometry) (start : Content) (size n : ℕ) (w : Swap g start size 
 -- A revert, by either grain: the secondary is made to ask for an upgrade, and while it is the revert waits.
 
 -- a magic that is unset is quiet by either grain
-pub quiet_blank : (c : Grain) (g : Geometry) (s : Content) → FieldIs g s Secondary field.Magic (replicate 16 255) → Quiet c g s
-quiet_blank grains.Call g s free = free
-quiet_blank grains.Unit g s free = blank_byte g s Secondary field.Magic 15 free (omega arith)
+pub magic_unset_blank : (c : Grain) (g : Geometry) (s : Content) → FieldIs g s Secondary field.Magic (replicate 16 255) → MagicUnset c g s
+magic_unset_blank grains.Call g s free = free
+magic_unset_blank grains.Unit g s free = blank_byte g s Secondary field.Magic 15 free (omega arith)
 
 -- and so is one whose sectors are erased
-quiet_erased : (c : Grain) (g : Geometry) (i : ℕ) (t u : Content) → Erased g Secondary i t u → Quiet c g t → Quiet c g u
-quiet_erased grains.Call g i t u ch quiet =
-    blank_field g u Secondary field.Magic (λ p h. erased_still g Secondary i t u (place g Secondary field.Magic + p) ch (blank_byte g t Secondary field.Magic p quiet h))
-quiet_erased grains.Unit g i t u ch quiet = erased_still g Secondary i t u (place g Secondary field.Magic + 15) ch quiet
+magic_unset_erased : (c : Grain) (g : Geometry) (i : ℕ) (t u : Content) → Erased g Secondary i t u → MagicUnset c g t → MagicUnset c g u
+magic_unset_erased grains.Call g i t u ch magic_unset =
+    blank_field g u Secondary field.Magic (λ p h. erased_still g Secondary i t u (place g Secondary field.Magic + p) ch (blank_byte g t Secondary field.Magic p magic_unset h))
+magic_unset_erased grains.Unit g i t u ch magic_unset = erased_still g Secondary i t u (place g Secondary field.Magic + 15) ch magic_unset
 
 -- the writes of the secondary's trailer, up to the magic
 record Preparing (g : Geometry) (start : Content) (n : ℕ) (v : Field → List ℕ) (s : Content) : Type 0 where
@@ -418,7 +413,7 @@ magic_blank : (g : Geometry) (start : Content) (n : ℕ) (v : Field → List ℕ
 magic_blank g start n v s free is = field_as g s Secondary field.Magic (v field.Magic) (replicate 16 255) free (is.secondary field.Magic)
 
 waiting_of : (c : Grain) (g : Geometry) (start : Content) (n : ℕ) (v : Field → List ℕ) (s : Content) → v field.Magic ≡ replicate 16 255 → Preparing g start n v s → Waiting c g start n s
-waiting_of c g start n v s free is = record { primary = is.primary; quiet = quiet_blank c g s (magic_blank g start n v s free is); data_ = is.data_ }
+waiting_of c g start n v s free is = record { primary = is.primary; magic_unset = magic_unset_blank c g s (magic_blank g start n v s free is); data_ = is.data_ }
 
 abbrev confirmed : Geometry → Field → List ℕ
 confirmed g = set_field blank_fields field.ImageOk (one_unit g 1)
@@ -436,7 +431,7 @@ module _ (g : Geometry) (start : Content) (size n : ℕ) (w : Swap g start size 
   data_after : (f : Field) (new : List ℕ) (s t : Content) → Data g n start 0 s → Changed s t Secondary (place g Secondary f) new → Data g n start 0 t
   data_after f new s t data_ ch =
       data_same g n start 0 s t (changed_sized g s t Secondary (place g Secondary f) new ch data_.sized) (kept_below g s t Secondary (place g Secondary f) new ch
-      (place_behind_data g Secondary f w.ok)) data_
+      (place_beyond_data g Secondary f w.ok)) data_
 
   preparing_after : (v : Field → List ℕ) (f : Field) (new : List ℕ) (s t : Content) → Preparing g start n v s → length new ≤ room f
       → Changed s t Secondary (place g Secondary f) new → Preparing g start n (set_field v f new) t
@@ -453,7 +448,7 @@ module _ (g : Geometry) (start : Content) (size n : ℕ) (w : Swap g start size 
     waiting_erased : (i : ℕ) (t u : Content) → i < trailer_sectors g → Waiting c g start n t → Erased g Secondary i t u → Waiting c g start n u
     waiting_erased i t u below is ch = record {
       primary = fields_same g t u Primary tested w.ok (λ p h. ch.other Primary p (λ e. cc)) is.primary;
-      quiet = quiet_erased c g i t u ch is.quiet;
+      magic_unset = magic_unset_erased c g i t u ch is.magic_unset;
       data_ = data_erased g Secondary n start 0 i t u below ch is.data_;
     }
 
@@ -469,7 +464,7 @@ module _ (g : Geometry) (start : Content) (size n : ℕ) (w : Swap g start size 
         (waits (Waiting c g start n) g start size n false s (waiting_of c g start n v s magic is))
         (λ k t fine h part. waits (Waiting c g start n) g start size n false t (record {
           primary = primary_after f (take k new) s t is.primary part;
-          quiet = quiet_blank c g t (same_field_is g s t Secondary field.Magic (replicate 16 255)
+          magic_unset = magic_unset_blank c g t (same_field_is g s t Secondary field.Magic (replicate 16 255)
               (field_kept_beside g s t Secondary f field.Magic (take k new) w.ok part (omega (arith, h, short, length-take-le k new (omega (arith, h)))) other)
               (magic_blank g start n v s magic is));
           data_ = data_after f (take k new) s t is.data_ part;
@@ -487,14 +482,14 @@ module _ (g : Geometry) (start : Content) (size n : ℕ) (w : Swap g start size 
         (waits (Waiting c g start n) g start size n false s (waiting_of c g start n v s free is))
         (λ k t fine h part. waits (Waiting c g start n) g start size n false t (record {
           primary = primary_after field.Magic (take k magic_bytes) s t is.primary part;
-          quiet = let E : Grain → Type 0 = λ e. Quiet e g t in subst E (sym fine) (still k t h part);
+          magic_unset = let E : Grain → Type 0 = λ e. MagicUnset e g t in subst E (sym fine) (still k t h part);
           data_ = data_after field.Magic (take k magic_bytes) s t is.data_ part;
         })))
       where
         still : (k : ℕ) (t : Content) → k + g.unit ≤ 16 → Part s Secondary (place g Secondary field.Magic) magic_bytes k t → byte t Secondary (place g Secondary field.Magic + 15) ≡ 255
         still k t h part =
             let unit = small_unit g w.ok in
-            part.behind (place g Secondary field.Magic + 15) (omega (arith, h, unit, length-take-le k magic_bytes (omega (arith, h))))
+            part.beyond (place g Secondary field.Magic + 15) (omega (arith, h, unit, length-take-le k magic_bytes (omega (arith, h))))
             ∙ blank_byte g s Secondary field.Magic 15 (magic_blank g start n v s free is) (omega arith)
 
     preparation_keeps : (s : Content) → Preparing g start n blank_fields s → Keeps g (Bears) (preparation_writes c g size) s (Asked g start n false)
@@ -505,7 +500,7 @@ module _ (g : Geometry) (start : Content) (size n : ℕ) (w : Swap g start size 
         (write c g Secondary field.Magic magic_bytes) t
         (preparing_field_keeps c (confirmed g) field.SwapSize (size_bytes g size) t one refl (λ e. cc) refl (size_bytes_fit g size w.ok) (size_bytes_whole g size w.ok))
         (λ u two. keeps_then g Bears (Preparing g start n (set_field (sized g size) field.Magic magic_bytes)) (Asked g start n false) (write c g Secondary field.Magic magic_bytes) u
-        (λ x three. record { secondary = fields_front g x Secondary (set_field (sized g size) field.Magic magic_bytes) (asked false) less three.secondary; data_ = three.data_ })
+        (λ x three. record { secondary = fields_prefix g x Secondary (set_field (sized g size) field.Magic magic_bytes) (asked false) less three.secondary; data_ = three.data_ })
         (magic_keeps (sized g size) u two refl)))
       where
         less : (f : Field) → (rest : List ℕ) × (set_field (sized g size) field.Magic magic_bytes f ≡ asked false f ++ rest)
@@ -528,7 +523,7 @@ module _ (g : Geometry) (start : Content) (size n : ℕ) (w : Swap g start size 
         freed : (t : Content) → Waiting c g start n t → ((p : ℕ) → data_end g Secondary ≤ p → p < size_of g Secondary → byte t Secondary p ≡ 255) → Preparing g start n blank_fields t
         freed t k free = record {
           primary = k.primary;
-          secondary = λ f. blank_field g t Secondary f (λ i within. free (place g Secondary f + i) (omega (arith, place_behind_data g Secondary f w.ok))
+          secondary = λ f. blank_field g t Secondary f (λ i within. free (place g Secondary f + i) (omega (arith, place_beyond_data g Secondary f w.ok))
               (omega (arith, within, field_ends g Secondary f w.ok)));
           data_ = k.data_;
         }

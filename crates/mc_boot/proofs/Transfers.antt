@@ -5,8 +5,7 @@ use Rattle.std.proofs.lemmas.Bool.Decides.{nat_tests}
 use Rattle.std.proofs.lemmas.Iterator.Adapters.{position_from-zero}
 use Rattle.std.proofs.lemmas.Option.{slice_get_within}
 use Rattle.std.specs.List.{position_from, range_with_len}
-use Rattle.std.specs.Prelude.{Bool, List, None, Option, Some, [], false, flat_map, if◌then◌else◌, length, map, nat_lt, option_map, position, refl, slice_get, suc, take, true, zero, ℕ, ◌%◌, ◌&&◌}
-use Rattle.std.specs.Prelude.{◌*◌, ◌++◌, ◌+◌, ◌-◌, ◌/◌, ◌<◌, ◌==◌, ◌∷◌, ◌≡◌, ◌≤◌, ◌⊎◌}
+use Rattle.std.specs.Prelude.{Bool, List, None, Option, Some, [], false, flat_map, if◌then◌else◌, length, map, nat_lt, option_map, position, refl, slice_get, suc, take, true, zero, ℕ, ◌%◌, ◌&&◌, ◌*◌, ◌++◌, ◌+◌, ◌-◌, ◌/◌, ◌<◌, ◌==◌, ◌∷◌, ◌≡◌, ◌≤◌, ◌⊎◌}
 use Rattle.mc_boot.proofs.Courses.{get_brought, get_moved, get_taken, length-transfers}
 use Rattle.mc_boot.specs.Boot.{IsInside}
 use Rattle.mc_boot.specs.Plan.{brought_in, first_left, moved_up, taken_out, transfers}
@@ -122,19 +121,19 @@ pub number_high : (g : Geometry) (n k : ℕ) → n ≤ k → entry_number g n k 
 number_high g n k h = let e : nat_lt k n ≡ false = grind (arith, nat_tests) in rw e refl
 
 pub number_up : (g : Geometry) (n j k : ℕ) → n ≤ g.max_sectors → j < k → entry_number g n j < entry_number g n k
-number_up g n j k few before = elim (cases_lt k n) [
+number_up g n j k at_most before = elim (cases_lt k n) [
   | inl low ↦ omega (arith, before, number_low g n k low, number_low g n j (omega (arith, low, before)))
   | inr high ↦
       elim (cases_lt j n) [
-        | inl below ↦ omega (arith, few, number_high g n k high, number_low g n j below, below)
+        | inl below ↦ omega (arith, at_most, number_high g n k high, number_low g n j below, below)
         | inr above ↦ omega (arith, before, number_high g n k high, number_high g n j above, above)
       ]
 ]
 
 pub number_below : (g : Geometry) (n k : ℕ) → n ≤ g.max_sectors → k < 3 * n → entry_number g n k < 3 * g.max_sectors
-number_below g n k few below = elim (cases_lt k n) [
-  | inl low ↦ omega (arith, few, below, number_low g n k low)
-  | inr high ↦ omega (arith, few, below, number_high g n k high)
+number_below g n k at_most below = elim (cases_lt k n) [
+  | inl low ↦ omega (arith, at_most, below, number_low g n k low)
+  | inr high ↦ omega (arith, at_most, below, number_high g n k high)
 ]
 
 -- The last of the first k entries begins with 1, and all above it are free.
@@ -145,9 +144,9 @@ pub record Entries (g : Geometry) (n k : ℕ) (s : Content) : Type 0 where
 -- the part of the trailer before the fields decides
 pub entries_kept : (g : Geometry) (n k : ℕ) (s t : Content) → IsLayout g → n ≤ g.max_sectors → k ≤ 3 * n
     → ((i : ℕ) → size_of g Primary ≤ i + trailer_bytes g → i + 48 < size_of g Primary → byte t Primary i ≡ byte s Primary i) → Entries g n k s → Entries g n k t
-entries_kept g n k s t ok few most same en = record {
+entries_kept g n k s t ok at_most most same en = record {
   last = λ some.
-      let below : entry_number g n (k - 1) < 3 * g.max_sectors = number_below g n (k - 1) few (omega (arith, some, most)) in
+      let below : entry_number g n (k - 1) < 3 * g.max_sectors = number_below g n (k - 1) at_most (omega (arith, some, most)) in
       let unit = small_unit g ok in
       same (entry_place g (entry_number g n (k - 1))) (omega (arith, entry_inside g (entry_number g n (k - 1)) ok below)) (omega (arith, unit, entry_ends g (entry_number g n (k - 1)) ok below)) ∙
       en.last some;
@@ -160,20 +159,20 @@ entries_none g n s free = record { last = λ some. absurd (omega (arith, some));
 -- one entry more
 pub entry_step : (g : Geometry) (n k : ℕ) (s t : Content) → IsLayout g → n ≤ g.max_sectors → k < 3 * n → Entries g n k s → Changed s t Primary (entry_place g (entry_number g n k)) (one_unit g 1)
     → Entries g n (k + 1) t
-entry_step g n k s t ok few below en ch = record {
+entry_step g n k s t ok at_most below en ch = record {
   last = λ some.
       let E : ℕ → Type 0 = λ j. byte t Primary (entry_place g (entry_number g n j)) ≡ 1 in
       subst E (omega arith) (ap (byte t Primary) (sym (add-zero (entry_place g (entry_number g n k)))) ∙ ch.inside 0 (omega arith));
   free = λ e i high above h.
       let over : entry_number g n k < e = (let D : ℕ → Type 0 = λ j. entry_number g n j < e in subst D (omega arith) (above (omega arith))) in
-      entry_kept_beside g s t (entry_number g n k) e 1 ok (number_below g n k few below) high (λ same. absurd (omega (arith, same, over))) ch i h
-      ∙ en.free e i high (λ some. omega (arith, over, number_up g n (k - 1) k few (omega (arith, some)))) h;
+      entry_kept_beside g s t (entry_number g n k) e 1 ok (number_below g n k at_most below) high (λ same. absurd (omega (arith, same, over))) ch i h
+      ∙ en.free e i high (λ some. omega (arith, over, number_up g n (k - 1) k at_most (omega (arith, some)))) h;
 }
 
 -- what is found of them
 pub entries_last : (g : Geometry) (n k : ℕ) (s : Content) → IsLayout g → IsSized g s → n ≤ g.max_sectors → 0 < k → k ≤ 3 * n → Entries g n k s → highest_entry g s ≡ Some (entry_number g n (k - 1))
-entries_last g n k s ok sized few some most en =
-    let below : entry_number g n (k - 1) < 3 * g.max_sectors = number_below g n (k - 1) few (omega (arith, some, most)) in
+entries_last g n k s ok sized at_most some most en =
+    let below : entry_number g n (k - 1) < 3 * g.max_sectors = number_below g n (k - 1) at_most (omega (arith, some, most)) in
     highest_at g s (entry_number g n (k - 1))
     (written_entry g s (entry_number g n (k - 1)) 1 ok sized below (λ same. absurd (omega (arith, same))) (en.last some))
     (λ d over under. blank_entry g s d ok sized under (λ i h. en.free d i under (λ _. over) h))
@@ -183,7 +182,7 @@ entries_not g n s ok sized en = highest_none g s (λ d under. blank_entry g s d 
 
 -- The transfer of an entry.
 
--- the first place that passes, from i on
+-- the first number that passes, from i on
 found_from : {A : Type 0} (p : A → Bool) (xs : List A) (i k : ℕ) (x : A) → slice_get xs k ≡ Some x → p x ≡ true → ((j : ℕ) (y : A) → j < k → slice_get xs j ≡ Some y → p y ≡ false)
     → position_from p i xs ≡ Some (i + k)
 found_from p [] i k x here passes before = cc
@@ -200,7 +199,7 @@ none_from : {A : Type 0} (p : A → Bool) (xs : List A) (i : ℕ) → ((j : ℕ)
 none_from p [] i fails = refl
 none_from p (y ∷ xs) i fails = rw (fails 0 y refl) (none_from p xs (i + 1) (λ j z at. fails (suc j) z at))
 
--- the entry of a place
+-- the entry of a number
 entry_at : Geometry → ℕ → ℕ → ℕ → Type 0
 entry_at g n k e = ((k < n) × (e ≡ k)) ⊎ ((n ≤ k) × (k < 3 * n) × (e + n ≡ g.max_sectors + k))
 
@@ -234,20 +233,20 @@ entry_of_place g n k t at = elim (cases_lt k n) [
 -- no two transfers have one entry
 apart : (g : Geometry) (n j k d e : ℕ) → n ≤ g.max_sectors → j < k → entry_at g n j d → entry_at g n k e → d ≡ e → ⊥
 unfolding entry_at
-apart g n j k d e few before (inl low) (inl high) same = omega (arith, low.1, high.1)
-apart g n j k d e few before (inl low) (inr high) same = omega (arith, low.0, low.1, high.2)
-apart g n j k d e few before (inr low) (inl high) same = omega (arith, low.0, high.0)
-apart g n j k d e few before (inr low) (inr high) same = omega (arith, low.2, high.2)
+apart g n j k d e at_most before (inl low) (inl high) same = omega (arith, low.1, high.1)
+apart g n j k d e at_most before (inl low) (inr high) same = omega (arith, low.0, low.1, high.2)
+apart g n j k d e at_most before (inr low) (inl high) same = omega (arith, low.0, high.0)
+apart g n j k d e at_most before (inr low) (inr high) same = omega (arith, low.2, high.2)
 
 position_is : (p : Transfer → Bool) (xs : List Transfer) → position p xs ≡ position_from p 0 xs
 position_is p xs = position_from-zero p xs
 
 pub left_after : (g : Geometry) (n k e : ℕ) (t : Transfer) → n ≤ g.max_sectors → slice_get (transfers g n) k ≡ Some t → t.entry ≡ e → first_left g n (Some e) ≡ Some (k + 1)
-left_after g n k e t few at is =
+left_after g n k e t at_most at is =
     let p : Transfer → Bool = λ u. u.entry == e in
     let found : position_from p 0 (transfers g n) ≡ Some (0 + k) =
     found_from p (transfers g n) 0 k t at (eq-eqb t.entry e is)
-    (λ j y below there. other_number y.entry e (λ same. apart g n j k y.entry t.entry few below (entry_of_place g n j y there) (entry_of_place g n k t at) (same ∙ sym is))) in
+    (λ j y below there. other_number y.entry e (λ same. apart g n j k y.entry t.entry at_most below (entry_of_place g n j y there) (entry_of_place g n k t at) (same ∙ sym is))) in
     ap (option_map (λ (i : ℕ). i + 1)) (position_is p (transfers g n) ∙ found ∙ ap (λ (m : ℕ). Some m) (zero-add k))
 
 other_entry : (g : Geometry) (n k d e : ℕ) → entry_at g n k d → n ≤ e → (e < g.max_sectors) ⊎ (g.max_sectors + 2 * n ≤ e) → d ≡ e → ⊥
@@ -264,18 +263,18 @@ left_none g n e above other =
     ∙ none_from p (transfers g n) 0 (λ j y there. other_number y.entry e (other_entry g n j y.entry e (entry_of_place g n j y there) above other)))
 
 pub left_at_pair : (g : Geometry) (n e : ℕ) → n ≤ g.max_sectors → g.max_sectors ≤ e → e - g.max_sectors < 2 * n → first_left g n (Some e) ≡ Some (n + (e - g.max_sectors) + 1)
-left_at_pair g n e few from below = elim (cases_eq ((e - g.max_sectors) % 2) 0) [
+left_at_pair g n e at_most from below = elim (cases_eq ((e - g.max_sectors) % 2) 0) [
   | inl even ↦
-      left_after g n (n + (e - g.max_sectors)) e (brought_in g ((e - g.max_sectors) / 2)) few
+      left_after g n (n + (e - g.max_sectors)) e (brought_in g ((e - g.max_sectors) / 2)) at_most
       (get_brought g n (n + (e - g.max_sectors)) ((e - g.max_sectors) / 2) (omega arith) (omega arith)) (omega arith)
   | inr odd ↦
-      left_after g n (n + (e - g.max_sectors)) e (taken_out g ((e - g.max_sectors) / 2)) few
+      left_after g n (n + (e - g.max_sectors)) e (taken_out g ((e - g.max_sectors) / 2)) at_most
       (get_taken g n (n + (e - g.max_sectors)) ((e - g.max_sectors) / 2) (omega arith) (omega arith)) (omega arith)
 ]
 
 -- What holds of the k-th transfer of a swap that fits.
 
--- each of the 3n places has a transfer, and there is no other place
+-- each of the 3n numbers has a transfer, and there is no other number
 pub there_is : (g : Geometry) (n k : ℕ) → k < 3 * n → (x : Transfer) × (slice_get (transfers g n) k ≡ Some x)
 there_is g n k below = from (slice_get (transfers g n) k) refl
   where
@@ -300,7 +299,7 @@ pub record Fits (g : Geometry) (n k : ℕ) (x : Transfer) : Type 0 where
   pub entry : x.entry ≡ entry_number g n k
 
 fits_moved : (g : Geometry) (n k : ℕ) → IsLayout g → n ≤ greatest_sectors g → k < n → Fits g n k (moved_up n k)
-fits_moved g n k ok few low = record {
+fits_moved g n k ok at_most low = record {
   inside = record { from = omega arith; to = omega arith; entry = omega arith; apart = λ _. omega (arith, low) };
   from_data = omega arith;
   to_data = omega arith;
@@ -308,7 +307,7 @@ fits_moved g n k ok few low = record {
 }
 
 fits_brought : (g : Geometry) (n k i : ℕ) → IsLayout g → n ≤ greatest_sectors g → i < n → k ≡ n + 2 * i → Fits g n k (brought_in g i)
-fits_brought g n k i ok few low is = record {
+fits_brought g n k i ok at_most low is = record {
   inside = record { from = omega arith; to = omega arith; entry = omega arith; apart = λ same. cc };
   from_data = omega arith;
   to_data = omega arith;
@@ -316,7 +315,7 @@ fits_brought g n k i ok few low is = record {
 }
 
 fits_taken : (g : Geometry) (n k i : ℕ) → IsLayout g → n ≤ greatest_sectors g → i < n → k ≡ n + 2 * i + 1 → Fits g n k (taken_out g i)
-fits_taken g n k i ok few low is = record {
+fits_taken g n k i ok at_most low is = record {
   inside = record { from = omega arith; to = omega arith; entry = omega arith; apart = λ same. cc };
   from_data = omega arith;
   to_data = omega arith;
@@ -327,20 +326,20 @@ pub same_transfer : (x y : Transfer) → Some x ≡ Some y → x ≡ y
 same_transfer x y e = cc
 
 pub fits_at : (g : Geometry) (n k : ℕ) (x : Transfer) → IsLayout g → n ≤ greatest_sectors g → slice_get (transfers g n) k ≡ Some x → Fits g n k x
-fits_at g n k x ok few at = elim (cases_lt k n) [
+fits_at g n k x ok at_most at = elim (cases_lt k n) [
   | inl low ↦
       let same : moved_up n k ≡ x = same_transfer (moved_up n k) x (sym (get_moved g n k low) ∙ at) in
       let E : Transfer → Type 0 = λ y. Fits g n k y in
-      subst E same (fits_moved g n k ok few low)
+      subst E same (fits_moved g n k ok at_most low)
   | inr high ↦ elim (cases_eq ((k - n) % 2) 0) [
     | inl even ↦
         let same : brought_in g ((k - n) / 2) ≡ x = same_transfer (brought_in g ((k - n) / 2)) x (sym (get_brought g n k ((k - n) / 2) (omega (arith, within)) (omega arith)) ∙ at) in
         let E : Transfer → Type 0 = λ y. Fits g n k y in
-        subst E same (fits_brought g n k ((k - n) / 2) ok few (omega (arith, within)) (omega arith))
+        subst E same (fits_brought g n k ((k - n) / 2) ok at_most (omega (arith, within)) (omega arith))
     | inr odd ↦
         let same : taken_out g ((k - n) / 2) ≡ x = same_transfer (taken_out g ((k - n) / 2)) x (sym (get_taken g n k ((k - n) / 2) (omega (arith, within)) (omega arith)) ∙ at) in
         let E : Transfer → Type 0 = λ y. Fits g n k y in
-        subst E same (fits_taken g n k ((k - n) / 2) ok few (omega (arith, within)) (omega arith))
+        subst E same (fits_taken g n k ((k - n) / 2) ok at_most (omega (arith, within)) (omega arith))
   ]
 ]
   where
@@ -349,9 +348,9 @@ fits_at g n k x ok few at = elim (cases_lt k n) [
 
 -- the transfer after the one with this entry
 pub left_at : (g : Geometry) (n k : ℕ) → IsLayout g → n ≤ greatest_sectors g → 0 < k → k ≤ 3 * n → first_left g n (Some (entry_number g n (k - 1))) ≡ Some k
-left_at g n k ok few some most =
+left_at g n k ok at_most some most =
     let there = there_is g n (k - 1) (omega (arith, some, most)) in
-    let fits = fits_at g n (k - 1) there.0 ok few there.1 in
+    let fits = fits_at g n (k - 1) there.0 ok at_most there.1 in
     left_after g n (k - 1) (entry_number g n (k - 1)) there.0 (omega arith) there.1 fits.entry ∙ ap (λ (i : ℕ). Some i) (omega (arith, some))
 
 -- where each sector's bytes come from, before transfer k
@@ -389,11 +388,11 @@ same_is : (o : Slot) → is_same o o ≡ true
 same_is Primary = refl
 same_is Secondary = refl
 
-is_same_tells : (o p : Slot) → is_same o p ≡ true → o ≡ p
-is_same_tells Primary Primary e = refl
-is_same_tells Primary Secondary e = cc
-is_same_tells Secondary Primary e = cc
-is_same_tells Secondary Secondary e = refl
+is_same_means : (o p : Slot) → is_same o p ≡ true → o ≡ p
+is_same_means Primary Primary e = refl
+is_same_means Primary Secondary e = cc
+is_same_means Secondary Primary e = cc
+is_same_means Secondary Secondary e = refl
 
 pub held_here : (f : Held) (x : Transfer) → held_after f x x.to x.to_sector ≡ f x.from x.from_sector
 held_here f x = rw (same_is x.to) (rw (eq-eqb x.to_sector x.to_sector refl) refl)
@@ -403,4 +402,4 @@ held_there f x o i away = by (is_same o x.to) refl
   where
     by : (b : Bool) → is_same o x.to ≡ b → held_after f x o i ≡ f o i
     by false e = rw e refl
-    by true e = rw e (let d : (i == x.to_sector) ≡ false = other_number i x.to_sector (away (is_same_tells o x.to e)) in rw d refl)
+    by true e = rw e (let d : (i == x.to_sector) ≡ false = other_number i x.to_sector (away (is_same_means o x.to e)) in rw d refl)

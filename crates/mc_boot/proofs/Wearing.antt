@@ -5,14 +5,11 @@ use Rattle.std.proofs.lemmas.Bool.Decides.{nat_tests}
 use Rattle.std.proofs.lemmas.List.{get_or-replicate, get_or_past, length-replicate}
 use Rattle.std.specs.Int.{div_ceil}
 use Rattle.std.specs.List.{between, range_with_len}
-use Rattle.std.specs.Prelude.{Bool, List, None, Option, Some, [], drop, false, flat_map, if◌then◌else◌, is_none, length, map, nat_lt, not, refl, replicate, slice_index, suc, take, true, zero, ℕ}
-use Rattle.std.specs.Prelude.{◌*◌, ◌++◌, ◌+◌, ◌-◌, ◌/◌, ◌<◌, ◌==◌, ◌||◌, ◌∷◌, ◌≡◌, ◌≢◌, ◌≤◌, ◌⊎◌}
+use Rattle.std.specs.Prelude.{Bool, List, None, Option, Some, [], drop, false, flat_map, if◌then◌else◌, is_none, length, map, nat_lt, not, refl, replicate, slice_index, suc, take, true, zero, ℕ, ◌*◌, ◌++◌, ◌+◌, ◌-◌, ◌/◌, ◌<◌, ◌==◌, ◌||◌, ◌∷◌, ◌≡◌, ◌≢◌, ◌≤◌, ◌⊎◌}
 use Rattle.mc_boot.proofs.Transfers.{other_number}
 use Rattle.mc_boot.specs.Life.{AreSecondary, WearLaw, WorkLaw, all_erases, erases}
 use Rattle.mc_boot.specs.Outcome.{first_then, happening, ops_of}
-use Rattle.mc_boot.specs.Plan.{Plan, PowerOn, brought_in, closing, confirms, copy_of, entry_of, first_left, from_transfer, image_ok_write, images_of, info_write, is_revert, is_test, marking}
-use Rattle.mc_boot.specs.Plan.{moved_up, new_list, new_plan, new_swap, nothing, opening_writes, piece, plan, plan_with, preparation_writes, resumed_from, resumed_list, resumed_plan, resumed_swap}
-use Rattle.mc_boot.specs.Plan.{steps, swap_list, taken_out, trailer_erase, trailer_erases, transfers, write}
+use Rattle.mc_boot.specs.Plan.{Plan, PowerOn, brought_in, closing, confirms, copy_of, entry_of, first_left, from_transfer, image_ok_write, images_of, info_write, is_revert, is_test, marking, moved_up, new_list, new_plan, new_swap, nothing, opening_writes, piece, plan, plan_with, preparation_writes, resumed_from, resumed_list, resumed_plan, resumed_swap, steps, swap_list, taken_out, trailer_erase, trailer_erases, transfers, write}
 use Rattle.mc_boot.specs.declared.image.Images.{Images}
 use Rattle.mc_boot.specs.declared.transfer.Transfer.{Transfer}
 use Rattle.mc_flash.specs.Flash.{Content, IsSized, apply, erased, in_slot, is_blank, put, size_of, with_bytes}
@@ -22,7 +19,7 @@ use Rattle.mc_flash.specs.declared.op.Op.{Op}
 use Rattle.mc_flash.specs.declared.op.Op.TheVariants.{Copy, Erase, Program}
 use Rattle.mc_flash.specs.declared.op.Slot.{Slot}
 use Rattle.mc_flash.specs.declared.op.Slot.TheVariants.{Primary, Secondary}
-use Rattle.mc_flash.specs.facts.Changes.{length-put, put_before, put_behind, put_inside, same_content}
+use Rattle.mc_flash.specs.facts.Changes.{length-put, put_before, put_beyond, put_inside, same_content}
 use Rattle.mc_flash.specs.facts.Layouts.{data_sectors, sector_inside, trailer_leaves_one}
 use Rattle.mc_flash.specs.facts.Pieces.{pieces_layout}
 use Rattle.mc_image.specs.Image.{IsBytes}
@@ -44,7 +41,7 @@ put_bytes xs new at fits old fresh i = elim (cases_lt i at) [
   | inl low ↦ let same = put_before xs new at i fits low in let small = old i in omega (arith, same, small)
   | inr from ↦ elim (cases_lt i (at + length new)) [
     | inl below ↦ within (i - at) (omega (arith, from, below)) (omega (arith, from))
-    | inr above ↦ let same = put_behind xs new at i fits above in let small = old i in omega (arith, same, small)
+    | inr above ↦ let same = put_beyond xs new at i fits above in let small = old i in omega (arith, same, small)
   ]
 ]
   where
@@ -233,7 +230,7 @@ module _ (o : Slot) (k : ℕ) where
         crossed l (range_with_len 0 n),
       )
 
--- at most twice in the primary, once in the secondary, and none behind the image
+-- at most twice in the primary, once in the secondary, and none after the image
 twice : (k : ℕ) (l : Geometry) (n : ℕ) → all_erases Primary k (map (target Primary k) (transfers l n)) ≤ 2
 twice k l n =
     let up = once Primary k (λ j. Erase Primary (n - j)) 0 n
@@ -251,16 +248,16 @@ twice_at Secondary k l n =
     omega (arith, all_targets Secondary k l n, up, bring, out)
 
 -- and none where a trailer is
-none_behind : (o : Slot) (k : ℕ) (l : Geometry) (n : ℕ) → IsLayout l → n ≤ greatest_sectors l → data_sectors l o ≤ k → all_erases o k (map (target o k) (transfers l n)) ≡ 0
-none_behind Primary k l n ok few behind =
+none_beyond : (o : Slot) (k : ℕ) (l : Geometry) (n : ℕ) → IsLayout l → n ≤ greatest_sectors l → data_sectors l o ≤ k → all_erases o k (map (target o k) (transfers l n)) ≡ 0
+none_beyond Primary k l n ok at_most beyond =
     let leaves = trailer_leaves_one l Primary ok in
-    let room : n < k = omega (arith, few, behind, leaves) in
+    let room : n < k = omega (arith, at_most, beyond, leaves) in
     let up = none_in Primary k (λ j. Erase Primary (n - j)) 0 n (λ i from below. missed (n - i) k (λ e. omega (arith, e, room))) in
     let bring = none_in Primary k (λ i. Erase Primary i) 0 n (λ i from below. missed i k (λ e. omega (arith, e, room, below))) in
     let out = none_of Primary k (λ i. Erase Secondary i) (range_with_len 0 n) (λ i. refl) in
     omega (arith, all_targets Primary k l n, up, bring, out)
-none_behind Secondary k l n ok few behind =
-    let room : n ≤ k = omega (arith, few, behind) in
+none_beyond Secondary k l n ok at_most beyond =
+    let room : n ≤ k = omega (arith, at_most, beyond) in
     let up = none_of Secondary k (λ j. Erase Primary (n - j)) (range_with_len 0 n) (λ i. refl) in
     let bring = none_of Secondary k (λ i. Erase Primary i) (range_with_len 0 n) (λ i. refl) in
     let out = none_in Secondary k (λ i. Erase Secondary i) 0 n (λ i from below. missed i k (λ e. omega (arith, e, room, below))) in
@@ -279,13 +276,13 @@ trailer_once Secondary Secondary k l ok =
 trailer_once Primary Secondary k l ok = let none = none_of Primary k (trailer_erase l Secondary) (range_with_len 0 (trailer_sectors l)) (λ i. refl) in omega (arith, none)
 trailer_once Secondary Primary k l ok = let none = none_of Secondary k (trailer_erase l Primary) (range_with_len 0 (trailer_sectors l)) (λ i. refl) in omega (arith, none)
 
-trailer_behind : (o slot : Slot) (k : ℕ) (l : Geometry) → IsLayout l → k < data_sectors l o → all_erases o k (trailer_erases l slot) ≡ 0
-trailer_behind Primary Primary k l ok front =
-    none_in Primary k (trailer_erase l Primary) 0 (trailer_sectors l) (λ i from below. missed (l.primary - 1 - i) k (λ e. omega (arith, e, front, below)))
-trailer_behind Secondary Secondary k l ok front =
-    none_in Secondary k (trailer_erase l Secondary) 0 (trailer_sectors l) (λ i from below. missed (l.secondary - 1 - i) k (λ e. omega (arith, e, front, below)))
-trailer_behind Primary Secondary k l ok front = none_of Primary k (trailer_erase l Secondary) (range_with_len 0 (trailer_sectors l)) (λ i. refl)
-trailer_behind Secondary Primary k l ok front = none_of Secondary k (trailer_erase l Primary) (range_with_len 0 (trailer_sectors l)) (λ i. refl)
+trailer_beyond : (o slot : Slot) (k : ℕ) (l : Geometry) → IsLayout l → k < data_sectors l o → all_erases o k (trailer_erases l slot) ≡ 0
+trailer_beyond Primary Primary k l ok prefix =
+    none_in Primary k (trailer_erase l Primary) 0 (trailer_sectors l) (λ i from below. missed (l.primary - 1 - i) k (λ e. omega (arith, e, prefix, below)))
+trailer_beyond Secondary Secondary k l ok prefix =
+    none_in Secondary k (trailer_erase l Secondary) 0 (trailer_sectors l) (λ i from below. missed (l.secondary - 1 - i) k (λ e. omega (arith, e, prefix, below)))
+trailer_beyond Primary Secondary k l ok prefix = none_of Primary k (trailer_erase l Secondary) (range_with_len 0 (trailer_sectors l)) (λ i. refl)
+trailer_beyond Secondary Primary k l ok prefix = none_of Secondary k (trailer_erase l Primary) (range_with_len 0 (trailer_sectors l)) (λ i. refl)
 
 other_trailer : (o : Slot) (k : ℕ) (l : Geometry) → IsLayout l → all_erases o k (trailer_erases l Primary) + 2 * all_erases o k (trailer_erases l Secondary) ≤ 2
 other_trailer Primary k l ok = let none = none_of Primary k (trailer_erase l Secondary) (range_with_len 0 (trailer_sectors l)) (λ i. refl) in omega (arith, none, trailer_once Primary Primary k l ok)
@@ -294,11 +291,11 @@ other_trailer Secondary k l ok =
 
 -- ---- courses
 
-module _ (o : Slot) (k : ℕ) (l : Geometry) (n : ℕ) (ok : IsLayout l) (few : n ≤ greatest_sectors l) where
+module _ (o : Slot) (k : ℕ) (l : Geometry) (n : ℕ) (ok : IsLayout l) (at_most : n ≤ greatest_sectors l) where
   together : all_erases o k (trailer_erases l Primary) + 2 * all_erases o k (trailer_erases l Secondary) + all_erases o k (map (target o k) (transfers l n)) ≤ 2
   together = elim (cases_lt k (data_sectors l o)) [
-    | inl front ↦ omega (arith, trailer_behind o Primary k l ok front, trailer_behind o Secondary k l ok front, twice_at o k l n)
-    | inr behind ↦ omega (arith, other_trailer o k l ok, none_behind o k l n ok few behind)
+    | inl prefix ↦ omega (arith, trailer_beyond o Primary k l ok prefix, trailer_beyond o Secondary k l ok prefix, twice_at o k l n)
+    | inr beyond ↦ omega (arith, other_trailer o k l ok, none_beyond o k l n ok at_most beyond)
   ]
 
   from_some : (first : ℕ) (image_ok : Bool) → all_erases o k (from_transfer l n first image_ok) ≤ all_erases o k (map (target o k) (transfers l n))
@@ -357,8 +354,8 @@ not_above n most true e = absurd cc
 not_above n most false e = grind (arith, nat_tests)
 
 greatest_pieces : (c : Grain) (g : Geometry) (n : ℕ) → n ≤ greatest_sectors g → n ≤ greatest_sectors (in_pieces c g)
-greatest_pieces grains.Call g n few = few
-greatest_pieces grains.Unit g n few = few
+greatest_pieces grains.Call g n at_most = at_most
+greatest_pieces grains.Unit g n at_most = at_most
 
 module _ (o : Slot) (k : ℕ) (c : Grain) (g : Geometry) (ok : IsLayout g) where
   nothing_worn : (kind : SwapType) → all_erases o k (nothing kind).list ≤ 2
@@ -381,9 +378,9 @@ module _ (o : Slot) (k : ℕ) (c : Grain) (g : Geometry) (ok : IsLayout g) where
 
   from_worn : (image_ok : Flag) (highest : Option ℕ) (kind : SwapType) (n : ℕ) (first : Option ℕ) → n ≤ greatest_sectors g
       → all_erases o k (resumed_from c g image_ok highest kind n first).list ≤ 2
-  from_worn image_ok highest kind n None few = omega arith
-  from_worn image_ok highest kind n (Some first) few =
-      resumed_twice o k (in_pieces c g) n (pieces_layout c g ok) (greatest_pieces c g n few) first (is_none highest) (confirms kind image_ok)
+  from_worn image_ok highest kind n None at_most = omega arith
+  from_worn image_ok highest kind n (Some first) at_most =
+      resumed_twice o k (in_pieces c g) n (pieces_layout c g ok) (greatest_pieces c g n at_most) first (is_none highest) (confirms kind image_ok)
 
   resumed_swap_worn : (image_ok : Flag) (highest : Option ℕ) (kind : SwapType) (n : ℕ) → all_erases o k (resumed_swap c g image_ok highest kind n).list ≤ 2
   resumed_swap_worn image_ok highest kind n =

@@ -72,8 +72,8 @@ stepped p rest = record { rules = p.rules; kind = p.kind; to_come = rest; count 
 abbrev pub refused : Progress → Progress
 refused p = record { rules = p.rules; kind = p.kind; to_come = []; count = p.count; faulted = true }
 
--- What a boot becomes by the answer to its next operation: it happened; or it was refused, and the boot is at its end; or memory
--- was wanted, and nothing changed.
+-- What a boot becomes by the answer to its next operation: it happened; or it was refused, and the boot is at its end; or an
+-- allocation failed, and nothing changed.
 abbrev pub Turns : List Op → Progress → Result (Unit {0}) FlashError → Progress → Type 0
 Turns rest p (Ok _) q = q ≡ stepped p rest
 Turns rest p (Err errors.NotErased) q = q ≡ refused p
@@ -118,7 +118,7 @@ CountsOn p q old new = LeaveRoom new.usage.counts (left_of old.geometry q) (plus
 
 -- At most so many operations, and at most so many bytes that they save.
 pub record IsBounded (g : Geometry) (ops : List Op) (count saved : ℕ) : Type 0 where
-  pub few : length ops ≤ count
+  pub at_most : length ops ≤ count
   pub saves : all_saves g ops ≤ saved
 
 -- What a boot at power-on is.
@@ -129,7 +129,7 @@ pub record IsCold (r : Rules) (f : Seen) (b : Boot) : Type 0 where
   pub boot : progress b ≡ begun r (plan (powered r f))
   pub list : all_of b ≡ (plan (powered r f)).list
   pub layout : IsBootOf f.geometry b
-  pub few : length (progress b).to_come ≤ most_operations r.grain f.geometry
+  pub at_most : length (progress b).to_come ≤ most_operations r.grain f.geometry
   pub saves : all_saves f.geometry (progress b).to_come ≤ most_saved f.geometry
   pub sized : IsSized f.geometry f.content
 
@@ -157,7 +157,7 @@ goes_further a x b y c z first more = record {
 
 -- The transfers that a layout has room for.
 
--- Source, target and entry are there, and in one slot the target is the sector behind the source.
+-- Source, target and entry are there, and in one slot the target is the sector after the source.
 pub record IsInside (g : Geometry) (t : Transfer) : Type 0 where
   pub from : t.from_sector < sectors_of g t.from
   pub to : t.to_sector < sectors_of g t.to

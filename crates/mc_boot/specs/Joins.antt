@@ -40,16 +40,16 @@ comes_to n (Resumed start erased ok) first false image_ok =
     nat_le start first && (beq ok image_ok || first == 3 * n && not image_ok)
 
 -- How many operations of a swap from its start write only in the trailer that it begins with erasing.
-abbrev pub opening_reach : Grain → Geometry → SwapType → ℕ → ℕ
-opening_reach c g kind size =
+abbrev pub harmless_opening_len : Grain → Geometry → SwapType → ℕ → ℕ
+harmless_opening_len c g kind size =
     trailer_sectors g
     + (if is_revert kind then length (preparation_writes c g size)
     else length (opening_writes c g kind size))
 
 -- How many operations of a course from a transfer on write only in the sectors that it begins with erasing: the secondary's
 -- trailer, where that is erased, and the sector that the transfer copies to. After the last transfer none is erased.
-abbrev pub transfer_reach : Geometry → ℕ → ℕ → Bool → ℕ
-transfer_reach g n first erases =
+abbrev pub harmless_transfer_len : Geometry → ℕ → ℕ → Bool → ℕ
+harmless_transfer_len g n first erases =
     if first == 3 * n then 0
     else (if erases then trailer_sectors g else 0) + (g.sector / g.chunk + 1)
 
@@ -66,20 +66,20 @@ erases_of b = erases_at b.layout b.sectors b.opening
 -- The course a was cut after c operations, and the course b of the next boot begins so: how many operations of a are not
 -- made again, where b goes on with a. A swap from its start goes on with the same swap that was cut in its opening: all are
 -- made again. A swap that was cut goes on where a comes to it, and what a made of it wrote only in sectors that b erases first.
-abbrev pub joins_from : Course → ℕ → Course → Opening → Option ℕ
-joins_from a c b (New kind size) =
+abbrev pub kept_from : Course → ℕ → Course → Opening → Option ℕ
+kept_from a c b (New kind size) =
     if is_same_swap a b && starts_as a.opening kind size
-    && nat_le c (opening_reach b.grain b.layout kind size)
+    && nat_le c (harmless_opening_len b.grain b.layout kind size)
     then Some 0 else None
-joins_from a c b (Resumed first erases image_ok) =
+kept_from a c b (Resumed first erases image_ok) =
     let kept = length (course_list a) - length (course_list b) in
     if is_same_swap a b && nat_le first (3 * b.sectors)
     && comes_to b.sectors a.opening first erases image_ok
-    && nat_le kept c && nat_le c (kept + transfer_reach b.layout b.sectors first erases)
+    && nat_le kept c && nat_le c (kept + harmless_transfer_len b.layout b.sectors first erases)
     then Some kept else None
 
-abbrev pub joins_of : Course → ℕ → Course → Option ℕ
-joins_of a c b = joins_from a c b b.opening
+abbrev pub kept_of : Course → ℕ → Course → Option ℕ
+kept_of a c b = kept_from a c b b.opening
 
 -- A boot that was cut, and what it would have done.
 
@@ -97,7 +97,7 @@ pub record IsCut (x : PowerOn) (u : Content) (b : Boot) (whole : Report) : Type 
 -- the next boot is the same boot, and makes all again.
 abbrev pub kept_by : Option Course → ℕ → Option Course → Option ℕ
 kept_by None done next = None
-kept_by (Some a) done next = if done == 0 then Some 0 else option_and_then (joins_of a done) next
+kept_by (Some a) done next = if done == 0 then Some 0 else option_and_then (kept_of a done) next
 
 -- How many operations of a boot that was cut the next boot does not make again, where the outcome follows from the courses
 -- of the two. None elsewhere.

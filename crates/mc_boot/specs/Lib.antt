@@ -1,6 +1,6 @@
 pub mod Plan
 pub mod Outcome
-pub mod Rejoin
+pub mod SharedTail
 pub mod Restart
 pub mod WholeSwap
 pub mod Life

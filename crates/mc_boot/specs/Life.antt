@@ -1,6 +1,6 @@
--- A device's whole life: boots, power cuts at any of their operations, and what the running image does to the flash, in any
--- number and any order. What a boot then ends in is said of the flash on which the device last rested. docs/LIFE.md tells this in
--- words, with the automaton as a table. That a test is taken back unless its image has set image-ok is from MCUboot's design document
+-- A device's whole life: boots, power cuts at any of their operations, and what the running image does to the flash, in any number
+-- and any order. What a boot then ends in is said of the flash on which the device last rested. docs/LIFE.md says this in words,
+-- with the automaton as a table. That a test is taken back unless its image has set image-ok is from MCUboot's design document
 -- ("swap types", "image trailer"); what else may happen to the flash, and when, is this project's own choice.
 use Rattle.std.specs.Prelude.{◌≡◌, ◌≢◌, ◌⊎◌, ℕ, ◌==◌, Bool, true, false, not, ◌&&◌, ◌||◌, if◌then◌else◌, List, [], ◌∷◌, length, Option, Some, option_map, ◌+◌, ◌≤◌, take}
 use Rattle.mc_flash.specs.Flash.{Content, IsSized, put, size_of, with_bytes, CanTry, apply}
@@ -172,7 +172,7 @@ confirmed_by asked x = record { primary = x.primary; trial = false; secondary = 
 pub record EndsWell (x : PowerOn) (z : Content) : Type 0 where
   pub end : left_by x ≡ Some z
   pub whole : is_faulted x ≡ false
-  pub calm : (plan x).kind ≢ kinds.Panic
+  pub not_panic : (plan x).kind ≢ kinds.Panic
   pub result : option_map (λ o. o.result) (outcome_of x) ≡ Some results.Boot
   pub valid : is_valid z.primary ≡ true
 
@@ -208,7 +208,7 @@ pub record LivesOn (r : Rules) (g : Geometry) (m : Moment) (z : Content) : Type 
   pub leaves : Leaves r g m.rested z ⊎ Forgets r g m.rested m.content z
 
 -- By these rules, for every layout, every flash that a device can be delivered with and every list of events: the device lives. A
--- front of a list of events is a list of events, so that this says it of every boot of a life.
+-- prefix of a list of events is a list of events, so that this says it of every boot of a life.
 abbrev pub LifeLaw : Rules → Type 0
 LifeLaw r =
     (g : Geometry) (s : Content) (runs : Bool) (events : List Event) (m : Moment)

@@ -27,7 +27,7 @@ abbrev pub first_then : Op → (Content → List Op) → Option Content → List
 first_then op rest None = []
 first_then op rest (Some t) = op ∷ rest t
 
--- The longest front of a list that can be applied.
+-- The longest prefix of a list that can be applied.
 abbrev pub happening : Geometry → List Op → Content → List Op
 happening g [] s = []
 happening g (op ∷ ops) s = first_then op (λ t. happening g ops t) (apply g op s)
@@ -91,8 +91,8 @@ abbrev pub result_of : SwapType → Bool → Bool → BootResult
 result_of kind faulted boots =
     if is_panic kind then results.Panic else if faulted then results.Fault else if boots then results.Boot else results.None
 
--- What is told of a boot of that type, of which so many operations happened and one was refused or none, and which left z:
--- also the valid images of the slots, and the type that a boot from z would have.
+-- What is reported of a boot of that type, of which so many operations happened and one was refused or none, and which
+-- left z: also the valid images of the slots, and the type that a boot from z would have.
 unfoldable pub report : Rules → Geometry → SwapType → ℕ → Bool → Content → Report
 report r g kind count faulted z = record {
   result = result_of kind faulted (is_valid z.primary);

@@ -1,8 +1,7 @@
 -- What a boot begins with, and its plan: the list of operations that follows from that alone (docs/MODEL.md, "Boots").
 use Rattle.std.specs.Int.{div_ceil}
 use Rattle.std.specs.List.{between, range_with_len}
-use Rattle.std.specs.Prelude.{Bool, List, None, Option, Some, [], drop, false, flat_map, if◌then◌else◌, is_none, length, map, max, nat_lt, not, option_map, position, true, ℕ, ◌&&◌, ◌*◌, ◌++◌}
-use Rattle.std.specs.Prelude.{◌+◌, ◌-◌, ◌/◌, ◌==◌, ◌||◌, ◌∷◌}
+use Rattle.std.specs.Prelude.{Bool, List, None, Option, Some, [], drop, false, flat_map, if◌then◌else◌, is_none, length, map, max, nat_lt, not, option_map, position, true, ℕ, ◌&&◌, ◌*◌, ◌++◌, ◌+◌, ◌-◌, ◌/◌, ◌==◌, ◌||◌, ◌∷◌}
 use Rattle.mc_boot.specs.declared.image.ImageId.{ImageId}
 use Rattle.mc_boot.specs.declared.image.Images.{Images}
 use Rattle.mc_boot.specs.declared.transfer.Transfer.{Transfer}
@@ -57,7 +56,7 @@ image_size bytes = if is_none (first_fault bytes) then length (image_text (image
 unfoldable pub images_of : Content → Images
 images_of s = record { valid = is_valid s.secondary; size = max (image_size s.primary) (image_size s.secondary) }
 
--- What tells images apart, as images define it.
+-- What distinguishes images, as images define it.
 abbrev pub identity_of : ImageId → Identity
 identity_of id = record { version = id.version; size = id.size; digest = id.digest }
 
@@ -103,7 +102,7 @@ trailer_erase g slot i = Erase slot (sectors_of g slot - 1 - i)
 abbrev pub trailer_erases : Geometry → Slot → List Op
 trailer_erases g slot = map (trailer_erase g slot) (range_with_len 0 (trailer_sectors g))
 
--- Unit j of bytes that are written at a place.
+-- Unit j of bytes that are written at an offset.
 abbrev pub piece : Geometry → Slot → ℕ → List ℕ → ℕ → Op
 piece g slot at new j = Program slot (at + j * g.unit) (between (j * g.unit) (j * g.unit + g.unit) new)
 
@@ -212,7 +211,7 @@ new_plan c g images kinds.Revert = new_swap c g images kinds.Revert
 new_plan c g images kinds.Fail = nothing kinds.Fail
 new_plan c g images kinds.Panic = nothing kinds.Panic
 
--- The first transfer still to be made, where this is the highest entry: the one behind the transfer of that entry, and
+-- The first transfer still to be made, where this is the highest entry: the one after the transfer of that entry, and
 -- none where no transfer has it.
 abbrev pub first_left : Geometry → ℕ → Option ℕ → Option ℕ
 first_left g n None = Some 0

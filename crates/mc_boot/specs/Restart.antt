@@ -117,7 +117,7 @@ IsSwapped start starts.Revert u z = AreExchanged start.geometry (plan start).sec
 pub record EndsIn (start : PowerOn) (kind : Kind) (a b : List ℕ) (u z : Content) : Type 0 where
   pub end : left_by (again start u) ≡ Some z
   pub whole : is_faulted (again start u) ≡ false
-  pub calm : (plan (again start u)).kind ≢ kinds.Panic
+  pub not_panic : (plan (again start u)).kind ≢ kinds.Panic
   pub boots : is_valid z.primary ≡ true
   pub result : option_map (λ o. o.result) (outcome_of (again start u)) ≡ Some results.Boot
   pub primary : Holds (named kind a b) z.primary
@@ -138,7 +138,7 @@ StartsExist =
     → (s : Content) × (start_flash g kind a b ≡ Some s)
 
 -- By these rules, for every layout, kind of start and pair of images, and every list of cuts of any length that can occur:
--- the boot from the flash that the cuts leave ends what the start asked for. A front of a list of cuts is a list of cuts,
+-- the boot from the flash that the cuts leave ends what the start asked for. A prefix of a list of cuts is a list of cuts,
 -- so that this says it of each boot on the way too: none refuses an operation, none panics, and uncut each would end so.
 abbrev pub RestartLaw : Rules → Type 0
 RestartLaw r =
@@ -173,7 +173,7 @@ abbrev pub one_write : Counts
 one_write = record { entries = 1; saved = 0 }
 
 -- What a confirmation does to a flash. True: image-ok may be written, and that write happened. False: it may not, and the flash
--- is as it was. Else memory was wanted for the write. It is never refused, since the bytes are 0xff.
+-- is as it was. Else an allocation failed for the write. It is never refused, since the bytes are 0xff.
 abbrev pub Confirms : Seen → Result Bool FlashError → Seen → Type 0
 Confirms old (Ok true) new =
     (may_confirm old.geometry old.content ≡ true) × Does (image_ok_write old.geometry Primary) old (Ok tt) new

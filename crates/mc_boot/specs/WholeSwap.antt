@@ -2,9 +2,8 @@
 use Rattle.std.specs.Prelude.{◌≡◌, ℕ, max, List, length, Some}
 use Rattle.std.specs.Int.{div_ceil}
 use Rattle.mc_flash.specs.Flash.{Content}
-use Rattle.mc_flash.specs.Geometry.{Geometry, greatest_sectors}
+use Rattle.mc_flash.specs.Geometry.{Geometry, greatest_sectors, in_pieces}
 use Rattle.mc_flash.specs.Largest.{largest_image}
-use Rattle.mc_flash.specs.Geometry.{in_pieces}
 use Rattle.mc_flash.specs.declared.flash.Grain.{Grain}
 use Rattle.mc_flash.specs.declared.op.Op.{Op}
 use Rattle.mc_trailer.specs.declared.tables.Rules.{Rules}

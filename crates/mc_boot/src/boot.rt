@@ -2,22 +2,17 @@
 ghost use Rattle.std.specs.Prelude.{◌≡◌, ◌<◌, ◌≤◌, [], length, slice_get, Some, ◌↔◌, IsSome, IfSome, MatchResult};
 ghost use Rattle.mc_trailer.specs.Trailer.{highest_entry};
 ghost use Rattle.mc_flash.specs.Geometry.{Geometry};
-ghost use Rattle.mc_flash.specs.Flash.{Content};
-ghost use Rattle.mc_flash.specs.Flash.{CanTry};
-ghost use Rattle.mc_flash.specs.Usage.{Does, Keeps};
-ghost use Rattle.mc_flash.specs.Usage.{Spends, Allows};
+ghost use Rattle.mc_flash.specs.Flash.{Content, CanTry};
+ghost use Rattle.mc_flash.specs.Usage.{Does, Keeps, Spends, Allows};
 ghost use Rattle.mc_trailer.specs.declared.tables.Rules.{Rules};
 ghost use Rattle.mc_boot.specs.Joins.{IsCut, operations_kept};
 ghost use Rattle.mc_boot.specs.Boot.{progress, IsBootOf, begun};
-ghost use Rattle.mc_boot.specs.Outcome.{shown, outcome_of};
-ghost use Rattle.mc_boot.specs.Plan.{images_of};
-ghost use Rattle.mc_boot.specs.Plan.{confirms, nothing, new_swap, new_plan, resumed_swap, resumed_plan, plan};
-ghost use Rattle.mc_boot.specs.Plan.{PowerOn, again, power_on, powered};
-ghost use Rattle.mc_boot.specs.Outcome.{left_by};
+ghost use Rattle.mc_boot.specs.Outcome.{shown, outcome_of, left_by};
+ghost use Rattle.mc_boot.specs.Plan.{images_of, confirms, nothing, new_swap, new_plan, resumed_swap, resumed_plan, plan, PowerOn, again, power_on, powered};
 
 use crate::course::{Course, Opening};
 use crate::image::Images;
-use crate::joining::joins;
+use crate::kept_operations::count_kept;
 use crate::known::KnownImage;
 use crate::outcome::Outcome;
 use crate::transfer::first_left;
@@ -57,11 +52,7 @@ fn confirms(kind: SwapType, image_ok: Flag) -> bool
 }
 
 impl Boot {
-    ghost use Rattle.mc_boot.specs.Boot.{all_of, to_come, progress, IsBootOf, Steps, begun};
-    ghost use Rattle.mc_boot.specs.Boot.{HasCome};
-    ghost use Rattle.mc_boot.specs.Boot.{GoesOn};
-    ghost use Rattle.mc_boot.specs.Boot.{IsCold};
-    ghost use Rattle.mc_boot.specs.Boot.{left_of, CountsOn};
+    ghost use Rattle.mc_boot.specs.Boot.{all_of, to_come, progress, IsBootOf, Steps, begun, HasCome, GoesOn, IsCold, left_of, CountsOn};
     ghost use Rattle.mc_boot.specs.Outcome.{shown, report, outcome_of};
 
     // A boot with no operations.
@@ -228,7 +219,7 @@ impl Boot {
         ensures come { HasCome (powered rules (F.seen flash.now)) (progress result)
             (F.seen flash.now).content }
     {
-        // Each number of a layout tells that it is one, and each slot how long it is.
+        // Reading a field gives the prover that it is a layout, and each slot how long it is.
         let _sector = flash.layout().sector();
         let _primary = flash.read(Slot::Primary);
         let _secondary = flash.read(Slot::Secondary);
@@ -239,7 +230,7 @@ impl Boot {
     fn next_op(&self) -> Option<Op>
         ensures first { result ≡ slice_get (to_come self.now) 0 }
         ensures inside { (g : Geometry) → IsBootOf g self.now → IfSome result (λ op. CanTry g op) }
-        ensures few { IfSome result (λ _. self.now.done < 204000000) }
+        ensures at_most { IfSome result (λ _. self.now.done < 204000000) }
     {
         if self.faulted {
             return None;
@@ -402,7 +393,7 @@ pub fn outcome_after(cut: &Boot, whole: &Outcome, next: &Boot) -> Option<Outcome
     let Some(following) = &next.course else {
         return None;
     };
-    let kept = joins(course, cut.done, following)?;
+    let kept = count_kept(course, cut.done, following)?;
     let outcome = Outcome {
         kind: next.kind,
         ops: whole.ops.saturating_sub(kept),

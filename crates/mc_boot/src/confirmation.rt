@@ -1,9 +1,7 @@
 //! An image that confirms itself.
 ghost use Rattle.std.specs.Prelude.{◌≡◌, OnOk, IfErr};
 ghost use Rattle.mc_flash.specs.Geometry.{IsLayout};
-ghost use Rattle.mc_flash.specs.Usage.{no_counts};
-ghost use Rattle.mc_flash.specs.Usage.{Keeps};
-ghost use Rattle.mc_flash.specs.Usage.{Allows, LeaveRoom, Spends, plus};
+ghost use Rattle.mc_flash.specs.Usage.{no_counts, Keeps, Allows, LeaveRoom, Spends, plus};
 ghost use Rattle.mc_boot.specs.Restart.{Confirms, confirmed, may_confirm, one_write};
 
 use crate::boot::perform;

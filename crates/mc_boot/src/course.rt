@@ -42,7 +42,7 @@ pub struct Course {
 /// How many operations the finish has.
 fn closing_len(image_ok: bool) -> u32
     ensures len { (g : Geometry) → length (closing g image_ok) ≡ result }
-    ensures few { result ≤ 2 }
+    ensures at_most { result ≤ 2 }
 {
     if image_ok { 2 } else { 1 }
 }
@@ -70,7 +70,7 @@ fn closing_op(layout: &Layout, image_ok: bool, index: u32) -> Option<Op>
 fn from_transfer_len(layout: &Layout, sectors: u32, first: u32, image_ok: bool) -> u32
     requires { sectors ≤ greatest_sectors layout.now }
     ensures len { result ≡ length (from_transfer layout.now sectors first image_ok) }
-    ensures few { result ≤ 201332738 }
+    ensures at_most { result ≤ 201332738 }
 {
     let width = transfer_len(layout);
     let left = (3 * sectors).saturating_sub(first);
@@ -103,7 +103,7 @@ fn from_transfer_op(
 fn resumed_len(layout: &Layout, sectors: u32, first: u32, erases: bool, image_ok: bool) -> u32
     requires { sectors ≤ greatest_sectors layout.now }
     ensures len { result ≡ length (resumed_list layout.now sectors first erases image_ok) }
-    ensures few { result ≤ 202000000 }
+    ensures at_most { result ≤ 202000000 }
 {
     let count = layout.trailer_sectors();
     let rest = from_transfer_len(layout, sectors, first, image_ok);
@@ -162,7 +162,7 @@ fn swap_op(
 pub fn new_len(layout: &Layout, grain: Grain, kind: SwapType, sectors: u32) -> u32
     requires { sectors ≤ greatest_sectors layout.now }
     ensures len { (size : ℕ) → length (new_list grain layout.now kind size sectors) ≡ result }
-    ensures few { result ≤ 204000000 }
+    ensures at_most { result ≤ 204000000 }
 {
     let count = layout.trailer_sectors();
     let opening = opening_len(layout, grain, kind);
@@ -209,7 +209,7 @@ impl Course {
     pub fn len(&self) -> u32
         ensures len { result ≡ length (course_list self.now) }
         // At most 3,072 transfers of 65,538 operations each, and those on the trailers.
-        ensures few { result ≤ 204000000 }
+        ensures at_most { result ≤ 204000000 }
     {
         match self.opening {
             Opening::New { kind, .. } => new_len(&self.layout, self.grain, kind, self.sectors),

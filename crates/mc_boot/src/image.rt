@@ -9,7 +9,7 @@ ghost use Rattle.mc_boot.specs.Plan.{image_size, images_of, identity_of};
 use mc_flash::{Flash, Slot};
 use mc_image::{ImageView, Version};
 
-/// What tells valid images apart.
+/// What distinguishes valid images.
 #[derive(Clone, Copy, Debug, PartialEq, Eq)]
 pub struct ImageId {
     /// The version in the header.
@@ -27,7 +27,7 @@ pub struct Images {
     pub size: u32,
 }
 
-/// The image that a slot's bytes begin with: its size by structure alone, and what tells it apart where it is valid.
+/// The image that a slot's bytes begin with: its size by structure alone, and what distinguishes it where it is valid.
 #[derive(Clone, Copy, Debug)]
 pub struct Held {
     pub size: u32,
@@ -37,7 +37,7 @@ pub struct Held {
 /// The bytes of a slot, as many as its layout says.
 pub fn slot_bytes<F: Flash>(flash: &F, slot: Slot) -> &[u8]
     ensures value { result.now ≡ bytes_of (F.seen flash.now).content slot }
-    ensures few { length result.now ≤ 2 ^ 24 }
+    ensures at_most { length result.now ≤ 2 ^ 24 }
 {
     let size = flash.layout().size(slot) as usize;
     &flash.read(slot)[..size]
@@ -45,7 +45,7 @@ pub fn slot_bytes<F: Flash>(flash: &F, slot: Slot) -> &[u8]
 
 /// The length of the image at the start of a slot's bytes.
 fn view_size(bytes: &[u8], view: &ImageView<'_>) -> u32
-    requires few { length bytes.now ≤ 2 ^ 24 }
+    requires at_most { length bytes.now ≤ 2 ^ 24 }
     requires begins { Begins bytes.now view.now }
     ensures { result ≡ length (image_text view.now) }
 {
@@ -65,7 +65,7 @@ pub fn image_size(bytes: &[u8]) -> u32
 }
 
 impl ImageId {
-    /// What tells the image of a view apart.
+    /// What distinguishes the image of a view.
     pub fn of(view: &ImageView<'_>) -> ImageId
         requires { length (image_text view.now) < 2 ^ 32 }
         ensures { identity_of result ≡ identity view.now }

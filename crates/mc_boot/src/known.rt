@@ -1,14 +1,13 @@
 //! Images whose bytes are known: where a slot begins with them, nothing is hashed.
 ghost use Rattle.std.specs.Prelude.{◌≡◌, ◌≤◌, ◌^◌, true, length, take, IfSome, option_map, Some};
-ghost use Rattle.mc_image.specs.Image.{IsBytes};
 ghost use Rattle.mc_image.specs.Valid.{id_of};
 ghost use Rattle.mc_boot.specs.Plan.{image_size, images_of, identity_of};
 
 use crate::image::{Held, ImageId, Images, image_size, slot_bytes};
 use mc_flash::{Flash, Slot};
-use mc_image::same_front;
+use mc_image::{are_bytes, same_prefix};
 
-/// A valid image: bytes that begin with it, and what tells it apart. It takes no memory.
+/// A valid image: bytes that begin with it, and what distinguishes it. It takes no memory.
 #[derive(Clone, Copy)]
 pub struct KnownImage<'a> {
     bytes: &'a [u8],
@@ -24,13 +23,13 @@ impl<'a> KnownImage<'a> {
         KnownImage { bytes, id }
     }
 
-    // What tells it apart, where other bytes begin with it.
+    // What distinguishes it, where other bytes begin with it.
     fn id_in(&self, bytes: &[u8]) -> Option<ImageId>
         ensures { IfSome result (λ id. id_of bytes.now ≡ Some (identity_of id)) }
     {
         // Bytes that agree as far as the image goes begin with it too.
-        same_front();
-        bytes_stand(self.bytes);
+        same_prefix();
+        are_bytes(self.bytes);
         let size = self.id.size as usize;
         if begin_alike(self.bytes, bytes, size) {
             Some(self.id)
@@ -39,11 +38,6 @@ impl<'a> KnownImage<'a> {
         }
     }
 }
-
-// What a slice holds are bytes.
-fn bytes_stand(bytes: &[u8])
-    ensures { IsBytes bytes.now }
-{}
 
 // Whether both have so many bytes, and the same.
 fn begin_alike(first: &[u8], second: &[u8], size: usize) -> bool
@@ -55,7 +49,7 @@ fn begin_alike(first: &[u8], second: &[u8], size: usize) -> bool
     first[..size] == second[..size]
 }
 
-/// What tells the image apart that the bytes begin with, where it is one of those that are known. It compares bytes, and hashes none.
+/// What distinguishes the image that the bytes begin with, where it is one of those that are known. It compares bytes, and hashes none.
 pub fn known_id(bytes: &[u8], known: &[Option<KnownImage<'_>>]) -> Option<ImageId>
     ensures { IfSome result (λ id. id_of bytes.now ≡ Some (identity_of id)) }
 {

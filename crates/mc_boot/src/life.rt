@@ -2,7 +2,7 @@
 ghost use Rattle.mc_trailer.specs.declared.tables.Rules.{Rules};
 ghost use Rattle.mc_boot.specs.Life.{LifeLaw, NextLaw, OnlyLaw, StartsLaw, WearLaw, WorkLaw};
 
-use mc_image::{one_reading, same_front};
+use mc_image::{one_reading, same_prefix};
 
 /// The life law: in a device's whole life no sequence of power cuts bricks it.
 ///
@@ -28,5 +28,5 @@ pub fn life_law()
     ensures wear { WearLaw }
 {
     one_reading();
-    same_front();
+    same_prefix();
 }

@@ -1,9 +1,8 @@
 //! The restart theorem.
 ghost use Rattle.mc_trailer.specs.declared.tables.Rules.{Rules};
-ghost use Rattle.mc_boot.specs.Restart.{StartsExist, RestartLaw};
-ghost use Rattle.mc_boot.specs.Restart.{RoundsLaw};
+ghost use Rattle.mc_boot.specs.Restart.{StartsExist, RestartLaw, RoundsLaw};
 
-use mc_image::{one_reading, same_front};
+use mc_image::{one_reading, same_prefix};
 
 /// The restart theorem. For every layout, kind of start and pair of valid images that fit there is a start; and from it,
 /// after every list of power cuts that can occur, however long, the next boot ends what the start asked for: no operation of
@@ -20,5 +19,5 @@ pub fn restart_law()
     ensures rounds { (rules : Rules) → RoundsLaw rules }
 {
     one_reading();
-    same_front();
+    same_prefix();
 }

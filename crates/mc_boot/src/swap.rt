@@ -4,7 +4,7 @@ ghost use Rattle.mc_boot.specs.WholeSwap.{swap_operations, MakesSwap};
 
 use crate::course::new_len;
 use mc_flash::{Grain, Layout};
-use mc_image::{one_reading, same_front};
+use mc_image::{one_reading, same_prefix};
 use mc_trailer::SwapType;
 
 /// How many operations the whole swap for a test has of two images that fit, the larger of which takes as many sectors as an
@@ -15,7 +15,7 @@ pub fn swap_operations(layout: &Layout, grain: Grain) -> u32
     ensures made { MakesSwap grain layout.now result }
 {
     one_reading();
-    same_front();
+    same_prefix();
     let pieces = layout.in_pieces(grain);
     new_len(&pieces, grain, SwapType::Test, layout.greatest_sectors())
 }

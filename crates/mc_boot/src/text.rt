@@ -1,8 +1,7 @@
 //! Outcomes as text.
 ghost use Rattle.std.specs.Prelude.{◌≡◌, ◌+◌, ◌≤◌, ◌++◌, length, Some, option_map};
 ghost use Rattle.mc_boot.specs.Plan.{identity_of};
-ghost use Rattle.mc_boot.specs.Outcome.{shown};
-ghost use Rattle.mc_boot.specs.Outcome.{result_text, identity_text, slot_text, happened_text, left_text, outcome_text};
+ghost use Rattle.mc_boot.specs.Outcome.{shown, result_text, identity_text, slot_text, happened_text, left_text, outcome_text};
 
 use crate::image::ImageId;
 use crate::outcome::{BootResult, Outcome};
@@ -13,7 +12,7 @@ impl BootResult {
     /// Its name in one word.
     pub fn name(self) -> &'static str
         ensures text { result.now ≡ result_text self }
-        ensures few { length result.now ≤ 5 }
+        ensures at_most { length result.now ≤ 5 }
     {
         match self {
             BootResult::Boot => "boot",

@@ -2,11 +2,9 @@
 ghost use Rattle.std.specs.Prelude.{◌≡◌, ◌+◌, ◌-◌, ◌*◌, ◌/◌, ◌<◌, ◌≤◌, slice_get, Some};
 ghost use Rattle.mc_trailer.specs.Trailer.{one_unit};
 ghost use Rattle.mc_flash.specs.Geometry.{greatest_sectors, IsLayout};
-ghost use Rattle.mc_flash.specs.Flash.{sectors_of};
-ghost use Rattle.mc_flash.specs.Flash.{CanTry};
-ghost use Rattle.mc_boot.specs.Plan.{transfers, steps, copy_of, entry_of};
+ghost use Rattle.mc_flash.specs.Flash.{sectors_of, CanTry};
+ghost use Rattle.mc_boot.specs.Plan.{transfers, steps, copy_of, entry_of, first_left};
 ghost use Rattle.mc_boot.specs.Boot.{IsInside};
-ghost use Rattle.mc_boot.specs.Plan.{first_left};
 
 use mc_flash::{Bytes16, Layout, Op, Slot};
 use mc_trailer::entry_place;
@@ -87,7 +85,7 @@ pub fn one_unit(layout: &Layout, value: u8) -> Bytes16
 }
 
 /// The first byte of a chunk of a sector.
-fn chunk_place(layout: &Layout, slot: Slot, sector: u32, chunk: u32) -> u32
+fn chunk_offset(layout: &Layout, slot: Slot, sector: u32, chunk: u32) -> u32
     requires there { sector < sectors_of layout.now slot }
     requires below { chunk < layout.now.sector / layout.now.chunk }
     ensures { result ≡ sector * layout.now.sector + chunk * layout.now.chunk }
@@ -102,8 +100,8 @@ fn chunk_copy(layout: &Layout, transfer: Transfer, chunk: u32) -> Op
     ensures at { result ≡ copy_of layout.now transfer chunk }
     ensures inside { CanTry layout.now result }
 {
-    let at = chunk_place(layout, transfer.from, transfer.from_sector, chunk);
-    let offset = chunk_place(layout, transfer.to, transfer.to_sector, chunk);
+    let at = chunk_offset(layout, transfer.from, transfer.from_sector, chunk);
+    let offset = chunk_offset(layout, transfer.to, transfer.to_sector, chunk);
     Op::Copy(transfer.from, at, transfer.to, offset, layout.chunk())
 }
 

@@ -1,10 +1,9 @@
 //! The operations on the trailers by their number: the erases, and the writes of the fields.
 ghost use Rattle.std.specs.Prelude.{◌≡◌, ℕ, ◌+◌, ◌%◌, ◌<◌, ◌≤◌, length, slice_get, Some};
-ghost use Rattle.mc_trailer.specs.Trailer.{size_bytes};
+ghost use Rattle.mc_trailer.specs.Trailer.{size_bytes, before_end};
 ghost use Rattle.mc_flash.specs.Geometry.{trailer_sectors};
 ghost use Rattle.mc_flash.specs.Flash.{CanTry};
 ghost use Rattle.mc_flash.specs.declared.op.Slot.{Slot as FlashSlot};
-ghost use Rattle.mc_trailer.specs.Trailer.{before_end};
 ghost use Rattle.mc_boot.specs.Plan.{trailer_erase, image_ok_write, copy_done_write, write, write_count, marking, number_of, info_write, is_test, is_revert, opening_writes, preparation_writes};
 
 use crate::transfer::one_unit;
@@ -49,7 +48,7 @@ pub fn copy_done_write(layout: &Layout) -> Op
 fn write_len(layout: &Layout, grain: Grain, len: u32) -> u32
     requires { len ≤ 16 }
     ensures len { result ≡ write_count grain layout.now len }
-    ensures few { result ≤ 16 }
+    ensures at_most { result ≤ 16 }
 {
     match grain {
         Grain::Call => 1,
@@ -94,7 +93,7 @@ fn size_bytes(layout: &Layout, size: u32) -> Bytes16
 fn marking_len(layout: &Layout, grain: Grain) -> u32
     ensures len { (slot : FlashSlot) (size : ℕ) → length (marking grain layout.now slot size)
         ≡ result }
-    ensures few { result ≤ 32 }
+    ensures at_most { result ≤ 32 }
 {
     write_len(layout, grain, layout.unit().max(4)) + write_len(layout, grain, 16)
 }
@@ -156,7 +155,7 @@ pub fn is_revert(kind: SwapType) -> bool
 
 /// How many writes on the primary's trailer a swap begins with.
 pub fn opening_len(layout: &Layout, grain: Grain, kind: SwapType) -> u32
-    ensures few { result ≤ 34 }
+    ensures at_most { result ≤ 34 }
     ensures len { (size : ℕ) → length (opening_writes grain layout.now kind size) ≡ result }
 {
     let len = marking_len(layout, grain);
@@ -182,7 +181,7 @@ pub fn opening_write(layout: &Layout, grain: Grain, kind: SwapType, size: u32, i
 
 /// How many writes on the secondary's trailer a revert begins with.
 pub fn preparation_len(layout: &Layout, grain: Grain) -> u32
-    ensures few { result ≤ 33 }
+    ensures at_most { result ≤ 33 }
     ensures len { (size : ℕ) → length (preparation_writes grain layout.now size) ≡ result }
 {
     1 + marking_len(layout, grain)

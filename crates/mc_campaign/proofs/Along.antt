@@ -1,12 +1,11 @@
 -- A walk along the cuts of a campaign.
-use Rattle.std.specs.Prelude.{◌≡◌, ℕ, zero, suc, ◌+◌, ◌-◌, ◌<◌, ◌≤◌, ◌^◌, Bool, true, false, List, [], ◌∷◌, ◌++◌, length, take, drop, get_or, if◌then◌else◌, ◌↔◌, Option, Some, None, SomeIff}
-use Rattle.std.specs.Prelude.{refl}
+use Rattle.std.specs.Prelude.{◌≡◌, ℕ, zero, suc, ◌+◌, ◌-◌, ◌<◌, ◌≤◌, ◌^◌, Bool, true, false, List, [], ◌∷◌, ◌++◌, length, take, drop, get_or, if◌then◌else◌, ◌↔◌, Option, Some, None, SomeIff, refl}
 use Rattle.std.proofs.Common.{arith, inl, inr, sym, ap, subst, ◌∙◌}
 use Rattle.std.proofs.Math.Seq.{drop-append_seam}
 use Rattle.std.proofs.lemmas.Bool.{cases_lt}
 use Rattle.std.proofs.lemmas.List.{length-take-le, take_all, take_more}
-use Rattle.mc_tree.specs.Tree.{Tree, labelled, landed, Place, first, second, label, labels}
-use Rattle.mc_tree.specs.facts.Order.{allowed-last, allowed_front, not_same, paths_in_order, pairs_in_order}
+use Rattle.mc_tree.specs.Tree.{Tree, labelled, landed, RoundNode, first, second, label, labels}
+use Rattle.mc_tree.specs.facts.Order.{allowed-last, allowed_prefix, not_same, paths_in_order, pairs_in_order}
 use Rattle.mc_tree.specs.facts.Rounds.{inside, outside, pairs_precede}
 use Rattle.mc_flash.specs.Flash.{Content}
 use Rattle.mc_flash.specs.Geometry.{Geometry, IsLayout}
@@ -15,15 +14,15 @@ use Rattle.mc_boot.specs.Plan.{power_on}
 use Rattle.mc_boot.specs.Outcome.{ops_of}
 use Rattle.mc_walk.specs.Walks.{Walked, GoesDown, IsSame, IsThere, origin_of}
 use Rattle.mc_walk.specs.facts.Same.{path_back, same_back}
-use Rattle.mc_explore.specs.inner.Once.{boots}
-use Rattle.mc_explore.specs.facts.Telling.{width_is}
-use Rattle.mc_campaign.specs.inner.Twice.{cuts_along, rounds, second_start, AreTold}
+use Rattle.mc_explore.specs.inner.OneRound.{boots}
+use Rattle.mc_explore.specs.facts.Summaries.{width_is}
+use Rattle.mc_campaign.specs.inner.TwoRounds.{cuts_along, rounds, second_start, AreSummaries}
 use Rattle.mc_campaign.specs.Campaigns.{IsMember}
 use Rattle.mc_campaign.specs.inner.View.{FollowsCampaign, HasChildOf, IsPathIn, begun_of}
-use Rattle.mc_explore.specs.inner.Exploring.{IsCalm}
+use Rattle.mc_explore.specs.inner.Exploring.{NoAllocationFailed}
 use Rattle.mc_campaign.specs.declared.campaign.Round.TheVariants as rounds_of
 use Rattle.mc_campaign.specs.declared.rounds.Both.{Both}
-use Rattle.mc_campaign.specs.declared.rounds.Twice.{Twice}
+use Rattle.mc_campaign.specs.declared.rounds.TwoRounds.{TwoRounds}
 use Rattle.mc_campaign.specs.facts.Paths.{path_of}
 use Rattle.mc_campaign.proofs.Steps.{few_ops}
 use Rattle.mc_campaign.proofs.Replays.{kind_of}
@@ -45,7 +44,7 @@ module _ {N L : Type 0} (t : Tree N) (name : N → ℕ → L) where
   labelled-length s (x ∷ l) = ap suc (labelled-length (t.child s x) l)
 
 -- Paths of the same cuts are one.
-same_path : {N : Type 0} (t : Tree N) (next : N → N) (p : Place N) (l m : List ℕ) → labels t next p l ≡ labels t next p m → l ≡ m
+same_path : {N : Type 0} (t : Tree N) (next : N → N) (p : RoundNode N) (l m : List ℕ) → labels t next p l ≡ labels t next p m → l ≡ m
 same_path t next p l m e = elim (paths_in_order.total l m) [
   | inl before ↦ absurd (not_same _ pairs_in_order (labels t next p l) (labels t next p m) e (pairs_precede t next p l m before))
   | inr (inl same) ↦ same
@@ -57,97 +56,99 @@ last_same {X = X} xs x y e = let q : x ∷ [] ≡ y ∷ [] = sym (drop-append_se
 
 -- ---- along a campaign
 
-module _ (c : List (ℕ × ℕ)) (old : Walked Twice) where
+module _ (c : List (ℕ × ℕ)) (old : Walked TwoRounds) where
   -- The cuts along a path of that walk.
   abbrev cuts : List ℕ → List (ℕ × ℕ)
-  cuts path = cuts_along old.branches.once.rules old.branches.once.layout old.branches.confirms (origin_of old.seen) path
+  cuts path = cuts_along old.flash_tree.one_round.rules old.flash_tree.one_round.layout old.flash_tree.confirms (origin_of old.seen) path
 
-  abbrev tree : Tree (Place Content)
-  tree = rounds old.branches.once.rules old.branches.once.layout old.branches.confirms
+  abbrev tree : Tree (RoundNode Content)
+  tree = rounds old.flash_tree.one_round.rules old.flash_tree.one_round.layout old.flash_tree.confirms
 
-  abbrev name : Place Content → ℕ → ℕ × ℕ
-  name = label (boots old.branches.once.rules old.branches.once.layout) (second_start old.branches.once.rules old.branches.once.layout old.branches.confirms)
+  abbrev name : RoundNode Content → ℕ → ℕ × ℕ
+  name = label (boots old.flash_tree.one_round.rules old.flash_tree.one_round.layout) (second_start old.flash_tree.one_round.rules old.flash_tree.one_round.layout old.flash_tree.confirms)
 
   -- It has come along so many cuts.
-  pub record IsAlong (n : ℕ) (now : Walked Twice) : Type 0 where
+  pub record IsAlong (n : ℕ) (now : Walked TwoRounds) : Type 0 where
     pub cuts_are : cuts now.path ≡ take n c
     pub member : IsPathIn old now.path
     pub same : IsSame old now
     pub stands : now.stands ≡ true
-    pub calm : IsCalm old.seen now.seen
+    pub no_allocation_failed : NoAllocationFailed old.seen now.seen
 
   pub along_begin : old.stands ≡ true → old.path ≡ [] → IsAlong 0 old
   along_begin stands root = record {
     cuts_are = ap cuts root;
     member = subst (IsPathIn old) (sym root) (omega arith, tt);
-    same = record { branches = refl; bound = refl; origin = refl };
+    same = record { flash_tree = refl; bound = refl; origin = refl };
     stands = stands;
-    calm = record { limits = refl; failed = refl };
+    no_allocation_failed = record { limits = refl; failed = refl };
   }
 
-  module _ (n : ℕ) (mid : Walked Twice) (a : IsAlong n mid) (inside : n < length c) (told : Both) (there : IsThere (kind_of mid.branches) mid told) (number : Option ℕ)
-      (child : (r : Rules) (g : Geometry) (confirms : Bool) (p : Place Content) → IsLayout g → AreTold r g confirms p told → HasChildOf r g confirms p (get_or c n (0, 0)) number)
-      (valid : IsLayout old.branches.once.layout) where
-    -- The place where it stands.
-    abbrev here : Place Content
+  module _ (n : ℕ) (mid : Walked TwoRounds) (a : IsAlong n mid) (inside : n < length c) (summary : Both) (there : IsThere (kind_of mid.flash_tree) mid summary) (number : Option ℕ)
+      (child : (r : Rules) (g : Geometry) (confirms : Bool) (p : RoundNode Content) → IsLayout g → AreSummaries r g confirms p summary → HasChildOf r g confirms p (get_or c n (0, 0)) number)
+      (valid : IsLayout old.flash_tree.one_round.layout) where
+    -- The node where it stands.
+    abbrev here : RoundNode Content
     here = landed tree (first (origin_of old.seen)) mid.path
 
-    told_here : AreTold old.branches.once.rules old.branches.once.layout old.branches.confirms here told
-    told_here =
-        let P : Twice → Type 0 = λ b. AreTold b.once.rules b.once.layout b.confirms (landed (rounds b.once.rules b.once.layout b.confirms) (first (origin_of mid.seen)) mid.path) told in
-        let Q : Content → Type 0 = λ s. AreTold old.branches.once.rules old.branches.once.layout old.branches.confirms
-        (landed (rounds old.branches.once.rules old.branches.once.layout old.branches.confirms) (first s) mid.path) told in
-        subst Q a.same.origin (subst P a.same.branches there.told_is)
+    summary_here : AreSummaries old.flash_tree.one_round.rules old.flash_tree.one_round.layout old.flash_tree.confirms here summary
+    summary_here =
+        let P : TwoRounds → Type 0 = λ b. AreSummaries b.one_round.rules b.one_round.layout b.confirms (landed (rounds b.one_round.rules b.one_round.layout b.confirms) (first (origin_of
+        mid.seen)) mid.path) summary in
+        let Q : Content → Type 0 = λ s. AreSummaries old.flash_tree.one_round.rules old.flash_tree.one_round.layout old.flash_tree.confirms
+        (landed (rounds old.flash_tree.one_round.rules old.flash_tree.one_round.layout old.flash_tree.confirms) (first s) mid.path) summary in
+        subst Q a.same.origin (subst P a.same.flash_tree there.summary_is)
 
     abbrev named : ℕ → ℕ × ℕ
     named i = name here i
 
     is_child : (i : ℕ) → IsPathIn old (mid.path ++ i ∷ []) → named i ≡ get_or c n (0, 0) ↔ number ≡ Some i
     is_child i m =
-        child old.branches.once.rules old.branches.once.layout old.branches.confirms here valid told_here i (allowed-last tree (first (origin_of old.seen)) mid.path i m.1)
+        child old.flash_tree.one_round.rules old.flash_tree.one_round.layout old.flash_tree.confirms here valid summary_here i (allowed-last tree (first (origin_of old.seen)) mid.path i m.1)
 
-    pub along_more : (i : ℕ) (went : Bool) (new : Walked Twice) → number ≡ Some i → went ≡ true → GoesDown (kind_of mid.branches) i mid went new → IsCalm mid.seen new.seen → IsAlong (n + 1) new
-    along_more i false new is e d calm = absurd cc
-    along_more i true new is e d calm =
+    pub along_more : (i : ℕ) (went : Bool) (new : Walked TwoRounds) → number ≡ Some i → went ≡ true → GoesDown (kind_of mid.flash_tree) i mid went new
+        → NoAllocationFailed mid.seen new.seen → IsAlong (n + 1) new
+    along_more i false new is e d no_allocation_failed = absurd cc
+    along_more i true new is e d no_allocation_failed =
         let member = path_back kind_of old mid new.path a.same d.1 in
         let at = (is_child i (subst (IsPathIn old) d.0 member)).1 is in
         record {
           cuts_are = ap cuts d.0 ∙ labelled-push tree name (first (origin_of old.seen)) mid.path i ∙ ap (λ z. z ++ named i ∷ []) a.cuts_are ∙ ap (λ z. take n c ++ z ∷ []) at
               ∙ sym (take_more c n (0, 0) inside);
           member = member;
-          same = record { branches = d.2.branches ∙ a.same.branches; bound = d.2.bound ∙ a.same.bound; origin = d.2.origin ∙ a.same.origin };
+          same = record { flash_tree = d.2.flash_tree ∙ a.same.flash_tree; bound = d.2.bound ∙ a.same.bound; origin = d.2.origin ∙ a.same.origin };
           stands = d.3;
-          calm = record { limits = calm.limits ∙ a.calm.limits; failed = calm.failed ∙ a.calm.failed };
+          no_allocation_failed = record { limits = no_allocation_failed.limits ∙ a.no_allocation_failed.limits; failed = no_allocation_failed.failed ∙ a.no_allocation_failed.failed };
         }
 
     -- Where the campaign is one of those to go through, there is a child at its next cut.
-    next_child : IsMember (begun_of old) old.branches.confirms old.bound c → (j : ℕ) × IsPathIn old (mid.path ++ j ∷ []) × (number ≡ Some j)
+    next_child : IsMember (begun_of old) old.flash_tree.confirms old.bound c → (j : ℕ) × IsPathIn old (mid.path ++ j ∷ []) × (number ≡ Some j)
     next_child m =
-        let r = old.branches.once.rules in
-        let g = old.branches.once.layout in
-        let k = old.branches.confirms in
+        let r = old.flash_tree.one_round.rules in
+        let g = old.flash_tree.one_round.layout in
+        let k = old.flash_tree.confirms in
         let s = origin_of old.seen in
         let p = path_of r g k s old.bound c m in
         let l : List ℕ = p.0 in
         let j : ℕ = get_or l n 0 in
         let len : length l ≡ length c = sym (labelled-length tree name (first s) l) ∙ ap (λ z. length z) p.1.cuts_are in
         let below : n < length l = omega (arith, len, inside) in
-        let front : take n l ≡ mid.path =
+        let prefix : take n l ≡ mid.path =
         same_path (boots r g) (second_start r g k) (first s) (take n l) mid.path (labelled-take tree name (first s) l n ∙ ap (λ z. take n z) p.1.cuts_are ∙ sym a.cuts_are) in
-        let more : take (n + 1) l ≡ mid.path ++ j ∷ [] = take_more l n 0 below ∙ ap (λ z. z ++ j ∷ []) front in
+        let more : take (n + 1) l ≡ mid.path ++ j ∷ [] = take_more l n 0 below ∙ ap (λ z. z ++ j ∷ []) prefix in
         let at : cuts (take (n + 1) l) ≡ take n c ++ get_or c n (0, 0) ∷ [] =
         labelled-take tree name (first s) l (n + 1) ∙ ap (λ z. take (n + 1) z) p.1.cuts_are ∙ take_more c n (0, 0) inside in
         let both : take n c ++ named j ∷ [] ≡ take n c ++ get_or c n (0, 0) ∷ [] =
         ap (λ z. z ++ named j ∷ []) (sym a.cuts_are) ∙ sym (labelled-push tree name (first s) mid.path j) ∙ ap cuts (sym more) ∙ at in
-        let few : length (take (n + 1) l) ≤ old.bound = omega (arith, length-take-le (n + 1) l (omega (arith, below)), below, p.1.member.0) in
-        let member : IsPathIn old (mid.path ++ j ∷ []) = subst (IsPathIn old) more (few, allowed_front (rounds r g k) (first s) l (n + 1) p.1.member.1) in
+        let at_most : length (take (n + 1) l) ≤ old.bound = omega (arith, length-take-le (n + 1) l (omega (arith, below)), below, p.1.member.0) in
+        let member : IsPathIn old (mid.path ++ j ∷ []) = subst (IsPathIn old) more (at_most, allowed_prefix (rounds r g k) (first s) l (n + 1) p.1.member.1) in
         (j, member, (is_child j member).0 (last_same (take n c) (named j) (get_or c n (0, 0)) both))
 
-    pub none_there : number ≡ None → IsMember (begun_of old) old.branches.confirms old.bound c → ⊥
+    pub none_there : number ≡ None → IsMember (begun_of old) old.flash_tree.confirms old.bound c → ⊥
     none_there none m = let next = next_child m in let is : number ≡ Some next.0 = next.2 in absurd cc
 
-    pub stops_there : (i : ℕ) (went : Bool) (new : Walked Twice) → number ≡ Some i → went ≡ false → GoesDown (kind_of mid.branches) i mid went new
-        → IsMember (begun_of old) old.branches.confirms old.bound c → ⊥
+    pub stops_there : (i : ℕ) (went : Bool) (new : Walked TwoRounds) → number ≡ Some i → went ≡ false → GoesDown (kind_of mid.flash_tree) i mid went new
+        → IsMember (begun_of old) old.flash_tree.confirms old.bound c → ⊥
     stops_there i true new is e d m = absurd cc
     stops_there i false new is e d m =
         let next = next_child m in
@@ -155,12 +156,12 @@ module _ (c : List (ℕ × ℕ)) (old : Walked Twice) where
         d.0 (path_back kind_of mid old (mid.path ++ i ∷ []) (same_back kind_of old mid a.same) (subst (λ x. IsPathIn old (mid.path ++ x ∷ [])) same next.1))
 
   -- It has come to the end.
-  pub along_all : (n : ℕ) (now : Walked Twice) → IsAlong n now → length c ≤ n → FollowsCampaign old c true now
+  pub along_all : (n : ℕ) (now : Walked TwoRounds) → IsAlong n now → length c ≤ n → FollowsCampaign old c true now
   along_all n now a le = (record { member = a.member; cuts_are = a.cuts_are ∙ take_all n c le }, a.same, a.stands)
 
 -- ---- the child at a cut
 
-module _ (r : Rules) (g : Geometry) (confirms : Bool) (valid : IsLayout g) (told : Both) where
+module _ (r : Rules) (g : Geometry) (confirms : Bool) (valid : IsLayout g) (summary : Both) where
   -- A child of the first round, and one of the second, by its label.
   label_early : (s : Content) (i : ℕ) → i < length (ops_of (power_on r g s)) → label (boots r g) (second_start r g confirms) (first s) i ≡ (1, i)
   label_early s i lt = ap (λ b. if b then (1, i) else (2, i - length (ops_of (power_on r g s)))) (inside (length (ops_of (power_on r g s))) i lt)
@@ -174,19 +175,19 @@ module _ (r : Rules) (g : Geometry) (confirms : Bool) (valid : IsLayout g) (told
   same_some : (x y : ℕ) → Some x ≡ Some y → x ≡ y
   same_some x y e = cc
 
-  module _ (p : Place Content) (round : told.round ≡ rounds_of.First) (t : AreTold r g confirms p told) (cut : ℕ × ℕ) where
-    -- It is a place of the first round, whose boot makes so many operations.
+  module _ (p : RoundNode Content) (round : summary.round ≡ rounds_of.First) (t : AreSummaries r g confirms p summary) (cut : ℕ × ℕ) where
+    -- It is a node of the first round, whose boot makes so many operations.
     abbrev IsFirst : Type 0
-    IsFirst = (s : Content) × (p ≡ first s) × (told.first.outcome.ops ≡ length (ops_of (power_on r g s)))
+    IsFirst = (s : Content) × (p ≡ first s) × (summary.first.outcome.ops ≡ length (ops_of (power_on r g s)))
 
     is_first : IsFirst
     is_first = by p t
       where
-        by : (q : Place Content) → AreTold r g confirms q told → (s : Content) × (q ≡ first s) × (told.first.outcome.ops ≡ length (ops_of (power_on r g s)))
-        by (first s) u = (s, refl, width_is r g told.first s u.first_is)
+        by : (q : RoundNode Content) → AreSummaries r g confirms q summary → (s : Content) × (q ≡ first s) × (summary.first.outcome.ops ≡ length (ops_of (power_on r g s)))
+        by (first s) u = (s, refl, width_is r g summary.first s u.first_is)
         by (second began s) u = absurd (let no : rounds_of.First ≡ rounds_of.Second = sym round ∙ u.round_is in cc)
 
-    pub early : cut.0 ≡ 1 → cut.1 < told.first.outcome.ops → HasChildOf r g confirms p cut (Some cut.1)
+    pub early : cut.0 ≡ 1 → cut.1 < summary.first.outcome.ops → HasChildOf r g confirms p cut (Some cut.1)
     early one lt =
         let f = is_first in
         subst (λ q. HasChildOf r g confirms q cut (Some cut.1)) (sym f.1) (λ i some. elim (cases_lt i (length (ops_of (power_on r g f.0)))) [
@@ -197,7 +198,7 @@ module _ (r : Rules) (g : Geometry) (confirms : Bool) (valid : IsLayout g) (told
           )
         ])
 
-    pub too_late : cut.0 ≡ 1 → told.first.outcome.ops ≤ cut.1 → HasChildOf r g confirms p cut None
+    pub too_late : cut.0 ≡ 1 → summary.first.outcome.ops ≤ cut.1 → HasChildOf r g confirms p cut None
     too_late one le =
         let f = is_first in
         subst (λ q. HasChildOf r g confirms q cut None) (sym f.1) (λ i some. elim (cases_lt i (length (ops_of (power_on r g f.0)))) [
@@ -205,8 +206,8 @@ module _ (r : Rules) (g : Geometry) (confirms : Bool) (valid : IsLayout g) (told
           | inr above ↦ (λ e. absurd (let no : 2 ≡ cut.0 = ap (λ (z : ℕ × ℕ). z.0) (sym (label_late f.0 i above) ∙ e) in omega (arith, no, one)), λ e. absurd cc)
         ])
 
-    pub behind_first : cut.0 ≡ 2 → (number : Option ℕ) → SomeIff number (told.first.outcome.ops + cut.1 < 2 ^ 32) (told.first.outcome.ops + cut.1) → HasChildOf r g confirms p cut number
-    behind_first two number sum =
+    pub beyond_first : cut.0 ≡ 2 → (number : Option ℕ) → SomeIff number (summary.first.outcome.ops + cut.1 < 2 ^ 32) (summary.first.outcome.ops + cut.1) → HasChildOf r g confirms p cut number
+    beyond_first two number sum =
         let f = is_first in
         subst (λ q. HasChildOf r g confirms q cut number) (sym f.1) (λ i some. elim (cases_lt i (length (ops_of (power_on r g f.0)))) [
           | inl below ↦ (
@@ -215,20 +216,21 @@ module _ (r : Rules) (g : Geometry) (confirms : Bool) (valid : IsLayout g) (told
           )
           | inr above ↦ (
             λ e.
-                let place : i - length (ops_of (power_on r g f.0)) ≡ cut.1 = ap (λ (z : ℕ × ℕ). z.1) (sym (label_late f.0 i above) ∙ e) in
-                let sum_is : told.first.outcome.ops + cut.1 ≡ i = omega (arith, place, above, f.2) in
+                let index : i - length (ops_of (power_on r g f.0)) ≡ cut.1 = ap (λ (z : ℕ × ℕ). z.1) (sym (label_late f.0 i above) ∙ e) in
+                let sum_is : summary.first.outcome.ops + cut.1 ≡ i = omega (arith, index, above, f.2) in
                 some_there number sum i sum_is (omega (arith, some, few_ops r g confirms f.0 valid, few_ops r g confirms (second_start r g confirms f.0) valid)),
             λ e.
-                let place : cut.1 ≡ i - length (ops_of (power_on r g f.0)) = omega (arith, (there number sum i e).1, f.2) in
-                label_late f.0 i above ∙ pair_is cut 2 (i - length (ops_of (power_on r g f.0))) two place,
+                let index : cut.1 ≡ i - length (ops_of (power_on r g f.0)) = omega (arith, (there number sum i e).1, f.2) in
+                label_late f.0 i above ∙ pair_is cut 2 (i - length (ops_of (power_on r g f.0))) two index,
           )
         ])
       where
-        there : (n : Option ℕ) → SomeIff n (told.first.outcome.ops + cut.1 < 2 ^ 32) (told.first.outcome.ops + cut.1) → (i : ℕ) → n ≡ Some i
-            → (told.first.outcome.ops + cut.1 < 2 ^ 32) × (told.first.outcome.ops + cut.1 ≡ i)
+        there : (n : Option ℕ) → SomeIff n (summary.first.outcome.ops + cut.1 < 2 ^ 32) (summary.first.outcome.ops + cut.1) → (i : ℕ) → n ≡ Some i
+            → (summary.first.outcome.ops + cut.1 < 2 ^ 32) × (summary.first.outcome.ops + cut.1 ≡ i)
         there None s i e = absurd cc
         there (Some x) s i e = (s.0, omega (arith, s.1, same_some x i e))
 
-        some_there : (n : Option ℕ) → SomeIff n (told.first.outcome.ops + cut.1 < 2 ^ 32) (told.first.outcome.ops + cut.1) → (i : ℕ) → told.first.outcome.ops + cut.1 ≡ i → i < 2 ^ 32 → n ≡ Some i
+        some_there : (n : Option ℕ) → SomeIff n (summary.first.outcome.ops + cut.1 < 2 ^ 32) (summary.first.outcome.ops + cut.1) → (i : ℕ) → summary.first.outcome.ops + cut.1 ≡ i
+            → i < 2 ^ 32 → n ≡ Some i
         some_there None s i e small = absurd (s (omega (arith, e, small)))
         some_there (Some x) s i e small = ap (λ (n : ℕ). Some n) (omega (arith, s.1, e))

@@ -1,7 +1,7 @@
 mod Ways
 mod Steps
 mod Restarts
-mod Placing
+mod CutsInRounds
 mod Loaded
 mod Starting
 pub mod Replays

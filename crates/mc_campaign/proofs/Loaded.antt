@@ -7,12 +7,12 @@ use Rattle.mc_flash.specs.Usage.{Limits, limits_for, most_operations, most_saved
 use Rattle.mc_trailer.specs.declared.tables.Rules.{Rules}
 use Rattle.mc_walk.specs.inner.Stack.{most_at}
 use Rattle.mc_boot.specs.Restart.{one_write}
-use Rattle.mc_explore.specs.inner.Once.{once}
+use Rattle.mc_explore.specs.inner.OneRound.{one_round}
 use Rattle.mc_campaign.specs.facts.Keys.{some_operations}
 
 -- A flash loaded for two boots more than so many cuts have room for, on which no more was counted than those cuts and a boot make, has
 -- room for one write more.
-pub room_for_one : (r : Rules) (g : Geometry) (n boots : ℕ) (f : Seen) → LeaveRoom f.usage.counts no_counts (most_at (once r g) n)
+pub room_for_one : (r : Rules) (g : Geometry) (n boots : ℕ) (f : Seen) → LeaveRoom f.usage.counts no_counts (most_at (one_round r g) n)
     → f.usage.limits ≡ limits_for r.grain g boots → n + 2 ≤ boots → Allows one_write f
 unfolding limits_for
 room_for_one r g n boots f counted is many =

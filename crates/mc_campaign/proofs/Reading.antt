@@ -8,7 +8,7 @@ use Rattle.std.specs.Prelude.{All, Bool, List, Ok, Result, [], codes, decimal, d
 use Rattle.mc_campaign.specs.Campaigns.{AscendFrom}
 use Rattle.mc_campaign.specs.Texts.{FitsCut, IsCampaign, IsCut, choice_text, cut_text}
 use Rattle.mc_campaign.specs.declared.cursor.CampaignCursor.{CampaignCursor}
-use Rattle.mc_campaign.specs.facts.Cuts.{last_ordered, ordered_front}
+use Rattle.mc_campaign.specs.facts.Cuts.{last_ordered, ordered_prefix}
 use Rattle.mc_campaign.specs.facts.Room.{blanks_after}
 use Rattle.mc_output.specs.facts.Parting.{Lacks, lacks_both, lacks_decimal, no_dash, one_part}
 use Rattle.mc_output.specs.facts.Reading.{IsSpelling}
@@ -24,10 +24,10 @@ use Rattle.mc_trailer.specs.declared.tables.Rules.{Rules}
 pair_text : (cut : ℕ × ℕ) → schedule_text (cut.0 ∷ cut.1 ∷ []) ≡ cut_text cut
 pair_text cut = ap (λ (z : List ℕ). decimal cut.0 ++ z) (append-nil (46 ∷ decimal cut.1))
 
-pair_is : (round place : ℕ) → round < 2 ^ 32 → place < 2 ^ 32 → IsSchedule (round ∷ place ∷ [])
-pair_is round place a b = record {
-  few = omega arith;
-  small = All-cons (λ c. c < 2 ^ 32) round (place ∷ []) a (All-cons (λ c. c < 2 ^ 32) place [] b (All-nil (λ c. c < 2 ^ 32)));
+pair_is : (round index : ℕ) → round < 2 ^ 32 → index < 2 ^ 32 → IsSchedule (round ∷ index ∷ [])
+pair_is round index a b = record {
+  at_most = omega arith;
+  small = All-cons (λ c. c < 2 ^ 32) round (index ∷ []) a (All-cons (λ c. c < 2 ^ 32) index [] b (All-nil (λ c. c < 2 ^ 32)));
 }
 
 no_comma_digit : (c : ℕ) → c ≡ 44 → 48 ≤ c → c ≤ 57 → ⊥
@@ -39,10 +39,10 @@ no_point_digit c is low high = omega (arith, is, low)
 -- Two cuts of one text are one.
 same_text : (x y : ℕ × ℕ) → IsCut x → IsCut y → cut_text x ≡ cut_text y → x ≡ y
 same_text (a, b) (c, d) one two is =
-    let lacks = λ (n : ℕ) (few : n ≤ 2). lacks_decimal 46 no_point_digit n (omega (arith, few)) in
+    let lacks = λ (n : ℕ) (at_most : n ≤ 2). lacks_decimal 46 no_point_digit n (omega (arith, at_most)) in
     let parts = one_part 46 (decimal a) (decimal c) (decimal b) (decimal d) (lacks a one.round) (lacks c two.round) is in
     let rounds : a ≡ c = decimal_injective a c (omega (arith, one.round)) (omega (arith, two.round)) parts.0 in
-    let places : b ≡ d = decimal_injective b d (omega (arith, one.small)) (omega (arith, two.small)) parts.1 in
+    let schedule : b ≡ d = decimal_injective b d (omega (arith, one.small)) (omega (arith, two.small)) parts.1 in
     cc
 
 lacks_comma : (cut : ℕ × ℕ) → IsCut cut → Lacks 44 (cut_text cut)
@@ -50,7 +50,7 @@ lacks_comma cut is =
     lacks_both 44 (decimal cut.0) (46 ∷ decimal cut.1) (lacks_decimal 44 no_comma_digit cut.0 (omega (arith, is.round)))
     (λ (e : 46 ≡ 44). omega (arith, e), lacks_decimal 44 no_comma_digit cut.1 is.small)
 
--- A text that tells a cut is read as a schedule of two cuts.
+-- A text that says a cut is read as a schedule of two cuts.
 pub read_pair : {E : Type 0} (text : List ℕ) (result : Result (List ℕ) E) (cut : ℕ × ℕ) → IsCut cut → text ≡ cut_text cut
     → ((l : List ℕ) → IsSchedule l → text ≡ schedule_text l → result ≡ Ok l) → result ≡ Ok (cut.0 ∷ cut.1 ∷ [])
 read_pair text result cut known is only = only (cut.0 ∷ cut.1 ∷ []) (pair_is cut.0 cut.1 (omega (arith, known.round)) known.small) (is ∙ sym (pair_text cut))
@@ -61,14 +61,14 @@ pub cut_is : (l : List (ℕ × ℕ)) (cut : ℕ × ℕ) → FitsCut l cut → Is
 cut_is l cut f = let last = last_ordered 1 l cut f.in_order in record { some = last.0; round = last.2; small = f.small }
 
 -- A cut that can be added is the one of its text.
-pub told_cut : (l : List (ℕ × ℕ)) (text : List ℕ) (cut told : ℕ × ℕ) → FitsCut l cut → IsCut told → text ≡ cut_text cut → text ≡ cut_text told → cut ≡ told
-told_cut l text cut told f is a b = same_text cut told (cut_is l cut f) is (sym a ∙ b)
+pub summary_cut : (l : List (ℕ × ℕ)) (text : List ℕ) (cut summary : ℕ × ℕ) → FitsCut l cut → IsCut summary → text ≡ cut_text cut → text ≡ cut_text summary → cut ≡ summary
+summary_cut l text cut summary f is a b = same_text cut summary (cut_is l cut f) is (sym a ∙ b)
 
 fits : (l : List (ℕ × ℕ)) (cut : ℕ × ℕ) (n : List (ℕ × ℕ)) → IsCampaign (l ++ cut ∷ n) → FitsCut l cut
 fits l cut n ok = record {
-  room = omega (arith, ok.few, length-append l (cut ∷ n));
+  room = omega (arith, ok.at_most, length-append l (cut ∷ n));
   small = All-head (λ x. x.1 < 2 ^ 32) cut n (subst (All (λ x. x.1 < 2 ^ 32)) (drop-append_seam l (cut ∷ n)) (All-drop (λ x. x.1 < 2 ^ 32) (length l) (l ++ cut ∷ n) ok.small));
-  in_order = ordered_front 1 (l ++ cut ∷ []) n (subst (AscendFrom 1) (sym (append_assoc l (cut ∷ []) n)) ok.in_order);
+  in_order = ordered_prefix 1 (l ++ cut ∷ []) n (subst (AscendFrom 1) (sym (append_assoc l (cut ∷ []) n)) ok.in_order);
 }
 
 pub spelling : IsSpelling 44 cut_text FitsCut IsCampaign
@@ -79,7 +79,7 @@ spelling = record {
   same = λ l x y f h is. same_text x y (cut_is l x f) (cut_is l y h) is;
   fits = fits;
   grows = λ l cut ok f. record {
-    few = omega (arith, f.room, length-append l (cut ∷ []));
+    at_most = omega (arith, f.room, length-append l (cut ∷ []));
     small = All-push (λ x. x.1 < 2 ^ 32) l cut ok.small f.small;
     in_order = f.in_order;
   };
@@ -88,10 +88,10 @@ spelling = record {
 -- How the text of a cursor of campaigns is taken apart.
 
 -- What follows the first word.
-pub behind_word : (text rest tail : List ℕ) → text ≡ codes "mc3:" ++ rest → text ≡ codes "mc3:" ++ tail → rest ≡ tail
-behind_word text rest tail a b = ap (λ (z : List ℕ). drop 4 z) (sym a ∙ b)
+pub beyond_word : (text rest tail : List ℕ) → text ≡ codes "mc3:" ++ rest → text ≡ codes "mc3:" ++ tail → rest ≡ tail
+beyond_word text rest tail a b = ap (λ (z : List ℕ). drop 4 z) (sym a ∙ b)
 
--- The word of a choice has no colon, and tells that choice alone.
+-- The word of a choice has no colon, and says that choice alone.
 pub lacks_choice : (confirms : Bool) → Lacks 58 (choice_text confirms)
 lacks_choice false = search rules
 lacks_choice true = search rules
@@ -106,20 +106,20 @@ abbrev pub field_of : CampaignCursor → StartField
 field_of c = record { digest = c.digest; bound = c.bound }
 
 -- A cursor that was read is the one of its fields.
-pub cursor_is : (told : Rules) (confirms : Bool) (start : StartField) (campaign : List (ℕ × ℕ)) (c : CampaignCursor)
-    → told ≡ c.rules → confirms ≡ c.confirms → start ≡ field_of c → campaign ≡ c.campaign
-    → record { rules = told; confirms = confirms; digest = start.digest; bound = start.bound; campaign = campaign } ≡ c
-cursor_is told confirms start campaign c a b d e =
+pub cursor_is : (summary : Rules) (confirms : Bool) (start : StartField) (campaign : List (ℕ × ℕ)) (c : CampaignCursor)
+    → summary ≡ c.rules → confirms ≡ c.confirms → start ≡ field_of c → campaign ≡ c.campaign
+    → record { rules = summary; confirms = confirms; digest = start.digest; bound = start.bound; campaign = campaign } ≡ c
+cursor_is summary confirms start campaign c a b d e =
     ap (λ (x : Rules). record { rules = x; confirms = confirms; digest = start.digest; bound = start.bound; campaign = campaign }) a
     ∙ ap (λ (x : Bool). record { rules = c.rules; confirms = x; digest = start.digest; bound = start.bound; campaign = campaign }) b
     ∙ ap (λ (x : StartField). record { rules = c.rules; confirms = c.confirms; digest = x.digest; bound = x.bound; campaign = campaign }) d
     ∙ ap (λ (x : List (ℕ × ℕ)). record { rules = c.rules; confirms = c.confirms; digest = c.digest; bound = c.bound; campaign = x }) e
 
--- The fixed room of a campaign: behind its cuts stand blanks.
+-- The fixed room of a campaign: after its cuts stand blanks.
 
--- Blanks stand behind one cut more.
-pub blanks_behind : (cuts : List (ℕ × ℕ)) (n : ℕ) (cut : ℕ × ℕ) → n < 16 → drop n cuts ≡ blanks_after n → drop (n + 1) (slice_set cuts n cut) ≡ blanks_after (n + 1)
-blanks_behind cuts n cut room blanks =
+-- Blanks stand after one cut more.
+pub blanks_beyond : (cuts : List (ℕ × ℕ)) (n : ℕ) (cut : ℕ × ℕ) → n < 16 → drop n cuts ≡ blanks_after n → drop (n + 1) (slice_set cuts n cut) ≡ blanks_after (n + 1)
+blanks_beyond cuts n cut room blanks =
     drop-set-lt (n + 1) cuts n cut (omega arith)
     ∙ sym (drop-drop 1 n cuts)
     ∙ ap (drop 1) blanks

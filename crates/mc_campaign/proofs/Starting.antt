@@ -16,7 +16,7 @@ use Rattle.mc_start.specs.declared.start.StartError.{StartError}
 use Rattle.mc_trailer.specs.declared.tables.Rules.{Rules}
 use Rattle.mc_start.specs.declared.start.StartError.TheVariants as errors
 
--- The flash of the bytes of both slots, one behind the other, has these.
+-- The flash of the bytes of both slots, one after the other, has these.
 pub of_both : (g : Geometry) (p s : List ℕ) (x : Content) → length p ≡ size_of g Primary → length s ≡ size_of g Secondary → of_flash g (p ++ s) ≡ Ok x
     → x ≡ record { primary = p; secondary = s }
 of_both g p s x low high is =

@@ -1,8 +1,8 @@
--- The first child of a place in two rounds, and the next.
+-- The first child of a node of two rounds, and the next.
 use Rattle.std.specs.Prelude.{◌≡◌, ℕ, ◌+◌, ◌<◌, ◌≤◌, min, Bool, List, length, Some, Result, Ok, Err, IfOk, refl}
 use Rattle.std.proofs.Common.{arith, sym, ap, subst, ◌∙◌}
 use Rattle.std.proofs.lemmas.List.{take_all}
-use Rattle.mc_tree.specs.Tree.{Place, first, second}
+use Rattle.mc_tree.specs.Tree.{RoundNode, first, second}
 use Rattle.mc_flash.specs.Flash.{Content}
 use Rattle.mc_flash.specs.Geometry.{Geometry, IsLayout}
 use Rattle.mc_flash.specs.Usage.{Counts, Limits, no_counts, Seen, Allows, LeaveRoom, plus, room_of}
@@ -14,16 +14,16 @@ use Rattle.mc_boot.specs.facts.Bounds.{ops_few}
 use Rattle.mc_boot.specs.Restart.{confirmed_if, one_write}
 use Rattle.mc_boot.specs.Outcome.{left_by, ops_of}
 use Rattle.mc_boot.specs.declared.boot.Boot.{Boot}
-use Rattle.mc_walk.specs.Kind.{IsAt, IsChild, TellsChild}
-use Rattle.mc_explore.specs.inner.Once.{at_cut, CanPass, CountsAtMost, IsTold, LeavesAlike, most_of, once}
+use Rattle.mc_walk.specs.TreeModel.{IsAt, IsChild, IsChildSummary}
+use Rattle.mc_explore.specs.inner.OneRound.{at_cut, CanPass, CountsAtMost, IsSummary, LeavesAlike, most_of, one_round}
 use Rattle.mc_explore.specs.facts.Occurring.{at_zero}
-use Rattle.mc_explore.specs.facts.Telling.{first_left, first_on, width_is}
-use Rattle.mc_explore.specs.declared.once.Told.{Told}
-use Rattle.mc_campaign.specs.inner.Twice.{second_start, AreTold, content_at, later_from, later_number, left_of_way, most_of_both, owed_at, twice_kind}
+use Rattle.mc_explore.specs.facts.Summaries.{first_left, first_on, width_is}
+use Rattle.mc_explore.specs.declared.one_round.Summary.{Summary}
+use Rattle.mc_campaign.specs.inner.TwoRounds.{second_start, AreSummaries, content_at, later_from, later_number, left_of_child_boot, most_of_both, owed_at, two_rounds_model}
 use Rattle.mc_campaign.specs.declared.campaign.Round.TheVariants as rounds_of
 use Rattle.mc_campaign.specs.declared.rounds.Both.{Both}
-use Rattle.mc_campaign.specs.declared.rounds.OnWay.{OnWay}
-use Rattle.mc_campaign.specs.declared.rounds.OnWay.TheVariants as ways
+use Rattle.mc_campaign.specs.declared.rounds.ChildBoot.{ChildBoot}
+use Rattle.mc_campaign.specs.declared.rounds.ChildBoot.TheVariants as child_boots
 use Rattle.mc_campaign.proofs.Ways.{at_begin, at_first, at_next, between, between_left, child, first_at, first_child, later_at, later_child, later_early, same_start, width}
 use Rattle.mc_boot.specs.Plan.{power_on}
 
@@ -48,81 +48,82 @@ module _ (r : Rules) (g : Geometry) (confirms : Bool) where
 
   pub few_ops : (s : Content) → IsLayout g → length (ops_of (power_on r g s)) ≤ 204000000
   few_ops s valid =
-      let few = ops_few (power_on r g s) (length (ops_of (power_on r g s))) valid in
-      omega (arith, few, few_operations r.grain g valid, ap (λ (ops : List Op). length ops) (take_all (length (ops_of (power_on r g s))) (ops_of (power_on r g s)) (omega arith)))
+      let at_most = ops_few (power_on r g s) (length (ops_of (power_on r g s))) valid in
+      omega (arith, at_most, few_operations r.grain g valid, ap (λ (ops : List Op). length ops) (take_all (length (ops_of (power_on r g s))) (ops_of (power_on r g s)) (omega arith)))
 
   -- ---- the first
 
-  pub begins_first : (p : Place Content) (told : Both) (seen : Seen) → told.round ≡ rounds_of.First → 0 < told.first.outcome.ops → AreTold r g confirms p told
+  pub begins_first : (p : RoundNode Content) (summary : Both) (seen : Seen) → summary.round ≡ rounds_of.First → 0 < summary.first.outcome.ops → AreSummaries r g confirms p summary
       → seen.content ≡ content_at p → seen.geometry ≡ g
-      → IsAt (twice_kind r g confirms) p 0 (ways.First told.first.boot told.first.outcome.ops told.second) seen
-  begins_first (first s) told seen round some t content layout =
-      let ops = width_is r g told.first s t.first_is in
-      at_first r g confirms s 0 told.first.boot told.first.outcome.ops told.second seen
-      (record { on_is = first_on r g s told.first t.first_is; content_is = content ∙ at_zero (power_on r g s); layout_is = layout }) (omega (arith, some, ops)) ops t.second_is
-  begins_first (second began s) told seen round some t content layout = let not_so : rounds_of.First ≡ rounds_of.Second = sym round ∙ t.round_is in absurd cc
+      → IsAt (two_rounds_model r g confirms) p 0 (child_boots.First summary.first.boot summary.first.outcome.ops summary.second) seen
+  begins_first (first s) summary seen round some t content layout =
+      let ops = width_is r g summary.first s t.first_is in
+      at_first r g confirms s 0 summary.first.boot summary.first.outcome.ops summary.second seen
+      (record { on_is = first_on r g s summary.first t.first_is; content_is = content ∙ at_zero (power_on r g s); layout_is = layout }) (omega (arith, some, ops)) ops t.second_is
+  begins_first (second began s) summary seen round some t content layout = let not_so : rounds_of.First ≡ rounds_of.Second = sym round ∙ t.round_is in absurd cc
 
   -- Where the first round has no operation its boot is over.
-  pub begins_behind : (p : Place Content) (told : Both) (old new : Seen) → told.round ≡ rounds_of.First → told.first.outcome.ops ≤ 0 → AreTold r g confirms p told
+  pub begins_beyond : (p : RoundNode Content) (summary : Both) (old new : Seen) → summary.round ≡ rounds_of.First → summary.first.outcome.ops ≤ 0 → AreSummaries r g confirms p summary
       → old.content ≡ content_at p → old.geometry ≡ g
-      → new.content ≡ confirmed_if confirms old.geometry old.content → new.geometry ≡ old.geometry → IsAt (twice_kind r g confirms) p 0 (ways.Second told.second.boot) new
-  begins_behind (first s) told old new round none t content layout is same =
-      let ops = width_is r g told.first s t.first_is in
+      → new.content ≡ confirmed_if confirms old.geometry old.content → new.geometry ≡ old.geometry → IsAt (two_rounds_model r g confirms) p 0 (child_boots.Second summary.second.boot) new
+  begins_beyond (first s) summary old new round none t content layout is same =
+      let ops = width_is r g summary.first s t.first_is in
       let zero : 0 ≡ length (ops_of (power_on r g s)) = omega (arith, none, ops) in
-      at_begin r g confirms (first s) 0 told.second new (omega (arith, zero)) (omega (arith, zero))
+      at_begin r g confirms (first s) 0 summary.second new (omega (arith, zero)) (omega (arith, zero))
       (between r g confirms s new.content old layout (content ∙ at_zero (power_on r g s) ∙ ap (at_cut (power_on r g s)) zero) is)
       (same ∙ layout) t.second_is
-  begins_behind (second began s) told old new round none t content layout is same = let not_so : rounds_of.First ≡ rounds_of.Second = sym round ∙ t.round_is in absurd cc
+  begins_beyond (second began s) summary old new round none t content layout is same = let not_so : rounds_of.First ≡ rounds_of.Second = sym round ∙ t.round_is in absurd cc
 
-  pub begins_second : (p : Place Content) (told : Both) (seen : Seen) → told.round ≡ rounds_of.Second → AreTold r g confirms p told → seen.content ≡ content_at p → seen.geometry ≡ g
-      → IsAt (twice_kind r g confirms) p 0 (ways.Second told.second.boot) seen
-  begins_second (first s) told seen round t content layout = let not_so : rounds_of.First ≡ rounds_of.Second = sym t.round_is ∙ round in absurd cc
-  begins_second (second began s) told seen round t content layout = at_begin r g confirms (second began s) 0 told.second seen tt refl content layout t.second_is
+  pub begins_second : (p : RoundNode Content) (summary : Both) (seen : Seen) → summary.round ≡ rounds_of.Second → AreSummaries r g confirms p summary → seen.content ≡ content_at p → seen.geometry ≡ g
+      → IsAt (two_rounds_model r g confirms) p 0 (child_boots.Second summary.second.boot) seen
+  begins_second (first s) summary seen round t content layout = let not_so : rounds_of.First ≡ rounds_of.Second = sym t.round_is ∙ round in absurd cc
+  begins_second (second began s) summary seen round t content layout = at_begin r g confirms (second began s) 0 summary.second seen tt refl content layout t.second_is
 
   -- What is left then is no more than was owed.
-  pub left_first : (p : Place Content) (told : Both) (old : Counts) → told.round ≡ rounds_of.First → AreTold r g confirms p told
-      → LeaveRoom old (left_of_way r g (ways.First told.first.boot told.first.outcome.ops told.second)) (plus old (owed_at r g p))
-  left_first (first s) told old round t =
-      let one = first_left r g s told.first t.first_is old in
+  pub left_first : (p : RoundNode Content) (summary : Both) (old : Counts) → summary.round ≡ rounds_of.First → AreSummaries r g confirms p summary
+      → LeaveRoom old (left_of_child_boot r g (child_boots.First summary.first.boot summary.first.outcome.ops summary.second)) (plus old (owed_at r g p))
+  left_first (first s) summary old round t =
+      let one = first_left r g s summary.first t.first_is old in
       record { entries = omega (arith, one.entries); saved = omega (arith, one.saved) }
-  left_first (second began s) told old round t = let not_so : rounds_of.First ≡ rounds_of.Second = sym round ∙ t.round_is in absurd cc
+  left_first (second began s) summary old round t = let not_so : rounds_of.First ≡ rounds_of.Second = sym round ∙ t.round_is in absurd cc
 
-  pub left_behind : (p : Place Content) (told : Both) (old new : Counts) → told.round ≡ rounds_of.First → AreTold r g confirms p told → LeaveRoom new no_counts (plus old one_write)
-      → LeaveRoom new (left_of_way r g (ways.Second told.second.boot)) (plus old (owed_at r g p))
-  left_behind (first s) told old new round t more =
-      let one = first_left r g (second_start r g confirms s) told.second t.second_is old in
+  pub left_beyond : (p : RoundNode Content) (summary : Both) (old new : Counts) → summary.round ≡ rounds_of.First → AreSummaries r g confirms p summary → LeaveRoom new no_counts (plus old one_write)
+      → LeaveRoom new (left_of_child_boot r g (child_boots.Second summary.second.boot)) (plus old (owed_at r g p))
+  left_beyond (first s) summary old new round t more =
+      let one = first_left r g (second_start r g confirms s) summary.second t.second_is old in
       record { entries = omega (arith, one.entries, more.entries); saved = omega (arith, one.saved, more.saved) }
-  left_behind (second began s) told old new round t more = let not_so : rounds_of.First ≡ rounds_of.Second = sym round ∙ t.round_is in absurd cc
+  left_beyond (second began s) summary old new round t more = let not_so : rounds_of.First ≡ rounds_of.Second = sym round ∙ t.round_is in absurd cc
 
-  pub left_second : (p : Place Content) (told : Both) (old : Counts) → told.round ≡ rounds_of.Second → AreTold r g confirms p told
-      → LeaveRoom old (left_of_way r g (ways.Second told.second.boot)) (plus old (owed_at r g p))
-  left_second (first s) told old round t = let not_so : rounds_of.First ≡ rounds_of.Second = sym t.round_is ∙ round in absurd cc
-  left_second (second began s) told old round t = first_left r g s told.second t.second_is old
+  pub left_second : (p : RoundNode Content) (summary : Both) (old : Counts) → summary.round ≡ rounds_of.Second → AreSummaries r g confirms p summary
+      → LeaveRoom old (left_of_child_boot r g (child_boots.Second summary.second.boot)) (plus old (owed_at r g p))
+  left_second (first s) summary old round t = let not_so : rounds_of.First ≡ rounds_of.Second = sym t.round_is ∙ round in absurd cc
+  left_second (second began s) summary old round t = first_left r g s summary.second t.second_is old
 
   -- ---- the next
 
-  pub first_passes : (p : Place Content) (i : ℕ) (boot : Boot) (ops : ℕ) (later : Told) (seen : Seen) → IsAt (twice_kind r g confirms) p i (ways.First boot ops later) seen
-      → Allows (left_of_way r g (ways.First boot ops later)) seen → CanPass r g boot seen
+  pub first_passes : (p : RoundNode Content) (i : ℕ) (boot : Boot) (ops : ℕ) (later : Summary) (seen : Seen) → IsAt (two_rounds_model r g confirms) p i (child_boots.First boot ops later) seen
+      → Allows (left_of_child_boot r g (child_boots.First boot ops later)) seen → CanPass r g boot seen
   first_passes (first s) i boot ops later seen at room =
       (s, i, first_at r g confirms s i boot ops later seen at, at.on_is.early, record { entries = omega (arith, room.entries); saved = omega (arith, room.saved) })
   first_passes (second began s) i boot ops later seen at room = absurd at.on_is
 
-  pub second_passes : (p : Place Content) (i : ℕ) (boot : Boot) (seen : Seen) → IsAt (twice_kind r g confirms) p i (ways.Second boot) seen → i < width r g confirms p
-      → Allows (left_of_way r g (ways.Second boot)) seen → CanPass r g boot seen
+  pub second_passes : (p : RoundNode Content) (i : ℕ) (boot : Boot) (seen : Seen) → IsAt (two_rounds_model r g confirms) p i (child_boots.Second boot) seen → i < width r g confirms p
+      → Allows (left_of_child_boot r g (child_boots.Second boot)) seen → CanPass r g boot seen
   second_passes p i boot seen at early room =
       (later_from r g confirms p, later_number r g confirms p i, later_at r g confirms p i boot seen at, later_early r g confirms p i at.on_is.0 early, room)
 
-  pub next_first : (p : Place Content) (i : ℕ) (boot boot' : Boot) (ops : ℕ) (later : Told) (old new : Seen) → IsAt (twice_kind r g confirms) p i (ways.First boot ops later) old
-      → ((s : Content) (j : ℕ) → IsAt (once r g) s j boot old → j < length (ops_of (power_on r g s)) → IsAt (once r g) s (j + 1) boot' new) → boot'.done < ops
-      → IsAt (twice_kind r g confirms) p (i + 1) (ways.First boot' ops later) new
+  pub next_first : (p : RoundNode Content) (i : ℕ) (boot boot' : Boot) (ops : ℕ) (later : Summary) (old new : Seen) → IsAt (two_rounds_model r g confirms) p i (child_boots.First boot ops later) old
+      → ((s : Content) (j : ℕ) → IsAt (one_round r g) s j boot old → j < length (ops_of (power_on r g s)) → IsAt (one_round r g) s (j + 1) boot' new) → boot'.done < ops
+      → IsAt (two_rounds_model r g confirms) p (i + 1) (child_boots.First boot' ops later) new
   next_first (first s) i boot boot' ops later old new at passes more =
       let there = passes s i (first_at r g confirms s i boot ops later old at) at.on_is.early in
       at_first r g confirms s (i + 1) boot' ops later new there (omega (arith, more, there.on_is.count_is, at.on_is.ops_is)) at.on_is.ops_is at.on_is.later_is
   next_first (second began s) i boot boot' ops later old new at passes more = absurd at.on_is
 
-  pub next_between : (p : Place Content) (i : ℕ) (boot boot' : Boot) (ops : ℕ) (later : Told) (old mid new : Seen) → IsAt (twice_kind r g confirms) p i (ways.First boot ops later) old
-      → ((s : Content) (j : ℕ) → IsAt (once r g) s j boot old → j < length (ops_of (power_on r g s)) → IsAt (once r g) s (j + 1) boot' mid) → ops ≤ boot'.done
-      → new.content ≡ confirmed_if confirms mid.geometry mid.content → new.geometry ≡ mid.geometry → IsAt (twice_kind r g confirms) p (i + 1) (ways.Second later.boot) new
+  pub next_between : (p : RoundNode Content) (i : ℕ) (boot boot' : Boot) (ops : ℕ) (later : Summary) (old mid new : Seen)
+      → IsAt (two_rounds_model r g confirms) p i (child_boots.First boot ops later) old
+      → ((s : Content) (j : ℕ) → IsAt (one_round r g) s j boot old → j < length (ops_of (power_on r g s)) → IsAt (one_round r g) s (j + 1) boot' mid) → ops ≤ boot'.done
+      → new.content ≡ confirmed_if confirms mid.geometry mid.content → new.geometry ≡ mid.geometry → IsAt (two_rounds_model r g confirms) p (i + 1) (child_boots.Second later.boot) new
   next_between (first s) i boot boot' ops later old mid new at passes over is same =
       let there = passes s i (first_at r g confirms s i boot ops later old at) at.on_is.early in
       let all : i + 1 ≡ length (ops_of (power_on r g s)) = omega (arith, over, there.on_is.count_is, at.on_is.ops_is, at.on_is.early) in
@@ -131,99 +132,105 @@ module _ (r : Rules) (g : Geometry) (confirms : Bool) where
       (same ∙ there.layout_is) at.on_is.later_is
   next_between (second began s) i boot boot' ops later old mid new at passes over is same = absurd at.on_is
 
-  pub next_second : (p : Place Content) (i : ℕ) (boot boot' : Boot) (old new : Seen) → IsAt (twice_kind r g confirms) p i (ways.Second boot) old
-      → ((s : Content) (j : ℕ) → IsAt (once r g) s j boot old → j < length (ops_of (power_on r g s)) → IsAt (once r g) s (j + 1) boot' new) → i < width r g confirms p
-      → IsAt (twice_kind r g confirms) p (i + 1) (ways.Second boot') new
+  pub next_second : (p : RoundNode Content) (i : ℕ) (boot boot' : Boot) (old new : Seen) → IsAt (two_rounds_model r g confirms) p i (child_boots.Second boot) old
+      → ((s : Content) (j : ℕ) → IsAt (one_round r g) s j boot old → j < length (ops_of (power_on r g s)) → IsAt (one_round r g) s (j + 1) boot' new) → i < width r g confirms p
+      → IsAt (two_rounds_model r g confirms) p (i + 1) (child_boots.Second boot') new
   next_second p i boot boot' old new at passes early =
       at_next r g confirms p i boot' new at.on_is.0
       (passes (later_from r g confirms p) (later_number r g confirms p i) (later_at r g confirms p i boot old at) (later_early r g confirms p i at.on_is.0 early))
 
   -- What they count.
-  pub counts_first : (boot boot' : Boot) (ops : ℕ) (later : Told) (old new : Counts) → LeaveRoom new (left_of g (progress boot')) (plus old (left_of g (progress boot)))
-      → LeaveRoom new (left_of_way r g (ways.First boot' ops later)) (plus old (left_of_way r g (ways.First boot ops later)))
+  pub counts_first : (boot boot' : Boot) (ops : ℕ) (later : Summary) (old new : Counts) → LeaveRoom new (left_of g (progress boot')) (plus old (left_of g (progress boot)))
+      → LeaveRoom new (left_of_child_boot r g (child_boots.First boot' ops later)) (plus old (left_of_child_boot r g (child_boots.First boot ops later)))
   counts_first boot boot' ops later old new c = record { entries = omega (arith, c.entries); saved = omega (arith, c.saved) }
 
-  pub counts_between : (p : Place Content) (i : ℕ) (boot boot' : Boot) (ops : ℕ) (later : Told) (seen : Seen) (old mid new : Counts)
-      → IsAt (twice_kind r g confirms) p i (ways.First boot ops later) seen
+  pub counts_between : (p : RoundNode Content) (i : ℕ) (boot boot' : Boot) (ops : ℕ) (later : Summary) (seen : Seen) (old mid new : Counts)
+      → IsAt (two_rounds_model r g confirms) p i (child_boots.First boot ops later) seen
       → LeaveRoom mid (left_of g (progress boot')) (plus old (left_of g (progress boot))) → LeaveRoom new no_counts (plus mid one_write)
-      → LeaveRoom new (left_of_way r g (ways.Second later.boot)) (plus old (left_of_way r g (ways.First boot ops later)))
+      → LeaveRoom new (left_of_child_boot r g (child_boots.Second later.boot)) (plus old (left_of_child_boot r g (child_boots.First boot ops later)))
   counts_between (first s) i boot boot' ops later seen old mid new at c d =
       let one = first_left r g (second_start r g confirms s) later at.on_is.later_is old in
       record { entries = omega (arith, one.entries, c.entries, d.entries); saved = omega (arith, one.saved, c.saved, d.saved) }
   counts_between (second began s) i boot boot' ops later seen old mid new at c d = absurd at.on_is
 
   -- There is room for the write between the rounds.
-  pub room_between : (boot boot' : Boot) (ops : ℕ) (later : Told) (old mid : Seen) → Allows (left_of_way r g (ways.First boot ops later)) old
+  pub room_between : (boot boot' : Boot) (ops : ℕ) (later : Summary) (old mid : Seen) → Allows (left_of_child_boot r g (child_boots.First boot ops later)) old
       → LeaveRoom mid.usage.counts (left_of g (progress boot')) (plus old.usage.counts (left_of g (progress boot))) → mid.usage.limits ≡ old.usage.limits → Allows one_write mid
   room_between boot boot' ops later old mid room c same =
       let P : Limits → Type 0 = λ l. LeaveRoom mid.usage.counts one_write (room_of l) in
       subst P (sym same) (record { entries = omega (arith, room.entries, c.entries); saved = omega (arith, room.saved, c.saved) })
 
-  -- ---- what is told of a child
+  -- ---- the summary of a child
 
-  pub parent_first : (p : Place Content) (i : ℕ) (boot : Boot) (ops : ℕ) (later : Told) (parent : Both) (seen : Seen) → IsAt (twice_kind r g confirms) p i (ways.First boot ops later) seen
-      → AreTold r g confirms p parent → IsChild (once r g) boot parent.first seen
+  pub parent_first : (p : RoundNode Content) (i : ℕ) (boot : Boot) (ops : ℕ) (later : Summary) (parent : Both) (seen : Seen)
+      → IsAt (two_rounds_model r g confirms) p i (child_boots.First boot ops later) seen
+      → AreSummaries r g confirms p parent → IsChild (one_round r g) boot parent.first seen
   parent_first (first s) i boot ops later parent seen at t = (s, i, first_at r g confirms s i boot ops later seen at, at.on_is.early, t.first_is)
   parent_first (second began s) i boot ops later parent seen at t = absurd at.on_is
 
   -- Where the outcome of the first round follows from that of the boot that was cut, so does that of the second.
-  pub told_alike : (p : Place Content) (i : ℕ) (boot : Boot) (ops : ℕ) (later one : Told) (parent : Both) (seen : Seen) → IsAt (twice_kind r g confirms) p i (ways.First boot ops later) seen
-      → AreTold r g confirms p parent → TellsChild (once r g) boot parent.first seen one → LeavesAlike r g boot parent.first seen
-      → AreTold r g confirms (child r g confirms p i) (record { round = rounds_of.First; first = one; second = parent.second })
-  told_alike (first s) i boot ops later one parent seen at t tells alike =
+  pub summary_alike : (p : RoundNode Content) (i : ℕ) (boot : Boot) (ops : ℕ) (later one : Summary) (parent : Both) (seen : Seen)
+      → IsAt (two_rounds_model r g confirms) p i (child_boots.First boot ops later) seen
+      → AreSummaries r g confirms p parent → IsChildSummary (one_round r g) boot parent.first seen one → LeavesAlike r g boot parent.first seen
+      → AreSummaries r g confirms (child r g confirms p i) (record { round = rounds_of.First; first = one; second = parent.second })
+  summary_alike (first s) i boot ops later one parent seen at t gives alike =
       let here = first_at r g confirms s i boot ops later seen at in
       let same = same_start r g confirms s (at_cut (power_on r g s) i) (alike s i here at.on_is.early t.first_is) in
-      subst (λ q. AreTold r g confirms q (record { round = rounds_of.First; first = one; second = parent.second })) (sym (first_child r g confirms s i at.on_is.early))
+      subst (λ q. AreSummaries r g confirms q (record { round = rounds_of.First; first = one; second = parent.second })) (sym (first_child r g confirms s i at.on_is.early))
       (record {
         round_is = refl;
-        first_is = tells s i here at.on_is.early t.first_is;
-        second_is = subst (λ x. IsTold (power_on r g x) parent.second) (sym same) t.second_is;
+        first_is = gives s i here at.on_is.early t.first_is;
+        second_is = subst (λ x. IsSummary (power_on r g x) parent.second) (sym same) t.second_is;
       })
-  told_alike (second began s) i boot ops later one parent seen at t tells alike = absurd at.on_is
+  summary_alike (second began s) i boot ops later one parent seen at t gives alike = absurd at.on_is
 
   -- Else both are run.
-  told_run : (p : Place Content) (i : ℕ) (boot : Boot) (ops : ℕ) (later : Told) (seen : Seen) (both : Both) → IsAt (twice_kind r g confirms) p i (ways.First boot ops later) seen
-      → AreTold r g confirms (first seen.content) both → AreTold r g confirms (child r g confirms p i) both
-  told_run (first s) i boot ops later seen both at t =
-      subst (λ q. AreTold r g confirms q both) (sym (first_child r g confirms s i at.on_is.early))
-      (subst (λ x. AreTold r g confirms (first x) both) (first_at r g confirms s i boot ops later seen at).content_is t)
-  told_run (second began s) i boot ops later seen both at t = absurd at.on_is
+  summary_run : (p : RoundNode Content) (i : ℕ) (boot : Boot) (ops : ℕ) (later : Summary) (seen : Seen) (both : Both) → IsAt (two_rounds_model r g confirms) p i (child_boots.First boot ops later) seen
+      → AreSummaries r g confirms (first seen.content) both → AreSummaries r g confirms (child r g confirms p i) both
+  summary_run (first s) i boot ops later seen both at t =
+      subst (λ q. AreSummaries r g confirms q both) (sym (first_child r g confirms s i at.on_is.early))
+      (subst (λ x. AreSummaries r g confirms (first x) both) (first_at r g confirms s i boot ops later seen at).content_is t)
+  summary_run (second began s) i boot ops later seen both at t = absurd at.on_is
 
-  pub told_children : {E : Type 0} (way : OnWay) (boot : Boot) (ops : ℕ) (later : Told) (parent : Both) (seen : Seen) (result : Result Both E) → way ≡ ways.First boot ops later
-      → IfOk result (AreTold r g confirms (first seen.content)) → IfOk result (TellsChild (twice_kind r g confirms) way parent seen)
-  told_children way boot ops later parent seen (Ok both) is t = λ p i at early told. told_run p i boot ops later seen both (subst (λ w. IsAt (twice_kind r g confirms) p i w seen) is at) t
-  told_children way boot ops later parent seen (Err e) is t = tt
+  pub summary_children : {E : Type 0} (child_boot : ChildBoot) (boot : Boot) (ops : ℕ) (later : Summary) (parent : Both) (seen : Seen) (result : Result Both E)
+      → child_boot ≡ child_boots.First boot ops later
+      → IfOk result (AreSummaries r g confirms (first seen.content)) → IfOk result (IsChildSummary (two_rounds_model r g confirms) child_boot parent seen)
+  summary_children child_boot boot ops later parent seen (Ok both) is t = λ p i at early summary. summary_run p i boot ops later seen both (subst (λ w. IsAt (two_rounds_model r g confirms)
+      p i w seen) is at) t
+  summary_children child_boot boot ops later parent seen (Err e) is t = tt
 
-  pub told_second : (p : Place Content) (i : ℕ) (boot : Boot) (two : Told) (parent : Both) (seen : Seen) → IsAt (twice_kind r g confirms) p i (ways.Second boot) seen → i < width r g confirms p
-      → AreTold r g confirms p parent → TellsChild (once r g) boot parent.second seen two
-      → AreTold r g confirms (child r g confirms p i) (record { round = rounds_of.Second; first = parent.first; second = two })
-  told_second p i boot two parent seen at early t tells =
-      subst (λ q. AreTold r g confirms q (record { round = rounds_of.Second; first = parent.first; second = two })) (sym (later_child r g confirms p i at.on_is.0))
+  pub summary_second : (p : RoundNode Content) (i : ℕ) (boot : Boot) (two : Summary) (parent : Both) (seen : Seen) → IsAt (two_rounds_model r g confirms) p i (child_boots.Second boot) seen
+      → i < width r g confirms p
+      → AreSummaries r g confirms p parent → IsChildSummary (one_round r g) boot parent.second seen two
+      → AreSummaries r g confirms (child r g confirms p i) (record { round = rounds_of.Second; first = parent.first; second = two })
+  summary_second p i boot two parent seen at early t gives =
+      subst (λ q. AreSummaries r g confirms q (record { round = rounds_of.Second; first = parent.first; second = two })) (sym (later_child r g confirms p i at.on_is.0))
       (record {
         round_is = refl;
         first_is = t.first_is;
-        second_is = tells (later_from r g confirms p) (later_number r g confirms p i) (later_at r g confirms p i boot seen at) (later_early r g confirms p i at.on_is.0 early) t.second_is;
+        second_is = gives (later_from r g confirms p) (later_number r g confirms p i) (later_at r g confirms p i boot seen at) (later_early r g confirms p i at.on_is.0 early) t.second_is;
       })
 
-  -- Two boots that were run, one behind the other.
-  pub both_told : (old mid new : Seen) (one two : Told) → old.geometry ≡ g → mid.geometry ≡ old.geometry → IsTold (power_on r g old.content) one → left_by (power_on r g old.content) ≡ Some mid.content
-      → new.content ≡ confirmed_if confirms mid.geometry mid.content → IsTold (power_on r g new.content) two
-      → AreTold r g confirms (first old.content) (record { round = rounds_of.First; first = one; second = two })
-  both_told old mid new one two layout same a left is b = record {
+  -- Two boots that were run, one after the other.
+  pub both_outcomes : (old mid new : Seen) (one two : Summary) → old.geometry ≡ g → mid.geometry ≡ old.geometry → IsSummary (power_on r g old.content) one
+      → left_by (power_on r g old.content) ≡ Some mid.content
+      → new.content ≡ confirmed_if confirms mid.geometry mid.content → IsSummary (power_on r g new.content) two
+      → AreSummaries r g confirms (first old.content) (record { round = rounds_of.First; first = one; second = two })
+  both_outcomes old mid new one two layout same a left is b = record {
     round_is = refl;
     first_is = a;
-    second_is = subst (λ x. IsTold (power_on r g x) two) (between_left r g confirms old.content new.content mid (same ∙ layout) left is) b;
+    second_is = subst (λ x. IsSummary (power_on r g x) two) (between_left r g confirms old.content new.content mid (same ∙ layout) left is) b;
   }
 
   -- ---- how many children there are
 
-  pub width_first : (p : Place Content) (told : Both) (n : ℕ) → IsLayout g → told.round ≡ rounds_of.First → AreTold r g confirms p told
-      → n ≡ min (told.first.outcome.ops + told.second.outcome.ops) 4294967295
+  pub width_first : (p : RoundNode Content) (summary : Both) (n : ℕ) → IsLayout g → summary.round ≡ rounds_of.First → AreSummaries r g confirms p summary
+      → n ≡ min (summary.first.outcome.ops + summary.second.outcome.ops) 4294967295
       → n ≡ width r g confirms p
-  width_first (first s) told n valid round t is =
-      omega (arith, is, width_is r g told.first s t.first_is, width_is r g told.second (second_start r g confirms s) t.second_is, few_ops s valid, few_ops (second_start r g confirms s) valid)
-  width_first (second began s) told n valid round t is = let not_so : rounds_of.First ≡ rounds_of.Second = sym round ∙ t.round_is in absurd cc
+  width_first (first s) summary n valid round t is =
+      omega (arith, is, width_is r g summary.first s t.first_is, width_is r g summary.second (second_start r g confirms s) t.second_is, few_ops s valid, few_ops (second_start r g confirms s) valid)
+  width_first (second began s) summary n valid round t is = let not_so : rounds_of.First ≡ rounds_of.Second = sym round ∙ t.round_is in absurd cc
 
-  pub width_second : (p : Place Content) (told : Both) → told.round ≡ rounds_of.Second → AreTold r g confirms p told → told.second.outcome.ops ≡ width r g confirms p
-  width_second (first s) told round t = let not_so : rounds_of.First ≡ rounds_of.Second = sym t.round_is ∙ round in absurd cc
-  width_second (second began s) told round t = width_is r g told.second s t.second_is
+  pub width_second : (p : RoundNode Content) (summary : Both) → summary.round ≡ rounds_of.Second → AreSummaries r g confirms p summary → summary.second.outcome.ops ≡ width r g confirms p
+  width_second (first s) summary round t = let not_so : rounds_of.First ≡ rounds_of.Second = sym t.round_is ∙ round in absurd cc
+  width_second (second began s) summary round t = width_is r g summary.second s t.second_is

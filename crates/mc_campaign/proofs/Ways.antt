@@ -1,7 +1,7 @@
--- From one place in two rounds to another.
+-- From one node of two rounds to another.
 use Rattle.std.specs.Prelude.{◌≡◌, ℕ, ◌+◌, ◌<◌, Bool, length, Option, Some, refl}
 use Rattle.std.proofs.Common.{arith, sym, ap, subst, ◌∙◌}
-use Rattle.mc_tree.specs.Tree.{Place, first, second, twice_child, twice_width}
+use Rattle.mc_tree.specs.Tree.{RoundNode, first, second, two_rounds_child, two_rounds_width}
 use Rattle.mc_tree.specs.facts.Rounds.{child_first, child_second}
 use Rattle.mc_flash.specs.Flash.{Content}
 use Rattle.mc_flash.specs.Geometry.{Geometry}
@@ -11,82 +11,82 @@ use Rattle.mc_boot.specs.Restart.{confirmed_if}
 use Rattle.mc_boot.specs.facts.Run.{left_defined}
 use Rattle.mc_boot.specs.Outcome.{left_by, ops_of}
 use Rattle.mc_boot.specs.declared.boot.Boot.{Boot}
-use Rattle.mc_walk.specs.Kind.{IsAt}
-use Rattle.mc_explore.specs.inner.Once.{at_cut, boots, content_or, IsTold, once}
+use Rattle.mc_walk.specs.TreeModel.{IsAt}
+use Rattle.mc_explore.specs.inner.OneRound.{at_cut, boots, content_or, IsSummary, one_round}
 use Rattle.mc_explore.specs.facts.Occurring.{at_zero}
-use Rattle.mc_explore.specs.facts.Telling.{first_on}
-use Rattle.mc_explore.specs.declared.once.Told.{Told}
-use Rattle.mc_campaign.specs.inner.Twice.{second_start, began_at, content_at, IsLater, later_from, later_number, twice_kind}
-use Rattle.mc_campaign.specs.declared.rounds.OnWay.TheVariants as ways
+use Rattle.mc_explore.specs.facts.Summaries.{first_on}
+use Rattle.mc_explore.specs.declared.one_round.Summary.{Summary}
+use Rattle.mc_campaign.specs.inner.TwoRounds.{second_start, began_at, content_at, IsLater, later_from, later_number, two_rounds_model}
+use Rattle.mc_campaign.specs.declared.rounds.ChildBoot.TheVariants as child_boots
 use Rattle.mc_boot.specs.Plan.{power_on}
 
 module _ (r : Rules) (g : Geometry) (confirms : Bool) where
-  abbrev pub child : Place Content → ℕ → Place Content
-  child = twice_child (boots r g) (second_start r g confirms)
+  abbrev pub child : RoundNode Content → ℕ → RoundNode Content
+  child = two_rounds_child (boots r g) (second_start r g confirms)
 
-  abbrev pub width : Place Content → ℕ
-  width = twice_width (boots r g) (second_start r g confirms)
+  abbrev pub width : RoundNode Content → ℕ
+  width = two_rounds_width (boots r g) (second_start r g confirms)
 
   -- ---- a child in the first round
 
   pub first_child : (s : Content) (i : ℕ) → i < length (ops_of (power_on r g s)) → child (first s) i ≡ first (at_cut (power_on r g s) i)
   first_child s i lt = child_first (boots r g) (second_start r g confirms) s i lt
 
-  pub first_at : (s : Content) (i : ℕ) (boot : Boot) (ops : ℕ) (later : Told) (seen : Seen) → IsAt (twice_kind r g confirms) (first s) i (ways.First boot ops later) seen
-      → IsAt (once r g) s i boot seen
+  pub first_at : (s : Content) (i : ℕ) (boot : Boot) (ops : ℕ) (later : Summary) (seen : Seen) → IsAt (two_rounds_model r g confirms) (first s) i (child_boots.First boot ops later) seen
+      → IsAt (one_round r g) s i boot seen
   first_at s i boot ops later seen at = record {
     on_is = at.on_is.made;
     content_is = at.content_is ∙ ap content_at (first_child s i at.on_is.early);
     layout_is = at.layout_is;
   }
 
-  pub at_first : (s : Content) (i : ℕ) (boot : Boot) (ops : ℕ) (later : Told) (seen : Seen) → IsAt (once r g) s i boot seen → i < length (ops_of (power_on r g s))
+  pub at_first : (s : Content) (i : ℕ) (boot : Boot) (ops : ℕ) (later : Summary) (seen : Seen) → IsAt (one_round r g) s i boot seen → i < length (ops_of (power_on r g s))
       → ops ≡ length (ops_of (power_on r g s))
-      → IsTold (power_on r g (second_start r g confirms s)) later → IsAt (twice_kind r g confirms) (first s) i (ways.First boot ops later) seen
-  at_first s i boot ops later seen at early same told = record {
-    on_is = record { early = early; made = at.on_is; ops_is = same; later_is = told };
+      → IsSummary (power_on r g (second_start r g confirms s)) later → IsAt (two_rounds_model r g confirms) (first s) i (child_boots.First boot ops later) seen
+  at_first s i boot ops later seen at early same summary = record {
+    on_is = record { early = early; made = at.on_is; ops_is = same; later_is = summary };
     content_is = at.content_is ∙ sym (ap content_at (first_child s i early));
     layout_is = at.layout_is;
   }
 
   -- ---- a child in the second
 
-  pub later_child : (p : Place Content) (i : ℕ) → IsLater r g confirms p i → child p i ≡ second (began_at p) (at_cut (power_on r g (later_from r g confirms p)) (later_number r g confirms p i))
+  pub later_child : (p : RoundNode Content) (i : ℕ) → IsLater r g confirms p i → child p i ≡ second (began_at p) (at_cut (power_on r g (later_from r g confirms p)) (later_number r g confirms p i))
   later_child (first s) i le = child_second (boots r g) (second_start r g confirms) s i le
   later_child (second began s) i le = refl
 
-  pub later_at : (p : Place Content) (i : ℕ) (boot : Boot) (seen : Seen) → IsAt (twice_kind r g confirms) p i (ways.Second boot) seen
-      → IsAt (once r g) (later_from r g confirms p) (later_number r g confirms p i) boot seen
+  pub later_at : (p : RoundNode Content) (i : ℕ) (boot : Boot) (seen : Seen) → IsAt (two_rounds_model r g confirms) p i (child_boots.Second boot) seen
+      → IsAt (one_round r g) (later_from r g confirms p) (later_number r g confirms p i) boot seen
   later_at p i boot seen at = record {
     on_is = at.on_is.1;
     content_is = at.content_is ∙ ap content_at (later_child p i at.on_is.0);
     layout_is = at.layout_is;
   }
 
-  pub at_later : (p : Place Content) (i : ℕ) (boot : Boot) (seen : Seen) → IsLater r g confirms p i → IsAt (once r g) (later_from r g confirms p) (later_number r g confirms p i) boot seen
-      → IsAt (twice_kind r g confirms) p i (ways.Second boot) seen
+  pub at_later : (p : RoundNode Content) (i : ℕ) (boot : Boot) (seen : Seen) → IsLater r g confirms p i → IsAt (one_round r g) (later_from r g confirms p) (later_number r g confirms p i) boot seen
+      → IsAt (two_rounds_model r g confirms) p i (child_boots.Second boot) seen
   at_later p i boot seen later at = record {
     on_is = (later, at.on_is);
     content_is = at.content_is ∙ sym (ap content_at (later_child p i later));
     layout_is = at.layout_is;
   }
 
-  pub later_early : (p : Place Content) (i : ℕ) → IsLater r g confirms p i → i < width p → later_number r g confirms p i < length (ops_of (power_on r g (later_from r g confirms p)))
+  pub later_early : (p : RoundNode Content) (i : ℕ) → IsLater r g confirms p i → i < width p → later_number r g confirms p i < length (ops_of (power_on r g (later_from r g confirms p)))
   later_early (first s) i le lt = omega (arith, le, lt)
   later_early (second began s) i le lt = lt
 
-  later_goes_on : (p : Place Content) (i : ℕ) → IsLater r g confirms p i → IsLater r g confirms p (i + 1)
+  later_goes_on : (p : RoundNode Content) (i : ℕ) → IsLater r g confirms p i → IsLater r g confirms p (i + 1)
   later_goes_on (first s) i le = omega (arith, le)
   later_goes_on (second began s) i le = tt
 
-  later_next : (p : Place Content) (i : ℕ) → IsLater r g confirms p i → later_number r g confirms p i + 1 ≡ later_number r g confirms p (i + 1)
+  later_next : (p : RoundNode Content) (i : ℕ) → IsLater r g confirms p i → later_number r g confirms p i + 1 ≡ later_number r g confirms p (i + 1)
   later_next (first s) i le = omega (arith, le)
   later_next (second began s) i le = refl
 
-  pub at_next : (p : Place Content) (i : ℕ) (boot : Boot) (seen : Seen) → IsLater r g confirms p i → IsAt (once r g) (later_from r g confirms p) (later_number r g confirms p i + 1) boot seen
-      → IsAt (twice_kind r g confirms) p (i + 1) (ways.Second boot) seen
+  pub at_next : (p : RoundNode Content) (i : ℕ) (boot : Boot) (seen : Seen) → IsLater r g confirms p i → IsAt (one_round r g) (later_from r g confirms p) (later_number r g confirms p i + 1) boot seen
+      → IsAt (two_rounds_model r g confirms) p (i + 1) (child_boots.Second boot) seen
   at_next p i boot seen later at =
-      at_later p (i + 1) boot seen (later_goes_on p i later) (subst (λ n. IsAt (once r g) (later_from r g confirms p) n boot seen) (later_next p i later) at)
+      at_later p (i + 1) boot seen (later_goes_on p i later) (subst (λ n. IsAt (one_round r g) (later_from r g confirms p) n boot seen) (later_next p i later) at)
 
   -- ---- between the rounds
 
@@ -108,15 +108,16 @@ module _ (r : Rules) (g : Geometry) (confirms : Bool) where
       is ∙ ap (λ x. confirmed_if confirms x old.content) layout ∙ ap (λ (o : Option Content). confirmed_if confirms g (content_or s o)) (sym left)
 
   -- Where the second round begins its boot is at its first operation.
-  pub at_begin : (p : Place Content) (i : ℕ) (told : Told) (seen : Seen) → IsLater r g confirms p i → later_number r g confirms p i ≡ 0 → seen.content ≡ later_from r g confirms p → seen.geometry ≡ g
-      → IsTold (power_on r g (later_from r g confirms p)) told → IsAt (twice_kind r g confirms) p i (ways.Second told.boot) seen
-  at_begin p i told seen later zero content layout is =
-      let here : IsAt (once r g) (later_from r g confirms p) 0 told.boot seen = record {
-        on_is = first_on r g (later_from r g confirms p) told is;
+  pub at_begin : (p : RoundNode Content) (i : ℕ) (summary : Summary) (seen : Seen) → IsLater r g confirms p i → later_number r g confirms p i ≡ 0
+      → seen.content ≡ later_from r g confirms p → seen.geometry ≡ g
+      → IsSummary (power_on r g (later_from r g confirms p)) summary → IsAt (two_rounds_model r g confirms) p i (child_boots.Second summary.boot) seen
+  at_begin p i summary seen later zero content layout is =
+      let here : IsAt (one_round r g) (later_from r g confirms p) 0 summary.boot seen = record {
+        on_is = first_on r g (later_from r g confirms p) summary is;
         content_is = content ∙ at_zero (power_on r g (later_from r g confirms p));
         layout_is = layout;
       } in
-      at_later p i told.boot seen later (subst (λ n. IsAt (once r g) (later_from r g confirms p) n told.boot seen) (sym zero) here)
+      at_later p i summary.boot seen later (subst (λ n. IsAt (one_round r g) (later_from r g confirms p) n summary.boot seen) (sym zero) here)
 
   -- Where the uncut boots leave the same flash the second round begins there.
   pub same_start : (s u : Content) → left_by (power_on r g u) ≡ left_by (power_on r g s) → second_start r g confirms u ≡ second_start r g confirms s

@@ -5,17 +5,17 @@ use Rattle.mc_boot.specs.Plan.{PowerOn, again}
 use Rattle.mc_boot.specs.Restart.{confirmed_if}
 use Rattle.mc_campaign.specs.declared.campaign.Round.{Round}
 use Rattle.mc_explore.specs.Schedules.{CannotOccurAt}
-use Rattle.mc_explore.specs.declared.replaying.ReplayError.{ReplayError}
+use Rattle.mc_explore.specs.declared.replays.ReplayError.{ReplayError}
 use Rattle.mc_flash.specs.Flash.{Content}
 use Rattle.mc_tree.specs.Tree.{PairsPrecede}
-use Rattle.mc_explore.specs.declared.replaying.ReplayError.TheVariants as errors
+use Rattle.mc_explore.specs.declared.replays.ReplayError.TheVariants as errors
 use Rattle.mc_campaign.specs.declared.campaign.Round.TheVariants as rounds
 use Rattle.mc_explore.specs.Schedules as schedules
 
 -- Campaigns of power cuts in two rounds.
 
 -- A campaign is one list of cuts: of each its round, and after how many operations of its boot the power is lost. No round is less
--- than the one before it, of which the first is told, and none is more than 2.
+-- than the one before it, of which the first is stated, and none is more than 2.
 abbrev pub AscendFrom : ℕ → List (ℕ × ℕ) → Type 0
 AscendFrom round [] = Unit {0}
 AscendFrom round (cut ∷ cuts) = (round ≤ cut.0) × (cut.0 ≤ 2) × AscendFrom cut.0 cuts
@@ -24,7 +24,7 @@ AscendFrom round (cut ∷ cuts) = (round ≤ cut.0) × (cut.0 ≤ 2) × AscendFr
 abbrev pub IsInOrder : List (ℕ × ℕ) → Type 0
 IsInOrder cuts = AscendFrom 1 cuts
 
--- The places of the cuts of a round.
+-- The cuts of a round.
 abbrev pub in_round : ℕ → List (ℕ × ℕ) → List ℕ
 in_round round [] = []
 in_round round (cut ∷ cuts) = if cut.0 == round then cut.1 ∷ in_round round cuts else in_round round cuts
@@ -51,7 +51,7 @@ pub record CanOccur (x : PowerOn) (confirms : Bool) (c : List (ℕ × ℕ)) : Ty
 abbrev pub IsMember : PowerOn → Bool → ℕ → List (ℕ × ℕ) → Type 0
 IsMember x confirms bound c = (length c ≤ bound) × CanOccur x confirms c
 
--- A proper prefix comes before a campaign, else the first cut that differs decides, by its round and then by its place.
+-- A proper prefix comes before a campaign, else the first cut that differs decides, by its round and then by its number.
 abbrev pub Precedes : List (ℕ × ℕ) → List (ℕ × ℕ) → Type 0
 Precedes = PairsPrecede
 
@@ -73,15 +73,15 @@ pub record BeginsSecond (x : PowerOn) (confirms : Bool) (cuts : List ℕ) (y : P
   pub begins : y ≡ again x (confirmed_if confirms x.geometry middle)
 
 -- The first round ends, and the first cut that can't occur is of the second.
-pub record CannotOccurLater (x : PowerOn) (confirms : Bool) (c : List (ℕ × ℕ)) (place : ℕ) : Type 0 where
+pub record CannotOccurLater (x : PowerOn) (confirms : Bool) (c : List (ℕ × ℕ)) (index : ℕ) : Type 0 where
   pub one : Report
   pub middle : Content
   pub first : schedules.IsReplayed x (in_round 1 c) one middle
   pub later : ℕ
   pub second : CannotOccurAt (again x (confirmed_if confirms x.geometry middle)) (in_round 2 c) later
-  pub place_is : place ≡ length (in_round 1 c) + later
+  pub index_is : index ≡ length (in_round 1 c) + later
 
--- What is refused: the first cut that can't occur, by its place among those of both rounds, unless memory ran out.
+-- What is refused: the first cut that can't occur, by its number among those of both rounds, unless memory ran out.
 abbrev pub Refuses : PowerOn → Bool → List (ℕ × ℕ) → ReplayError → Type 0
-Refuses x confirms c (errors.CannotOccur place) = CannotOccurAt x (in_round 1 c) place ⊎ CannotOccurLater x confirms c place
+Refuses x confirms c (errors.CannotOccur index) = CannotOccurAt x (in_round 1 c) index ⊎ CannotOccurLater x confirms c index
 Refuses x confirms c errors.Memory = ⊤

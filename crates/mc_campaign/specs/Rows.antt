@@ -1,9 +1,10 @@
 -- Campaigns as what is explored: the states of their explorer, their rows with their text, what the restart theorem says of them, and what a row costs.
-use Rattle.std.specs.Prelude.{Bool, List, Result, Some, [], codes, false, if◌then◌else◌, true, ℕ, ◌*◌, ◌++◌, ◌+◌, ◌≡◌, ◌≢◌}
+use Rattle.std.specs.Prelude.{Bool, List, Result, Some, [], codes, false, true, ℕ, ◌*◌, ◌++◌, ◌+◌, ◌≡◌, ◌≢◌}
 use Rattle.mc_boot.specs.Outcome.{Report, after, shown}
 use Rattle.mc_boot.specs.Plan.{PowerOn, again}
 use Rattle.mc_boot.specs.Restart.{BeginsImage, EndsAgain, EndsIn, confirmed_if, forgets_reverts, has_revert, named, other, start_flash}
 use Rattle.mc_boot.specs.declared.kind.Kind.{Kind}
+use Rattle.mc_boot.specs.declared.outcome.BootResult.{BootResult}
 use Rattle.mc_campaign.specs.Campaigns.{AreReplayed, IsMember, Precedes, in_round}
 use Rattle.mc_campaign.specs.Texts.{campaign_text, cursor_of, cursor_text, fields_of}
 use Rattle.mc_campaign.specs.declared.cursor.CampaignCursor.{CampaignCursor}
@@ -11,7 +12,6 @@ use Rattle.mc_campaign.specs.declared.row.CampaignRow.{CampaignRow}
 use Rattle.mc_explore.specs.Rows.{outcome_text, slots_text}
 use Rattle.mc_explore.specs.Schedules.{IsSwapOutcome}
 use Rattle.mc_explore.specs.Subject.{Subject}
-use Rattle.mc_explore.specs.Survey.{is_boot}
 use Rattle.mc_explore.specs.declared.error.ExploreError.{ExploreError}
 use Rattle.mc_flash.specs.Flash.{Content}
 use Rattle.mc_flash.specs.Geometry.{Geometry, IsLayout}
@@ -42,20 +42,26 @@ abbrev pub moved_to : State → List (ℕ × ℕ) → State
 moved_to = states.moved_to
 
 -- A row as callers see it.
-pub record Told : Type 0 where
+pub record ShownRow : Type 0 where
   pub campaign : List (ℕ × ℕ)
   pub first : Report
   pub second : Report
 
-abbrev pub told : CampaignRow → Told
-told row = record { campaign = row.campaign; first = shown row.first; second = shown row.second }
+abbrev pub shown_row : CampaignRow → ShownRow
+shown_row row = record { campaign = row.campaign; first = shown row.first; second = shown row.second }
 
 -- How a campaign ends: as its first round does, where that does not end in a boot, else as its second.
-abbrev pub end_of : Told → Report
-end_of row = if is_boot row.first.result then row.second else row.first
+abbrev pub end_by : BootResult → Report → Report → Report
+end_by results.Boot first second = second
+end_by results.None first second = first
+end_by results.Panic first second = first
+end_by results.Fault first second = first
+
+abbrev pub end_of : ShownRow → Report
+end_of row = end_by row.first.result row.first row.second
 
 -- The outcomes of a row are those of its campaign, round by round.
-abbrev pub HasOutcomes : PowerOn → Bool → Told → Type 0
+abbrev pub HasOutcomes : PowerOn → Bool → ShownRow → Type 0
 HasOutcomes start confirms row =
     (z : Content) × AreReplayed start confirms row.campaign row.first row.second z
 
@@ -69,7 +75,7 @@ lasting starts.Test false = starts.None
 lasting starts.Perm confirms = starts.Perm
 lasting starts.Revert confirms = starts.Revert
 
--- What is told of the second round: it boots, and the images stand as they will stay. Unless it takes a test back it has no
+-- The outcome of the second round: it boots, and the images stand as they will stay. Unless it takes a test back it has no
 -- operation, and so no cut.
 pub record IsLastOutcome (kind : Kind) (confirms : Bool) (a b cuts : List ℕ) (outcome : Report) : Type 0 where
   pub result : outcome.result ≡ results.Boot
@@ -79,17 +85,17 @@ pub record IsLastOutcome (kind : Kind) (confirms : Bool) (a b cuts : List ℕ) (
   pub idle : (kind ≡ starts.Test → confirms ≡ true) → (outcome.ops ≡ 0) × (cuts ≡ [])
 
 -- The first round leaves x, as the restart theorem says of its cuts; the second begins there, where the image has confirmed itself
--- or not, and leaves z, as the theorem says of a second round. What is told of both is so.
+-- or not, and leaves z, as the theorem says of a second round. Both outcomes are so.
 pub record BothEnd (start : PowerOn) (kind : Kind) (confirms : Bool) (a b : List ℕ) (c : List (ℕ × ℕ)) (one two : Report) (z : Content) : Type 0 where
   pub t : Content
   pub x : Content
   pub u : Content
   pub first_cut : after start (in_round 1 c) ≡ Some t
   pub first_ends : EndsIn start kind a b t x
-  pub first_told : IsSwapOutcome kind a b (in_round 1 c) one
+  pub first_outcome : IsSwapOutcome kind a b (in_round 1 c) one
   pub second_cut : after (again start (confirmed_if confirms start.geometry x)) (in_round 2 c) ≡ Some u
   pub second_ends : EndsAgain start kind confirms a b x u z
-  pub second_told : IsLastOutcome kind confirms a b (in_round 2 c) two
+  pub second_outcome : IsLastOutcome kind confirms a b (in_round 2 c) two
 
 -- From the start of two valid images that fit, under rules that do not forget a revert that one of the rounds makes, both rounds
 -- of the campaign end so.
@@ -100,7 +106,7 @@ Restarts start confirms c one two z =
     → start_flash start.geometry kind a b ≡ Some start.content → BothEnd start kind confirms a b c one two z
 
 -- So it is of a row's campaign and its outcomes.
-abbrev pub RowRestarts : PowerOn → Bool → Told → Type 0
+abbrev pub RowRestarts : PowerOn → Bool → ShownRow → Type 0
 RowRestarts start confirms row =
     IsLayout start.geometry → (z : Content)
     × Restarts start confirms row.campaign row.first row.second z
@@ -108,7 +114,7 @@ RowRestarts start confirms row =
 -- How rows of campaigns are printed: this project's own text.
 
 -- The campaign, how both rounds ended, and what the second left.
-abbrev pub row_text : Told → List ℕ
+abbrev pub row_text : ShownRow → List ℕ
 row_text row =
     campaign_text row.campaign ++ (codes " " ++ (outcome_text row.first ++ (codes " " ++ (outcome_text row.second ++ (codes " " ++ slots_text row.second)))))
 
@@ -120,7 +126,7 @@ most_for_row r g = 2 * most_operations r.grain g + 3
 
 -- Campaigns, as what is explored, and their rows, as they are listed.
 
-abbrev pub campaigns : Subject Bool (List (ℕ × ℕ)) Told CampaignCursor
+abbrev pub campaigns : Subject Bool (List (ℕ × ℕ)) ShownRow CampaignCursor
 campaigns = record {
   IsListed = IsMember;
   Before = Precedes;
@@ -138,18 +144,18 @@ campaigns = record {
 }
 
 -- A row of the whole list: one of the campaigns to go through, with its outcomes.
-abbrev pub IsRow : PowerOn → Bool → ℕ → Told → Type 0
+abbrev pub IsRow : PowerOn → Bool → ℕ → ShownRow → Type 0
 IsRow = states.IsRow campaigns
 
 -- The rows past the position, each of them and no others, in their order.
-abbrev pub IsRest : State → List Told → Type 0
+abbrev pub IsRest : State → List ShownRow → Type 0
 IsRest = listings.IsRest (states.rows_of campaigns)
 
--- An explorer of campaigns that goes on behind a cursor, or the first reason why there is none.
+-- An explorer of campaigns that goes on after a cursor, or the first reason why there is none.
 
--- The state behind a campaign.
-abbrev pub behind : PowerOn → Bool → ℕ → List (ℕ × ℕ) → State
-behind = states.behind
+-- The state after a campaign.
+abbrev pub after_key : PowerOn → Bool → ℕ → List (ℕ × ℕ) → State
+after_key = states.after_key
 
 abbrev pub Resumes : PowerOn → Bool → ℕ → CampaignCursor → Result Explored ExploreError → Type 0
 Resumes start confirms bound c = states.Resumes campaigns start confirms bound (fields_of c)

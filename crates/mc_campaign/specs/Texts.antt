@@ -13,13 +13,13 @@ use Rattle.mc_output.specs.Text as joining
 
 -- The texts of campaigns: this project's own.
 
--- At most 16 cuts, with places below 2^32.
+-- At most 16 cuts, with numbers below 2^32.
 pub record IsCampaign (c : List (ℕ × ℕ)) : Type 0 where
-  pub few : length c ≤ 16
+  pub at_most : length c ≤ 16
   pub small : All (λ cut. cut.1 < 2 ^ 32) c
   pub in_order : IsInOrder c
 
--- `1.17`: the round and the place.
+-- `1.17`: the round and the number.
 abbrev pub cut_text : ℕ × ℕ → List ℕ
 cut_text cut = decimal cut.0 ++ (codes "." ++ decimal cut.1)
 
@@ -44,13 +44,13 @@ pub record FitsCut (before : List (ℕ × ℕ)) (cut : ℕ × ℕ) : Type 0 wher
   pub small : cut.1 < 2 ^ 32
   pub in_order : IsInOrder (before ++ cut ∷ [])
 
--- The cut that a text writes stands behind others.
+-- The cut that a text writes stands after others.
 abbrev pub IsAdded : List (ℕ × ℕ) → List ℕ → List (ℕ × ℕ) → Type 0
 IsAdded = joining.IsAdded cut_text FitsCut
 
 -- Where to go on with an exploration of campaigns.
 
--- The cursor that goes on behind a campaign.
+-- The cursor that goes on after a campaign.
 abbrev pub cursor_of : PowerOn → Bool → ℕ → List (ℕ × ℕ) → CampaignCursor
 cursor_of start confirms bound c =
     record { rules = start.rules; confirms = confirms; digest = start_digest start; bound = bound; campaign = c }
@@ -71,7 +71,7 @@ abbrev pub cursor_text : CampaignCursor → List ℕ
 cursor_text c =
     codes "mc3:" ++ (rules_text c.rules.grain c.rules.profile ++ (choice_text c.confirms ++ (codes ":" ++ start_text c.digest c.bound (campaign_text c.campaign))))
 
--- A cursor of 32 bytes, at most 16 cuts, and a campaign that can be told.
+-- A cursor of 32 bytes, at most 16 cuts, and a campaign that can be printed.
 pub record IsCursor (c : CampaignCursor) : Type 0 where
   pub start : IsStartField (record { digest = c.digest; bound = c.bound })
   pub campaign : IsCampaign c.campaign

@@ -22,7 +22,7 @@ pub enum Round {
     Second,
 }
 
-/// At most 16 power cuts in two rounds, each with its round, none of the first behind one of the second. A round is power-on with
+/// At most 16 power cuts in two rounds, each with its round, none of the first after one of the second. A round is power-on with
 /// its cuts and one whole boot; the second starts from the flash that the first leaves. It takes no memory.
 #[derive(Clone, Copy, Debug)]
 pub struct Campaign {
@@ -68,7 +68,8 @@ fn digit_of(round: u8) -> &'static str
     if round == 1 { "1" } else { "2" }
 }
 
-// The cut that a text tells, by its round and its place: two numbers with a point between them, as a schedule of two cuts is written.
+// The cut that a text says, by its round and its number there: two numbers with a point between them, as a schedule of two cuts is
+// written.
 fn cut_of(text: &str) -> Result<(u8, u32), CampaignError>
     ensures { MatchResult result (λ cut. (text.now ≡ cut_text cut) × IsCut cut)
         (λ _. (cut : ℕ × ℕ) → IsCut cut → text.now ≡ cut_text cut → ⊥) }
@@ -76,20 +77,20 @@ fn cut_of(text: &str) -> Result<(u8, u32), CampaignError>
     let Ok(pair) = Schedule::read(text) else {
         return Err(CampaignError);
     };
-    let [number, place] = pair.cuts() else {
+    let [number, index] = pair.cuts() else {
         return Err(CampaignError);
     };
     match *number {
-        1 => Ok((1, *place)),
-        2 => Ok((2, *place)),
+        1 => Ok((1, *index)),
+        2 => Ok((2, *index)),
         _ => Err(CampaignError),
     }
 }
 
 impl Campaign {
-    /// The campaign that a text tells: `-` for no cut, else 1 to 16 cuts with commas between them. A cut is written as its
-    /// round, 1 or 2, a point and its place, below 2^32 and without leading zeros: `1.0,2.5`. No cut of the first round stands
-    /// behind one of the second. It takes no memory.
+    /// The campaign that a text says: `-` for no cut, else 1 to 16 cuts with commas between them. A cut is written as its
+    /// round, 1 or 2, a point and its number, below 2^32 and without leading zeros: `1.0,2.5`. No cut of the first round
+    /// stands after one of the second. It takes no memory.
     ///
     /// # Errors
     ///
@@ -120,14 +121,14 @@ impl Campaign {
         ensures refused { OnErr result ((cut : ℕ × ℕ) → FitsCut self.old cut
             → text.now ≡ cut_text cut → ⊥) }
     {
-        let (round, place) = cut_of(text)?;
+        let (round, index) = cut_of(text)?;
         if self.len == MOST_CUTS {
             return Err(CampaignError);
         }
         if round < self.last_round() {
             return Err(CampaignError);
         }
-        self.push(round, place);
+        self.push(round, index);
         Ok(())
     }
 
@@ -152,19 +153,19 @@ impl Campaign {
     }
 
     // Adds a cut at the end.
-    pub(crate) fn push(&mut self, round: u8, place: u32)
+    pub(crate) fn push(&mut self, round: u8, index: u32)
         requires room { length self.old < 16 }
-        requires order { IsInOrder (self.old ++ (round, place) ∷ []) }
-        ensures { self.new ≡ self.old ++ (round, place) ∷ [] }
+        requires order { IsInOrder (self.old ++ (round, index) ∷ []) }
+        ensures { self.new ≡ self.old ++ (round, index) ∷ [] }
     {
-        self.cuts[self.len] = (round, place);
+        self.cuts[self.len] = (round, index);
         self.len += 1;
     }
 
     /// How many cuts it has, in both rounds.
     pub fn len(&self) -> usize
         ensures value { result ≡ length self.now }
-        ensures few { result ≤ 16 }
+        ensures at_most { result ≤ 16 }
     {
         self.len
     }
@@ -172,32 +173,32 @@ impl Campaign {
     /// The cuts, each with the number of its round, in their order.
     pub fn cuts(&self) -> &[(u8, u32)]
         ensures value { result.now ≡ self.now }
-        ensures few { length result.now ≤ 16 }
+        ensures at_most { length result.now ≤ 16 }
         ensures order { IsInOrder result.now }
     {
         &self.cuts[..self.len]
     }
 
     /// Whether it comes before another in the order of rows: a proper prefix does, else the first cut that differs decides, by its
-    /// round and then by its place.
+    /// round and then by its number.
     pub fn is_before(&self, other: &Campaign) -> bool
         ensures { (result ≡ true) ↔ Precedes self.now other.now }
     {
         come_before(self.cuts(), other.cuts())
     }
 
-    /// The places of the cuts of a round, in their order.
-    pub fn places(&self, round: Round) -> Schedule
+    /// The cuts of a round, in their order.
+    pub fn schedule(&self, round: Round) -> Schedule
         ensures { result ≡ in_round (number_of round) self.now }
     {
         let of = round.number();
-        let mut places = Schedule::new();
-        for (number, place) in self.cuts() {
+        let mut schedule = Schedule::new();
+        for (number, index) in self.cuts() {
             if *number == of {
-                places.push(*place);
+                schedule.push(*index);
             }
         }
-        places
+        schedule
     }
 }
 
@@ -225,7 +226,7 @@ fn come_before(cuts: &[(u8, u32)], others: &[(u8, u32)]) -> bool
     }
 }
 
-// Adds a cut to a line: its round, a point and its place.
+// Adds a cut to a line: its round, a point and its number.
 fn put_cut(line: &mut Line, cut: (u8, u32))
     requires room { length line.old + 12 ≤ MOST_LINE }
     requires round { (1 ≤ cut.0) × (cut.0 ≤ 2) }

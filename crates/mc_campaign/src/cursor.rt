@@ -7,8 +7,8 @@ use crate::Campaign;
 use mc_explore::Start;
 use mc_trailer::Rules;
 
-/// Where to go on with an exploration of campaigns: after a campaign, of a start (told by its digest) under some rules and a
-/// choice between the rounds, with so many cuts at most. It takes no memory.
+/// Where to go on with an exploration of campaigns: after a campaign, of a start (named by its digest) under some rules and
+/// a choice between the rounds, with so many cuts at most. It takes no memory.
 #[derive(Clone, Copy, Debug)]
 pub struct CampaignCursor {
     pub(crate) rules: Rules,

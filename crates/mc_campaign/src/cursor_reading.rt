@@ -7,7 +7,7 @@ use crate::campaign::Campaign;
 use crate::cursor::CampaignCursor;
 use mc_explore::{CursorError, RulesField, StartField, next_field};
 
-// The choice that a word tells.
+// The choice that a word says.
 fn choice_of(word: &str) -> Option<bool>
     ensures { MatchOption result ((confirms : Bool) → word.now ≡ choice_text confirms → ⊥)
         (λ confirms. word.now ≡ choice_text confirms) }
@@ -19,10 +19,10 @@ fn choice_of(word: &str) -> Option<bool>
     }
 }
 
-// The cursor that a text tells, if it is one's.
+// The cursor that a text says, if it is one's.
 fn cursor_of(text: &str) -> Option<CampaignCursor>
     ensures some { IfSome result (λ c. text.now ≡ cursor_text c) }
-    ensures few { IfSome result (λ c. c.bound ≤ 16) }
+    ensures at_most { IfSome result (λ c. c.bound ≤ 16) }
     ensures only { (c : CampaignCursor) → IsCursor c → text.now ≡ cursor_text c → result ≡ Some c }
 {
     let (rules, rest) = RulesField::read(text.strip_prefix("mc3:")?)?;
@@ -43,7 +43,7 @@ fn cursor_of(text: &str) -> Option<CampaignCursor>
 }
 
 impl CampaignCursor {
-    /// The cursor that a text tells: `mc3:`, the grain (`call`, `unit`), `:`, the profile (`1`, `2`), `:`, the choice between the
+    /// The cursor that a text says: `mc3:`, the grain (`call`, `unit`), `:`, the profile (`1`, `2`), `:`, the choice between the
     /// rounds (`leave`, `confirm`), `:`, the start's digest in 64 lower-case digits, `:`, the most cuts (0 to 16), `:`, and the
     /// campaign. It takes no memory.
     ///
@@ -52,7 +52,7 @@ impl CampaignCursor {
     /// `CursorError` for every other text.
     pub fn read(text: &str) -> Result<CampaignCursor, CursorError>
         ensures exact { ReadsCursor text.now result }
-        ensures few { IfOk result (λ c. c.bound ≤ 16) }
+        ensures at_most { IfOk result (λ c. c.bound ≤ 16) }
         // The text of each cursor is read as that cursor.
         ensures only { (c : CampaignCursor) → IsCursor c → text.now ≡ cursor_text c → result
             ≡ Ok c }

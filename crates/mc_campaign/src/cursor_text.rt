@@ -9,7 +9,7 @@ use std::fmt;
 // The choice between the rounds, in a word.
 fn choice_word(confirms: bool) -> &'static str
     ensures text { result.now ≡ choice_text confirms }
-    ensures few { length result.now ≤ 7 }
+    ensures at_most { length result.now ≤ 7 }
 {
     if confirms { "confirm" } else { "leave" }
 }

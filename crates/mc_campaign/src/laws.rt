@@ -1,15 +1,12 @@
 //! The laws of campaigns, as the contracts of functions that do nothing.
 ghost use Rattle.std.specs.Prelude.{◌≡◌, ◌<◌, ◌↔◌, ℕ, Bool, false, List, ◌∷◌, ◌++◌, length, take, All, []};
-ghost use Rattle.mc_tree.specs.Tree.{JoinUp};
+ghost use Rattle.mc_tree.specs.Tree.{JoinUp, first};
 ghost use Rattle.mc_tree.specs.Tree as tree;
-ghost use Rattle.mc_tree.specs.Tree.{first};
 ghost use Rattle.mc_campaign.specs.Page.{Chain, last_campaign, state_past};
-ghost use Rattle.mc_campaign.specs.Rows.{IsRest};
-ghost use Rattle.mc_campaign.specs.Rows.{behind};
-ghost use Rattle.mc_campaign.specs.Rows.{State, Told, moved_to};
+ghost use Rattle.mc_campaign.specs.Rows.{IsRest, after_key, State, ShownRow, moved_to};
 ghost use Rattle.mc_campaign.specs.Campaigns.{IsMember, Precedes};
 ghost use Rattle.mc_boot.specs.Plan.{PowerOn};
-ghost use Rattle.mc_campaign.specs.inner.Twice.{IsPathOf, rounds};
+ghost use Rattle.mc_campaign.specs.inner.TwoRounds.{IsPathOf, rounds};
 
 /// The campaigns that can occur are the paths of the tree of two rounds: each of at most so many cuts is that of a path of at
 /// most so many steps, and each such path is that of such a campaign. The order of campaigns is that of their paths.
@@ -27,25 +24,25 @@ pub fn campaigns_are_paths()
 /// Past each position there is one ascending list of rows of campaigns, and no other. After its first row the others are to
 /// come.
 pub fn one_list_of_campaigns()
-    ensures some { (state : State) → (rows : List Told) × IsRest state rows }
-    ensures only { (state : State) (xs ys : List Told) → IsRest state xs → IsRest state ys → xs
+    ensures some { (state : State) → (rows : List ShownRow) × IsRest state rows }
+    ensures only { (state : State) (xs ys : List ShownRow) → IsRest state xs → IsRest state ys → xs
         ≡ ys }
-    ensures tail { (state : State) (row : Told) (rows : List Told)
+    ensures tail { (state : State) (row : ShownRow) (rows : List ShownRow)
         → IsRest state (row ∷ rows) → IsRest (moved_to state row.campaign) rows }
-    ensures order { (state : State) (front between rest : List Told) (first later : Told)
-        → IsRest state (front ++ first ∷ (between ++ later ∷ rest))
+    ensures order { (state : State) (prefix between rest : List ShownRow) (first later : ShownRow)
+        → IsRest state (prefix ++ first ∷ (between ++ later ∷ rest))
         → Precedes first.campaign later.campaign }
 {}
 
 /// Pages of campaigns join up: the rows of pages that are continued from their cursors are a prefix of the rows to come where
 /// the first one began, and all of them where the last one says `end`.
 pub fn campaign_pages_join_up()
-    ensures joined { (limits : List ℕ) (state : State) (whole rows : List Told) (ended : Bool)
+    ensures joined { (limits : List ℕ) (state : State) (whole rows : List ShownRow) (ended : Bool)
         → All (λ n. 0 < n) limits → IsRest state whole
         → Chain state limits ended rows → JoinUp whole rows ended }
     // After a full page an explorer is where one begins that goes on from its cursor.
-    ensures resumed { (state : State) (rows : List Told) (limit : ℕ) → state.failed ≡ false
+    ensures resumed { (state : State) (rows : List ShownRow) (limit : ℕ) → state.failed ≡ false
         → 0 < limit → length (take limit rows) ≡ limit → state_past state limit rows
-        ≡ behind state.start state.choice state.bound
+        ≡ after_key state.start state.choice state.bound
         (last_campaign [] (take limit rows)) }
 {}

@@ -2,24 +2,24 @@
 #![tactic(auto)]
 
 mod campaign;
+mod campaign_path;
+mod campaign_replays;
+mod campaign_subject;
 mod cursor;
 mod cursor_reading;
 mod cursor_text;
-mod exploring;
-mod following;
 mod laws;
 mod pages;
-mod replaying;
 mod rounds;
 mod row;
 mod row_text;
-mod twice;
+mod two_rounds;
 
 pub use campaign::{Campaign, CampaignError, Round};
+pub use campaign_replays::{replay_campaign, start_of_second};
+pub use campaign_subject::CampaignExplorer;
 pub use cursor::CampaignCursor;
-pub use exploring::CampaignExplorer;
 pub use laws::{campaign_pages_join_up, campaigns_are_paths, one_list_of_campaigns};
 pub use pages::{write_campaign_page, write_campaign_page_until};
-pub use replaying::{replay_campaign, start_of_second};
-pub use rounds::{Both, OnWay, Twice};
+pub use rounds::{Both, ChildBoot, TwoRounds};
 pub use row::CampaignRow;

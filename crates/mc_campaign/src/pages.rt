@@ -5,14 +5,14 @@ ghost use Rattle.mc_campaign.specs.Rows.{most_for_row};
 ghost use Rattle.mc_campaign.specs.Page.{PageBegan, PageIsOut, ShownBegan, ShownIsOut};
 
 use crate::campaign::Campaign;
-use crate::exploring::CampaignExplorer;
+use crate::campaign_subject::CampaignExplorer;
 use mc_explore::{ExploreError, write_rows};
 use mc_flash::Flash;
 use std::io::Write;
 
-/// Writes a page of the next rows that come before that campaign, if one is told: a proper prefix of it comes before it, else the
-/// first cut that differs decides. It has at most so many rows, a line each; then where to go on, or `end` where there are fewer.
-/// It takes no memory but through the flash.
+/// Writes a page of the next rows that come before that campaign, if one is given: a proper prefix of it comes before it, else
+/// the first cut that differs decides. It has at most so many rows, a line each; then where to go on, or `end` where there are
+/// fewer. It takes no memory but through the flash.
 ///
 /// After a full page the explorer is past its rows. After one that says `end` it is also past the next row, if there is one: that
 /// one does not come before the campaign, and to go on with it resume after the page's last row.

@@ -1,38 +1,40 @@
-//! Two rounds of boots, one behind the other.
+//! Two rounds of boots, one after the other.
 ghost use Rattle.std.specs.Prelude.{◌≡◌, ◌+◌, IfOk, IfErr, OnOk};
 ghost use Rattle.mc_tree.specs.Tree.{first};
-ghost use Rattle.mc_flash.specs.Usage.{no_counts};
-ghost use Rattle.mc_flash.specs.Usage.{Keeps};
-ghost use Rattle.mc_flash.specs.Usage.{Allows, HasRoom, LeaveRoom, Spends, Stays, plus};
+ghost use Rattle.mc_flash.specs.Usage.{no_counts, Keeps, Allows, HasRoom, LeaveRoom, Spends, Stays, plus};
 ghost use Rattle.mc_boot.specs.Restart.{confirmed_if, one_write};
 
 use crate::campaign::Round;
 use mc_boot::{Boot, confirm};
-use mc_explore::{Once, Start, Told};
+use mc_explore::{OneRound, Start, Summary};
 use mc_flash::{Flash, FlashError};
 
 /// Two rounds of boots of a layout by the same rules, each of which can be cut. Between them the image confirms itself or not.
 #[derive(Clone, Copy)]
-pub struct Twice {
-    pub once: Once,
+pub struct TwoRounds {
+    pub one_round: OneRound,
     pub confirms: bool,
 }
 
-/// What is told of a place in two rounds: of the last boot of the first round, and of the boot of the second. In the first
+/// The summary of a node of two rounds: of the last boot of the first round, and of the boot of the second. In the first
 /// round that is the one with which the second begins.
 #[derive(Clone, Copy)]
 pub struct Both {
     pub round: Round,
-    pub first: Told,
-    pub second: Told,
+    pub first: Summary,
+    pub second: Summary,
 }
 
-/// A place on the way from another.
+/// A child on its way from a node.
 #[derive(Clone, Copy)]
-pub enum OnWay {
-    /// In the first round: the boot at its cut, how many operations it makes uncut, and what is told of the second round
-    /// behind it.
-    First { boot: Boot, ops: u32, later: Told },
+pub enum ChildBoot {
+    /// In the first round: the boot at its cut, how many operations it makes uncut, and the summary of the second round
+    /// after it.
+    First {
+        boot: Boot,
+        ops: u32,
+        later: Summary,
+    },
     /// In the second round: the boot at its cut.
     Second(Boot),
 }
@@ -58,27 +60,30 @@ pub(crate) fn go_between<F: Flash>(confirms: bool, flash: &mut F) -> Result<(), 
     Ok(())
 }
 
-impl Twice {
-    ghost use Rattle.mc_explore.specs.inner.Once.{BeginsOn};
-    ghost use Rattle.mc_campaign.specs.inner.Twice.{AreTold, most_of_both};
+impl TwoRounds {
+    ghost use Rattle.mc_explore.specs.inner.OneRound.{BeginsOn};
+    ghost use Rattle.mc_campaign.specs.inner.TwoRounds.{AreSummaries, most_of_both};
 
     // Runs the boot at power-on to its end, and then that of the second round.
     fn run<F: Flash>(&self, flash: &mut F, boot: Boot, start: &Start) -> Result<Both, FlashError>
-        requires begun { BeginsOn self.now.once.rules self.now.once.layout (F.seen flash.old)
+        requires begun { BeginsOn self.now.one_round.rules self.now.one_round.layout (F.seen
+            flash.old)
             boot }
-        requires room { Allows (most_of_both self.now.once.rules self.now.once.layout)
+        requires room { Allows (most_of_both self.now.one_round.rules self.now.one_round.layout)
             (F.seen flash.old) }
-        ensures told { IfOk result (AreTold self.now.once.rules self.now.once.layout
+        ensures summary { IfOk result (AreSummaries self.now.one_round.rules
+            self.now.one_round.layout
             self.now.confirms (first (F.seen flash.old).content)) }
         ensures keeps { Keeps (F.seen flash.old) (F.seen flash.new) }
-        ensures spends { Spends (most_of_both self.now.once.rules self.now.once.layout).entries
+        ensures spends { Spends (most_of_both self.now.one_round.rules
+            self.now.one_round.layout).entries
             (F.seen flash.old) result (F.seen flash.new) }
         ensures err { IfErr result (λ e. e ≡ FlashError.Memory) }
     {
-        let first = self.once.run(flash, boot, start)?;
+        let first = self.one_round.run(flash, boot, start)?;
         go_between(self.confirms, flash)?;
-        let then = self.once.boot(flash, start);
-        let second = self.once.run(flash, then, start)?;
+        let then = self.one_round.boot(flash, start);
+        let second = self.one_round.run(flash, then, start)?;
         Ok(Both {
             round: Round::First,
             first,
@@ -87,20 +92,23 @@ impl Twice {
     }
 
     /// The same, and goes back.
-    pub(crate) fn tell<F: Flash>(
+    pub(crate) fn run_and_return<F: Flash>(
         &self,
         flash: &mut F,
         boot: Boot,
         start: &Start,
     ) -> Result<Both, FlashError>
-        requires begun { BeginsOn self.now.once.rules self.now.once.layout (F.seen flash.old)
+        requires begun { BeginsOn self.now.one_round.rules self.now.one_round.layout (F.seen
+            flash.old)
             boot }
-        requires room { HasRoom (most_of_both self.now.once.rules self.now.once.layout)
+        requires room { HasRoom (most_of_both self.now.one_round.rules self.now.one_round.layout)
             (F.seen flash.old) }
-        ensures told { IfOk result (AreTold self.now.once.rules self.now.once.layout
+        ensures summary { IfOk result (AreSummaries self.now.one_round.rules
+            self.now.one_round.layout
             self.now.confirms (first (F.seen flash.old).content)) }
         ensures stays { OnOk result (Stays (F.seen flash.old) (F.seen flash.new)) }
-        ensures spends { Spends (most_of_both self.now.once.rules self.now.once.layout).entries
+        ensures spends { Spends (most_of_both self.now.one_round.rules
+            self.now.one_round.layout).entries
             (F.seen flash.old) result (F.seen flash.new) }
         ensures err { IfErr result (λ e. e ≡ FlashError.Memory) }
     {

@@ -1,7 +1,7 @@
 //! A campaign with its outcomes.
 ghost use Rattle.std.specs.Prelude.{◌≡◌};
 ghost use Rattle.mc_boot.specs.Outcome.{shown};
-ghost use Rattle.mc_campaign.specs.Rows.{end_of, told};
+ghost use Rattle.mc_campaign.specs.Rows.{end_of, shown_row};
 
 use crate::Campaign;
 use mc_boot::{BootResult, Outcome};
@@ -17,7 +17,7 @@ pub struct CampaignRow {
 impl CampaignRow {
     /// How the campaign ends: as its first round does, where that does not end in a boot, else as its second.
     pub fn end(&self) -> Outcome
-        ensures { shown result ≡ end_of (told self.now) }
+        ensures { shown result ≡ end_of (shown_row self.now) }
     {
         match self.first.result {
             BootResult::Boot => self.second,

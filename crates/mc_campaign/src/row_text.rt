@@ -1,7 +1,6 @@
 //! Rows of campaigns as text.
 ghost use Rattle.std.specs.Prelude.{◌≡◌, ◌<◌, [], length, Some};
-ghost use Rattle.mc_campaign.specs.Rows.{row_text};
-ghost use Rattle.mc_campaign.specs.Rows.{told};
+ghost use Rattle.mc_campaign.specs.Rows.{row_text, shown_row};
 
 use crate::row::CampaignRow;
 use mc_explore::{Labels, Line, MOST_LINE, put_outcome, put_slots};
@@ -11,7 +10,7 @@ use std::fmt;
 /// ends the second; what that leaves in the slots (the version and the size of the valid image, or `none`), and the next type:
 /// one space between, no line feed.
 impl fmt::Display for CampaignRow {
-    ghost output = { λ row. Some (row_text (told row)) };
+    ghost output = { λ row. Some (row_text (shown_row row)) };
 
     fn fmt<W: fmt::Write>(&self, f: &mut fmt::Formatter<W>) -> fmt::Result {
         let mut line = Line::new();
@@ -24,7 +23,7 @@ impl CampaignRow {
     // Puts its text into an empty line, where there is room for it and more.
     pub(crate) fn put_into(&self, line: &mut Line, labels: &Labels)
         requires { line.old ≡ [] }
-        ensures text { line.new ≡ row_text (told self.now) }
+        ensures text { line.new ≡ row_text (shown_row self.now) }
         ensures length { length line.new < MOST_LINE }
     {
         self.campaign.put_into(line);

@@ -1,3 +1,3 @@
-mod Told
+mod GivenOptions
 mod Blocks
 mod Judging

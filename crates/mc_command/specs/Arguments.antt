@@ -4,7 +4,7 @@ use Rattle.clap.specs.Words.{first_value, one_text}
 use Rattle.clap.specs.declared.parser.matches.Found.{Found}
 use Rattle.mc_image.specs.VersionText.{Names}
 use Rattle.mc_imgtool.specs.declared.creation.CreateOptions.{CreateOptions}
-use Rattle.mc_command.specs.Numbers.{TellsNumber, MayTellNumber, IsUnit}
+use Rattle.mc_command.specs.Numbers.{GivesNumber, MayGiveNumber, IsUnit}
 use Rattle.mc_command.specs.declared.numbers.NumberOption.TheVariants as numbers
 use Rattle.mc_flash.specs.Geometry.{Geometry}
 use Rattle.mc_flash.specs.declared.layout.LayoutError.{LayoutError}
@@ -29,33 +29,33 @@ IsFlag found name value =
     × (one_text found name ≡ Some (codes "false") → value ≡ false)
     × (one_text found name ≡ None → value ≡ false)
 
--- the arguments tell what `create` is to make, each number in its range
-pub record TellsCreate (found : Found) (o : CreateOptions) : Type 0 where
+-- the arguments say what `create` is to make, each number in its range
+pub record GivesCreate (found : Found) (o : CreateOptions) : Type 0 where
   pub version_text : List ℕ
-  pub version_told : first_value found (codes "version") ≡ Some version_text
+  pub version_given : first_value found (codes "version") ≡ Some version_text
   pub version : Names version_text o.version
-  pub header_size : TellsNumber found numbers.HeaderSize o.header_size
+  pub header_size : GivesNumber found numbers.HeaderSize o.header_size
   pub pad_header : IsFlag found (codes "pad-header") o.pad_header
-  pub slot_size : MayTellNumber found numbers.SlotSize o.slot_size
-  pub align : TellsNumber found numbers.Align o.align
+  pub slot_size : MayGiveNumber found numbers.SlotSize o.slot_size
+  pub align : GivesNumber found numbers.Align o.align
   pub unit : IsUnit o.align
-  pub max_sectors : TellsNumber found numbers.SlotSectors o.max_sectors
+  pub max_sectors : GivesNumber found numbers.SlotSectors o.max_sectors
   pub pad : IsFlag found (codes "pad") o.pad
   pub confirm : IsFlag found (codes "confirm") o.confirm
-  pub security_counter : MayTellNumber found numbers.SecurityCounter o.security_counter
+  pub security_counter : MayGiveNumber found numbers.SecurityCounter o.security_counter
 
 -- what the image tool asks of options
 abbrev pub IsReady : CreateOptions → Type 0
 IsReady o = 32 ≤ o.header_size
 
--- the arguments tell the six numbers of a layout
-pub record TellsLayout (found : Found) (g : Geometry) : Type 0 where
-  pub sector : TellsNumber found numbers.Sector g.sector
-  pub unit : TellsNumber found numbers.Unit g.unit
-  pub max_sectors : TellsNumber found numbers.MaxSectors g.max_sectors
-  pub chunk : TellsNumber found numbers.Chunk g.chunk
-  pub primary : TellsNumber found numbers.Primary g.primary
-  pub secondary : TellsNumber found numbers.Secondary g.secondary
+-- the arguments give the six numbers of a layout
+pub record GivesLayout (found : Found) (g : Geometry) : Type 0 where
+  pub sector : GivesNumber found numbers.Sector g.sector
+  pub unit : GivesNumber found numbers.Unit g.unit
+  pub max_sectors : GivesNumber found numbers.MaxSectors g.max_sectors
+  pub chunk : GivesNumber found numbers.Chunk g.chunk
+  pub primary : GivesNumber found numbers.Primary g.primary
+  pub secondary : GivesNumber found numbers.Secondary g.secondary
 
 -- a layout is taken, or refused with the first judgement that its numbers fail
 abbrev pub Judges : {A : Type 0} → Option LayoutError → Result A Refusal → Type 0
@@ -69,12 +69,12 @@ kind_text kinds.Test = codes "test"
 kind_text kinds.Perm = codes "perm"
 kind_text kinds.Revert = codes "revert"
 
--- the arguments tell a flash alone, or two images and a kind
-abbrev pub TellsSource : Found → Source → Type 0
-TellsSource found (sources.Flash path) =
+-- the arguments give a flash alone, or two images and a kind
+abbrev pub GivesSource : Found → Source → Type 0
+GivesSource found (sources.Flash path) =
     (first_value found (codes "flash") ≡ Some path.now) × (first_value found (codes "kind") ≡ None)
     × (first_value found (codes "image-a") ≡ None) × (first_value found (codes "image-b") ≡ None)
-TellsSource found (sources.Images kind a b) =
+GivesSource found (sources.Images kind a b) =
     (first_value found (codes "flash") ≡ None) × (first_value found (codes "kind") ≡ Some (kind_text kind))
     × (first_value found (codes "image-a") ≡ Some a.now) × (first_value found (codes "image-b") ≡ Some b.now)
 
@@ -89,7 +89,7 @@ is_source found =
     are_source (first_value found (codes "flash")) (first_value found (codes "kind"))
     (first_value found (codes "image-a")) (first_value found (codes "image-b"))
 
--- when a source is refused: the options do not go together, or images are told of a kind that is none
+-- when a source is refused: the options do not go together, or images are given with a kind that is none
 abbrev pub RefusesSource : Found → Refusal → Type 0
 RefusesSource found refusals.Source = is_source found ≡ false
 RefusesSource found refusals.Argument =
@@ -97,40 +97,40 @@ RefusesSource found refusals.Argument =
     × ((kind : Kind) → first_value found (codes "kind") ≡ Some (kind_text kind) → ⊥)
 RefusesSource found _ = ⊥
 
--- the arguments tell the rules of boots; where nothing is told, they are whole calls and the first profile
-pub record TellsRules (found : Found) (rules : Rules) : Type 0 where
+-- the arguments give the rules of boots; where nothing is given, they are whole calls and the first profile
+pub record GivesRules (found : Found) (rules : Rules) : Type 0 where
   pub grain : unwrap_or (first_value found (codes "grain")) (codes "call") ≡ grain_text rules.grain
   pub profile : unwrap_or (first_value found (codes "profile")) (codes "1") ≡ profile_text rules.profile
 
--- the arguments tell a source, a layout and rules
-pub record TellsFlash (found : Found) (o : FlashOptions) : Type 0 where
-  pub source : TellsSource found o.source
-  pub layout : TellsLayout found o.layout
-  pub rules : TellsRules found o.rules
+-- the arguments give a source, a layout and rules
+pub record GivesFlash (found : Found) (o : FlashOptions) : Type 0 where
+  pub source : GivesSource found o.source
+  pub layout : GivesLayout found o.layout
+  pub rules : GivesRules found o.rules
 
--- the arguments tell the most cuts and the most rows, with `all` as many as a page can have
-pub record TellsExtent (found : Found) (o : ExploreOptions) : Type 0 where
-  pub cuts : TellsNumber found numbers.Cuts o.cuts
+-- the arguments give the most cuts and the most rows, with `all` as many as a page can have
+pub record GivesExtent (found : Found) (o : ExploreOptions) : Type 0 where
+  pub cuts : GivesNumber found numbers.Cuts o.cuts
   pub number : ℕ
-  pub number_told : TellsNumber found numbers.Limit number
+  pub number_given : GivesNumber found numbers.Limit number
   pub all : Bool
-  pub all_told : IsFlag found (codes "all") all
+  pub all_given : IsFlag found (codes "all") all
   pub limit_is : o.limit ≡ (if all then 2 ^ 32 - 1 else number)
 
 -- the text of an option is that of a schedule, or the option is left out
-abbrev pub MayTellSchedule : Found → List ℕ → Option (List ℕ) → Type 0
-MayTellSchedule found name schedule = first_value found name ≡ option_map schedule_text schedule
+abbrev pub MayGiveSchedule : Found → List ℕ → Option (List ℕ) → Type 0
+MayGiveSchedule found name schedule = first_value found name ≡ option_map schedule_text schedule
 
--- two options tell where to go on
-abbrev pub tells_both : Found → Bool
-tells_both found = is_some (first_value found (codes "cursor")) && is_some (first_value found (codes "after"))
+-- two options say where to go on
+abbrev pub gives_both : Found → Bool
+gives_both found = is_some (first_value found (codes "cursor")) && is_some (first_value found (codes "after"))
 
--- the arguments tell where an exploration goes on, in one way or not at all, and where it stops, by the texts of cursors and keys
-pub record TellsRange {U K : Type 0} (cursor_text : U → List ℕ) (key_text : K → List ℕ) (found : Found) (o : RangeOptions U K) : Type 0 where
+-- the arguments say where an exploration goes on, in one way or not at all, and where it stops, by the texts of cursors and keys
+pub record GivesRange {U K : Type 0} (cursor_text : U → List ℕ) (key_text : K → List ℕ) (found : Found) (o : RangeOptions U K) : Type 0 where
   pub cursor : first_value found (codes "cursor") ≡ option_map cursor_text o.cursor
   pub after : first_value found (codes "after") ≡ option_map key_text o.after
   pub until : first_value found (codes "until") ≡ option_map key_text o.until
-  pub one : tells_both found ≡ false
+  pub one : gives_both found ≡ false
 
 -- the cursor and the keys, where there are some, are such that have texts of their own
 pub record HasTexts {U K : Type 0} (IsCursor : U → Type 0) (IsKey : K → Type 0) (o : RangeOptions U K) : Type 0 where

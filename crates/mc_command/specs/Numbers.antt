@@ -1,4 +1,4 @@
--- The numbers that options tell: decimal digits, which a plus sign may precede, or hexadecimal digits behind `0x` or `0X`.
+-- The numbers that options give: decimal digits, which a plus sign may precede, or hexadecimal digits after `0x` or `0X`.
 use Rattle.std.specs.Prelude.{◌≡◌, ℕ, ◌≤◌, ◌⊎◌, Bool, ◌==◌, ◌&&◌, ◌||◌, if◌then◌else◌, List, drop, slice_index, Option, Some, None, codes}
 use Rattle.std.specs.Str.Parse.{IsNumeral, digits_value, without_leading_plus}
 use Rattle.clap.specs.Words.{first_value}
@@ -58,17 +58,17 @@ most_of _ = 4294967295
 abbrev pub IsTaken : NumberOption → ℕ → Type 0
 IsTaken option n = (least_of option ≤ n) × (n ≤ most_of option)
 
--- the arguments tell a number of an option, or leave it out
-abbrev pub TellsNumber : Found → NumberOption → ℕ → Type 0
-TellsNumber found option n = (text : List ℕ) × (first_value found (option_name option) ≡ Some text) × SaysNumber text n × IsTaken option n
+-- the arguments give a number of an option, or leave it out
+abbrev pub GivesNumber : Found → NumberOption → ℕ → Type 0
+GivesNumber found option n = (text : List ℕ) × (first_value found (option_name option) ≡ Some text) × SaysNumber text n × IsTaken option n
 
-abbrev pub MayTellNumber : Found → NumberOption → Option ℕ → Type 0
-MayTellNumber found option (Some n) = TellsNumber found option n
-MayTellNumber found option None = first_value found (option_name option) ≡ None
+abbrev pub MayGiveNumber : Found → NumberOption → Option ℕ → Type 0
+MayGiveNumber found option (Some n) = GivesNumber found option n
+MayGiveNumber found option None = first_value found (option_name option) ≡ None
 
--- they tell a text that says no number which it takes
-abbrev pub TellsNoNumber : Found → NumberOption → Type 0
-TellsNoNumber found option = (told : Option ℕ) → MayTellNumber found option told → ⊥
+-- they give a text that says no number which it takes
+abbrev pub GivesNoNumber : Found → NumberOption → Type 0
+GivesNoNumber found option = (given : Option ℕ) → MayGiveNumber found option given → ⊥
 
 -- the write units that a flash may have
 abbrev pub IsUnit : ℕ → Type 0

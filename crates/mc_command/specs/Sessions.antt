@@ -1,4 +1,4 @@
--- The starts and the explorations that the words of a command tell.
+-- The starts and the explorations that the options of a command give.
 use Rattle.std.specs.Prelude.{◌≡◌, ℕ, Bool, List, Option, Some, None, Result, Ok, Err, false, not, option_map, true, unwrap_or}
 use Rattle.clap.specs.declared.parser.matches.Found.{Found}
 use Rattle.mc_boot.specs.Plan.{PowerOn}
@@ -7,20 +7,20 @@ use Rattle.mc_boot.specs.declared.kind.Kind.TheVariants as starts
 use Rattle.mc_explore.specs.Census.{IsCensus}
 use Rattle.mc_explore.specs.Pages.{ShownIsOut}
 use Rattle.mc_explore.specs.Right.{AreRights, Rights, SurveysRows}
-use Rattle.mc_explore.specs.Subject.{Explored, GoesOnBehind, Resumes, State, Subject, at_start, rows_of}
+use Rattle.mc_explore.specs.Subject.{Explored, GoesOnBeyond, Resumes, State, Subject, at_start, rows_of}
 use Rattle.mc_explore.specs.declared.error.ExploreError.{ExploreError}
 use Rattle.mc_explore.specs.declared.error.ExploreError.TheVariants as errors
 use Rattle.mc_explore.specs.declared.expectation.Expectation.{Expectation}
 use Rattle.mc_explore.specs.declared.expectation.Wanted.TheVariants as wanted
 use Rattle.mc_explore.specs.declared.rights.RightsOf.{RightsOf}
 use Rattle.mc_explore.specs.declared.subject.Fields.{Fields}
-use Rattle.mc_explore.specs.declared.surveying.TallyOf.{TallyOf}
+use Rattle.mc_explore.specs.declared.tally.TallyOf.{TallyOf}
 use Rattle.mc_image.specs.Valid.{Identity}
 use Rattle.mc_start.specs.Start.{Started, begun}
-use Rattle.mc_command.specs.Arguments.{TellsExtent, TellsFlash, TellsRange}
-use Rattle.mc_command.specs.Numbers.{TellsNumber}
+use Rattle.mc_command.specs.Arguments.{GivesExtent, GivesFlash, GivesRange}
+use Rattle.mc_command.specs.Numbers.{GivesNumber}
 use Rattle.mc_command.specs.Sources.{IsStartOf}
-use Rattle.mc_command.specs.Verdicts.{IsExpectation, TellsAsked}
+use Rattle.mc_command.specs.Verdicts.{IsExpectation, GivesAsked}
 use Rattle.mc_command.specs.declared.commands.census.Counts.{Counts}
 use Rattle.mc_command.specs.declared.commands.explore.Exploration.{Exploration}
 use Rattle.mc_command.specs.declared.numbers.NumberOption.TheVariants as numbers
@@ -31,10 +31,10 @@ use Rattle.mc_command.specs.declared.refusal.Refusal.{Refusal}
 use Rattle.mc_command.specs.declared.refusal.Refusal.TheVariants as refusals
 use Rattle.mc_command.specs.declared.verdict.Asked.{Asked}
 
--- The arguments tell a source, and the start is of its files.
-pub record TellsStart (found : Found) (s : Started) : Type 0 where
+-- The arguments give a source, and the start is of its files.
+pub record GivesStart (found : Found) (s : Started) : Type 0 where
   pub options : FlashOptions
-  pub told : TellsFlash found options
+  pub given : GivesFlash found options
   pub made : IsStartOf options s
 
 -- Whether the images of a source lie at the end where they would without the swap, by the kind of its start and what is chosen.
@@ -55,20 +55,20 @@ ends_of back None = None
 ends_of true (Some (one, other)) = Some (other, one)
 ends_of false (Some (one, other)) = Some (one, other)
 
--- The arguments tell an exploration: its start, what is chosen, how far it goes, and which rows it gives.
-pub record TellsExploration {C K R U : Type 0} (x : Subject C K R U) (IsChoice : Found → C → Type 0) (is_back : Kind → C → Bool) (found : Found) (e : Exploration C U K) : Type 0 where
+-- The arguments give an exploration: its start, what is chosen, how far it goes, and which rows it gives.
+pub record GivesExploration {C K R U : Type 0} (x : Subject C K R U) (IsChoice : Found → C → Type 0) (is_back : Kind → C → Bool) (found : Found) (e : Exploration C U K) : Type 0 where
   pub options : FlashOptions
-  pub options_told : TellsFlash found options
+  pub options_given : GivesFlash found options
   pub start : IsStartOf options e.start
   pub choice : IsChoice found e.choice
   pub back : e.back ≡ back_from is_back options.source e.choice
-  pub extent : TellsExtent found e.extent
-  pub range : TellsRange x.cursor_text x.key_text found e.range
+  pub extent : GivesExtent found e.extent
+  pub range : GivesRange x.cursor_text x.key_text found e.range
 
 module _ {C K R U : Type 0} (x : Subject C K R U) (fields : U → Fields C K) where
   -- An explorer after the key, after that of the cursor, or at the start; or why there is none.
   abbrev pub Begins : PowerOn → C → ℕ → Option K → Option U → Result (Explored C K) ExploreError → Type 0
-  Begins start choice bound (Some last) cursor made = GoesOnBehind x start choice bound last made
+  Begins start choice bound (Some last) cursor made = GoesOnBeyond x start choice bound last made
   Begins start choice bound None (Some cursor) made = Resumes x start choice bound (fields cursor) made
   Begins start choice bound None None (Ok explorer) = explorer.state ≡ at_start start choice bound
   Begins start choice bound None None (Err e) = e ≡ errors.Memory
@@ -77,13 +77,13 @@ module _ {C K R U : Type 0} (x : Subject C K R U) (fields : U → Fields C K) wh
   abbrev pub BeginsAs : Exploration C U K → Result (Explored C K) ExploreError → Type 0
   BeginsAs e = Begins (begun e.start) e.choice e.extent.cuts e.range.after e.range.cursor
 
-  -- The explorer that the words tell, or why the program has none.
+  -- The explorer that the options give, or why the program has none.
   abbrev pub Explores : Exploration C U K → Result (Explored C K) Refusal → Type 0
   Explores e (Ok explorer) = BeginsAs e (Ok explorer)
   Explores e (Err (refusals.Explore error)) = BeginsAs e (Err error)
   Explores e (Err _) = ⊥
 
-  -- The tally of the rows that the words tell, and how many of them are right.
+  -- The tally of the rows that the options give, and how many of them are right.
   pub record TalliesUntil (e : Exploration C U K) (expectation : Expectation) (tally : TallyOf U) (rights : RightsOf K) : Type 0 where
     pub explorer : Explored C K
     pub begins : BeginsAs e (Ok explorer)
@@ -98,7 +98,7 @@ module _ {C K R U : Type 0} (x : Subject C K R U) (fields : U → Fields C K) wh
     pub tallies : TalliesUntil e (unwrap_or expectation (record { primary = wanted.Anything; secondary = wanted.Anything })) tally rights
     pub shown_is : shown ≡ option_map (λ _. rights) expectation
 
-  -- The page of the rows that the words tell is out.
+  -- The page of the rows that the options give is out.
   pub record PrintsUntil (e : Exploration C U K) (before after : Option (List ℕ)) : Type 0 where
     pub explorer : Explored C K
     pub begins : BeginsAs e (Ok explorer)
@@ -112,14 +112,14 @@ AreRightsIf (Some e) start bound (Some rights) = AreRights e start bound rights
 AreRightsIf None start bound (Some rights) = ⊥
 AreRightsIf (Some e) start bound None = ⊥
 
--- The census of the start and of the most cuts that the arguments tell, and what of it is right as they ask.
-pub record TellsCensus (found : Found) (c : Counts) : Type 0 where
+-- The census of the start and of the most cuts that the arguments give, and what of it is right as they ask.
+pub record GivesCensus (found : Found) (c : Counts) : Type 0 where
   pub start : Started
-  pub start_told : TellsStart found start
+  pub start_given : GivesStart found start
   pub cuts : ℕ
-  pub cuts_told : TellsNumber found numbers.Cuts cuts
+  pub cuts_given : GivesNumber found numbers.Cuts cuts
   pub comes_to : IsCensus (begun start) cuts c.census
-  pub asked : TellsAsked found c.asked
+  pub asked : GivesAsked found c.asked
   pub expectation : Option Expectation
   pub expects : IsExpectation c.asked start.named (Ok expectation)
   pub rights : AreRightsIf expectation (begun start) cuts c.rights

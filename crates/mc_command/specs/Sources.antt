@@ -20,7 +20,7 @@ OfSource reads g (sources.Images kind a b) s =
     (first : Vec ℕ Global) × (second : Vec ℕ Global) × reads a (2 ^ 24) first × reads b (2 ^ 24) second
     × Starts g kind first.items second.items (Ok s)
 
--- Such a start under the rules that are told.
+-- Such a start under the rules that are given.
 abbrev pub ComesOf : Reading → FlashOptions → Started → Type 0
 ComesOf reads o s =
     (plain : Started) × OfSource reads o.layout o.source plain

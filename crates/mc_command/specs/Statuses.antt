@@ -5,8 +5,8 @@ use Rattle.mc_imgtool.specs.declared.error.ToolError.{ToolError}
 use Rattle.mc_imgtool.specs.declared.error.ToolError.TheVariants as tool_errors
 use Rattle.mc_start.specs.declared.start.StartError.{StartError}
 use Rattle.mc_start.specs.declared.start.StartError.TheVariants as start_errors
-use Rattle.mc_explore.specs.declared.replaying.ReplayError.{ReplayError}
-use Rattle.mc_explore.specs.declared.replaying.ReplayError.TheVariants as replay_errors
+use Rattle.mc_explore.specs.declared.replays.ReplayError.{ReplayError}
+use Rattle.mc_explore.specs.declared.replays.ReplayError.TheVariants as replay_errors
 use Rattle.mc_explore.specs.declared.error.ExploreError.{ExploreError}
 use Rattle.mc_explore.specs.declared.error.ExploreError.TheVariants as explore_errors
 use Rattle.mc_trace.specs.declared.error.TraceError.{TraceError}
@@ -40,7 +40,7 @@ abbrev pub status_of_replay : ReplayError → ℕ
 status_of_replay (replay_errors.CannotOccur _) = 1
 status_of_replay replay_errors.Memory = 3
 
--- the status for a schedule that is not told: 3 where memory or a write failed
+-- the status for a schedule that is not traced: 3 where memory or a write failed
 abbrev pub status_of_trace : TraceError → ℕ
 status_of_trace (trace_errors.CannotOccur _) = 1
 status_of_trace trace_errors.Memory = 3
@@ -51,7 +51,7 @@ abbrev pub status_of_script : ScriptError → ℕ
 status_of_script (script_errors.Input e) = status_of_tool e
 status_of_script script_errors.NotText = 1
 
--- the status for a life that is not told to its end: 3 where a file, memory or a write failed
+-- the status for a life that is not replayed to its end: 3 where a file, memory or a write failed
 abbrev pub status_of_life : LifeError → ℕ
 status_of_life (life_errors.Refused event_errors.NoFile _ _) = 3
 status_of_life (life_errors.Refused _ _ _) = 1

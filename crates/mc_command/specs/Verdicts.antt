@@ -17,14 +17,14 @@ use Rattle.mc_explore.specs.declared.expectation.Wanted.TheVariants as wanted
 use Rattle.mc_command.specs.declared.refusal.Refusal.TheVariants as refusals
 
 -- The text of an option is that of what a slot is to hold, or the option is left out.
-abbrev pub MayTellWanted : Found → List ℕ → Option Wanted → Type 0
-MayTellWanted found name None = first_value found name ≡ None
-MayTellWanted found name (Some w) = (text : List ℕ) × (first_value found name ≡ Some text) × Wants text w
+abbrev pub MayGiveWanted : Found → List ℕ → Option Wanted → Type 0
+MayGiveWanted found name None = first_value found name ≡ None
+MayGiveWanted found name (Some w) = (text : List ℕ) × (first_value found name ≡ Some text) × Wants text w
 
--- The arguments tell what each row is to be.
-pub record TellsAsked (found : Found) (a : Asked) : Type 0 where
-  pub primary : MayTellWanted found (codes "expect-primary") a.primary
-  pub secondary : MayTellWanted found (codes "expect-secondary") a.secondary
+-- The arguments give what each row is to be.
+pub record GivesAsked (found : Found) (a : Asked) : Type 0 where
+  pub primary : MayGiveWanted found (codes "expect-primary") a.primary
+  pub secondary : MayGiveWanted found (codes "expect-secondary") a.secondary
   pub all_right : IsFlag found (codes "all-right") a.all_right
   pub all_boot : IsFlag found (codes "all-boot") a.all_boot
 
@@ -32,7 +32,7 @@ pub record TellsAsked (found : Found) (a : Asked) : Type 0 where
 abbrev pub is_of_slots : Asked → Bool
 is_of_slots a = is_some a.primary || is_some a.secondary || a.all_right
 
--- What is wanted of a slot: what is told of it; else, where each row is to be right, the image that is to lie there at the end.
+-- What is wanted of a slot: what is known of it; else, where each row is to be right, the image that is to lie there at the end.
 abbrev pub wanted_of : Option Wanted → Bool → Option Identity → Option Wanted
 wanted_of (Some w) all id = Some w
 wanted_of None false id = Some wanted.Anything

@@ -1,10 +1,10 @@
-//! What `create` is told, and the image that is made of it.
+//! What `create` is given, and the image that is made of it.
 ghost use Rattle.std.specs.Prelude.{◌≡◌, codes, Some, IfOk};
 ghost use Rattle.clap.specs.Matches.{found_of};
 ghost use Rattle.clap.specs.Words.{first_value};
 ghost use Rattle.mc_imgtool.specs.Created.{created};
 ghost use Rattle.mc_imgtool.specs.Engines.{Answers};
-ghost use Rattle.mc_command.specs.Arguments.{TellsCreate, IsReady};
+ghost use Rattle.mc_command.specs.Arguments.{GivesCreate, IsReady};
 
 use crate::options::{create_options, required};
 use crate::refusal::Refusal;
@@ -13,7 +13,7 @@ use mc_imgtool::{CreateOptions, ToolError};
 use std::alloc::Global;
 use std::io::{Read, Write};
 
-/// What `create` is told: options, and the paths of two files.
+/// What `create` is given: options, and the paths of two files.
 #[derive(Debug, Drop)]
 pub struct Creation<'a> {
     options: CreateOptions,
@@ -22,13 +22,13 @@ pub struct Creation<'a> {
 }
 
 impl<'a> Creation<'a> {
-    /// What the arguments tell. No file is touched.
+    /// What the arguments give. No file is touched.
     ///
     /// # Errors
     ///
     /// What `create_options` refuses, and `Argument` where a path is missing.
     pub fn read(arguments: &ArgMatches<'a>) -> Result<Creation<'a>, Refusal>
-        ensures options { IfOk result (λ c. TellsCreate (found_of arguments.now) c.options) }
+        ensures options { IfOk result (λ c. GivesCreate (found_of arguments.now) c.options) }
         ensures ready { IfOk result (λ c. IsReady c.options) }
         ensures infile { IfOk result (λ c. first_value (found_of arguments.now) (codes "INFILE")
             ≡ Some c.infile.now) }

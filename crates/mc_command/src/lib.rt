@@ -7,7 +7,7 @@ mod command;
 mod commands;
 mod creation;
 mod explanations;
-mod explored;
+mod explorable;
 mod numbers;
 mod options;
 mod refusal;
@@ -17,8 +17,9 @@ mod verdict;
 
 use clap::error::ErrorKind;
 use clap::{ArgMatches, Error};
-use mc_campaign::Twice;
-use mc_explore::Once;
+use commands::rounds::{RoundText, print as print_rounds};
+use mc_campaign::TwoRounds;
+use mc_explore::OneRound;
 use options::has_two_rounds;
 pub use refusal::Refusal;
 use std::alloc::Global;
@@ -114,8 +115,8 @@ fn run_schedule<F: Files, O: Write>(
 ) -> Result<(), Refusal> {
     match (name, has_two_rounds(arguments)?) {
         ("replay", true) => commands::rounds::replay(files, alloc, arguments, out),
-        ("trace", true) => commands::rounds::trace(files, alloc, arguments, out),
-        (_, true) => commands::rounds::sectors(files, alloc, arguments, out),
+        ("trace", true) => print_rounds(files, alloc, arguments, RoundText::Operations, out),
+        (_, true) => print_rounds(files, alloc, arguments, RoundText::Sectors, out),
         ("replay", false) => commands::replay::run(files, alloc, arguments, out),
         ("trace", false) => commands::trace::run(files, alloc, arguments, out),
         (_, false) => commands::trace::sectors(files, alloc, arguments, out),
@@ -131,8 +132,8 @@ fn run_exploration<F: Files, O: Write>(
     out: &mut O,
 ) -> Result<(), Refusal> {
     match name {
-        "explore" => commands::explore::run::<Once, F, O>(files, alloc, arguments, out),
-        "campaign" => commands::explore::run::<Twice, F, O>(files, alloc, arguments, out),
+        "explore" => commands::explore::run::<OneRound, F, O>(files, alloc, arguments, out),
+        "campaign" => commands::explore::run::<TwoRounds, F, O>(files, alloc, arguments, out),
         "survey" => run_survey(files, alloc, arguments, out),
         "census" => commands::census::run(files, alloc, arguments, out),
         _ => Err(Refusal::Argument),
@@ -147,8 +148,8 @@ fn run_survey<F: Files, O: Write>(
     out: &mut O,
 ) -> Result<(), Refusal> {
     if has_two_rounds(arguments)? {
-        commands::explore::survey::<Twice, F, O>(files, alloc, arguments, out)
+        commands::explore::survey::<TwoRounds, F, O>(files, alloc, arguments, out)
     } else {
-        commands::explore::survey::<Once, F, O>(files, alloc, arguments, out)
+        commands::explore::survey::<OneRound, F, O>(files, alloc, arguments, out)
     }
 }

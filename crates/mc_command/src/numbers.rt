@@ -1,9 +1,8 @@
-//! The options that take a number, and the numbers that they tell.
+//! The options that take a number, and the numbers that they give.
 ghost use Rattle.std.specs.Prelude.{◌≡◌, ℕ, ◌≤◌, ◌^◌, MatchOption, MatchResult, IfOk, IsOk};
 ghost use Rattle.std.specs.Str.Parse.{IsNumeral, digits_value};
 ghost use Rattle.clap.specs.Matches.{found_of};
-ghost use Rattle.mc_command.specs.Numbers.{option_name, least_of, most_of, radix_of, digits_of, IsTaken};
-ghost use Rattle.mc_command.specs.Numbers.{TellsNumber, MayTellNumber, TellsNoNumber};
+ghost use Rattle.mc_command.specs.Numbers.{option_name, least_of, most_of, radix_of, digits_of, IsTaken, GivesNumber, MayGiveNumber, GivesNoNumber};
 
 use crate::refusal::Refusal;
 use clap::ArgMatches;
@@ -78,14 +77,14 @@ impl NumberOption {
         }
     }
 
-    /// The number that the arguments tell, or none where the option is left out.
+    /// The number that the arguments give, or none where the option is left out.
     ///
     /// # Errors
     ///
     /// `Number` where its text says no number that it takes.
     pub fn read(self, arguments: &ArgMatches<'_>) -> Result<Option<u32>, Refusal>
-        ensures { MatchResult result (λ told. MayTellNumber (found_of arguments.now) self told)
-            (λ r. (r ≡ Refusal.Number self) × TellsNoNumber (found_of arguments.now) self) }
+        ensures { MatchResult result (λ given. MayGiveNumber (found_of arguments.now) self given)
+            (λ r. (r ≡ Refusal.Number self) × GivesNoNumber (found_of arguments.now) self) }
     {
         let Some(text) = arguments.get_str(self.name()) else {
             return Ok(None);
@@ -96,14 +95,14 @@ impl NumberOption {
         }
     }
 
-    /// The number that the arguments tell of an option which they cannot leave out.
+    /// The number that the arguments give of an option which they cannot leave out.
     ///
     /// # Errors
     ///
     /// `Number` where its text says no number that it takes, `Argument` where it is left out.
     pub fn read_required(self, arguments: &ArgMatches<'_>) -> Result<u32, Refusal>
-        ensures told { IfOk result (TellsNumber (found_of arguments.now) self) }
-        ensures taken { (n : ℕ) → TellsNumber (found_of arguments.now) self n → IsOk result }
+        ensures given { IfOk result (GivesNumber (found_of arguments.now) self) }
+        ensures taken { (n : ℕ) → GivesNumber (found_of arguments.now) self n → IsOk result }
     {
         self.read(arguments)?.ok_or(Refusal::Argument)
     }

@@ -2,10 +2,9 @@
 ghost use Rattle.std.specs.Prelude.{◌≡◌, ◌↔◌, ◌≤◌, ℕ, Option, codes, true, false, Some, None, Err, IfOk, IfSome, IsOk, MatchResult, MatchOption, option_map};
 ghost use Rattle.clap.specs.Matches.{found_of};
 ghost use Rattle.clap.specs.Words.{first_value};
-ghost use Rattle.mc_command.specs.Numbers.{TellsNumber, IsUnit};
+ghost use Rattle.mc_command.specs.Numbers.{GivesNumber, IsUnit};
 ghost use Rattle.mc_flash.specs.Geometry.{Geometry, refusal_of};
-ghost use Rattle.mc_command.specs.Arguments.{TellsCreate, TellsLayout, Judges, TellsSource, RefusesSource, is_source, kind_text};
-ghost use Rattle.mc_command.specs.Arguments.{TellsRules, TellsFlash, TellsExtent, TellsRange, HasTexts, tells_both};
+ghost use Rattle.mc_command.specs.Arguments.{GivesCreate, GivesLayout, Judges, GivesSource, RefusesSource, is_source, kind_text, GivesRules, GivesFlash, GivesExtent, GivesRange, HasTexts, gives_both};
 
 use crate::numbers::NumberOption;
 use crate::refusal::Refusal;
@@ -34,11 +33,11 @@ pub fn required<'a>(arguments: &ArgMatches<'a>, name: &str) -> Result<&'a str, R
 ///
 /// # Errors
 ///
-/// `Number` where it is told, but not as 1, 2, 4 or 8; `Argument` where it is missing.
+/// `Number` where it is given, but not as 1, 2, 4 or 8; `Argument` where it is missing.
 fn align(arguments: &ArgMatches<'_>) -> Result<u8, Refusal>
-    ensures told { IfOk result (λ n. TellsNumber (found_of arguments.now) NumberOption.Align n
+    ensures given { IfOk result (λ n. GivesNumber (found_of arguments.now) NumberOption.Align n
         × IsUnit n) }
-    ensures taken { (n : ℕ) → TellsNumber (found_of arguments.now) NumberOption.Align n → IsUnit n
+    ensures taken { (n : ℕ) → GivesNumber (found_of arguments.now) NumberOption.Align n → IsUnit n
         → IsOk result }
 {
     match NumberOption::Align.read_required(arguments)? {
@@ -47,15 +46,15 @@ fn align(arguments: &ArgMatches<'_>) -> Result<u8, Refusal>
     }
 }
 
-/// What `create` is told. The version is checked first.
+/// What `create` is given. The version is checked first.
 ///
 /// # Errors
 ///
 /// `Version` where its text names none; `Number` where a text says no number that its option takes; `Argument` where a
 /// required value, or one with a default, is missing.
 pub fn create_options(arguments: &ArgMatches<'_>) -> Result<CreateOptions, Refusal>
-    ensures told { IfOk result (TellsCreate (found_of arguments.now)) }
-    ensures taken { (o : CreateOptions) → TellsCreate (found_of arguments.now) o → IsOk result }
+    ensures given { IfOk result (GivesCreate (found_of arguments.now)) }
+    ensures taken { (o : CreateOptions) → GivesCreate (found_of arguments.now) o → IsOk result }
 {
     let version = Version::read(required(arguments, "version")?)?;
     Ok(CreateOptions {
@@ -71,15 +70,15 @@ pub fn create_options(arguments: &ArgMatches<'_>) -> Result<CreateOptions, Refus
     })
 }
 
-/// The layout that six numbers tell.
+/// The layout that six numbers give.
 ///
 /// # Errors
 ///
 /// `Layout` with the first check that the numbers fail; `Number` where a text says no number below 2^32; `Argument`
 /// where one is missing.
 pub fn layout_options(arguments: &ArgMatches<'_>) -> Result<Layout, Refusal>
-    ensures told { IfOk result (λ l. TellsLayout (found_of arguments.now) l) }
-    ensures judged { (g : Geometry) → TellsLayout (found_of arguments.now) g
+    ensures given { IfOk result (λ l. GivesLayout (found_of arguments.now) l) }
+    ensures judged { (g : Geometry) → GivesLayout (found_of arguments.now) g
         → Judges (refusal_of g) result }
 {
     let sector = NumberOption::Sector.read_required(arguments)?;
@@ -117,13 +116,13 @@ fn kind_of(text: &str) -> Option<Kind>
     }
 }
 
-/// The source that the options tell: a flash alone, or a kind and both images.
+/// The source that the options give: a flash alone, or a kind and both images.
 ///
 /// # Errors
 ///
-/// `Source` where they tell anything else; `Argument` where the kind is none.
+/// `Source` where they give anything else; `Argument` where the kind is none.
 fn source_options<'a>(arguments: &ArgMatches<'a>) -> Result<Source<'a>, Refusal>
-    ensures { MatchResult result (λ s. TellsSource (found_of arguments.now) s)
+    ensures { MatchResult result (λ s. GivesSource (found_of arguments.now) s)
         (λ r. RefusesSource (found_of arguments.now) r) }
 {
     let flash = arguments.get_str("flash");
@@ -140,14 +139,14 @@ fn source_options<'a>(arguments: &ArgMatches<'a>) -> Result<Source<'a>, Refusal>
     }
 }
 
-/// What the arguments tell by `--grain` and `--profile`. Where one of them is left out, whole calls and the first profile.
+/// What the arguments give by `--grain` and `--profile`. Where one of them is left out, whole calls and the first profile.
 ///
 /// # Errors
 ///
 /// `Argument` where one of the texts names nothing.
 pub fn rules_options(arguments: &ArgMatches<'_>) -> Result<Rules, Refusal>
-    ensures told { IfOk result (TellsRules (found_of arguments.now)) }
-    ensures taken { (rules : Rules) → TellsRules (found_of arguments.now) rules → IsOk result }
+    ensures given { IfOk result (GivesRules (found_of arguments.now)) }
+    ensures taken { (rules : Rules) → GivesRules (found_of arguments.now) rules → IsOk result }
 {
     let mut rules = Rules::PLAIN;
     if let Some(text) = arguments.get_str("grain") {
@@ -159,7 +158,7 @@ pub fn rules_options(arguments: &ArgMatches<'_>) -> Result<Rules, Refusal>
     Ok(rules)
 }
 
-/// What each command on a flash is told: where the flash comes from, its layout, and the rules of its boots.
+/// What each command on a flash is given: where the flash comes from, its layout, and the rules of its boots.
 #[derive(Debug, Drop)]
 pub struct FlashOptions<'a> {
     pub source: Source<'a>,
@@ -167,17 +166,17 @@ pub struct FlashOptions<'a> {
     pub rules: Rules,
 }
 
-/// The source, the layout and the rules that the options tell. They are checked in this order.
+/// The source, the layout and the rules that the options give. They are checked in this order.
 ///
 /// # Errors
 ///
 /// What `source_options`, `layout_options` and `rules_options` refuse.
 pub fn flash_options<'a>(arguments: &ArgMatches<'a>) -> Result<FlashOptions<'a>, Refusal>
-    ensures told { IfOk result (TellsFlash (found_of arguments.now)) }
+    ensures given { IfOk result (GivesFlash (found_of arguments.now)) }
     ensures source { is_source (found_of arguments.now) ≡ false → result ≡ Err Refusal.Source }
     ensures judged { (s : Source) (g : Geometry) (rules : Rules)
-        → TellsSource (found_of arguments.now) s → TellsLayout (found_of arguments.now) g
-        → TellsRules (found_of arguments.now) rules → Judges (refusal_of g) result }
+        → GivesSource (found_of arguments.now) s → GivesLayout (found_of arguments.now) g
+        → GivesRules (found_of arguments.now) rules → Judges (refusal_of g) result }
 {
     let source = source_options(arguments)?;
     let layout = layout_options(arguments)?;
@@ -220,8 +219,8 @@ pub struct ExploreOptions {
 ///
 /// `Argument` where they are missing, or out of their range.
 pub fn census_options(arguments: &ArgMatches<'_>) -> Result<u8, Refusal>
-    ensures told { IfOk result (TellsNumber (found_of arguments.now) NumberOption.Cuts) }
-    ensures taken { (n : ℕ) → TellsNumber (found_of arguments.now) NumberOption.Cuts n
+    ensures given { IfOk result (GivesNumber (found_of arguments.now) NumberOption.Cuts) }
+    ensures taken { (n : ℕ) → GivesNumber (found_of arguments.now) NumberOption.Cuts n
         → IsOk result }
     ensures range { IfOk result (λ cuts. cuts ≤ 16) }
 {
@@ -234,8 +233,8 @@ pub fn census_options(arguments: &ArgMatches<'_>) -> Result<u8, Refusal>
 ///
 /// `Argument` where one is missing, or out of its range.
 pub fn explore_options(arguments: &ArgMatches<'_>) -> Result<ExploreOptions, Refusal>
-    ensures told { IfOk result (TellsExtent (found_of arguments.now)) }
-    ensures taken { (o : ExploreOptions) → TellsExtent (found_of arguments.now) o → IsOk result }
+    ensures given { IfOk result (GivesExtent (found_of arguments.now)) }
+    ensures taken { (o : ExploreOptions) → GivesExtent (found_of arguments.now) o → IsOk result }
     ensures range { IfOk result (λ o. (o.cuts ≤ 16) × (1 ≤ o.limit)) }
 {
     let cuts = census_options(arguments)?;
@@ -272,8 +271,9 @@ pub trait Spelled: Copy {
     ///
     /// Of a text that is none of it.
     fn of_text(text: &str) -> Result<Self, Refusal>
-        ensures told { IfOk result (λ value. text.now ≡ spelling value) }
-        ensures taken { (value : Self) → IsSpelled value → text.now ≡ spelling value → IsOk result };
+        ensures given { IfOk result (λ value. text.now ≡ spelling value) }
+        ensures taken { (value : Self) → IsSpelled value → text.now ≡ spelling value → IsOk
+            result };
 }
 
 impl Spelled for Schedule {
@@ -330,7 +330,7 @@ impl Spelled for CampaignCursor {
 ///
 /// Where its text is none of it.
 fn option_of<T: Spelled>(arguments: &ArgMatches<'_>, name: &str) -> Result<Option<T>, Refusal>
-    ensures told { IfOk result (λ o. first_value (found_of arguments.now) name.now
+    ensures given { IfOk result (λ o. first_value (found_of arguments.now) name.now
         ≡ option_map T.spelling o) }
     ensures taken { (o : Option T) → IfSome o T.IsSpelled
         → first_value (found_of arguments.now) name.now ≡ option_map T.spelling o → IsOk result }
@@ -341,7 +341,7 @@ fn option_of<T: Spelled>(arguments: &ArgMatches<'_>, name: &str) -> Result<Optio
     }
 }
 
-/// Where an exploration goes on, and where it stops. That only one option tells where it goes on is checked first.
+/// Where an exploration goes on, and where it stops. That only one option says where it goes on is checked first.
 ///
 /// # Errors
 ///
@@ -350,10 +350,10 @@ fn option_of<T: Spelled>(arguments: &ArgMatches<'_>, name: &str) -> Result<Optio
 pub fn range_options<U: Spelled, K: Spelled>(
     arguments: &ArgMatches<'_>,
 ) -> Result<RangeOptions<U, K>, Refusal>
-    ensures told { IfOk result (TellsRange U.spelling K.spelling (found_of arguments.now)) }
+    ensures given { IfOk result (GivesRange U.spelling K.spelling (found_of arguments.now)) }
     ensures taken { (o : RangeOptions U K) → HasTexts U.IsSpelled K.IsSpelled o
-        → TellsRange U.spelling K.spelling (found_of arguments.now) o → IsOk result }
-    ensures both { tells_both (found_of arguments.now) ≡ true → result
+        → GivesRange U.spelling K.spelling (found_of arguments.now) o → IsOk result }
+    ensures both { gives_both (found_of arguments.now) ≡ true → result
         ≡ Err Refusal.CursorOptions }
 {
     if arguments.get_str("cursor").is_some() && arguments.get_str("after").is_some() {

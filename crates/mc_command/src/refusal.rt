@@ -1,7 +1,6 @@
 //! Why a command ended without a result, and the status for it.
 ghost use Rattle.std.specs.Prelude.{◌≡◌, ◌≤◌};
-ghost use Rattle.mc_command.specs.Statuses.{status_of, status_of_start, status_of_replay, status_of_trace, status_of_tool};
-ghost use Rattle.mc_command.specs.Statuses.{status_of_exploration, status_of_life, status_of_script};
+ghost use Rattle.mc_command.specs.Statuses.{status_of, status_of_start, status_of_replay, status_of_trace, status_of_tool, status_of_exploration, status_of_life, status_of_script};
 
 use crate::numbers::NumberOption;
 use mc_campaign::CampaignError;
@@ -50,10 +49,10 @@ pub enum Refusal {
     /// The schedule is not replayed.
     #[error(transparent)]
     Replay(#[from] ReplayError),
-    /// The schedule is not told.
+    /// The schedule is not traced.
     #[error(transparent)]
     Trace(#[from] TraceError),
-    /// The life is not told to its end.
+    /// The life is not replayed to its end.
     #[error(transparent)]
     Life(#[from] LifeError),
     /// The exploration ends early.
@@ -83,7 +82,7 @@ pub enum Refusal {
     /// What a slot is to hold at the end is not known.
     #[error("E85 NoExpectation")]
     Expectation,
-    /// What a device is delivered with is not told, or twice.
+    /// What a device is delivered with is not given, or twice.
     #[error("E83 DeviceOptions")]
     Device,
     /// The script is not read.
@@ -184,7 +183,7 @@ fn replay_status(error: ReplayError) -> u8
     }
 }
 
-/// The status for a schedule that is not told.
+/// The status for a schedule that is not traced.
 fn trace_status(error: TraceError) -> u8
     ensures exact { result ≡ status_of_trace error }
     ensures range { (1 ≤ result) × (result ≤ 3) }
@@ -206,7 +205,7 @@ fn script_status(error: ScriptError) -> u8
     }
 }
 
-/// The status for a life that is not told to its end.
+/// The status for a life that is not replayed to its end.
 fn life_status(error: LifeError) -> u8
     ensures exact { result ≡ status_of_life error }
     ensures range { (1 ≤ result) × (result ≤ 3) }

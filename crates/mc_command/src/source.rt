@@ -42,10 +42,10 @@ fn start_of<R: Fn(&str, u32) -> Result<Vec<u8>, Refusal>>(
     read: R,
 ) -> Result<Start, Refusal>
     requires { R.IsAlwaysCallable read }
-    // Of each file it is what was read of the path that is told for it.
+    // Of each file it is what was read of the path that is given for it.
     ensures read { IfOk result (ComesOf (λ path limit bytes. R.post read path limit (Ok bytes))
         options.now) }
-    ensures told { IfOk result (IsStartOf options.now) }
+    ensures given { IfOk result (IsStartOf options.now) }
 {
     let layout = &options.layout;
     match &options.source {
@@ -64,7 +64,7 @@ fn start_of<R: Fn(&str, u32) -> Result<Vec<u8>, Refusal>>(
     }
 }
 
-/// The start of a source, under the rules that are told. The first image is read before the second is opened.
+/// The start of a source, under the rules that are given. The first image is read before the second is opened.
 ///
 /// # Errors
 ///
@@ -74,7 +74,7 @@ pub fn read_start<F: Files>(
     alloc: Global,
     options: &FlashOptions<'_>,
 ) -> Result<Start, Refusal>
-    // It is of the layout, the kind and the rules that are told. What bytes the files hold is not known here.
+    // It is of the layout, the kind and the rules that are given. What bytes the files hold is not known here.
     ensures { IfOk result (IsStartOf options.now) }
 {
     start_of(

@@ -5,7 +5,7 @@ ghost use Rattle.clap.specs.Matches.{found_of};
 ghost use Rattle.mc_boot.specs.Plan.{identity_of};
 ghost use Rattle.mc_explore.specs.declared.expectation.Expectation.{Expectation as Expected};
 ghost use Rattle.mc_explore.specs.Right.{AllEndRight};
-ghost use Rattle.mc_command.specs.Verdicts.{AreCounted, IsExpectation, MayTellWanted, TellsAsked, is_of_slots, lines_of, verdict_of, wanted_of};
+ghost use Rattle.mc_command.specs.Verdicts.{AreCounted, IsExpectation, MayGiveWanted, GivesAsked, is_of_slots, lines_of, verdict_of, wanted_of};
 
 use crate::refusal::Refusal;
 use clap::ArgMatches;
@@ -16,9 +16,9 @@ use std::io::Write;
 /// What the words ask of each row that is counted.
 #[derive(Clone, Copy, Debug)]
 pub struct Asked {
-    /// What the primary is to hold at the end, where it is told.
+    /// What the primary is to hold at the end, where it is given.
     pub primary: Option<Wanted>,
-    /// What the secondary is to hold, where it is told.
+    /// What the secondary is to hold, where it is given.
     pub secondary: Option<Wanted>,
     /// Whether the command is refused where a row is not right.
     pub all_right: bool,
@@ -32,7 +32,7 @@ pub struct Asked {
 ///
 /// `Version` where its text is no version, no digest and not `none`.
 fn wanted_option(arguments: &ArgMatches<'_>, name: &str) -> Result<Option<Wanted>, Refusal>
-    ensures { IfOk result (MayTellWanted (found_of arguments.now) name.now) }
+    ensures { IfOk result (MayGiveWanted (found_of arguments.now) name.now) }
 {
     match arguments.get_str(name) {
         Some(text) => Ok(Some(Wanted::read(text)?)),
@@ -40,11 +40,11 @@ fn wanted_option(arguments: &ArgMatches<'_>, name: &str) -> Result<Option<Wanted
     }
 }
 
-/// What is wanted of a slot: what is told; else, where each row is to be right, the image that is to lie there at the end.
-fn wanted_of(told: Option<Wanted>, all_right: bool, image: Option<ImageId>) -> Option<Wanted>
-    ensures { result ≡ wanted_of told all_right (option_map identity_of image) }
+/// What is wanted of a slot: what is given; else, where each row is to be right, the image that is to lie there at the end.
+fn wanted_of(given: Option<Wanted>, all_right: bool, image: Option<ImageId>) -> Option<Wanted>
+    ensures { result ≡ wanted_of given all_right (option_map identity_of image) }
 {
-    match (told, image) {
+    match (given, image) {
         (Some(wanted), _) => Some(wanted),
         (None, Some(id)) if all_right => Some(Wanted::Digest(id.digest)),
         (None, None) if all_right => None,
@@ -59,7 +59,7 @@ impl Asked {
     ///
     /// Those of `wanted_option`.
     pub fn read(arguments: &ArgMatches<'_>) -> Result<Asked, Refusal>
-        ensures { IfOk result (TellsAsked (found_of arguments.now)) }
+        ensures { IfOk result (GivesAsked (found_of arguments.now)) }
     {
         Ok(Asked {
             primary: wanted_option(arguments, "expect-primary")?,
@@ -88,7 +88,7 @@ impl Asked {
     ///
     /// # Errors
     ///
-    /// `Expectation` where each row is to be right, from a flash, and a slot's expectation is not told.
+    /// `Expectation` where each row is to be right, from a flash, and a slot's expectation is not given.
     pub fn expectation(
         &self,
         images: Option<(ImageId, ImageId)>,

@@ -1,7 +1,5 @@
 -- Which bytes stand in the texts of schedules, rows and cursors.
-use Rattle.std.specs.Prelude.{◌≡◌, ◌≢◌, ℕ, zero, suc, ◌+◌, ◌/◌, ◌%◌, ◌==◌, ◌≤◌, ◌<◌, nat_lt, Bool, true, false, not, if◌then◌else◌, List, [], ◌∷◌, ◌++◌, take, flat_map, slice_index, codes}
-use Rattle.std.specs.Prelude.{decimal}
-use Rattle.std.specs.Prelude.{All, Option, Some, None, refl}
+use Rattle.std.specs.Prelude.{◌≡◌, ◌≢◌, ℕ, zero, suc, ◌+◌, ◌/◌, ◌%◌, ◌==◌, ◌≤◌, ◌<◌, nat_lt, Bool, true, false, not, if◌then◌else◌, List, [], ◌∷◌, ◌++◌, take, flat_map, slice_index, codes, decimal, All, Option, Some, None, refl}
 use Rattle.std.specs.Fmt.{digits, digits_onto, digit_glyph}
 use Rattle.std.specs.List.{list_all}
 use Rattle.std.specs.Str.{IsUtf8}
@@ -25,7 +23,7 @@ use Rattle.mc_boot.specs.Outcome.{result_text}
 use Rattle.mc_boot.specs.declared.outcome.BootResult.{BootResult}
 use Rattle.mc_boot.specs.declared.outcome.BootResult.TheVariants as results
 use Rattle.mc_start.specs.Cursor.{head_text, cursor_text}
-use Rattle.mc_explore.specs.Rows.{slot_text, row_text, Told}
+use Rattle.mc_explore.specs.Rows.{slot_text, row_text, ShownRow}
 use Rattle.mc_start.specs.Start.{schedule_text}
 use Rattle.mc_start.specs.declared.cursor.Cursor.{Cursor}
 
@@ -87,8 +85,8 @@ literal (x ∷ xs) e =
 pub and : {xs ys : List ℕ} → NoFeed xs → NoFeed ys → NoFeed (xs ++ ys)
 and {xs} {ys} p q = record { all = All-append (λ c. c ≢ 10) xs ys p.all q.all }
 
-pub feedless_front : (n : ℕ) (xs : List ℕ) → NoFeed xs → NoFeed (take n xs)
-feedless_front n xs none = record { all = All-take (λ c. c ≢ 10) n xs none.all }
+pub feedless_prefix : (n : ℕ) (xs : List ℕ) → NoFeed xs → NoFeed (take n xs)
+feedless_prefix n xs none = record { all = All-take (λ c. c ≢ 10) n xs none.all }
 
 number : (n : ℕ) → NoFeed (decimal n)
 number n = record { all = All-weaker (IsBetween 48 57) (λ c. c ≢ 10) (λ c is e. omega (arith, is.0, e)) (decimal n) (digits_between n) }
@@ -111,7 +109,7 @@ slot (Some id) =
     let dot = literal (codes ".") refl in
     and (and (and (and (and (and (and (number v.major) dot) (number v.minor)) dot) (number v.revision)) (literal (codes "+") refl)) (number v.build)) (and (literal (codes "/") refl) (number id.size))
 
-pub row_feedless : (row : Told) → NoFeed (row_text row)
+pub row_feedless : (row : ShownRow) → NoFeed (row_text row)
 row_feedless row =
     let o = row.outcome in
     let space = literal (codes " ") refl in

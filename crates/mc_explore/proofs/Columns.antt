@@ -1,4 +1,4 @@
--- A boot that is stepped through, with what is told of the flashes on its way.
+-- A boot that is stepped through, with the summary of the flashes on its way.
 use Rattle.std.proofs.Common.{◌≡◌, ℕ, ◌+◌, ◌-◌, ◌*◌, ◌<◌, ◌≤◌, List, [], ◌∷◌, ◌++◌, length, refl, sym, ap, subst, ◌∙◌, arith}
 use Rattle.std.proofs.lemmas.List.{length-append}
 use Rattle.std.proofs.lemmas.Option.{slice_get_within}
@@ -7,25 +7,25 @@ use Rattle.mc_boot.specs.Joins.{IsCut}
 use Rattle.mc_boot.specs.Boot.{begun, progress, left_of}
 use Rattle.mc_boot.specs.Outcome.{Report, shown, ops_of}
 use Rattle.mc_boot.specs.Plan.{plan, power_on, powered}
-use Rattle.mc_boot.specs.Rejoin.{IsRejoined}
-use Rattle.mc_boot.specs.declared.rejoining.Rejoin.{Rejoin}
+use Rattle.mc_boot.specs.SharedTail.{IsSharedTail}
+use Rattle.mc_boot.specs.declared.shared_tail.SharedTail.{SharedTail}
 use Rattle.mc_boot.specs.declared.boot.Boot.{Boot}
 use Rattle.mc_flash.specs.Flash.{Content}
 use Rattle.mc_flash.specs.Geometry.{Geometry}
 use Rattle.mc_flash.specs.Usage.{Counts, Limits, Keeps, Seen, marked, checkpoint_of, went_back, Allows, HasRoom, LeaveRoom, Stays, plus}
 use Rattle.mc_flash.specs.facts.Spends.{keeps_both, keeps_none, spent_back, stays_back}
 use Rattle.mc_trailer.specs.declared.tables.Rules.{Rules}
-use Rattle.mc_walk.specs.Kind.{IsAt, TellsChild}
-use Rattle.mc_explore.specs.inner.Once.{at_cut, IsTold, most_of, once}
-use Rattle.mc_explore.specs.inner.Table.{ArePositions, HasRoomFor, IsColumn, IsPosition, StaysSo, own_totals, told_totals}
+use Rattle.mc_walk.specs.TreeModel.{IsAt, IsChildSummary}
+use Rattle.mc_explore.specs.inner.OneRound.{at_cut, IsSummary, most_of, one_round}
+use Rattle.mc_explore.specs.inner.Table.{ArePositions, HasRoomFor, IsColumn, IsPosition, StaysSo, own_totals, shown_totals}
 use Rattle.mc_explore.specs.Census.{report_totals}
 use Rattle.mc_explore.specs.Right.{judged}
 use Rattle.mc_explore.specs.declared.expectation.Expectation.{Expectation}
 use Rattle.mc_explore.specs.declared.census.Census.{Census}
-use Rattle.mc_explore.specs.declared.once.Told.{Told}
+use Rattle.mc_explore.specs.declared.one_round.Summary.{Summary}
 use Rattle.mc_explore.specs.declared.table.Position.{Position}
 use Rattle.mc_explore.specs.facts.Occurring.{at_zero}
-use Rattle.mc_explore.specs.facts.Telling.{first_left, first_on, width_is}
+use Rattle.mc_explore.specs.facts.Summaries.{first_left, first_on, width_is}
 use Rattle.mc_explore.proofs.Onwards.{cut_here}
 use Rattle.mc_explore.proofs.Counting.{each_more}
 
@@ -39,17 +39,17 @@ pub kept_from : (old mid end : Seen) → mid ≡ marked old → Keeps (marked ol
 kept_from old mid end m keeps = subst (λ (f : Seen). Keeps f end) (sym m) keeps
 
 -- A flash that was marked and worked on, and is back at that checkpoint.
-pub went_so : (old mid end new : Seen) (place : ℕ) → place ≡ length old.checkpoints → mid ≡ marked old → Keeps mid end → end.usage.limits ≡ old.usage.limits → new ≡ went_back place end
+pub went_so : (old mid end new : Seen) (index : ℕ) → index ≡ length old.checkpoints → mid ≡ marked old → Keeps mid end → end.usage.limits ≡ old.usage.limits → new ≡ went_back index end
     → StaysSo old new
-went_so old mid end new place at m keeps limits is =
+went_so old mid end new index at m keeps limits is =
     let back : new ≡ went_back (length old.checkpoints) end = is ∙ ap (λ n. went_back n end) at in
     subst (StaysSo old) (sym back) (record { stays = stays_back old mid end m keeps; limits = (spent_back (length old.checkpoints) end).limits ∙ limits })
 
 module _ (r : Rules) (g : Geometry) where
-  pub own_told : (e : Expectation) (s : Content) (told : Told) → IsTold (power_on r g s) told → report_totals (judged e (shown told.outcome)) ≡ own_totals e r g s
-  own_told e s told t = sym (ap (told_totals e) t.outcome_is)
+  pub own_summary : (e : Expectation) (s : Content) (summary : Summary) → IsSummary (power_on r g s) summary → report_totals (judged e (shown summary.outcome)) ≡ own_totals e r g s
+  own_summary e s summary t = sym (ap (shown_totals e) t.outcome_is)
 
-  pub still_at : (s : Content) (i : ℕ) (b : Boot) (old new : Seen) → IsAt (once r g) s i b old → Stays old new → IsAt (once r g) s i b new
+  pub still_at : (s : Content) (i : ℕ) (b : Boot) (old new : Seen) → IsAt (one_round r g) s i b old → Stays old new → IsAt (one_round r g) s i b new
   still_at s i b old new at stays = record {
     on_is = at.on_is;
     content_is = stays.content ∙ at.content_is;
@@ -124,41 +124,42 @@ module _ (r : Rules) (g : Geometry) where
     counts = subst (λ (n : Counts). LeaveRoom n left (plus old.usage.counts (most_of r g))) (sym x.stays.counts) u.counts;
   }
 
-  -- The flash stands at a position that occurs, of which that is told.
-  pub record Reached (s : Content) (n : ℕ) (b : Boot) (old now : Seen) (child : Told) : Type 0 where
+  -- The flash stands at a position that occurs, with that summary.
+  pub record Reached (s : Content) (n : ℕ) (b : Boot) (old now : Seen) (child : Summary) : Type 0 where
     pub early : n < length (ops_of (power_on r g s))
-    pub here : IsAt (once r g) s n b now
-    pub told : IsTold (power_on r g (at_cut (power_on r g s) n)) child
+    pub here : IsAt (one_round r g) s n b now
+    pub summary : IsSummary (power_on r g (at_cut (power_on r g s) n)) child
     pub under : IsUnder old (left_of g (progress b)) now
 
-  pub reached : (s : Content) (n : ℕ) (b : Boot) (old now new : Seen) (parent child : Told) → IsTold (power_on r g s) parent → n < parent.outcome.ops → IsAt (once r g) s n b now
-      → IsUnder old (left_of g (progress b)) now → TellsChild (once r g) b parent now child → StaysSo now new → Reached s n b old new child
-  reached s n b old now new parent child told lt at under tells x =
-      let early : n < length (ops_of (power_on r g s)) = omega (arith, lt, width_is r g parent s told) in
-      record { early = early; here = still_at s n b now new at x.stays; told = tells s n at early told; under = stays_under old now new (left_of g (progress b)) under x }
+  pub reached : (s : Content) (n : ℕ) (b : Boot) (old now new : Seen) (parent child : Summary) → IsSummary (power_on r g s) parent → n < parent.outcome.ops → IsAt (one_round r g) s n b now
+      → IsUnder old (left_of g (progress b)) now → IsChildSummary (one_round r g) b parent now child → StaysSo now new → Reached s n b old new child
+  reached s n b old now new parent child summary lt at under gives x =
+      let early : n < length (ops_of (power_on r g s)) = omega (arith, lt, width_is r g parent s summary) in
+      record { early = early; here = still_at s n b now new at x.stays; summary = gives s n at early summary; under = stays_under old now new (left_of g (progress b)) under x }
 
   -- And where it stays so.
-  pub reached_still : (s : Content) (n : ℕ) (b : Boot) (old now new : Seen) (child : Told) → Reached s n b old now child → StaysSo now new → Reached s n b old new child
+  pub reached_still : (s : Content) (n : ℕ) (b : Boot) (old now new : Seen) (child : Summary) → Reached s n b old now child → StaysSo now new → Reached s n b old new child
   reached_still s n b old now new child x stays = record {
     early = x.early;
     here = still_at s n b now new x.here stays.stays;
-    told = x.told;
+    summary = x.summary;
     under = stays_under old now new (left_of g (progress b)) x.under stays;
   }
 
   -- At the first position, where the flash was just marked.
-  pub first_at : (s : Content) (told : Told) (old mid : Seen) → IsTold (power_on r g s) told → old.content ≡ s → old.geometry ≡ g → mid ≡ marked old → IsAt (once r g) s 0 told.boot mid
-  first_at s told old mid t content layout m = record {
-    on_is = first_on r g s told t;
+  pub first_at : (s : Content) (summary : Summary) (old mid : Seen) → IsSummary (power_on r g s) summary → old.content ≡ s → old.geometry ≡ g → mid ≡ marked old
+      → IsAt (one_round r g) s 0 summary.boot mid
+  first_at s summary old mid t content layout m = record {
+    on_is = first_on r g s summary t;
     content_is = ap (λ (f : Seen). f.content) m ∙ content ∙ at_zero (power_on r g s);
     layout_is = ap (λ (f : Seen). f.geometry) m ∙ layout;
   }
 
-  pub first_under : (s : Content) (told : Told) (old mid : Seen) → IsTold (power_on r g s) told → mid ≡ marked old → IsUnder old (left_of g (progress told.boot)) mid
-  first_under s told old mid t m = subst (IsUnder old (left_of g (progress told.boot))) (sym m) (record {
+  pub first_under : (s : Content) (summary : Summary) (old mid : Seen) → IsSummary (power_on r g s) summary → mid ≡ marked old → IsUnder old (left_of g (progress summary.boot)) mid
+  first_under s summary old mid t m = subst (IsUnder old (left_of g (progress summary.boot))) (sym m) (record {
     keeps = keeps_none (marked old);
     limits = refl;
-    counts = first_left r g s told t old.usage.counts;
+    counts = first_left r g s summary t old.usage.counts;
   })
 
   -- And at the next.
@@ -171,15 +172,16 @@ module _ (r : Rules) (g : Geometry) where
   }
 
   -- A child whose boot goes on with that of its parent.
-  pub joined_here : (s : Content) (i : ℕ) (b : Boot) (child parent : Told) (f : Seen) (x : Rejoin) → IsAt (once r g) s i b f → i < length (ops_of (power_on r g s)) → IsTold (power_on r g s) parent
-      → IsTold (power_on r g (at_cut (power_on r g s) i)) child
+  pub joined_here : (s : Content) (i : ℕ) (b : Boot) (child parent : Summary) (f : Seen) (x : SharedTail) → IsAt (one_round r g) s i b f → i < length (ops_of (power_on r g s))
+      → IsSummary (power_on r g s) parent
+      → IsSummary (power_on r g (at_cut (power_on r g s) i)) child
       → ((y : Rules) (v : Content) (whole : Report) → IsCut (power_on y f.geometry v) f.content b whole → progress child.boot ≡ begun y (plan (powered y f))
-      → IsRejoined (power_on y f.geometry v) f.content x)
-      → IsRejoined (power_on r g s) (at_cut (power_on r g s) i) x
-  joined_here s i b child parent f x at early told child_told joins =
-      let P : Geometry → Content → Type 0 = λ y u. (whole : Report) → IsCut (power_on r y s) u b whole → progress child.boot ≡ begun r (plan (power_on r y u)) → IsRejoined (power_on r y s) u x in
+      → IsSharedTail (power_on y f.geometry v) f.content x)
+      → IsSharedTail (power_on r g s) (at_cut (power_on r g s) i) x
+  joined_here s i b child parent f x at early summary child_summary joins =
+      let P : Geometry → Content → Type 0 = λ y u. (whole : Report) → IsCut (power_on r y s) u b whole → progress child.boot ≡ begun r (plan (power_on r y u)) → IsSharedTail (power_on r y s) u x in
       let here : P g f.content = subst (λ y. P y f.content) at.layout_is (joins r s) in
-      subst (P g) at.content_is here (shown parent.outcome) (cut_here r g s i b f parent at early told) child_told.boot_is
+      subst (P g) at.content_is here (shown parent.outcome) (cut_here r g s i b f parent at early summary) child_summary.boot_is
 
   -- A child with a column of its own.
   pub column_here : (e : Expectation) (here u : Content) (bound : ℕ) → 1 ≤ bound → (column : List Census) → here ≡ u → IsColumn e r g here (bound - 1 + 1) column → IsColumn e r g u bound column

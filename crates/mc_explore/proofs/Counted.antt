@@ -10,14 +10,14 @@ use Rattle.mc_explore.proofs.PageRows.{AreSoFar, cursor_is, none_so_far, one_mor
 use Rattle.mc_explore.proofs.PageText.{last_on}
 use Rattle.mc_explore.specs.Census.{first_not_boot}
 use Rattle.mc_explore.specs.Pages.{FindsBefore, IsLawful}
-use Rattle.mc_explore.specs.Rows.{Told, report_of, schedules}
+use Rattle.mc_explore.specs.Rows.{ShownRow, report_of, schedules}
 use Rattle.mc_explore.specs.Rows as rows_of_schedules
 use Rattle.mc_explore.specs.Subject.{State, Subject, rows_of}
 use Rattle.mc_explore.specs.Survey.{IsWithin, Surveys, SurveysUntil, Tally, count_if, ending_with, is_boot, is_fault, is_none, is_panic, most_ops, no_tally, one_row_more, tally_by_now, tally_of}
 use Rattle.mc_explore.specs.Right.{SurveysRows, no_rights, one_judged_more, rights_by}
 use Rattle.mc_explore.specs.declared.expectation.Expectation.{Expectation}
 use Rattle.mc_explore.specs.declared.rights.RightsOf.{RightsOf}
-use Rattle.mc_explore.specs.declared.surveying.TallyOf.{TallyOf}
+use Rattle.mc_explore.specs.declared.tally.TallyOf.{TallyOf}
 use Rattle.mc_explore.specs.facts.Whole.{whole_taken}
 use Rattle.mc_tree.specs.Tree.{After, last_key}
 use Rattle.mc_boot.specs.declared.outcome.BootResult.TheVariants as results
@@ -55,14 +55,14 @@ module _ {R : Type 0} (ends : R → Report) where
 -- The rows of a survey, as they are counted one after another.
 
 module _ {C K R U : Type 0} (x : Subject C K R U) (laws : IsLawful (rows_of x)) (e : Expectation) (until : Option K) (old : State C K) (limit : ℕ) where
-  -- These rows were taken and counted, and behind the last of them one has come.
+  -- These rows were taken and counted, and after the last of them one has come.
   pub record AreCounted (now : State C K) (tally : TallyOf U) (rights : RightsOf K) : Type 0 where
     pub some : List R
     pub so_far : AreSoFar (rows_of x) laws until old limit now (limit - tally.rows) some
     pub last_is : 0 < length some → now.position ≡ After (last_key x.key x.no_key some)
     pub tally_is : tally ≡ tally_by_now x.ends some
     pub rights_are : rights ≡ rights_by x.ends x.key e some
-    pub few : tally.rows ≤ limit
+    pub at_most : tally.rows ≤ limit
 
   pub count_begin : AreCounted old no_tally no_rights
   count_begin =
@@ -73,10 +73,11 @@ module _ {C K R U : Type 0} (x : Subject C K R U) (laws : IsLawful (rows_of x)) 
         last_is = λ some. absurd (omega (arith, some));
         tally_is = refl;
         rights_are = none_right x.ends x.key e;
-        few = omega arith;
+        at_most = omega arith;
       }
 
-module _ {C K R U : Type 0} {x : Subject C K R U} {laws : IsLawful (rows_of x)} {e : Expectation} {until : Option K} {old : State C K} {limit : ℕ} {now : State C K} {tally : TallyOf U} {rights : RightsOf K} (p : AreCounted x laws e until old limit now tally rights) where
+module _ {C K R U : Type 0} {x : Subject C K R U} {laws : IsLawful (rows_of x)} {e : Expectation} {until : Option K} {old : State C K} {limit : ℕ} {now : State C K} {tally : TallyOf U}
+    {rights : RightsOf K} (p : AreCounted x laws e until old limit now tally rights) where
   -- No result was counted more often than there are rows.
   pub counted_within : IsWithin tally
   counted_within = rw p.tally_is (within x.ends p.some)
@@ -84,13 +85,13 @@ module _ {C K R U : Type 0} {x : Subject C K R U} {laws : IsLawful (rows_of x)} 
   -- One row more.
   pub count_on : (new : State C K) (row : R) (tally' : TallyOf U) (rights' : RightsOf K) (room : limit - tally.rows ≡ suc (limit - tally'.rows)) → FindsBefore (rows_of x) until now (Some row) new
       → tally' ≡ one_row_more (x.ends row) tally → rights' ≡ one_judged_more e (x.key row) (x.ends row) rights → tally'.rows ≤ limit → AreCounted x laws e until old limit new tally' rights'
-  count_on new row tally' rights' room f more better few = record {
+  count_on new row tally' rights' room f more better at_most = record {
     some = p.some ++ row ∷ [];
     so_far = one_more (rows_of x) laws until old limit now (limit - tally.rows) p.some p.so_far (limit - tally'.rows) room new row f;
     last_is = λ _. ap (λ (s : State C K). s.position) f.2 ∙ ap (λ m. After m) (sym (last_on x.key x.no_key p.some row));
     tally_is = more ∙ ap (one_row_more (x.ends row)) p.tally_is ∙ tally_more x.ends p.some row;
     rights_are = better ∙ ap (one_judged_more e (x.key row) (x.ends row)) p.rights_are ∙ rights_more x.ends x.key e p.some row;
-    few = few;
+    at_most = at_most;
   }
 
   -- Where no further row is shown.
@@ -100,7 +101,7 @@ module _ {C K R U : Type 0} {x : Subject C K R U} {laws : IsLawful (rows_of x)} 
 
   -- Where the page is full.
   pub last_counted : 1 ≤ limit → limit - tally.rows ≡ 0 → now.position ≡ After (last_key x.key x.no_key p.some)
-  last_counted some full = p.last_is (omega (arith, some, full, p.few, ap (λ (t : TallyOf U). t.rows) p.tally_is))
+  last_counted some full = p.last_is (omega (arith, some, full, p.at_most, ap (λ (t : TallyOf U). t.rows) p.tally_is))
 
   pub counted_full : (cursor : U) → limit - tally.rows ≡ 0 → cursor ≡ x.cursor now.start now.choice now.bound (last_key x.key x.no_key p.some)
       → SurveysRows x e until old now limit
@@ -148,17 +149,17 @@ module _ {R : Type 0} (ends : R → Report) where
   all_counted [] all = refl
   all_counted (row ∷ rows) all = omega (arith, first row rows results.Boot all.0, all_counted rows all.1)
 
-found : (row : Told) (rows : List Told) (r : BootResult) → row.outcome.result ≡ r → (is_some (first_not_boot rows) ≡ false → AllBoots report_of rows)
+found : (row : ShownRow) (rows : List ShownRow) (r : BootResult) → row.outcome.result ≡ r → (is_some (first_not_boot rows) ≡ false → AllBoots report_of rows)
     → is_some (first_not_boot (row ∷ rows)) ≡ false → AllBoots report_of (row ∷ rows)
 found row rows results.Boot is rest e = (is, rest (rw is at e))
 found row rows results.None is rest e = absurd (let no = rw is at e in cc)
 found row rows results.Panic is rest e = absurd (let no = rw is at e in cc)
 found row rows results.Fault is rest e = absurd (let no = rw is at e in cc)
 
-pub none_found : (rows : List Told) → is_some (first_not_boot rows) ≡ false → AllBoots report_of rows
+pub none_found : (rows : List ShownRow) → is_some (first_not_boot rows) ≡ false → AllBoots report_of rows
 none_found [] e = tt
 none_found (row ∷ rows) e = found row rows row.outcome.result refl (none_found rows) e
 
-pub all_found : (rows : List Told) → AllBoots report_of rows → is_some (first_not_boot rows) ≡ false
+pub all_found : (rows : List ShownRow) → AllBoots report_of rows → is_some (first_not_boot rows) ≡ false
 all_found [] all = refl
 all_found (row ∷ rows) all = rw all.0 (all_found rows all.1)

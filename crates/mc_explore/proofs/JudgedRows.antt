@@ -1,6 +1,5 @@
 -- Rows that are right: one more of them, whether all are, and the census of rows that are judged.
-use Rattle.std.proofs.Common.{Bool, List, None, Option, Some, [], ap, arith, cond, false, if◌then◌else◌, is_some, map, min, not, option_map, refl, sym, true, ℕ}
-use Rattle.std.proofs.Common.{◌+◌, ◌-◌, ◌&&◌, ◌++◌, ◌^◌, ◌∙◌, ◌∷◌, ◌≡◌}
+use Rattle.std.proofs.Common.{Bool, List, None, Option, Some, [], ap, arith, cond, false, if◌then◌else◌, is_some, map, min, not, option_map, refl, sym, true, ℕ, ◌+◌, ◌-◌, ◌&&◌, ◌++◌, ◌^◌, ◌∙◌, ◌∷◌, ◌≡◌}
 use Rattle.std.proofs.lemmas.List.Folds.{find-append}
 use Rattle.std.proofs.lemmas.List.Sums.{sum_by-append, sum_by-cons}
 use Rattle.std.specs.List.{AllByRecursion, find}
@@ -11,7 +10,7 @@ use Rattle.mc_boot.specs.declared.outcome.BootResult.{BootResult}
 use Rattle.mc_explore.specs.Census.{census_of, cut_number, first_not_boot}
 use Rattle.mc_explore.specs.declared.census.Census.{Census}
 use Rattle.mc_explore.specs.Right.{is_met, is_right, judged, judged_row, no_rights, one_judged_more, rights_by, rights_of, schedule_of}
-use Rattle.mc_explore.specs.Rows.{Told}
+use Rattle.mc_explore.specs.Rows.{ShownRow}
 use Rattle.mc_explore.specs.Survey.{is_boot, rows_with}
 use Rattle.mc_explore.specs.declared.expectation.Expectation.{Expectation}
 use Rattle.mc_boot.specs.declared.outcome.BootResult.TheVariants as results
@@ -93,24 +92,24 @@ module _ {R K : Type 0} (ends : R → Report) (key : R → K) (e : Expectation) 
 
 -- Rows of schedules.
 module _ (e : Expectation) where
-  abbrev good : Told → Bool
+  abbrev good : ShownRow → Bool
   good row = is_right e row.outcome
 
-  abbrev first_bad : List Told → Option (List ℕ)
+  abbrev first_bad : List ShownRow → Option (List ℕ)
   first_bad rows = option_map schedule_of (find (λ row. not (good row)) rows)
 
   -- The census of the rows as they are judged.
   boot_judged : (o : Report) → is_boot (judged e o).result ≡ is_right e o
   boot_judged o = boot_by (is_met e o) o o.result refl
 
-  boots_judged : (rows : List Told) → rows_with is_boot (map (judged_row e) rows) ≡ count_by good rows
+  boots_judged : (rows : List ShownRow) → rows_with is_boot (map (judged_row e) rows) ≡ count_by good rows
   boots_judged [] = refl
   boots_judged (row ∷ rows) =
-      sum_by-cons (λ (r : Told). cond (is_boot r.outcome.result) 1 0) (judged_row e row) (map (judged_row e) rows)
+      sum_by-cons (λ (r : ShownRow). cond (is_boot r.outcome.result) 1 0) (judged_row e row) (map (judged_row e) rows)
       ∙ ap (λ n. cond (is_boot (judged e row.outcome).result) 1 0 + n) (boots_judged rows) ∙ ap (λ b. cond b 1 0 + count_by good rows) (boot_judged row.outcome)
-      ∙ sym (sum_by-cons (λ (r : Told). cond (good r) 1 0) row rows)
+      ∙ sym (sum_by-cons (λ (r : ShownRow). cond (good r) 1 0) row rows)
 
-  first_judged : (rows : List Told) → first_not_boot (map (judged_row e) rows) ≡ first_bad rows
+  first_judged : (rows : List ShownRow) → first_not_boot (map (judged_row e) rows) ≡ first_bad rows
   first_judged [] = refl
   first_judged (row ∷ rows) =
       ap (λ b. option_map schedule_of (if not b then Some (judged_row e row) else find (λ row. not (is_boot row.outcome.result)) (map (judged_row e) rows))) (boot_judged row.outcome)
@@ -122,7 +121,7 @@ module _ (e : Expectation) where
       by true rest = rest
       by false rest = refl
 
-  pub rights_judged : (rows : List Told) (census : Census) → census ≡ census_of (map (judged_row e) rows)
+  pub rights_judged : (rows : List ShownRow) (census : Census) → census ≡ census_of (map (judged_row e) rows)
       → record { right = census.boot; first_not_right = census.first_not_boot } ≡ rights_of e rows
   rights_judged rows census is =
       let right_is = ap (λ (c : Census). c.boot) is ∙ ap cut_number (boots_judged rows) in

@@ -1,4 +1,4 @@
--- From one cut of a boot to the next, and what is told of the flash there.
+-- From one cut of a boot to the next, and the summary of the flash there.
 use Rattle.std.specs.Prelude.{◌≡◌, ℕ, ◌+◌, ◌<◌, ◌≤◌, List, [], ◌∷◌, length, Some, Result, Ok, Err, IfErr, refl}
 use Rattle.std.proofs.Common.{arith, sym, ap, subst, ◌∙◌}
 use Rattle.mc_flash.specs.Flash.{Content, IsSized}
@@ -17,10 +17,10 @@ use Rattle.mc_boot.specs.facts.Run.{come_begun, come_left, come_ops}
 use Rattle.mc_boot.specs.facts.Steps.{refused_here, step_counts, step_ran_out, step_spends, stepped_here}
 use Rattle.mc_boot.specs.declared.boot.Boot.{Boot}
 use Rattle.mc_boot.specs.declared.outcome.Outcome.{Outcome}
-use Rattle.mc_walk.specs.Kind.{IsAt, HasNext, GoesOn}
-use Rattle.mc_explore.specs.inner.Once.{at_cut, CanPass, IsBegun, IsTold, Passes, most_of, once}
+use Rattle.mc_walk.specs.TreeModel.{IsAt, HasNext, GoesOn}
+use Rattle.mc_explore.specs.inner.OneRound.{at_cut, CanPass, IsBegun, IsSummary, Passes, most_of, one_round}
 use Rattle.mc_explore.specs.Schedules.{EndsWith}
-use Rattle.mc_explore.specs.declared.once.Told.{Told}
+use Rattle.mc_explore.specs.declared.one_round.Summary.{Summary}
 use Rattle.mc_explore.specs.facts.Occurring.{at_zero, come_lands}
 
 -- At most one operation is done.
@@ -43,9 +43,9 @@ ComesOn f p new q = (x : Rules) (s : Content) → HasCome (power_on x f.geometry
 -- What is asked of a boot that was run to its end.
 pub ends_with : (f new : Seen) (p q : Progress) (outcome : Outcome) → Keeps f new → ComesOn f p new q → q.to_come ≡ []
     → ((x : Rules) (s : Content) → HasCome (power_on x new.geometry s) q new.content → q.to_come ≡ [] → outcome_of (power_on x new.geometry s) ≡ Some (shown outcome)) → EndsWith f p outcome
-ends_with f new p q outcome keeps come end told = λ x s here.
+ends_with f new p q outcome keeps come end summary = λ x s here.
     let P : Geometry → Type 0 = λ y. HasCome (power_on x y s) q new.content in
-    ap (λ (y : Geometry). outcome_of (power_on x y s)) (sym keeps.geometry) ∙ told x s (subst P (sym keeps.geometry) (come x s here)) end
+    ap (λ (y : Geometry). outcome_of (power_on x y s)) (sym keeps.geometry) ∙ summary x s (subst P (sym keeps.geometry) (come x s here)) end
 
 module _ (r : Rules) (g : Geometry) where
   -- Something is to come of a boot that has not made all its operations.
@@ -58,7 +58,7 @@ module _ (r : Rules) (g : Geometry) where
 
   -- ---- the next cut
 
-  module _ (s : Content) (i : ℕ) (b b' : Boot) (old new : Seen) (at : IsAt (once r g) s i b old) (early : i < length (ops_of (power_on r g s))) where
+  module _ (s : Content) (i : ℕ) (b b' : Boot) (old new : Seen) (at : IsAt (one_round r g) s i b old) (early : i < length (ops_of (power_on r g s))) where
     come_here : HasCome (power_on r old.geometry s) (progress b) old.content
     come_here =
         let P : Geometry → Type 0 = λ x. HasCome (power_on r x s) (progress b) old.content in
@@ -76,7 +76,7 @@ module _ (r : Rules) (g : Geometry) where
 
     -- It happens, and the boot has made one more.
     pub went_on : (v : Unit {0}) → Steps (progress b) old (Ok v) (progress b') new → HasCome (power_on r old.geometry s) (progress b') new.content → all_of b' ≡ all_of b → IsBootOf new.geometry b'
-        → Keeps old new → IsAt (once r g) s (i + 1) b' new
+        → Keeps old new → IsAt (one_round r g) s (i + 1) b' new
     went_on v steps come whole layout keeps =
         let some = some_to_come_at in
         let count : b'.done ≡ i + 1 = stepped_here (progress b) (progress b') old new (Ok v) v refl some steps ∙ ap (λ n. n + 1) at.on_is.count_is in
@@ -134,19 +134,19 @@ module _ (r : Rules) (g : Geometry) where
   pass_wants b b' old new (Err errors.NotErased) has steps come = absurd (not_refused has.0 has.1 b b' old new has.2 has.3 (Err errors.NotErased) steps come refl)
 
   -- A child has one more before it.
-  pub can_pass : (b : Boot) (seen : Seen) → HasNext (once r g) b seen → CanPass r g b seen
+  pub can_pass : (b : Boot) (seen : Seen) → HasNext (one_round r g) b seen → CanPass r g b seen
   can_pass b seen has = (has.0, has.1, has.2, omega (arith, has.3), has.4)
 
-  pub goes_on : (b b' : Boot) (old new : Seen) (result : Result (Unit {0}) FlashError) → Passes r g b old result b' new → GoesOn (once r g) b old result b' new
+  pub goes_on : (b b' : Boot) (old new : Seen) (result : Result (Unit {0}) FlashError) → Passes r g b old result b' new → GoesOn (one_round r g) b old result b' new
   goes_on b b' old new (Ok v) p = (λ s i at more. p.0 s i at (omega (arith, more)), p.1)
   goes_on b b' old new (Err e) p = tt
 
-  -- ---- what is told of a flash
+  -- ---- the summary of a flash
 
   -- And that it was run.
-  pub told_of : (s : Content) (f : Seen) (b : Boot) (outcome : Outcome) → f.geometry ≡ g → f.content ≡ s → IsBegun r f b → outcome_of (power_on r g s) ≡ Some (shown outcome)
-      → IsTold (power_on r g s) (record { boot = b; outcome = outcome })
-  told_of s f b outcome layout content begins is =
+  pub summary_of : (s : Content) (f : Seen) (b : Boot) (outcome : Outcome) → f.geometry ≡ g → f.content ≡ s → IsBegun r f b → outcome_of (power_on r g s) ≡ Some (shown outcome)
+      → IsSummary (power_on r g s) (record { boot = b; outcome = outcome })
+  summary_of s f b outcome layout content begins is =
       let plans : plan (powered r f) ≡ plan (power_on r g s) = ap (λ (x : Geometry). plan (power_on r x f.content)) layout ∙ ap (λ s. plan (power_on r g s)) content in
       let P : List Op → Type 0 = λ ops. IsBounded g ops (most_of r g).entries (most_of r g).saved in
       let Q : Geometry → Type 0 = λ x. IsSized x f.content in
@@ -155,16 +155,16 @@ module _ (r : Rules) (g : Geometry) where
         boot_is = begins.cold.boot ∙ ap (begun r) plans;
         list_is = begins.cold.list ∙ ap (λ p. p.list) plans;
         layout_is = subst (λ (x : Geometry). IsBootOf x b) layout begins.cold.layout;
-        few = subst P (ap (λ (p : Progress). p.to_come) (begins.cold.boot ∙ ap (begun r) plans)) (subst R layout (record { few = begins.cold.few; saves = begins.cold.saves }));
+        at_most = subst P (ap (λ (p : Progress). p.to_come) (begins.cold.boot ∙ ap (begun r) plans)) (subst R layout (record { at_most = begins.cold.at_most; saves = begins.cold.saves }));
         sized = subst (IsSized g) content (subst Q layout begins.cold.sized);
         bytes = subst (λ (x : Content). IsBytes x.secondary) content begins.bytes;
         outcome_is = is;
       }
 
-  -- A boot that was cut, where that was told before it.
-  pub cut_here : (s : Content) (i : ℕ) (b : Boot) (f : Seen) (told : Told) → IsAt (once r g) s i b f → i < length (ops_of (power_on r g s)) → IsTold (power_on r g s) told
-      → IsCut (power_on r g s) (at_cut (power_on r g s) i) b (shown told.outcome)
-  cut_here s i b f told at early t = record {
+  -- A boot that was cut, where its outcome was found before it.
+  pub cut_here : (s : Content) (i : ℕ) (b : Boot) (f : Seen) (summary : Summary) → IsAt (one_round r g) s i b f → i < length (ops_of (power_on r g s)) → IsSummary (power_on r g s) summary
+      → IsCut (power_on r g s) (at_cut (power_on r g s) i) b (shown summary.outcome)
+  cut_here s i b f summary at early t = record {
     sized = t.sized;
     layout = at.on_is.layout_is;
     list = at.on_is.list_is;
@@ -174,9 +174,9 @@ module _ (r : Rules) (g : Geometry) where
   }
 
   -- Before the first operation.
-  pub told_still : (s : Content) (i : ℕ) (told : Told) → i ≡ 0 → IsTold (power_on r g s) told → IsTold (power_on r g (at_cut (power_on r g s) i)) told
-  told_still s i told none t =
-      subst (λ n. IsTold (power_on r g (at_cut (power_on r g s) n)) told) (sym none) (subst (λ x. IsTold (power_on r g x) told) (at_zero (power_on r g s)) t)
+  pub summary_still : (s : Content) (i : ℕ) (summary : Summary) → i ≡ 0 → IsSummary (power_on r g s) summary → IsSummary (power_on r g (at_cut (power_on r g s) i)) summary
+  summary_still s i summary none t =
+      subst (λ n. IsSummary (power_on r g (at_cut (power_on r g s) n)) summary) (sym none) (subst (λ x. IsSummary (power_on r g x) summary) (at_zero (power_on r g s)) t)
 
   pub left_still : (s : Content) (i : ℕ) → i ≡ 0 → left_by (power_on r g (at_cut (power_on r g s) i)) ≡ left_by (power_on r g s)
   left_still s i none = ap (λ n. left_by (power_on r g (at_cut (power_on r g s) n))) none ∙ ap (λ s. left_by (power_on r g s)) (sym (at_zero (power_on r g s)))
@@ -186,19 +186,20 @@ module _ (r : Rules) (g : Geometry) where
     comes : HasCome (powered r f) (progress b) f.content
     comes = let P : Progress → Type 0 = λ p. HasCome (powered r f) p f.content in subst P (sym begins.cold.boot) (come_begun (powered r f))
 
-    pub told_run : (outcome : Outcome) → EndsWith f (progress b) outcome → IsTold (power_on r g f.content) (record { boot = b; outcome = outcome })
-    told_run outcome ends =
+    pub summary_run : (outcome : Outcome) → EndsWith f (progress b) outcome → IsSummary (power_on r g f.content) (record { boot = b; outcome = outcome })
+    summary_run outcome ends =
         let is : outcome_of (power_on r g f.content) ≡ Some (shown outcome) = ap (λ (x : Geometry). outcome_of (power_on r x f.content)) (sym layout) ∙ ends r f.content comes in
-        told_of f.content f b outcome layout refl begins is
+        summary_of f.content f b outcome layout refl begins is
 
     pub left_run : (q : Progress) (new : Seen) → ComesOn f (progress b) new q → q.to_come ≡ [] → left_by (power_on r g f.content) ≡ Some new.content
     left_run q new come end = ap (λ (x : Geometry). left_by (power_on r x f.content)) (sym layout) ∙ come_left (powered r f) q new.content (come r f.content comes) end
 
     -- What holds of each boot that was cut so holds of this one.
-    pub cut_so : (P : PowerOn → Content → Type 0) (s : Content) (i : ℕ) (at : Boot) (parent : Told) → IsAt (once r g) s i at f → i < length (ops_of (power_on r g s)) → IsTold (power_on r g s) parent
+    pub cut_so : (P : PowerOn → Content → Type 0) (s : Content) (i : ℕ) (at : Boot) (parent : Summary) → IsAt (one_round r g) s i at f → i < length (ops_of (power_on r g s))
+        → IsSummary (power_on r g s) parent
         → ((x : PowerOn) (u : Content) → IsCut x u at (shown parent.outcome) → IsBootOf x.geometry b → progress b ≡ begun x.rules (plan (again x u)) → P x u)
         → P (power_on r g s) (at_cut (power_on r g s) i)
-    cut_so P s i at parent here early told holds =
+    cut_so P s i at parent here early summary holds =
         let plans = ap (λ (x : Geometry). plan (power_on r x f.content)) layout ∙ ap (λ s. plan (power_on r g s)) here.content_is in
-        holds (power_on r g s) (at_cut (power_on r g s) i) (cut_here s i at f parent here early told) (subst (λ (x : Geometry). IsBootOf x b) layout begins.cold.layout)
+        holds (power_on r g s) (at_cut (power_on r g s) i) (cut_here s i at f parent here early summary) (subst (λ (x : Geometry). IsBootOf x b) layout begins.cold.layout)
         (begins.cold.boot ∙ ap (begun r) plans)

@@ -6,7 +6,7 @@ use Rattle.std.proofs.lemmas.Bool.Decides.{nat_tests}
 use Rattle.std.proofs.lemmas.List.{take_all, take_at, length-append}
 use Rattle.std.proofs.lemmas.List.Elements.{All-nil, All-cons, All-head, All-tail, All-same, All-weaker, All-contains_itself}
 use Rattle.mc_tree.specs.Tree.{last_key, Ascends}
-use Rattle.mc_tree.specs.facts.Lists.{pairs_behind, pairs_front}
+use Rattle.mc_tree.specs.facts.Lists.{pairs_rest, pairs_head}
 use Rattle.mc_tree.specs.facts.Order.{cases_of}
 use Rattle.mc_explore.specs.facts.Listings.{rest_next, rest_over}
 use Rattle.mc_explore.specs.Pages.{Listing, IsLawful, IsRest, FindsRow, Page, IsBefore, AreBefore, Shown, rows_taken, TakesPage, FindsBefore, page_at, state_past}
@@ -28,15 +28,15 @@ not_full k = grind (arith, nat_tests)
 module _ {S K R C : Type 0} (l : Listing S K R C) where
   -- ---- the page of some rows
 
-  -- A page of those rows, which goes on behind the last of them or not.
+  -- A page of those rows, which goes on after the last of them or not.
   abbrev pub page_with : S → List R → Bool → Page R C
   page_with state rows full = record { rows = rows; goes_on = if full then Some (l.cursor state (last_key l.key l.no_key rows)) else None }
 
   -- Fewer rows than there is room for.
   short_page : (state : S) (limit : ℕ) (rows : List R) → length rows < limit → page_with state rows false ≡ page_at l state limit rows
   short_page state limit rows short =
-      let few : nat_le limit (length rows) ≡ false = grind (arith, nat_tests) in
-      sym (ap (λ z. page_with state z (nat_le limit (length rows))) (take_all limit rows (omega (arith, short))) ∙ ap (λ b. page_with state rows b) few)
+      let at_most : nat_le limit (length rows) ≡ false = grind (arith, nat_tests) in
+      sym (ap (λ z. page_with state z (nat_le limit (length rows))) (take_all limit rows (omega (arith, short))) ∙ ap (λ b. page_with state rows b) at_most)
 
   -- As many rows as there is room for.
   full_page : (state : S) (limit : ℕ) (rows more : List R) → length rows ≡ limit → page_with state rows true ≡ page_at l state limit (rows ++ more)
@@ -107,12 +107,12 @@ module _ {S K R C : Type 0} (l : Listing S K R C) (laws : IsLawful l) where
     some_before [] up = ([], record { others = []; parted = refl; before = All-nil (λ row. IsBefore l until (l.key row)); none = All-nil (λ row. IsBefore l until (l.key row) → ⊥) })
     some_before (x ∷ rows) up = elim (before_cases (l.key x)) [
       | inl before ↦
-          let q = some_before rows (pairs_behind (RowsBefore l) x rows up) in (
+          let q = some_before rows (pairs_rest (RowsBefore l) x rows up) in (
             x ∷ q.0,
             record { others = q.1.others; parted = ap (λ z. x ∷ z) q.1.parted; before = All-cons (λ row. IsBefore l until (l.key row)) x q.0 before q.1.before; none = q.1.none },
           )
       | inr not ↦
-          let later : (y : R) → Contains rows y → IsBefore l until (l.key y) → ⊥ = λ y c before. not (before_back (l.key x) (l.key y) (pairs_front (RowsBefore l) x y rows up c) before) in (
+          let later : (y : R) → Contains rows y → IsBefore l until (l.key y) → ⊥ = λ y c before. not (before_back (l.key x) (l.key y) (pairs_head (RowsBefore l) x y rows up c) before) in (
             [],
             record {
               others = x ∷ rows;

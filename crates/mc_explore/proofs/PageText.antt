@@ -8,7 +8,7 @@ use Rattle.std.specs.Io.KnownBytes.{Appends}
 use Rattle.mc_tree.specs.Tree.{last_key, After}
 use Rattle.mc_explore.specs.Pages.{Listing, IsLawful, TakesPage, ShownIsOut, ShownBegan, FindsBefore, page_at, page_text, last_line, row_line}
 use Rattle.mc_explore.proofs.PageRows.{AreSoFar, cursor_is, next_of, none_so_far, one_more, page_short, page_full, page_with, some_shown}
-use Rattle.mc_output.specs.Text.{AppendsFront}
+use Rattle.mc_output.specs.Text.{AppendsPrefix}
 use Rattle.std.proofs.KnownBytes.{Appends-trans}
 
 -- ---- texts that are out
@@ -18,8 +18,8 @@ Appends_none None = tt
 Appends_none (Some xs) = sym (append-nil xs)
 
 -- A line of the page is out in part, and what stood before it is out.
-front_of : (a b c : Option (List ℕ)) (page text line more : List ℕ) → page ≡ text ++ (line ++ more) → Appends a b text → AppendsFront b c line → AppendsFront a c page
-front_of a b c page text line more e p q =
+prefix_of : (a b c : Option (List ℕ)) (page text line more : List ℕ) → page ≡ text ++ (line ++ more) → Appends a b text → AppendsPrefix b c line → AppendsPrefix a c page
+prefix_of a b c page text line more e p q =
     let m : List ℕ = text ++ take q.0 line in
     let whole : page ≡ m ++ (drop q.0 line ++ more) =
     e ∙ ap (λ z. text ++ (z ++ more)) (sym (take-append-drop q.0 line))
@@ -28,8 +28,8 @@ front_of a b c page text line more e p q =
     (length m, subst (Appends a c) (sym (ap (take (length m)) whole ∙ take_at m (drop q.0 line ++ more) (length m) refl)) (Appends-trans a b c text (take q.0 line) p q.1))
 
 -- Nothing of the next line is out.
-front_none : (a b : Option (List ℕ)) (page text more : List ℕ) → page ≡ text ++ more → Appends a b text → AppendsFront a b page
-front_none a b page text more e p =
+prefix_none : (a b : Option (List ℕ)) (page text more : List ℕ) → page ≡ text ++ more → Appends a b text → AppendsPrefix a b page
+prefix_none a b page text more e p =
     (length text, subst (Appends a b) (sym (ap (take (length text)) e ∙ take_at text more (length text) refl)) p)
 
 -- The last of some rows.
@@ -52,7 +52,7 @@ module _ {S K R C : Type 0} (l : Listing S K R C) where
       ap (λ z. lines z ++ last) rows ∙ ap (λ z. z ++ last) (flat_map-append (row_line l) some (take room left)) ∙ append_assoc (lines some) (lines (take room left)) last
 
 module _ {S K R C : Type 0} (l : Listing S K R C) (laws : IsLawful l) (until : Option K) (old : S) (limit : ℕ) (before : Option (List ℕ)) where
-  -- The lines of these rows are out, and behind the last of them one has come.
+  -- The lines of these rows are out, and after the last of them one has come.
   pub record AreOut (now : S) (room : ℕ) (after : Option (List ℕ)) : Type 0 where
     pub some : List R
     pub so_far : AreSoFar l laws until old limit now room some
@@ -67,12 +67,12 @@ module _ {S K R C : Type 0} (l : Listing S K R C) (until : Option K) (old : S) (
     page_out q =
         record { page = page_with l old some full; taken = taken; out = subst (λ z. Appends before after (lines l some ++ z)) is (Appends-trans before mid after (lines l some) line p q) }
 
-    -- A front of it is.
-    pub page_began : AppendsFront mid after line → ShownBegan l until old limit before after
+    -- A prefix of it is.
+    pub page_began : AppendsPrefix mid after line → ShownBegan l until old limit before after
     page_began q =
         let page : List ℕ = page_text l (page_at l old limit taken.of.shown) in
         let text : page ≡ lines l some ++ (line ++ []) = sym (ap (page_text l) taken.page_is) ∙ ap (λ z. lines l some ++ z) (sym is ∙ sym (append-nil line)) in
-        record { of = taken.of; out = front_of before mid after page (lines l some) line [] text p q }
+        record { of = taken.of; out = prefix_of before mid after page (lines l some) line [] text p q }
 
 pub page_begin : {S K R C : Type 0} (l : Listing S K R C) (laws : IsLawful l) (until : Option K) (old : S) (limit : ℕ) (out : Option (List ℕ))
     → AreOut l laws until old limit out old limit out
@@ -87,7 +87,7 @@ module _ {S K R C : Type 0} {l : Listing S K R C} {laws : IsLawful l} {until : O
       let of = some_shown l laws until old in
       let q = p.so_far of in
       let text = known_text l old limit room p.some q.left.shown of.shown q.shown_are q.room_is in
-      record { of = of; out = front_none before after (page_text l (page_at l old limit of.shown)) (lines l p.some) _ text p.out }
+      record { of = of; out = prefix_none before after (page_text l (page_at l old limit of.shown)) (lines l p.some) _ text p.out }
 
   module _ (k : ℕ) (is : room ≡ suc k) where
     -- One row more.
@@ -103,8 +103,8 @@ module _ {S K R C : Type 0} {l : Listing S K R C} {laws : IsLawful l} {until : O
           out = subst (Appends before more) on (Appends-trans before after more (lines l p.some) line p.out a);
         }
 
-    -- A front of its line is out.
-    pub began_in_row : (new : S) (more : Option (List ℕ)) (row : R) → FindsBefore l until now (Some row) new → AppendsFront after more (row_line l row) → ShownBegan l until old limit before more
+    -- A prefix of its line is out.
+    pub began_in_row : (new : S) (more : Option (List ℕ)) (row : R) → FindsBefore l until now (Some row) new → AppendsPrefix after more (row_line l row) → ShownBegan l until old limit before more
     began_in_row new more row (found, shows, moved) a =
         let of = some_shown l laws until old in
         let q = p.so_far of in
@@ -117,9 +117,9 @@ module _ {S K R C : Type 0} {l : Listing S K R C} {laws : IsLawful l} {until : O
         known_text l old limit room p.some q.left.shown of.shown q.shown_are q.room_is
         ∙ ap (λ z. lines l p.some ++ (z ++ last)) next
         ∙ ap (λ z. lines l p.some ++ z) (append_assoc (row_line l row) others last) in
-        record { of = of; out = front_of before after more page (lines l p.some) (row_line l row) (others ++ last) text p.out a }
+        record { of = of; out = prefix_of before after more page (lines l p.some) (row_line l row) (others ++ last) text p.out a }
 
-    -- Where no further row is shown, the last line says so: it is out, or a front of it.
+    -- Where no further row is shown, the last line says so: it is out, or a prefix of it.
     module _ (new : S) (none : FindsBefore l until now None new) (out : Option (List ℕ)) where
       end_taken : TakesPage l until old new limit (page_with l old p.some false)
       end_taken = page_short l laws until old limit now room p.some p.so_far k is new none
@@ -127,13 +127,13 @@ module _ {S K R C : Type 0} {l : Listing S K R C} {laws : IsLawful l} {until : O
       pub end_out : Appends after out (last_line l None) → ShownIsOut l until old new limit before out
       end_out = page_out l until old limit before new false p.some after out _ end_taken refl p.out
 
-      pub end_began : AppendsFront after out (last_line l None) → ShownBegan l until old limit before out
+      pub end_began : AppendsPrefix after out (last_line l None) → ShownBegan l until old limit before out
       end_began = page_began l until old limit before new false p.some after out _ end_taken refl p.out
 
-  -- Where the page is full, the last line goes on behind its last row: it is out, or a front of it.
+  -- Where the page is full, the last line goes on after its last row: it is out, or a prefix of it.
   module _ (full : room ≡ 0) where
-    pub last_place : 1 ≤ limit → l.position now ≡ After (last_key l.key l.no_key p.some)
-    last_place some = let q = p.so_far (some_shown l laws until old) in p.last_is (omega (arith, some, full, q.room_is))
+    pub last_index : 1 ≤ limit → l.position now ≡ After (last_key l.key l.no_key p.some)
+    last_index some = let q = p.so_far (some_shown l laws until old) in p.last_is (omega (arith, some, full, q.room_is))
 
     module _ (out : Option (List ℕ)) where
       full_taken : TakesPage l until old now limit (page_with l old p.some true)
@@ -148,5 +148,5 @@ module _ {S K R C : Type 0} {l : Listing S K R C} {laws : IsLawful l} {until : O
       pub full_out : Appends after out next → ShownIsOut l until old now limit before out
       full_out = page_out l until old limit before now true p.some after out next full_taken next_is p.out
 
-      pub full_began : AppendsFront after out next → ShownBegan l until old limit before out
+      pub full_began : AppendsPrefix after out next → ShownBegan l until old limit before out
       full_began = page_began l until old limit before now true p.some after out next full_taken next_is p.out

@@ -6,26 +6,26 @@ use Rattle.mc_boot.specs.Boot.{begun, progress}
 use Rattle.mc_boot.specs.Joins.{IsCut}
 use Rattle.mc_boot.specs.Outcome.{Report, ops_of, outcome_of, shown}
 use Rattle.mc_boot.specs.Plan.{PowerOn, again, plan, power_on, powered}
-use Rattle.mc_boot.specs.Rejoin.{IsRejoined, place_of}
+use Rattle.mc_boot.specs.SharedTail.{IsSharedTail, index_in_parent}
 use Rattle.mc_boot.specs.declared.boot.Boot.{Boot}
 use Rattle.mc_boot.specs.declared.outcome.Outcome.{Outcome}
-use Rattle.mc_boot.specs.declared.rejoining.Rejoin.{Rejoin}
+use Rattle.mc_boot.specs.declared.shared_tail.SharedTail.{SharedTail}
 use Rattle.mc_explore.proofs.Columns.{joined_here}
 use Rattle.mc_explore.proofs.Counting.{each_more, placed_at}
 use Rattle.mc_explore.specs.declared.ahead.RowsAhead.{RowsAhead}
-use Rattle.mc_explore.specs.declared.once.Once.{Once}
-use Rattle.mc_explore.specs.declared.once.Told.{Told}
+use Rattle.mc_explore.specs.declared.one_round.OneRound.{OneRound}
+use Rattle.mc_explore.specs.declared.one_round.Summary.{Summary}
 use Rattle.mc_explore.specs.facts.Occurring.{at_zero}
-use Rattle.mc_explore.specs.facts.Telling.{width_is}
-use Rattle.mc_explore.specs.inner.Exploring.{AreBehind, AreFresh, IsAtPhase, IsInStep, IsRowing, IsSpent, StandsFor, last_of, with_last}
+use Rattle.mc_explore.specs.facts.Summaries.{width_is}
+use Rattle.mc_explore.specs.inner.Exploring.{AreBeyond, AreFresh, IsAtPhase, IsInStep, IsRowing, IsSpent, StandsFor, last_of, with_last}
 use Rattle.mc_explore.specs.inner.LastCuts.{AreAtCuts, AreLastCuts, flash_at}
-use Rattle.mc_explore.specs.inner.Once.{IsTold, at_cut, boots, once}
+use Rattle.mc_explore.specs.inner.OneRound.{IsSummary, at_cut, boots, one_round}
 use Rattle.mc_flash.specs.Flash.{Content}
 use Rattle.mc_flash.specs.Geometry.{Geometry}
 use Rattle.mc_trailer.specs.declared.tables.Rules.{Rules}
 use Rattle.mc_tree.specs.Tree.{After, IsNext, IsOver, Position, landed}
 use Rattle.mc_tree.specs.facts.Order.{allowed-push, landed-push, next_after, next_below}
-use Rattle.mc_walk.specs.Kind.{IsAt, Kind}
+use Rattle.mc_walk.specs.TreeModel.{IsAt, TreeModel}
 use Rattle.mc_walk.specs.Walks.{IsLastStep, IsPath, IsThere, Toured, Visits, Walked, origin_of, position_of, root_of}
 use Rattle.mc_walk.specs.declared.frame.Frame.{Frame}
 use Rattle.mc_walk.specs.declared.tour.Phase.{Phase}
@@ -48,11 +48,11 @@ module _ (from : PowerOn) where
   pub kept_more : (of schedule before : List ℕ) (outcomes new : List Outcome) (o : Outcome) (last first : ℕ) → AreAtCuts from of outcomes
       → outcome_of (again from (flash_at from schedule)) ≡ Some (shown o) → schedule ≡ before ++ last ∷ [] → before ≡ of ++ first ∷ [] → first ≡ 0 → length outcomes ≡ last
       → new ≡ outcomes ++ o ∷ [] → AreAtCuts from of new
-  kept_more of schedule before outcomes new o last first are told s b f count is =
+  kept_more of schedule before outcomes new o last first are summary s b f count is =
       let path : schedule ≡ (of ++ 0 ∷ []) ++ last ∷ [] = s ∙ ap (λ l. l ++ last ∷ []) (b ∙ ap (λ n. of ++ n ∷ []) f) in
       let here : outcome_of (again from (at_cut (again from (flash_at from of)) (length outcomes))) ≡ Some (shown o) =
       ap (λ n. outcome_of (again from (at_cut (again from (flash_at from of)) n))) count
-      ∙ sym (ap (λ l. outcome_of (again from (flash_at from l))) path ∙ ap (λ s. outcome_of (again from s)) (flash_twice of last)) ∙ told in
+      ∙ sym (ap (λ l. outcome_of (again from (flash_at from l))) path ∙ ap (λ s. outcome_of (again from s)) (flash_twice of last)) ∙ summary in
       subst (AreAtCuts from of) (sym is) (each_more (λ i p. outcome_of (again from (at_cut (again from (flash_at from of)) i)) ≡ Some (shown p)) outcomes o are here)
 
 -- The last element of a list, and those before it.
@@ -67,14 +67,14 @@ last_alike (x' ∷ xs) (y' ∷ ys) x y e =
     let first : x' ≡ y' = cc in
     cc
 
--- A walk stands behind a cut, of which that is told.
-module _ (w : Walked Once) (f : Frame Boot Told) (told : Told) (of path : List ℕ) (last : ℕ) (step : IsLastStep (once w.branches.rules w.branches.layout) w f)
-    (there : IsThere (once w.branches.rules w.branches.layout) w told) (path_is : path ≡ w.path) (split : path ≡ of ++ last ∷ []) where
+-- A walk stands after a cut, with that summary.
+module _ (w : Walked OneRound) (f : Frame Boot Summary) (summary : Summary) (of path : List ℕ) (last : ℕ) (step : IsLastStep (one_round w.flash_tree.rules w.flash_tree.layout) w f)
+    (there : IsThere (one_round w.flash_tree.rules w.flash_tree.layout) w summary) (path_is : path ≡ w.path) (split : path ≡ of ++ last ∷ []) where
   abbrev r : Rules
-  r = w.branches.rules
+  r = w.flash_tree.rules
 
   abbrev g : Geometry
-  g = w.branches.layout
+  g = w.flash_tree.layout
 
   abbrev before : Content
   before = flash_at (power_on r g (origin_of w.seen)) of
@@ -87,48 +87,48 @@ module _ (w : Walked Once) (f : Frame Boot Told) (told : Told) (of path : List �
       ap (flash_at (power_on r g (origin_of w.seen))) (path_is ∙ step.path_is) ∙ landed-push (boots r g) (origin_of w.seen) step.before f.number
       ∙ ap (λ s. at_cut (power_on r g s) f.number) before_is
 
-  pub last_cuts_there : (outcomes : List Outcome) (x : Rejoin)
-      → ((y : Rules) (v : Content) (whole : Report) → IsCut (power_on y w.seen.geometry v) w.seen.content f.at whole → progress told.boot ≡ begun y (plan (powered y w.seen))
-      → IsRejoined (power_on y w.seen.geometry v) w.seen.content x)
-      → length outcomes ≡ f.parent.outcome.ops → 1 ≤ told.outcome.ops → told.outcome.ops ≤ 2 ^ 31
-      → AreLastCuts (power_on r g (origin_of w.seen)) of path outcomes x told.outcome.ops
+  pub last_cuts_there : (outcomes : List Outcome) (x : SharedTail)
+      → ((y : Rules) (v : Content) (whole : Report) → IsCut (power_on y w.seen.geometry v) w.seen.content f.at whole → progress summary.boot ≡ begun y (plan (powered y w.seen))
+      → IsSharedTail (power_on y w.seen.geometry v) w.seen.content x)
+      → length outcomes ≡ f.parent.outcome.ops → 1 ≤ summary.outcome.ops → summary.outcome.ops ≤ 2 ^ 31
+      → AreLastCuts (power_on r g (origin_of w.seen)) of path outcomes x summary.outcome.ops
   last_cuts_there outcomes x joins whole some small =
-      let at = subst (λ s. IsAt (once r g) s f.number f.at w.seen) before_is step.at_is in
+      let at = subst (λ s. IsAt (one_round r g) s f.number f.at w.seen) before_is step.at_is in
       let early = subst (λ s. f.number < length (ops_of (power_on r g s))) before_is step.some in
-      let parent = subst (λ s. IsTold (power_on r g s) f.parent) before_is step.parent_is in
-      let child : IsTold (power_on r g (flash_at (power_on r g (origin_of w.seen)) path)) told = subst (λ l. IsTold (power_on r g (flash_at (power_on r g (origin_of w.seen)) l)) told)
-      (sym path_is) there.told_is in
-      let rejoined = joined_here r g before f.number f.at told f.parent w.seen x at early parent (subst (λ s. IsTold (power_on r g s) told) here_is child) joins in
+      let parent = subst (λ s. IsSummary (power_on r g s) f.parent) before_is step.parent_is in
+      let child : IsSummary (power_on r g (flash_at (power_on r g (origin_of w.seen)) path)) summary = subst (λ l. IsSummary (power_on r g (flash_at (power_on r g (origin_of w.seen)) l)) summary)
+      (sym path_is) there.summary_is in
+      let with_shared_tail = joined_here r g before f.number f.at summary f.parent w.seen x at early parent (subst (λ s. IsSummary (power_on r g s) summary) here_is child) joins in
       record {
         number = last;
         path_is = split;
-        rejoined = subst (λ u. IsRejoined (power_on r g before) u x) (sym here_is) rejoined;
-        count_is = width_is r g told (flash_at (power_on r g (origin_of w.seen)) path) child;
+        with_shared_tail = subst (λ u. IsSharedTail (power_on r g before) u x) (sym here_is) with_shared_tail;
+        count_is = width_is r g summary (flash_at (power_on r g (origin_of w.seen)) path) child;
         whole = whole ∙ width_is r g f.parent before parent;
         some = some;
         small = small;
       }
 
--- The outcome behind the last of them that is next.
-module _ (x : PowerOn) (of path : List ℕ) (outcomes : List Outcome) (rejoin : Rejoin) (count next : ℕ) (are : AreLastCuts x of path outcomes rejoin count) (lt : next < count) where
+-- The outcome after the last of them that is next.
+module _ (x : PowerOn) (of path : List ℕ) (outcomes : List Outcome) (shared_tail : SharedTail) (count next : ℕ) (are : AreLastCuts x of path outcomes shared_tail count) (lt : next < count) where
   early : next < length (ops_of (again x (flash_at x path)))
   early = omega (arith, lt, are.count_is)
 
-  within_there : place_of rejoin next < length outcomes
-  within_there = omega (arith, are.rejoined.within next early, are.whole)
+  within_there : index_in_parent shared_tail next < length outcomes
+  within_there = omega (arith, are.with_shared_tail.within next early, are.whole)
 
-  pub outcome_there : (found : Option Outcome) → AreAtCuts x of outcomes → found ≡ slice_get outcomes (place_of rejoin next)
+  pub outcome_there : (found : Option Outcome) → AreAtCuts x of outcomes → found ≡ slice_get outcomes (index_in_parent shared_tail next)
       → IsSomeAnd found (λ o. outcome_of (again x (flash_at x (path ++ next ∷ []))) ≡ Some (shown o))
   outcome_there None at is =
-      absurd (elim (slice_get_cases outcomes (place_of rejoin next)).1 [
+      absurd (elim (slice_get_cases outcomes (index_in_parent shared_tail next)).1 [
         | inl w ↦ let e : None ≡ Some w.0 = is ∙ w.2 in cc
         | inr w ↦ omega (arith, w.0, within_there)
       ])
   outcome_there (Some o) at is =
       let r = x.rules in
       let g = x.geometry in
-      let flash = landed-push (boots r g) x.content path next ∙ placed_at r g (flash_at x of) (flash_at x path) rejoin are.rejoined next early in
-      ap (λ s. outcome_of (again x s)) flash ∙ at (place_of rejoin next) o (sym is)
+      let flash = landed-push (boots r g) x.content path next ∙ placed_at r g (flash_at x of) (flash_at x path) shared_tail are.with_shared_tail next early in
+      ap (λ s. outcome_of (again x s)) flash ∙ at (index_in_parent shared_tail next) o (sym is)
 
 -- The next row, by how a tour stands with the last one.
 
@@ -141,59 +141,59 @@ pub some_found : {S R : Type 0} (shown : S → R) (P : R → Type 0) (Q : Option
 some_found shown P Q None is there = absurd is
 some_found shown P Q (Some s) is there = there (shown s) is
 
-module _ {B N A T H E : Type 0} (kind : B → Kind N A T) (holds : B → Content → H → Type 0) (is_ahead : B → Content → H → List ℕ → E → ℕ → Type 0) where
-  -- Where no further path is, the position is behind the last one.
-  pub over_behind : (w : Walked B) (p : Phase) (l : List ℕ) → IsOver (IsPath (kind w.branches) w) (position_of p l) → p ≢ Broken → position_of p l ≡ After l
-  over_behind w Fresh l over works = absurd (over [] (omega arith, tt) tt)
-  over_behind w Going l over works = refl
-  over_behind w Done l over works = refl
-  over_behind w Broken l over works = absurd (works refl)
+module _ {B N A T H E : Type 0} (model : B → TreeModel N A T) (holds : B → Content → H → Type 0) (is_ahead : B → Content → H → List ℕ → E → ℕ → Type 0) where
+  -- Where no further path is, the position is after the last one.
+  pub over_beyond : (w : Walked B) (p : Phase) (l : List ℕ) → IsOver (IsPath (model w.flash_tree) w) (position_of p l) → p ≢ Broken → position_of p l ≡ After l
+  over_beyond w Fresh l over works = absurd (over [] (omega arith, tt) tt)
+  over_beyond w Going l over works = refl
+  over_beyond w Done l over works = refl
+  over_beyond w Broken l over works = absurd (works refl)
 
   -- A row ahead is to come.
-  module _ (t : Toured B) (kept : H) (path : List ℕ) (x : RowsAhead E) (inv : IsRowing kind holds is_ahead t kept path (Some x)) (lt : x.next < x.count) where
+  module _ (t : Toured B) (kept : H) (path : List ℕ) (x : RowsAhead E) (inv : IsRowing model holds is_ahead t kept path (Some x)) (lt : x.next < x.count) where
     works : t.phase ≢ Broken
     works is = omega (arith, inv.spent is, lt)
 
-    pub step : IsInStep kind holds is_ahead t kept path (Some x)
+    pub step : IsInStep model holds is_ahead t kept path (Some x)
     step = inv.sound works
 
     going : t.phase ≡ Going
     going = by t.phase refl
       where
         by : (p : Phase) → t.phase ≡ p → p ≡ Going
-        by Fresh is = let none : Some x ≡ None = subst (IsAtPhase kind holds is_ahead t.walk kept path (Some x)) is step.stands in absurd cc
+        by Fresh is = let none : Some x ≡ None = subst (IsAtPhase model holds is_ahead t.walk kept path (Some x)) is step.stands in absurd cc
         by Going is = refl
-        by Done is = let over = subst (IsAtPhase kind holds is_ahead t.walk kept path (Some x)) is step.stands in absurd (omega (arith, over.1, lt))
+        by Done is = let over = subst (IsAtPhase model holds is_ahead t.walk kept path (Some x)) is step.stands in absurd (omega (arith, over.1, lt))
         by Broken is = absurd (works is)
 
-    there : IsAtPhase kind holds is_ahead t.walk kept path (Some x) Going
-    there = subst (IsAtPhase kind holds is_ahead t.walk kept path (Some x)) going step.stands
+    there : IsAtPhase model holds is_ahead t.walk kept path (Some x) Going
+    there = subst (IsAtPhase model holds is_ahead t.walk kept path (Some x)) going step.stands
 
-    pub ahead_there : AreBehind kind is_ahead t.walk kept path x
+    pub ahead_there : AreBeyond model is_ahead t.walk kept path x
     ahead_there = there.1
 
-    next_is : IsNext (IsPath (kind t.walk.branches) t.walk) (After (with_last path x.next)) (path ++ x.next ∷ [])
+    next_is : IsNext (IsPath (model t.walk.flash_tree) t.walk) (After (with_last path x.next)) (path ++ x.next ∷ [])
     next_is = by x.next (omega (arith, lt, ahead_there.count_is))
       where
-        by : (n : ℕ) → n < (kind t.walk.branches).tree.width (landed (kind t.walk.branches).tree (root_of (kind t.walk.branches) t.walk) path)
-            → IsNext (IsPath (kind t.walk.branches) t.walk) (After (with_last path n)) (path ++ n ∷ [])
+        by : (n : ℕ) → n < (model t.walk.flash_tree).tree.width (landed (model t.walk.flash_tree).tree (root_of (model t.walk.flash_tree) t.walk) path)
+            → IsNext (IsPath (model t.walk.flash_tree) t.walk) (After (with_last path n)) (path ++ n ∷ [])
         by zero lt =
-            let tree = (kind t.walk.branches).tree in
-            let root = root_of (kind t.walk.branches) t.walk in
+            let tree = (model t.walk.flash_tree).tree in
+            let root = root_of (model t.walk.flash_tree) t.walk in
             let deep = ahead_there.deep in
             next_below tree root t.walk.bound path (omega (arith, deep, length-append path (0 ∷ [])), allowed-push tree root path 0 ahead_there.listed.1 lt)
         by (suc n) lt =
-            let tree = (kind t.walk.branches).tree in
-            let root = root_of (kind t.walk.branches) t.walk in
-            let P : ℕ → Type 0 = λ m. IsNext (IsPath (kind t.walk.branches) t.walk) (After (path ++ n ∷ [])) (path ++ m ∷ []) in
+            let tree = (model t.walk.flash_tree).tree in
+            let root = root_of (model t.walk.flash_tree) t.walk in
+            let P : ℕ → Type 0 = λ m. IsNext (IsPath (model t.walk.flash_tree) t.walk) (After (path ++ n ∷ [])) (path ++ m ∷ []) in
             subst P (add-one n) (next_after tree root t.walk.bound path n ahead_there.deep (allowed-push tree root path n ahead_there.listed.1 (omega (arith, lt))) (omega (arith, lt)))
 
     pub last_there : with_last path (x.next + 1) ≡ path ++ x.next ∷ []
     last_there = last_more path x.next
 
-    pub next_ahead : IsNext (IsPath (kind t.walk.branches) t.walk) (position_of t.phase (with_last path x.next)) (with_last path (x.next + 1))
+    pub next_ahead : IsNext (IsPath (model t.walk.flash_tree) t.walk) (position_of t.phase (with_last path x.next)) (with_last path (x.next + 1))
     next_ahead =
-        let P : Phase → List ℕ → Type 0 = λ p l. IsNext (IsPath (kind t.walk.branches) t.walk) (position_of p (with_last path x.next)) l in
+        let P : Phase → List ℕ → Type 0 = λ p l. IsNext (IsPath (model t.walk.flash_tree) t.walk) (position_of p (with_last path x.next)) l in
         subst (λ p. P p (with_last path (x.next + 1))) (sym going) (subst (P Going) (sym last_there) next_is)
 
     pub going_there : t.phase ≡ Going
@@ -202,17 +202,17 @@ module _ {B N A T H E : Type 0} (kind : B → Kind N A T) (holds : B → Content
   -- A walk stands at that path, and these rows are ahead; and what was kept goes over.
   pub record HasArrived (w : Walked B) (kept kept' : H) (path' : List ℕ) (ahead' : Option (RowsAhead E)) : Type 0 where
     pub path_is : path' ≡ w.path
-    pub keeps : holds w.branches (origin_of w.seen) kept → holds w.branches (origin_of w.seen) kept'
-    pub are : IfSome ahead' (AreFresh kind holds is_ahead w kept' path')
+    pub keeps : holds w.flash_tree (origin_of w.seen) kept → holds w.flash_tree (origin_of w.seen) kept'
+    pub are : IfSome ahead' (AreFresh model holds is_ahead w kept' path')
 
   -- No row ahead is to come.
-  module _ (t : Toured B) (kept : H) (path : List ℕ) (ahead : Option (RowsAhead E)) (inv : IsRowing kind holds is_ahead t kept path ahead) (spent : IfSome ahead IsSpent)
+  module _ (t : Toured B) (kept : H) (path : List ℕ) (ahead : Option (RowsAhead E)) (inv : IsRowing model holds is_ahead t kept path ahead) (spent : IfSome ahead IsSpent)
       (works : t.phase ≢ Broken) where
     abbrev here : Position (List ℕ)
     here = position_of t.phase (last_of path ahead)
 
-    stands_by : (p : Phase) (o : Option (RowsAhead E)) → IsAtPhase kind holds is_ahead t.walk kept path o p → IfSome o IsSpent
-        → StandsFor kind (is_some o) (record { walk = t.walk; phase = p }) (position_of p (last_of path o))
+    stands_by : (p : Phase) (o : Option (RowsAhead E)) → IsAtPhase model holds is_ahead t.walk kept path o p → IfSome o IsSpent
+        → StandsFor model (is_some o) (record { walk = t.walk; phase = p }) (position_of p (last_of path o))
     stands_by Fresh None at left = refl
     stands_by Going None at left = ap (λ l. After l) at.0
     stands_by Done None at left = at.0
@@ -222,10 +222,10 @@ module _ {B N A T H E : Type 0} (kind : B → Kind N A T) (holds : B → Content
     stands_by Broken (Some x) at left = refl
     stands_by Going (Some x) at left = by x.next left
       where
-        by : (n : ℕ) → x.count ≤ n → StandsFor kind true (record { walk = t.walk; phase = Going }) (After (with_last path n))
+        by : (n : ℕ) → x.count ≤ n → StandsFor model true (record { walk = t.walk; phase = Going }) (After (with_last path n))
         by zero le = absurd (omega (arith, le, at.1.some))
         by (suc n) le =
-            let width = ap (λ l. (kind t.walk.branches).tree.width (landed (kind t.walk.branches).tree (root_of (kind t.walk.branches) t.walk) l)) at.0 in
+            let width = ap (λ l. (model t.walk.flash_tree).tree.width (landed (model t.walk.flash_tree).tree (root_of (model t.walk.flash_tree) t.walk) l)) at.0 in
             record {
               number = n;
               position_is = ap (λ l. After (l ++ n ∷ [])) at.0;
@@ -233,63 +233,63 @@ module _ {B N A T H E : Type 0} (kind : B → Kind N A T) (holds : B → Content
               deep = omega (arith, at.1.deep, ap length at.0);
             }
 
-    pub stands_for : (b : Bool) → b ≡ is_some ahead → StandsFor kind b t here
-    stands_for b is = subst (λ z. StandsFor kind z t here) (sym is) (stands_by t.phase ahead (inv.sound works).stands spent)
+    pub stands_for : (b : Bool) → b ≡ is_some ahead → StandsFor model b t here
+    stands_for b is = subst (λ z. StandsFor model z t here) (sym is) (stands_by t.phase ahead (inv.sound works).stands spent)
 
     -- The tour went to the next node.
-    module _ (new : Toured B) (v : Visits (kind t.walk.branches) t here true new) where
+    module _ (new : Toured B) (v : Visits (model t.walk.flash_tree) t here true new) where
       pub stands_next : new.walk.stands ≡ true
       stands_next = v.3
 
       pub few_next : new.walk.bound ≤ 16
-      few_next = omega (arith, (inv.sound works).few, v.1.bound)
+      few_next = omega (arith, (inv.sound works).at_most, v.1.bound)
 
-      pub listed_there : IsPath (kind new.walk.branches) new.walk new.walk.path
-      listed_there = path_back kind new.walk t.walk new.walk.path (same_back kind t.walk new.walk v.1) v.0.listed
+      pub listed_there : IsPath (model new.walk.flash_tree) new.walk new.walk.path
+      listed_there = path_back model new.walk t.walk new.walk.path (same_back model t.walk new.walk v.1) v.0.listed
 
       -- What was kept serves there.
-      kept_there : holds new.walk.branches (origin_of new.walk.seen) kept
+      kept_there : holds new.walk.flash_tree (origin_of new.walk.seen) kept
       kept_there =
-          subst (λ b. holds b (origin_of new.walk.seen) kept) (sym v.1.branches) (subst (λ c. holds t.walk.branches c kept) (sym v.1.origin) (inv.sound works).holds_there)
+          subst (λ b. holds b (origin_of new.walk.seen) kept) (sym v.1.flash_tree) (subst (λ c. holds t.walk.flash_tree c kept) (sym v.1.origin) (inv.sound works).holds_there)
 
       -- The rows ahead of that node.
       module _ (kept' : H) (path' : List ℕ) (ahead' : Option (RowsAhead E)) (a : HasArrived new.walk kept kept' path' ahead') where
-        behind : (o : Option (RowsAhead E)) → IfSome o (AreFresh kind holds is_ahead new.walk kept' path') → IfSome o (AreBehind kind is_ahead new.walk kept' path')
-        behind None are = tt
-        behind (Some x) are = are.behind
+        beyond : (o : Option (RowsAhead E)) → IfSome o (AreFresh model holds is_ahead new.walk kept' path') → IfSome o (AreBeyond model is_ahead new.walk kept' path')
+        beyond None are = tt
+        beyond (Some x) are = are.beyond
 
-        none_taken : (o : Option (RowsAhead E)) → IfSome o (AreFresh kind holds is_ahead new.walk kept' path') → last_of path' o ≡ path'
+        none_taken : (o : Option (RowsAhead E)) → IfSome o (AreFresh model holds is_ahead new.walk kept' path') → last_of path' o ≡ path'
         none_taken None are = refl
         none_taken (Some x) are = ap (with_last path') are.fresh
 
         pub last_next : last_of path' ahead' ≡ new.walk.path
         last_next = none_taken ahead' a.are ∙ a.path_is
 
-        pub path_next : IsNext (IsPath (kind t.walk.branches) t.walk) here (last_of path' ahead')
-        path_next = subst (IsNext (IsPath (kind t.walk.branches) t.walk) here) (sym last_next) v.0
+        pub path_next : IsNext (IsPath (model t.walk.flash_tree) t.walk) here (last_of path' ahead')
+        path_next = subst (IsNext (IsPath (model t.walk.flash_tree) t.walk) here) (sym last_next) v.0
 
-        pub rowing_next : IsRowing kind holds is_ahead new kept' path' ahead'
+        pub rowing_next : IsRowing model holds is_ahead new kept' path' ahead'
         rowing_next = record {
           spent = λ is. absurd (let e : Broken ≡ Going = sym is ∙ v.2 in cc);
           sound = λ w. record {
-            few = few_next;
+            at_most = few_next;
             holds_there = a.keeps kept_there;
-            stands = subst (IsAtPhase kind holds is_ahead new.walk kept' path' ahead') (sym v.2) (a.path_is, behind ahead' a.are);
+            stands = subst (IsAtPhase model holds is_ahead new.walk kept' path' ahead') (sym v.2) (a.path_is, beyond ahead' a.are);
           };
         }
 
     -- Or there is none.
-    module _ (new : Toured B) (v : Visits (kind t.walk.branches) t here false new) where
-      pub rowing_over : IsRowing kind holds is_ahead new kept path ahead
+    module _ (new : Toured B) (v : Visits (model t.walk.flash_tree) t here false new) where
+      pub rowing_over : IsRowing model holds is_ahead new kept path ahead
       rowing_over = record {
         spent = λ is. spent;
         sound = λ w. record {
-          few = omega (arith, (inv.sound works).few, v.2.bound);
-          holds_there = subst (λ b. holds b (origin_of new.walk.seen) kept) (sym v.2.branches)
-              (subst (λ c. holds t.walk.branches c kept) (sym v.2.origin) (inv.sound works).holds_there);
-          stands = subst (IsAtPhase kind holds is_ahead new.walk kept path ahead) (sym v.3) (
-            over_there kind t.walk new.walk (After (last_of path ahead)) v.2
-                (subst (IsOver (IsPath (kind t.walk.branches) t.walk)) (over_behind t.walk t.phase (last_of path ahead) v.0 works) v.0),
+          at_most = omega (arith, (inv.sound works).at_most, v.2.bound);
+          holds_there = subst (λ b. holds b (origin_of new.walk.seen) kept) (sym v.2.flash_tree)
+              (subst (λ c. holds t.walk.flash_tree c kept) (sym v.2.origin) (inv.sound works).holds_there);
+          stands = subst (IsAtPhase model holds is_ahead new.walk kept path ahead) (sym v.3) (
+            over_there model t.walk new.walk (After (last_of path ahead)) v.2
+                (subst (IsOver (IsPath (model t.walk.flash_tree) t.walk)) (over_beyond t.walk t.phase (last_of path ahead) v.0 works) v.0),
             spent,
           );
         };

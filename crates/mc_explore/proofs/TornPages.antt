@@ -1,7 +1,5 @@
 -- The whole row lines of a page of which only a beginning is there.
-use Rattle.std.specs.Prelude.{◌≡◌, ◌⊎◌, ℕ, suc, ◌+◌, ◌-◌, ◌<◌, ◌≤◌, ◌^◌, List, [], ◌∷◌, ◌++◌, length, take, map, flat_map, codes, decimal, All, Contains, Option, Some, None, Result, Ok, Err}
-use Rattle.std.specs.Prelude.{IfNone}
-use Rattle.std.specs.Prelude.{refl}
+use Rattle.std.specs.Prelude.{◌≡◌, ◌⊎◌, ℕ, suc, ◌+◌, ◌-◌, ◌<◌, ◌≤◌, ◌^◌, List, [], ◌∷◌, ◌++◌, length, take, map, flat_map, codes, decimal, All, Contains, Option, Some, None, Result, Ok, Err, IfNone, refl}
 use Rattle.std.specs.Result.{result_ok}
 use Rattle.std.specs.Str.Iter.{LacksByte}
 use Rattle.std.proofs.Common.{inl, inr, arith, sym, ap, subst, ◌∙◌, append_assoc, append-nil, length-append}
@@ -14,16 +12,16 @@ use Rattle.mc_flash.specs.Geometry.{IsLayout}
 use Rattle.mc_flash.specs.facts.Usage.{few_operations}
 use Rattle.mc_trailer.specs.Tables.{type_text}
 use Rattle.mc_tree.specs.Tree.{Allowed}
-use Rattle.mc_tree.specs.facts.Lists.{at_front, behind}
+use Rattle.mc_tree.specs.facts.Lists.{at_head, in_rest}
 use Rattle.mc_boot.specs.Outcome.{ops_of, result_text}
-use Rattle.mc_explore.specs.inner.Once.{at_cut, boots}
+use Rattle.mc_explore.specs.inner.OneRound.{at_cut, boots}
 use Rattle.mc_start.specs.Cursor.{cursor_text}
 use Rattle.mc_explore.specs.Page.{row_line, last_line}
-use Rattle.mc_explore.specs.Rows.{IsRest, row_text, slot_text, State, Told, moved_to, schedules}
+use Rattle.mc_explore.specs.Rows.{IsRest, row_text, slot_text, State, ShownRow, moved_to, schedules}
 use Rattle.mc_start.specs.Start.{IsSchedule, schedule_text}
 use Rattle.mc_explore.specs.Survey.{AreLines, IsRowLine, AreRowLines, HasRows, IsOfLast, IsLastRow, Continues}
 use Rattle.mc_start.specs.declared.cursor.Cursor.{Cursor}
-use Rattle.mc_explore.proofs.Bytes.{IsBetween, NoFeed, literal, and, feedless_front, schedule_between, lacks_feed, lacks_literal, row_feedless, cursor_feedless, no_space}
+use Rattle.mc_explore.proofs.Bytes.{IsBetween, NoFeed, literal, and, feedless_prefix, schedule_between, lacks_feed, lacks_literal, row_feedless, cursor_feedless, no_space}
 use Rattle.mc_explore.proofs.Walks.{few_ops}
 use Rattle.mc_explore.specs.facts.Listed.{schedules_are_lawful}
 use Rattle.mc_explore.specs.facts.Listings.{rest_tail}
@@ -174,17 +172,17 @@ small_cuts x (c ∷ cs) valid a =
     let first : c < length (ops_of x) = a.0 in
     All-cons (λ d. d < 2 ^ 32) c cs (omega (arith, first, few_ops x valid, few_operations x.rules.grain x.geometry valid)) (small_cuts (again x (at_cut x c)) cs valid a.1)
 
--- The schedules of rows can be told.
-abbrev pub AreTold : List Told → Type 0
-AreTold rows = (row : Told) → Contains rows row → IsSchedule row.schedule
+-- The schedules of rows can be printed.
+abbrev pub AreShown : List ShownRow → Type 0
+AreShown rows = (row : ShownRow) → Contains rows row → IsSchedule row.schedule
 
-pub rest_told : (state : State) (rows : List Told) → IsLayout state.start.geometry → state.bound ≤ 16 → IsRest state rows → AreTold rows
-rest_told state rows valid few rest row is =
+pub rest_shown : (state : State) (rows : List ShownRow) → IsLayout state.start.geometry → state.bound ≤ 16 → IsRest state rows → AreShown rows
+rest_shown state rows valid at_most rest row is =
     let start = state.start in
     let path = path_of start state.bound row.schedule (rest.only row is).0.listed in
-    record { few = omega (arith, path.0, few); small = small_cuts start row.schedule valid path.1 }
+    record { at_most = omega (arith, path.0, at_most); small = small_cuts start row.schedule valid path.1 }
 
--- A line is torn within it, or behind it.
+-- A line is torn within it, or after it.
 torn_line : (line more : List ℕ) (n : ℕ) → (take n (line ++ 10 ∷ more) ≡ take n line) ⊎ ((m : ℕ) × (take n (line ++ 10 ∷ more) ≡ line ++ 10 ∷ take m more))
 torn_line line more n = elim (cases_lt (length line) n) [
   | inl past ↦
@@ -195,15 +193,15 @@ torn_line line more n = elim (cases_lt (length line) n) [
 ]
 
 -- The rows of a page that are whole in a torn one.
-pub record IsTorn (page : List Told) (torn : List ℕ) : Type 0 where
-  pub whole : List Told
-  pub left : List Told
+pub record IsTorn (page : List ShownRow) (torn : List ℕ) : Type 0 where
+  pub whole : List ShownRow
+  pub left : List ShownRow
   pub parted : page ≡ whole ++ left
   pub rows : HasRows torn (map row_text whole)
-  pub short : whole ≡ [] → (row : Told) (more : List Told) → page ≡ row ∷ more → length torn < length (row_line row)
+  pub short : whole ≡ [] → (row : ShownRow) (more : List ShownRow) → page ≡ row ∷ more → length torn < length (row_line row)
 
 within_line : (line : List ℕ) (n : ℕ) → NoFeed line → HasRows (take n line) []
-within_line line n none = record { lines = []; whole = lacks_feed (take n line) (feedless_front n line none); rows = refl }
+within_line line n none = record { lines = []; whole = lacks_feed (take n line) (feedless_prefix n line none); rows = refl }
 
 row_on : (line rest l : List ℕ) (found : List (List ℕ)) → NoFeed line → IsRowLine l line → HasRows rest found → HasRows (line ++ 10 ∷ rest) (line ∷ found)
 row_on line rest l found none row h = record { lines = line ∷ h.lines; whole = (rest, refl, lacks_feed line none, h.whole); rows = inl (l, found, row, refl, h.rows) }
@@ -212,12 +210,12 @@ other_on : (line rest : List ℕ) (found : List (List ℕ)) → NoFeed line → 
 other_on line rest found none not h = record { lines = line ∷ h.lines; whole = (rest, refl, lacks_feed line none, h.whole); rows = inr (not, h.rows) }
 
 -- The text of a row is a row line of its schedule.
-row_line_is : (row : Told) → IsSchedule row.schedule → IsRowLine row.schedule (row_text row)
+row_line_is : (row : ShownRow) → IsSchedule row.schedule → IsRowLine row.schedule (row_text row)
 row_line_is row ok =
     let o = row.outcome in
-    let front : List ℕ = result_text o.result ++ (codes " " ++ (type_text o.kind ++ (codes " " ++ decimal o.ops))) in
+    let prefix : List ℕ = result_text o.result ++ (codes " " ++ (type_text o.kind ++ (codes " " ++ decimal o.ops))) in
     let back : List ℕ = codes " " ++ (slot_text o.primary ++ (codes " " ++ (slot_text o.secondary ++ (codes " " ++ type_text o.next)))) in
-    record { schedule = ok; rest = front ++ back; parts = append_assoc (schedule_text row.schedule) (codes " " ++ front) back; first_space = no_space row.schedule }
+    record { schedule = ok; rest = prefix ++ back; parts = append_assoc (schedule_text row.schedule) (codes " " ++ prefix) back; first_space = no_space row.schedule }
 
 -- The last line of a page, without its line feed, is none.
 closing : Option Cursor → List ℕ
@@ -244,8 +242,8 @@ unfolding closing
 closing_no_row (Some cursor) l row = no_word l (before_space (codes "next " ++ cursor_text cursor) (codes "next") (cursor_text cursor) l (lacks_literal 32 (codes "next") refl) refl row)
 closing_no_row None l row = spaceless (codes "end") l (lacks_literal 32 (codes "end") refl) row
 
-torn_page : (page : List Told) (o : Option Cursor) (n : ℕ) → AreTold page → IsTorn page (take n (flat_map row_line page ++ (closing o ++ 10 ∷ [])))
-torn_page [] o n told = elim (torn_line (closing o) [] n) [
+torn_page : (page : List ShownRow) (o : Option Cursor) (n : ℕ) → AreShown page → IsTorn page (take n (flat_map row_line page ++ (closing o ++ 10 ∷ [])))
+torn_page [] o n summary = elim (torn_line (closing o) [] n) [
   | inl e ↦ none (take n (closing o ++ 10 ∷ [])) (subst (λ t. HasRows t []) (sym e) (within_line (closing o) n (closing_feedless o)))
   | inr (m, e) ↦ none (take n (closing o ++ 10 ∷ [])) (subst (λ t. HasRows t []) (sym e) (other_on (closing o) (take m []) [] (closing_feedless o) (closing_no_row o)
       (within_line [] m (literal [] refl))))
@@ -253,18 +251,18 @@ torn_page [] o n told = elim (torn_line (closing o) [] n) [
   where
     none : (torn : List ℕ) → HasRows torn [] → IsTorn [] torn
     none torn rows = record { whole = []; left = []; parted = refl; rows = rows; short = λ _ row more e. absurd cc }
-torn_page (row ∷ page) o n told =
+torn_page (row ∷ page) o n summary =
     let line = row_text row in
     let more : List ℕ = flat_map row_line page ++ (closing o ++ 10 ∷ []) in
     let e0 : flat_map row_line (row ∷ page) ++ (closing o ++ 10 ∷ []) ≡ line ++ 10 ∷ more =
     append_assoc (row_line row) (flat_map row_line page) (closing o ++ 10 ∷ []) ∙ append_assoc line (10 ∷ []) more in
-    let ok = told row (at_front row page) in
+    let ok = summary row (at_head row page) in
     subst (λ t. IsTorn (row ∷ page) (take n t)) (sym e0) (elim (torn_line line more n) [
       | inl e ↦ subst (IsTorn (row ∷ page)) (sym e) (within row page n)
-      | inr (m, e) ↦ subst (IsTorn (row ∷ page)) (sym e) (past row page (take m more) ok (torn_page page o m (λ x is. told x (behind row x page is))))
+      | inr (m, e) ↦ subst (IsTorn (row ∷ page)) (sym e) (past row page (take m more) ok (torn_page page o m (λ x is. summary x (in_rest row x page is))))
     ])
   where
-    within : (row : Told) (page : List Told) (n : ℕ) → IsTorn (row ∷ page) (take n (row_text row))
+    within : (row : ShownRow) (page : List ShownRow) (n : ℕ) → IsTorn (row ∷ page) (take n (row_text row))
     within row page n = record {
       whole = [];
       left = row ∷ page;
@@ -272,10 +270,10 @@ torn_page (row ∷ page) o n told =
       rows = within_line (row_text row) n (row_feedless row);
       short = λ _ first others e.
           let same : row ≡ first = cc in
-          subst (λ (x : Told). length (take n (row_text row)) < length (row_line x)) same (omega (arith, length-take n (row_text row), length-append (row_text row) (10 ∷ [])));
+          subst (λ (x : ShownRow). length (take n (row_text row)) < length (row_line x)) same (omega (arith, length-take n (row_text row), length-append (row_text row) (10 ∷ [])));
     }
 
-    past : (row : Told) (page : List Told) (rest : List ℕ) → IsSchedule row.schedule → IsTorn page rest → IsTorn (row ∷ page) (row_text row ++ 10 ∷ rest)
+    past : (row : ShownRow) (page : List ShownRow) (rest : List ℕ) → IsSchedule row.schedule → IsTorn page rest → IsTorn (row ∷ page) (row_text row ++ 10 ∷ rest)
     past row page rest ok t = record {
       whole = row ∷ t.whole;
       left = t.left;
@@ -286,38 +284,38 @@ torn_page (row ∷ page) o n told =
 
 -- ---- and is continued
 
-last_whole : (whole : List Told) (front : List (List ℕ)) (line : List ℕ) → map row_text whole ≡ front ++ line ∷ []
-    → (w : List Told) × (row : Told) × (whole ≡ w ++ row ∷ []) × (row_text row ≡ line)
+last_whole : (whole : List ShownRow) (prefix : List (List ℕ)) (line : List ℕ) → map row_text whole ≡ prefix ++ line ∷ []
+    → (w : List ShownRow) × (row : ShownRow) × (whole ≡ w ++ row ∷ []) × (row_text row ≡ line)
 last_whole [] [] line e = absurd cc
-last_whole [] (x ∷ front) line e = absurd cc
+last_whole [] (x ∷ prefix) line e = absurd cc
 last_whole (row ∷ []) [] line e = ([], row, refl, cc)
 last_whole (row ∷ other ∷ rows) [] line e = absurd cc
-last_whole (row ∷ rows) (x ∷ front) line e =
-    let q = last_whole rows front line cc in
+last_whole (row ∷ rows) (x ∷ prefix) line e =
+    let q = last_whole rows prefix line cc in
     (row ∷ q.0, q.1, ap (λ z. row ∷ z) q.2, q.3)
 
-rest_after : (state : State) (w : List Told) (row : Told) (later : List Told) → IsRest state (w ++ row ∷ later) → IsRest (moved_to state row.schedule) later
+rest_after : (state : State) (w : List ShownRow) (row : ShownRow) (later : List ShownRow) → IsRest state (w ++ row ∷ later) → IsRest (moved_to state row.schedule) later
 rest_after state [] row later r = rest_tail schedules schedules_are_lawful state row later r
 rest_after state (x ∷ w) row later r = rest_after (moved_to state x.schedule) w row later (rest_tail schedules schedules_are_lawful state x (w ++ row ∷ later) r)
 
-module _ (state : State) (rows page others : List Told) (joined : rows ≡ page ++ others) (told : AreTold rows) (rest : IsRest state rows) where
+module _ (state : State) (rows page others : List ShownRow) (joined : rows ≡ page ++ others) (summary : AreShown rows) (rest : IsRest state rows) where
   goes_on : (torn : List ℕ) (found : List (List ℕ)) (last : Option (List ℕ)) → HasRows torn found → IsOfLast found last → IsTorn page torn → Continues state rows page torn last
   goes_on torn found None has ends t =
       let none : map row_text t.whole ≡ [] = same_rows torn (map row_text t.whole) found t.rows has ∙ ends in
       (subst (HasRows torn) ends has, t.short (nothing t.whole none))
     where
-      nothing : (whole : List Told) → map row_text whole ≡ [] → whole ≡ []
+      nothing : (whole : List ShownRow) → map row_text whole ≡ [] → whole ≡ []
       nothing [] e = refl
       nothing (x ∷ xs) e = absurd cc
   goes_on torn found (Some l) has (before, line, is, row_is) t =
       let q = last_whole t.whole before line (same_rows torn (map row_text t.whole) found t.rows has ∙ is) in
       let row = q.1 in
-      let front : List Told = q.0 ++ row ∷ [] in
-      let rows_are : rows ≡ (front ++ t.left) ++ others = joined ∙ ap (λ z. z ++ others) (t.parted ∙ ap (λ z. z ++ t.left) q.2) in
-      let in_page = Contains-append_left front t.left row (Contains-append_right q.0 (row ∷ []) row (at_front row [])) in
-      let in_rows : Contains rows row = subst (λ z. Contains z row) (sym rows_are) (Contains-append_left (front ++ t.left) others row in_page) in
-      let same : row.schedule ≡ l = same_row line row.schedule l (subst (IsRowLine row.schedule) q.3 (row_line_is row (told row in_rows))) row_is in
-      let later : List Told = t.left ++ others in
+      let prefix : List ShownRow = q.0 ++ row ∷ [] in
+      let rows_are : rows ≡ (prefix ++ t.left) ++ others = joined ∙ ap (λ z. z ++ others) (t.parted ∙ ap (λ z. z ++ t.left) q.2) in
+      let in_page = Contains-append_left prefix t.left row (Contains-append_right q.0 (row ∷ []) row (at_head row [])) in
+      let in_rows : Contains rows row = subst (λ z. Contains z row) (sym rows_are) (Contains-append_left (prefix ++ t.left) others row in_page) in
+      let same : row.schedule ≡ l = same_row line row.schedule l (subst (IsRowLine row.schedule) q.3 (row_line_is row (summary row in_rows))) row_is in
+      let later : List ShownRow = t.left ++ others in
       let whole_is : t.whole ++ later ≡ rows = sym (joined ∙ ap (λ z. z ++ others) t.parted ∙ append_assoc t.whole t.left others) in
       let parted : rows ≡ q.0 ++ row ∷ later = sym whole_is ∙ ap (λ z. z ++ later) q.2 ∙ append_assoc q.0 (row ∷ []) later in
       record {
@@ -331,6 +329,6 @@ module _ (state : State) (rows page others : List Told) (joined : rows ≡ page 
   pub continues : (torn : List ℕ) (n : ℕ) (o : Option Cursor) (last : Option (List ℕ)) → torn ≡ take n (flat_map row_line page ++ last_line o) → IsLastRow torn last
       → Continues state rows page torn last
   continues torn n o last is exact =
-      let told_page : AreTold page = λ row c. told row (subst (λ z. Contains z row) (sym joined) (Contains-append_left page others row c)) in
+      let shown_page : AreShown page = λ row c. summary row (subst (λ z. Contains z row) (sym joined) (Contains-append_left page others row c)) in
       let text : torn ≡ take n (flat_map row_line page ++ (closing o ++ 10 ∷ [])) = is ∙ ap (λ z. take n (flat_map row_line page ++ z)) (closing_line o) in
-      goes_on torn exact.0 last exact.1 exact.2 (subst (IsTorn page) (sym text) (torn_page page o n told_page))
+      goes_on torn exact.0 last exact.1 exact.2 (subst (IsTorn page) (sym text) (torn_page page o n shown_page))

@@ -5,35 +5,35 @@ use Rattle.mc_tree.specs.Tree as tree
 use Rattle.mc_tree.specs.Tree.{After, IsNextIn, IsOverIn, IsPastIn, Position}
 use Rattle.mc_flash.specs.Flash.{Content}
 use Rattle.mc_flash.specs.Usage.{Limits}
-use Rattle.mc_walk.specs.Kind.{Kind}
+use Rattle.mc_walk.specs.TreeModel.{TreeModel}
 use Rattle.mc_walk.specs.Walks.{position_of, Walked, IsPath, IsSame, origin_of}
 use Rattle.mc_walk.specs.declared.tour.Phase.{Phase}
 use Rattle.mc_walk.specs.declared.tour.Phase.TheVariants as phases
 use Rattle.mc_boot.specs.Plan.{PowerOn}
-use Rattle.mc_explore.specs.inner.Exploring.{AreKeys, FindsRow, IsBehind, IsOurs, IsSound, Rowed, begun_of, state_of}
+use Rattle.mc_explore.specs.inner.Exploring.{AreKeys, FindsRow, IsBeyond, IsOurs, IsSound, Rowed, begun_of, state_of}
 use Rattle.mc_explore.specs.Subject as states
 use Rattle.mc_explore.specs.Subject.{Finds, moved_to, Subject, IsRowAt}
 
-module _ {B C K R U N A T : Type 0} (x : Subject C K R U) (kind : B → Kind N A T) (begins : B → Content → PowerOn) (choice : B → C) (key_of : B → Content → List ℕ → K)
-    (keys : (b : B) (c : Content) → AreKeys x (kind b).tree ((kind b).root c) (begins b c) (choice b) (key_of b c)) where
+module _ {B C K R U N A T : Type 0} (x : Subject C K R U) (model : B → TreeModel N A T) (begins : B → Content → PowerOn) (choice : B → C) (key_of : B → Content → List ℕ → K)
+    (keys : (b : B) (c : Content) → AreKeys x (model b).tree ((model b).root c) (begins b c) (choice b) (key_of b c)) where
   -- ---- the keys in their order
 
-  module _ (b : B) (c : Content) (bound : ℕ) (path : List ℕ) (m : tree.IsMember (kind b).tree ((kind b).root c) bound path) where
-    past_there : (p : Phase) (l : List ℕ) → tree.IsMember (kind b).tree ((kind b).root c) bound l → IsPastIn x.Before (position_of p (key_of b c path)) (key_of b c l)
+  module _ (b : B) (c : Content) (bound : ℕ) (path : List ℕ) (m : tree.IsMember (model b).tree ((model b).root c) bound path) where
+    past_there : (p : Phase) (l : List ℕ) → tree.IsMember (model b).tree ((model b).root c) bound l → IsPastIn x.Before (position_of p (key_of b c path)) (key_of b c l)
         → tree.IsPast (position_of p path) l
     past_there phases.Fresh l n past = tt
     past_there phases.Going l n past = ((keys b c).order bound path l m n).0 past
     past_there phases.Done l n past = ((keys b c).order bound path l m n).0 past
     past_there phases.Broken l n past = absurd past
 
-    past_here : (p : Phase) (l : List ℕ) → tree.IsMember (kind b).tree ((kind b).root c) bound l → tree.IsPast (position_of p path) l
+    past_here : (p : Phase) (l : List ℕ) → tree.IsMember (model b).tree ((model b).root c) bound l → tree.IsPast (position_of p path) l
         → IsPastIn x.Before (position_of p (key_of b c path)) (key_of b c l)
     past_here phases.Fresh l n past = tt
     past_here phases.Going l n past = ((keys b c).order bound path l m n).1 past
     past_here phases.Done l n past = ((keys b c).order bound path l m n).1 past
     past_here phases.Broken l n past = absurd past
 
-    pub next_key : (p : Phase) (l : List ℕ) → tree.IsNext (tree.IsMember (kind b).tree ((kind b).root c) bound) (position_of p path) l
+    pub next_key : (p : Phase) (l : List ℕ) → tree.IsNext (tree.IsMember (model b).tree ((model b).root c) bound) (position_of p path) l
         → IsNextIn x.Before (x.IsListed (begins b c) (choice b) bound) (position_of p (key_of b c path)) (key_of b c l)
     next_key p l n = record {
       listed = (keys b c).listed bound l n.listed;
@@ -44,7 +44,7 @@ module _ {B C K R U N A T : Type 0} (x : Subject C K R U) (kind : B → Kind N A
           (((keys b c).order bound there.0 l there.1 n.listed).0 (subst (λ z. x.Before z (key_of b c l)) (sym there.2) before));
     }
 
-    pub over_key : (p : Phase) → tree.IsOver (tree.IsMember (kind b).tree ((kind b).root c) bound) (position_of p path)
+    pub over_key : (p : Phase) → tree.IsOver (tree.IsMember (model b).tree ((model b).root c) bound) (position_of p path)
         → IsOverIn x.Before (x.IsListed (begins b c) (choice b) bound) (position_of p (key_of b c path))
     over_key p over = λ k listed past.
         let there = (keys b c).path_of bound k listed in
@@ -53,41 +53,41 @@ module _ {B C K R U N A T : Type 0} (x : Subject C K R U) (kind : B → Kind N A
   -- ---- the same walk, elsewhere
 
   module _ (old new : Walked B) (s : IsSame old new) where
-    pub carried : (P : B → ℕ → Content → Type 0) → P old.branches old.bound (origin_of old.seen) → P new.branches new.bound (origin_of new.seen)
+    pub carried : (P : B → ℕ → Content → Type 0) → P old.flash_tree old.bound (origin_of old.seen) → P new.flash_tree new.bound (origin_of new.seen)
     carried P p =
-        subst (λ b. P b new.bound (origin_of new.seen)) (sym s.branches) (subst (λ n. P old.branches n (origin_of new.seen)) (sym s.bound) (subst (P old.branches old.bound) (sym s.origin) p))
+        subst (λ b. P b new.bound (origin_of new.seen)) (sym s.flash_tree) (subst (λ n. P old.flash_tree n (origin_of new.seen)) (sym s.bound) (subst (P old.flash_tree old.bound) (sym s.origin) p))
 
     pub same_begun : begun_of begins new ≡ begun_of begins old
-    same_begun = cc (s.branches, s.origin)
+    same_begun = cc (s.flash_tree, s.origin)
 
-    pub same_key : (l : List ℕ) → key_of new.branches (origin_of new.seen) l ≡ key_of old.branches (origin_of old.seen) l
-    same_key l = cc (s.branches, s.origin)
+    pub same_key : (l : List ℕ) → key_of new.flash_tree (origin_of new.seen) l ≡ key_of old.flash_tree (origin_of old.seen) l
+    same_key l = cc (s.flash_tree, s.origin)
 
     pub same_state : (position : Position K) → new.seen.usage.failed ≡ old.seen.usage.failed → state_of begins choice new position ≡ state_of begins choice old position
-    same_state position calm = cc (s.branches, s.origin, s.bound, calm)
+    same_state position no_allocation_failed = cc (s.flash_tree, s.origin, s.bound, no_allocation_failed)
 
     pub ours_there : (counted : Bool) (start : PowerOn) (chosen : C) (bound : ℕ) → IsOurs begins choice counted start chosen bound old → new.seen.usage.limits ≡ old.seen.usage.limits
         → IsOurs begins choice counted start chosen bound new
     ours_there counted start chosen bound ours limits = record {
       start_is = same_begun ∙ ours.start_is;
-      choice_is = ap choice s.branches ∙ ours.choice_is;
+      choice_is = ap choice s.flash_tree ∙ ours.choice_is;
       bound_is = s.bound ∙ ours.bound_is;
-      few = ours.few;
+      at_most = ours.at_most;
       counted_is = ap (λ (y : Limits). y.counted) limits ∙ ours.counted_is;
     }
 
-    -- A row that a walk tells of its path is one of where it began.
-    pub row_back : (path : List ℕ) (row : R) → IsRowAt x begins choice key_of new.branches (origin_of new.seen) path row → IsRowAt x begins choice key_of old.branches (origin_of old.seen) path row
+    -- A row that a walk gives of its path is one of where it began.
+    pub row_back : (path : List ℕ) (row : R) → IsRowAt x begins choice key_of new.flash_tree (origin_of new.seen) path row → IsRowAt x begins choice key_of old.flash_tree (origin_of old.seen) path row
     row_back path row at =
-        subst (λ c. IsRowAt x begins choice key_of old.branches c path row) s.origin (subst (λ b. IsRowAt x begins choice key_of b (origin_of new.seen) path row) s.branches at)
+        subst (λ c. IsRowAt x begins choice key_of old.flash_tree c path row) s.origin (subst (λ b. IsRowAt x begins choice key_of b (origin_of new.seen) path row) s.flash_tree at)
 
   -- ---- what is found
 
   -- The rows of a sound explorer found the next one, or there is none; and what they count then.
   pub record Found (counted : Bool) (start : PowerOn) (chosen : C) (bound : ℕ) (old new : Rowed B) (last : K) (found : Option R) : Type 0 where
     pub works : old.phase ≢ phases.Broken
-    pub sound : IsSound kind begins choice key_of counted start chosen bound old last
-    pub finds : FindsRow x kind begins choice key_of old found new
+    pub sound : IsSound model begins choice key_of counted start chosen bound old last
+    pub finds : FindsRow x model begins choice key_of old found new
     pub limits : new.walk.seen.usage.limits ≡ old.walk.seen.usage.limits
     pub failed : new.walk.seen.usage.failed ≡ old.walk.seen.usage.failed
 
@@ -100,16 +100,16 @@ module _ {B C K R U N A T : Type 0} (x : Subject C K R U) (kind : B → Kind N A
 
     -- The next row.
     module _ (row : R) (f : Found counted start chosen bound old new last (Some row)) where
-      behind : IsBehind kind key_of old last
-      behind = (f.sound f.works).1
+      beyond : IsBeyond model key_of old last
+      beyond = (f.sound f.works).1
 
       pub next_there : states.Finds x (state_of begins choice w here) (Some row)
       next_there =
-          let n = next_key w.branches (origin_of w.seen) w.bound old.last behind.listed old.phase new.last f.finds.0 in
-          let P : K → Type 0 = λ z. IsNextIn x.Before (x.IsListed (begins w.branches (origin_of w.seen)) (choice w.branches) w.bound) (position_of old.phase z) (x.key row) in
+          let n = next_key w.flash_tree (origin_of w.seen) w.bound old.last beyond.listed old.phase new.last f.finds.0 in
+          let P : K → Type 0 = λ z. IsNextIn x.Before (x.IsListed (begins w.flash_tree (origin_of w.seen)) (choice w.flash_tree) w.bound) (position_of old.phase z) (x.key row) in
           let Q : K → Type 0 =
-          λ z. IsNextIn x.Before (x.IsListed (begins w.branches (origin_of w.seen)) (choice w.branches) w.bound) (position_of old.phase (key_of w.branches (origin_of w.seen) old.last)) z in
-          (subst P behind.key_is (subst Q (sym f.finds.1.0) n), f.finds.1.1)
+          λ z. IsNextIn x.Before (x.IsListed (begins w.flash_tree (origin_of w.seen)) (choice w.flash_tree) w.bound) (position_of old.phase (key_of w.flash_tree (origin_of w.seen) old.last)) z in
+          (subst P beyond.key_is (subst Q (sym f.finds.1.0) n), f.finds.1.1)
 
       module _ (k : K) (is : k ≡ x.key row) where
         pub moved_on : state_of begins choice new.walk (position_of new.phase k) ≡ moved_to (state_of begins choice w here) (x.key row)
@@ -117,31 +117,31 @@ module _ {B C K R U N A T : Type 0} (x : Subject C K R U) (kind : B → Kind N A
             ap (λ p. state_of begins choice new.walk (position_of p k)) f.finds.3 ∙ same_state w new.walk f.finds.2 (After k) f.failed
             ∙ ap (λ z. moved_to (state_of begins choice w here) z) is
 
-        pub sound_on : IsSound kind begins choice key_of counted start chosen bound new k
+        pub sound_on : IsSound model begins choice key_of counted start chosen bound new k
         sound_on = λ _. (
           ours_there w new.walk f.finds.2 counted start chosen bound (f.sound f.works).0 f.limits,
           record {
-            listed = carried w new.walk f.finds.2 (λ b n c. tree.IsMember (kind b).tree ((kind b).root c) n new.last) f.finds.0.listed;
+            listed = carried w new.walk f.finds.2 (λ b n c. tree.IsMember (model b).tree ((model b).root c) n new.last) f.finds.0.listed;
             key_is = same_key w new.walk f.finds.2 new.last ∙ sym (is ∙ f.finds.1.0);
           },
         )
 
     -- Or there is none.
     module _ (f : Found counted start chosen bound old new last None) where
-      before : IsBehind kind key_of old last
+      before : IsBeyond model key_of old last
       before = (f.sound f.works).1
 
       pub finds_none : states.IsOver x (state_of begins choice w here)
       finds_none =
-          let over = over_key w.branches (origin_of w.seen) w.bound old.last before.listed old.phase f.finds.0 in
-          subst (λ z. IsOverIn x.Before (x.IsListed (begins w.branches (origin_of w.seen)) (choice w.branches) w.bound) (position_of old.phase z)) before.key_is over
+          let over = over_key w.flash_tree (origin_of w.seen) w.bound old.last before.listed old.phase f.finds.0 in
+          subst (λ z. IsOverIn x.Before (x.IsListed (begins w.flash_tree (origin_of w.seen)) (choice w.flash_tree) w.bound) (position_of old.phase z)) before.key_is over
 
       stays_there : position_of phases.Done last ≡ position_of old.phase last
       stays_there = by old.phase refl
         where
           by : (p : Phase) → old.phase ≡ p → After last ≡ position_of p last
           by phases.Fresh is =
-              let over = subst (λ q. tree.IsOver (IsPath (kind w.branches) w) (position_of q old.last)) is f.finds.0 in
+              let over = subst (λ q. tree.IsOver (IsPath (model w.flash_tree) w) (position_of q old.last)) is f.finds.0 in
               absurd (over [] (omega arith, tt) tt)
           by phases.Going is = refl
           by phases.Done is = refl
@@ -152,12 +152,12 @@ module _ {B C K R U N A T : Type 0} (x : Subject C K R U) (kind : B → Kind N A
           ap (λ p. state_of begins choice new.walk (position_of p last)) f.finds.3 ∙ ap (state_of begins choice new.walk) stays_there
           ∙ same_state w new.walk f.finds.2 here f.failed
 
-      pub sound_over : IsSound kind begins choice key_of counted start chosen bound new last
+      pub sound_over : IsSound model begins choice key_of counted start chosen bound new last
       sound_over = λ _. (
         ours_there w new.walk f.finds.2 counted start chosen bound (f.sound f.works).0 f.limits,
         record {
-          listed = subst (IsPath (kind new.walk.branches) new.walk) (sym f.finds.4)
-              (carried w new.walk f.finds.2 (λ b n c. tree.IsMember (kind b).tree ((kind b).root c) n old.last) before.listed);
-          key_is = same_key w new.walk f.finds.2 new.last ∙ ap (key_of w.branches (origin_of w.seen)) f.finds.4 ∙ before.key_is;
+          listed = subst (IsPath (model new.walk.flash_tree) new.walk) (sym f.finds.4)
+              (carried w new.walk f.finds.2 (λ b n c. tree.IsMember (model b).tree ((model b).root c) n old.last) before.listed);
+          key_is = same_key w new.walk f.finds.2 new.last ∙ ap (key_of w.flash_tree (origin_of w.seen)) f.finds.4 ∙ before.key_is;
         },
       )

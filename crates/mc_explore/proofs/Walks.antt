@@ -11,11 +11,11 @@ use Rattle.mc_boot.specs.facts.Run.{come_begun, come_left}
 use Rattle.mc_explore.proofs.Onwards.{ComesOn}
 use Rattle.mc_explore.specs.Rows.{subject}
 use Rattle.mc_explore.specs.Schedules.{CanOccur, CannotOccurAt, IsReplayed}
-use Rattle.mc_explore.specs.declared.once.Once.{Once}
-use Rattle.mc_explore.specs.declared.once.Told.{Told}
+use Rattle.mc_explore.specs.declared.one_round.OneRound.{OneRound}
+use Rattle.mc_explore.specs.declared.one_round.Summary.{Summary}
 use Rattle.mc_explore.specs.facts.Occurring.{allowed_after, occurs_allowed, path_of}
 use Rattle.mc_explore.specs.inner.Exploring.{FollowsKey}
-use Rattle.mc_explore.specs.inner.Once.{IsTold, at_cut, begins, begun_of, boots, most_of, once}
+use Rattle.mc_explore.specs.inner.OneRound.{IsSummary, at_cut, begins, begun_of, boots, most_of, one_round}
 use Rattle.mc_explore.specs.inner.Table.{HasRoomFor}
 use Rattle.mc_explore.specs.inner.View.{Followed, IsLoaded, begun_with}
 use Rattle.mc_flash.specs.Flash.{Content}
@@ -26,8 +26,8 @@ use Rattle.mc_start.specs.Start.{Started, begun}
 use Rattle.mc_start.specs.facts.Room.{limits_are}
 use Rattle.mc_trailer.specs.declared.tables.Rules.{Rules}
 use Rattle.mc_tree.specs.Tree.{Allowed, landed}
-use Rattle.mc_tree.specs.facts.Order.{allowed_front}
-use Rattle.mc_walk.specs.Kind.{telling}
+use Rattle.mc_tree.specs.facts.Order.{allowed_prefix}
+use Rattle.mc_walk.specs.TreeModel.{summary_cost}
 use Rattle.mc_walk.specs.Walks.{Begins, Follows, IsClear, IsSame, IsThere, Walked, origin_of, path_cost}
 use Rattle.mc_tree.specs.Tree as tree
 
@@ -35,11 +35,11 @@ use Rattle.mc_tree.specs.Tree as tree
 
 module _ (counted : Bool) (g : Geometry) (primary secondary : List ℕ) (f : Seen) where
   -- It serves for a walk of fewer cuts than there are boots.
-  pub clear : (r : Rules) (bound boots : ℕ) → bound + 1 ≤ boots → Loads counted g primary secondary r.grain boots f → IsClear (once r g) bound f
-  clear r bound boots few l =
+  pub clear : (r : Rules) (bound boots : ℕ) → bound + 1 ≤ boots → Loads counted g primary secondary r.grain boots f → IsClear (one_round r g) bound f
+  clear r bound boots at_most l =
       let limits = limits_are r.grain g boots f.usage.limits l.room in
-      let entries : (bound + 1) * most_operations r.grain g ≤ boots * most_operations r.grain g = mul-le-mul_right (most_operations r.grain g) few in
-      let saved : (bound + 1) * most_saved g ≤ boots * most_saved g = mul-le-mul_right (most_saved g) few in
+      let entries : (bound + 1) * most_operations r.grain g ≤ boots * most_operations r.grain g = mul-le-mul_right (most_operations r.grain g) at_most in
+      let saved : (bound + 1) * most_saved g ≤ boots * most_saved g = mul-le-mul_right (most_saved g) at_most in
       record {
         none = l.none;
         counts = ap (λ (x : Usage). x.counts) l.usage_is;
@@ -47,7 +47,7 @@ module _ (counted : Bool) (g : Geometry) (primary secondary : List ℕ) (f : See
         roomy = record {
           entries = omega (arith, limits.for_entries, entries);
           saved = omega (arith, limits.for_saved, saved);
-          checkpoints = omega (arith, limits.for_checkpoints, few);
+          checkpoints = omega (arith, limits.for_checkpoints, at_most);
         };
       }
 
@@ -64,27 +64,27 @@ room_for counted g primary secondary f r boots l =
     }
 
 -- The start of the same four parts.
-pub same_start : (start : Started) (once : Once) (primary secondary : List ℕ) → once.rules ≡ start.rules → once.layout ≡ start.geometry → primary ≡ start.content.primary
-    → secondary ≡ start.content.secondary → begun_with once primary secondary ≡ begun start
-same_start start once primary secondary rules layout one two =
+pub same_start : (start : Started) (one_round : OneRound) (primary secondary : List ℕ) → one_round.rules ≡ start.rules → one_round.layout ≡ start.geometry → primary ≡ start.content.primary
+    → secondary ≡ start.content.secondary → begun_with one_round primary secondary ≡ begun start
+same_start start one_round primary secondary rules layout one two =
     let content : Content = record { primary = start.content.primary; secondary = start.content.secondary } in
-    let same : begun_with once primary secondary ≡ record { rules = start.rules; geometry = start.geometry; content = content } = cc in
+    let same : begun_with one_round primary secondary ≡ record { rules = start.rules; geometry = start.geometry; content = content } = cc in
     same
 
 -- A walk that was loaded for a start goes along a schedule.
 
-same_begun : (old new : Walked Once) → IsSame old new → begun_of new ≡ begun_of old
-same_begun old new s = cc (s.branches, s.origin)
+same_begun : (old new : Walked OneRound) → IsSame old new → begun_of new ≡ begun_of old
+same_begun old new s = cc (s.flash_tree, s.origin)
 
 -- ---- what a path costs
 
 pub few_ops : (x : PowerOn) → IsLayout x.geometry → length (ops_of x) ≤ most_operations x.rules.grain x.geometry
 few_ops x valid =
-    let few = ops_few x (length (ops_of x)) valid in
-    omega (arith, few, ap (λ (ops : List Op). length ops) (take_all (length (ops_of x)) (ops_of x) (omega arith)))
+    let at_most = ops_few x (length (ops_of x)) valid in
+    omega (arith, at_most, ap (λ (ops : List Op). length ops) (take_all (length (ops_of x)) (ops_of x) (omega arith)))
 
 pub cost_few : (x : PowerOn) (l : List ℕ) → IsLayout x.geometry → Allowed (boots x.rules x.geometry) x.content l
-    → path_cost (once x.rules x.geometry) l ≤ length l * (2 * most_operations x.rules.grain x.geometry)
+    → path_cost (one_round x.rules x.geometry) l ≤ length l * (2 * most_operations x.rules.grain x.geometry)
 cost_few x [] valid a = omega arith
 cost_few x (c ∷ cs) valid a =
     let g = x.geometry in
@@ -95,8 +95,8 @@ cost_few x (c ∷ cs) valid a =
 
 -- ---- the same start
 
-module _ (counted : Bool) (start : PowerOn) (bound : ℕ) (path : List ℕ) (zero_walk one two : Walked Once) (told : Told) (l : IsLoaded counted start bound zero_walk)
-    (b : Begins (once zero_walk.branches.rules zero_walk.branches.layout) zero_walk told one) where
+module _ (counted : Bool) (start : PowerOn) (bound : ℕ) (path : List ℕ) (zero_walk one two : Walked OneRound) (summary : Summary) (l : IsLoaded counted start bound zero_walk)
+    (b : Begins (one_round zero_walk.flash_tree.rules zero_walk.flash_tree.layout) zero_walk summary one) where
   one_start : begun_of one ≡ start
   one_start = same_begun zero_walk one b.same ∙ l.start_is
 
@@ -107,33 +107,33 @@ module _ (counted : Bool) (start : PowerOn) (bound : ℕ) (path : List ℕ) (zer
   from_root : (l : List ℕ) → one.path ++ l ≡ l
   from_root l = ap (λ z. z ++ l) b.path
 
-  at_start : (l : List ℕ) → tree.IsMember (boots one.branches.rules one.branches.layout) (origin_of one.seen) one.bound l → tree.IsMember (boots start.rules start.geometry) start.content bound l
+  at_start : (l : List ℕ) → tree.IsMember (boots one.flash_tree.rules one.flash_tree.layout) (origin_of one.seen) one.bound l → tree.IsMember (boots start.rules start.geometry) start.content bound l
   at_start l m =
       let P : PowerOn → Type 0 = λ s. tree.IsMember (boots s.rules s.geometry) s.content one.bound l in
       subst (λ n. tree.IsMember (boots start.rules start.geometry) start.content n l) one_bound (subst P one_start m)
 
   -- And those of its start are its own.
   at_one : (l : List ℕ) → tree.IsMember (boots start.rules start.geometry) start.content bound l
-      → tree.IsMember (boots one.branches.rules one.branches.layout) (origin_of one.seen) one.bound (one.path ++ l)
+      → tree.IsMember (boots one.flash_tree.rules one.flash_tree.layout) (origin_of one.seen) one.bound (one.path ++ l)
   at_one l m =
       let P : PowerOn → Type 0 = λ s. tree.IsMember (boots s.rules s.geometry) s.content one.bound l in
       let here = subst P (sym one_start) (subst (λ n. tree.IsMember (boots start.rules start.geometry) start.content n l) (sym one_bound) m) in
-      subst (tree.IsMember (boots one.branches.rules one.branches.layout) (origin_of one.seen) one.bound) (sym (from_root l)) here
+      subst (tree.IsMember (boots one.flash_tree.rules one.flash_tree.layout) (origin_of one.seen) one.bound) (sym (from_root l)) here
 
   -- There.
-  pub followed : (went : Bool) → went ≡ true → Follows (once one.branches.rules one.branches.layout) path one went two
-      → Spent (telling (once zero_walk.branches.rules zero_walk.branches.layout)) zero_walk.seen one.seen
-      → Spent (path_cost (once one.branches.rules one.branches.layout) path) one.seen two.seen → Followed counted start bound path two
+  pub followed : (went : Bool) → went ≡ true → Follows (one_round one.flash_tree.rules one.flash_tree.layout) path one went two
+      → Spent (summary_cost (one_round zero_walk.flash_tree.rules zero_walk.flash_tree.layout)) zero_walk.seen one.seen
+      → Spent (path_cost (one_round one.flash_tree.rules one.flash_tree.layout) path) one.seen two.seen → Followed counted start bound path two
   followed false is f s t = absurd cc
   followed true is f s t =
       let path_is : two.path ≡ path = f.0 ∙ from_root path in
-      let allowed = at_start path (subst (tree.IsMember (boots one.branches.rules one.branches.layout) (origin_of one.seen) one.bound) path_is f.1) in
-      let P : PowerOn → Type 0 = λ x. Spent (telling (once x.rules x.geometry)) zero_walk.seen one.seen in
-      let Q : PowerOn → Type 0 = λ x. Spent (path_cost (once x.rules x.geometry) path) one.seen two.seen in
-      let first : Spent (telling (once start.rules start.geometry)) zero_walk.seen one.seen = subst P l.start_is s in
-      let along : Spent (path_cost (once start.rules start.geometry) path) one.seen two.seen = subst Q one_start t in
+      let allowed = at_start path (subst (tree.IsMember (boots one.flash_tree.rules one.flash_tree.layout) (origin_of one.seen) one.bound) path_is f.1) in
+      let P : PowerOn → Type 0 = λ x. Spent (summary_cost (one_round x.rules x.geometry)) zero_walk.seen one.seen in
+      let Q : PowerOn → Type 0 = λ x. Spent (path_cost (one_round x.rules x.geometry) path) one.seen two.seen in
+      let first : Spent (summary_cost (one_round start.rules start.geometry)) zero_walk.seen one.seen = subst P l.start_is s in
+      let along : Spent (path_cost (one_round start.rules start.geometry) path) one.seen two.seen = subst Q one_start t in
       let cost = cost_few start path l.valid allowed.1 in
-      let few : length path * (2 * most_operations start.rules.grain start.geometry) ≤ bound * (2 * most_operations start.rules.grain start.geometry) =
+      let at_most : length path * (2 * most_operations start.rules.grain start.geometry) ≤ bound * (2 * most_operations start.rules.grain start.geometry) =
       mul-le-mul_right (2 * most_operations start.rules.grain start.geometry) allowed.0 in
       record {
         start_is = same_begun one two f.2 ∙ one_start;
@@ -142,26 +142,27 @@ module _ (counted : Bool) (start : PowerOn) (bound : ℕ) (path : List ℕ) (zer
         stands = f.3;
         allowed = allowed;
         counted_is = ap (λ (x : Limits). x.counted) (along.limits ∙ first.limits) ∙ l.counted_is;
-        calm = along.failed ∙ first.failed ∙ l.calm;
-        applied = sum (most_operations start.rules.grain start.geometry) bound (path_cost (once start.rules start.geometry) path) (length path * (2 * most_operations start.rules.grain start.geometry))
-            zero_walk.seen.usage.applied one.seen.usage.applied two.seen.usage.applied l.idle first.applied along.applied cost few;
+        no_allocation_failed = along.failed ∙ first.failed ∙ l.no_allocation_failed;
+        applied = sum (most_operations start.rules.grain start.geometry) bound (path_cost (one_round start.rules start.geometry) path) (length path * (2 * most_operations start.rules.grain
+            start.geometry))
+            zero_walk.seen.usage.applied one.seen.usage.applied two.seen.usage.applied l.idle first.applied along.applied cost at_most;
       }
     where
       sum : (most n cost many a b c : ℕ) → a ≡ 0 → b ≤ a + most → c ≤ b + cost → cost ≤ many → many ≤ n * (2 * most) → c ≤ 2 * (n + 1) * most
-      sum most n cost many a b c z first along few all = let e : 2 * (n + 1) * most ≡ n * (2 * most) + 2 * most = omega arith in omega (arith, z, first, along, few, all, e)
+      sum most n cost many a b c z first along at_most all = let e : 2 * (n + 1) * most ≡ n * (2 * most) + 2 * most = omega arith in omega (arith, z, first, along, at_most, all, e)
 
   -- And the cut where it stops is the first that can't occur.
-  pub stops : (went : Bool) → went ≡ false → Follows (once one.branches.rules one.branches.layout) path one went two → bound ≡ length path → (place : ℕ) → place ≡ length two.path
-      → CannotOccurAt start path place
-  stops true is f whole place at = absurd cc
-  stops false is f whole place at =
-      let front : two.path ≡ take f.steps path = f.front ∙ from_root (take f.steps path) in
-      let here : place ≡ f.steps = at ∙ ap length front ∙ length-take-le f.steps path (omega (arith, f.inside)) in
+  pub stops : (went : Bool) → went ≡ false → Follows (one_round one.flash_tree.rules one.flash_tree.layout) path one went two → bound ≡ length path → (index : ℕ) → index ≡ length two.path
+      → CannotOccurAt start path index
+  stops true is f whole index at = absurd cc
+  stops false is f whole index at =
+      let prefix : two.path ≡ take f.steps path = f.prefix ∙ from_root (take f.steps path) in
+      let here : index ≡ f.steps = at ∙ ap length prefix ∙ length-take-le f.steps path (omega (arith, f.inside)) in
       let member = at_start two.path f.member in
       subst (CannotOccurAt start path) (sym here) (record {
         inside = f.inside;
         cut = landed (boots start.rules start.geometry) start.content two.path;
-        before = ap (after start) (sym front) ∙ allowed_after start two.path member.1;
+        before = ap (after start) (sym prefix) ∙ allowed_after start two.path member.1;
         not_there = none (after start (take (f.steps + 1) path)) refl;
       })
     where
@@ -175,19 +176,19 @@ module _ (counted : Bool) (start : PowerOn) (bound : ℕ) (path : List ℕ) (zer
 
 -- ---- a replay
 
-module _ (counted : Bool) (start : PowerOn) (bound : ℕ) (path : List ℕ) (w : Walked Once) (told : Told) (f : Followed counted start bound path w)
-    (there : IsThere (once w.branches.rules w.branches.layout) w told) where
+module _ (counted : Bool) (start : PowerOn) (bound : ℕ) (path : List ℕ) (w : Walked OneRound) (summary : Summary) (f : Followed counted start bound path w)
+    (there : IsThere (one_round w.flash_tree.rules w.flash_tree.layout) w summary) where
   abbrev cut : Content
   cut = landed (boots start.rules start.geometry) start.content path
 
-  node_is : landed (boots w.branches.rules w.branches.layout) (origin_of w.seen) w.path ≡ cut
+  node_is : landed (boots w.flash_tree.rules w.flash_tree.layout) (origin_of w.seen) w.path ≡ cut
   node_is =
       ap (λ (s : PowerOn). landed (boots s.rules s.geometry) s.content w.path) f.start_is ∙ ap (landed (boots start.rules start.geometry) start.content) f.path_is
 
-  pub told_here : IsTold (again start cut) told
-  told_here =
-      let P : PowerOn → Type 0 = λ s. IsTold (again s (landed (boots w.branches.rules w.branches.layout) (origin_of w.seen) w.path)) told in
-      subst (λ s. IsTold (again start s) told) node_is (subst P f.start_is there.told_is)
+  pub summary_here : IsSummary (again start cut) summary
+  summary_here =
+      let P : PowerOn → Type 0 = λ s. IsSummary (again s (landed (boots w.flash_tree.rules w.flash_tree.layout) (origin_of w.seen) w.path)) summary in
+      subst (λ s. IsSummary (again start s) summary) node_is (subst P f.start_is there.summary_is)
 
   pub layout_here : w.seen.geometry ≡ start.geometry
   layout_here = there.layout_is ∙ ap (λ (s : PowerOn). s.geometry) f.start_is
@@ -197,32 +198,39 @@ module _ (counted : Bool) (start : PowerOn) (bound : ℕ) (path : List ℕ) (w :
   cut_here = allowed_after start path f.allowed.1 ∙ ap (λ (c : Content). Some c) (sym (there.content_is ∙ node_is))
 
   -- There is room for the boot.
-  pub room_here : Allows (left_of w.seen.geometry (progress told.boot)) w.seen
+  pub room_here : Allows (left_of w.seen.geometry (progress summary.boot)) w.seen
   room_here =
-      let t = told_here in
-      let few : LeaveRoom w.seen.usage.counts (left_of start.geometry (progress told.boot)) (room_of w.seen.usage.limits) = record {
-        entries = omega (arith, there.room.allows.entries, t.few.few, ap (λ (p : Progress). length p.to_come) t.boot_is, ap (λ (s : PowerOn). most_operations s.rules.grain s.geometry) f.start_is);
+      let t = summary_here in
+      let at_most : LeaveRoom w.seen.usage.counts (left_of start.geometry (progress summary.boot)) (room_of w.seen.usage.limits) = record {
+        entries = omega (
+          arith,
+          there.room.allows.entries,
+          t.at_most.at_most,
+          ap (λ (p : Progress). length p.to_come) t.boot_is,
+          ap (λ (s : PowerOn). most_operations s.rules.grain
+              s.geometry) f.start_is,
+        );
         saved = omega (
           arith,
           there.room.allows.saved,
-          t.few.saves,
+          t.at_most.saves,
           ap (λ (p : Progress). (left_of start.geometry p).saved) t.boot_is,
           ap (λ (s : PowerOn). (most_of s.rules s.geometry).saved) f.start_is,
         );
       } in
-      subst (λ (x : Geometry). LeaveRoom w.seen.usage.counts (left_of x (progress told.boot)) (room_of w.seen.usage.limits)) (sym layout_here) few
+      subst (λ (x : Geometry). LeaveRoom w.seen.usage.counts (left_of x (progress summary.boot)) (room_of w.seen.usage.limits)) (sym layout_here) at_most
 
   -- What it leaves is what the replay leaves.
-  pub replayed : (q : Progress) (new : Seen) → ComesOn w.seen (progress told.boot) new q → q.to_come ≡ []
-      → IsReplayed start path (shown told.outcome) new.content
+  pub replayed : (q : Progress) (new : Seen) → ComesOn w.seen (progress summary.boot) new q → q.to_come ≡ []
+      → IsReplayed start path (shown summary.outcome) new.content
   replayed q new come end =
-      let t = told_here in
+      let t = summary_here in
       let P : Progress → Type 0 = λ p. HasCome (again start cut) p cut in
       let at : w.seen.content ≡ cut = there.content_is ∙ node_is in
-      let begins : HasCome (again start cut) (progress told.boot) cut = subst P (sym t.boot_is) (come_begun (again start cut)) in
-      let Q : Geometry → Type 0 = λ x. HasCome (power_on start.rules x cut) (progress told.boot) w.seen.content in
+      let begins : HasCome (again start cut) (progress summary.boot) cut = subst P (sym t.boot_is) (come_begun (again start cut)) in
+      let Q : Geometry → Type 0 = λ x. HasCome (power_on start.rules x cut) (progress summary.boot) w.seen.content in
       let R : Geometry → Type 0 = λ x. HasCome (power_on start.rules x cut) q new.content in
-      let ends = subst R layout_here (come start.rules cut (subst Q (sym layout_here) (subst (HasCome (again start cut) (progress told.boot)) (sym at) begins))) in
+      let ends = subst R layout_here (come start.rules cut (subst Q (sym layout_here) (subst (HasCome (again start cut) (progress summary.boot)) (sym at) begins))) in
       record {
         cut = cut;
         occurs = allowed_after start path f.allowed.1;
@@ -232,30 +240,31 @@ module _ (counted : Bool) (start : PowerOn) (bound : ℕ) (path : List ℕ) (w :
 
 -- A walk along a schedule.
 
-module _ (old new : Walked Once) (path : List ℕ) (root : old.path ≡ []) where
-  pub follows_schedule : (went : Bool) → Follows (once old.branches.rules old.branches.layout) path old went new
-      → FollowsKey subject (λ (o : Once). once o.rules o.layout) begins (λ _. tt) (λ _ _ l. l) old path went new
+module _ (old new : Walked OneRound) (path : List ℕ) (root : old.path ≡ []) where
+  pub follows_schedule : (went : Bool) → Follows (one_round old.flash_tree.rules old.flash_tree.layout) path old went new
+      → FollowsKey subject (λ (o : OneRound). one_round o.rules o.layout) begins (λ _. tt) (λ _ _ l. l) old path went new
   follows_schedule true f = (f.1, f.0 ∙ ap (λ z. z ++ path) root, f.2, f.3)
   follows_schedule false f = λ m.
       let x = begun_of old in
       let here = path_of x old.bound path m in
       let n : ℕ = f.steps + 1 in
       let len : length (take n path) ≤ old.bound = omega (arith, length-take-le n path (omega (arith, f.inside)), f.inside, here.0) in
-      f.no_child (subst (λ l. tree.IsMember (boots old.branches.rules old.branches.layout) (origin_of old.seen) old.bound (l ++ take n path)) (sym root)
-      (len, allowed_front (boots old.branches.rules old.branches.layout) (origin_of old.seen) path n here.1))
+      f.no_child (subst (λ l. tree.IsMember (boots old.flash_tree.rules old.flash_tree.layout) (origin_of old.seen) old.bound (l ++ take n path)) (sym root)
+      (len, allowed_prefix (boots old.flash_tree.rules old.flash_tree.layout) (origin_of old.seen) path n here.1))
 
   -- It takes two boots a cut at most, and one to begin with.
-  pub cheap : (went : Bool) → went ≡ true → Follows (once old.branches.rules old.branches.layout) path old went new → IsLayout old.branches.layout
-      → Spent (path_cost (once old.branches.rules old.branches.layout) path) old.seen new.seen → old.seen.usage.applied ≤ most_operations old.branches.rules.grain old.branches.layout
-      → new.seen.usage.applied ≤ 2 * (old.bound + 1) * most_operations old.branches.rules.grain old.branches.layout
+  pub cheap : (went : Bool) → went ≡ true → Follows (one_round old.flash_tree.rules old.flash_tree.layout) path old went new → IsLayout old.flash_tree.layout
+      → Spent (path_cost (one_round old.flash_tree.rules old.flash_tree.layout) path) old.seen new.seen → old.seen.usage.applied ≤ most_operations old.flash_tree.rules.grain old.flash_tree.layout
+      → new.seen.usage.applied ≤ 2 * (old.bound + 1) * most_operations old.flash_tree.rules.grain old.flash_tree.layout
   cheap false is f valid spent begun = absurd cc
   cheap true is f valid spent begun =
       let x = begun_of old in
-      let most : ℕ = most_operations old.branches.rules.grain old.branches.layout in
-      let member = subst (tree.IsMember (boots old.branches.rules old.branches.layout) (origin_of old.seen) old.bound) (f.0 ∙ ap (λ z. z ++ path) root) f.1 in
+      let most : ℕ = most_operations old.flash_tree.rules.grain old.flash_tree.layout in
+      let member = subst (tree.IsMember (boots old.flash_tree.rules old.flash_tree.layout) (origin_of old.seen) old.bound) (f.0 ∙ ap (λ z. z ++ path) root) f.1 in
       let cost = cost_few x path valid member.1 in
-      let few : length path * (2 * most) ≤ old.bound * (2 * most) = mul-le-mul_right (2 * most) member.0 in
-      sum most old.bound (path_cost (once old.branches.rules old.branches.layout) path) (length path * (2 * most)) old.seen.usage.applied new.seen.usage.applied begun spent.applied cost few
+      let at_most : length path * (2 * most) ≤ old.bound * (2 * most) = mul-le-mul_right (2 * most) member.0 in
+      sum most old.bound (path_cost (one_round old.flash_tree.rules old.flash_tree.layout) path) (length path * (2 * most)) old.seen.usage.applied new.seen.usage.applied begun spent.applied
+      cost at_most
     where
       sum : (most n cost many a b : ℕ) → a ≤ most → b ≤ a + cost → cost ≤ many → many ≤ n * (2 * most) → b ≤ 2 * (n + 1) * most
-      sum most n cost many a b first along few all = let e : 2 * (n + 1) * most ≡ n * (2 * most) + 2 * most = omega arith in omega (arith, first, along, few, all, e)
+      sum most n cost many a b first along at_most all = let e : 2 * (n + 1) * most ≡ n * (2 * most) + 2 * most = omega arith in omega (arith, first, along, at_most, all, e)

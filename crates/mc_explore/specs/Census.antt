@@ -4,7 +4,7 @@ use Rattle.std.specs.Option.{option_or}
 use Rattle.std.specs.Prelude.{Bool, List, None, Option, Some, [], codes, decimal, false, if◌then◌else◌, length, max, min, not, option_map, take, true, ℕ, ◌++◌, ◌+◌, ◌-◌, ◌==◌, ◌^◌, ◌∷◌, ◌≡◌}
 use Rattle.mc_boot.specs.Outcome.{Report}
 use Rattle.mc_boot.specs.Plan.{PowerOn}
-use Rattle.mc_explore.specs.Rows.{IsRest, Told, at_start}
+use Rattle.mc_explore.specs.Rows.{IsRest, ShownRow, at_start}
 use Rattle.mc_explore.specs.Survey.{count_if, is_boot, is_fault, is_none, is_panic, most_ops_of, rows_with}
 use Rattle.mc_explore.specs.declared.census.Census.{Census}
 use Rattle.mc_start.specs.Start.{lowered, schedule_text}
@@ -13,7 +13,7 @@ use Rattle.mc_tree.specs.inner.Weights.{Weighing}
 -- What all rows of a start come to.
 
 -- The schedule of the first of some rows whose result is not to boot.
-abbrev pub first_not_boot : List Told → Option (List ℕ)
+abbrev pub first_not_boot : List ShownRow → Option (List ℕ)
 first_not_boot rows = option_map (λ row. row.schedule) (find (λ row. not (is_boot row.outcome.result)) rows)
 
 -- A number, or the largest 128-bit number where it is larger.
@@ -22,7 +22,7 @@ cut_number n = min n (2 ^ 128 - 1)
 
 -- How many rows there are and how many with each result, each number cut off at the largest 128-bit number; the largest number of
 -- operations; and the first schedule whose result is not to boot.
-abbrev pub census_of : List Told → Census
+abbrev pub census_of : List ShownRow → Census
 census_of rows = record {
   schedules = cut_number (length rows);
   boot = cut_number (rows_with is_boot rows);
@@ -35,7 +35,7 @@ census_of rows = record {
 
 -- That is what the one list of the rows of a start comes to, for at most so many cuts.
 pub record IsCensus (start : PowerOn) (bound : ℕ) (census : Census) : Type 0 where
-  pub rows : List Told
+  pub rows : List ShownRow
   pub rest : IsRest (at_start start bound) rows
   pub census_is : census ≡ census_of rows
 
@@ -73,10 +73,10 @@ with_first f a = record a { first = option_map f a.first }
 
 -- Rows whose schedules have a cut in front, or whose first cut is that much earlier.
 abbrev pub totals : Weighing Totals
-totals = record { none = no_totals; both = both; behind = λ i. with_first (λ l. i ∷ l); back = λ j. with_first (lowered j) }
+totals = record { none = no_totals; both = both; prefixed = λ i. with_first (λ l. i ∷ l); first_lowered = λ j. with_first (lowered j) }
 
 -- The totals of a row.
-abbrev pub row_totals : Told → Totals
+abbrev pub row_totals : ShownRow → Totals
 row_totals row = record {
   schedules = 1;
   boot = count_if (is_boot row.outcome.result);

@@ -1,4 +1,4 @@
--- What a call that goes through rows leaves of an explorer, whatever it answers, and why memory is wanted.
+-- What a call that goes through rows leaves of an explorer, whatever it answers, and why an allocation failed.
 use Rattle.std.specs.Prelude.{Bool, IsErrOf, OnErr, Result, false, true, ◌≡◌}
 use Rattle.mc_explore.specs.declared.error.ExploreError.{ExploreError}
 use Rattle.mc_flash.specs.Usage.{Usage}
@@ -21,8 +21,8 @@ failure_of tours.Failed = errors.Failed
 
 -- Of what is seen of an explorer, the usage of its flash, and whether it has failed.
 module _ {E : Type 0} (usage_of : E → Usage) (IsLost : E → Type 0) where
-  -- The limits of the flash never change. Memory is wanted only where the flash does not count, and was refused some. An explorer
-  -- that has failed says so and stays as it is, and no other says so.
+  -- The limits of the flash never change. An allocation failed only where the flash does not count, and was refused some. An
+  -- explorer that has failed says so and stays as it is, and no other says so.
   pub record GoesOn {A : Type 0} (counted : Bool) (old : E) (result : Result A ExploreError) (new : E) : Type 0 where
     pub limits : (usage_of new).limits ≡ (usage_of old).limits
     pub cause : IsErrOf result errors.Memory → RanOut counted (usage_of new).failed

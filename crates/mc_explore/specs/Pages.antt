@@ -1,7 +1,7 @@
 -- What is gone through row by row, of whatever kind.
 use Rattle.std.specs.Io.KnownBytes.{Appends}
 use Rattle.std.specs.Prelude.{All, List, None, Option, Some, [], codes, drop, flat_map, if◌then◌else◌, length, nat_le, suc, take, zero, ℕ, ◌++◌, ◌∷◌, ◌≡◌, ◌⊎◌}
-use Rattle.mc_output.specs.Text.{AppendsFront}
+use Rattle.mc_output.specs.Text.{AppendsPrefix}
 use Rattle.mc_tree.specs.Tree.{After, IsPastIn, Position, last_key}
 use Rattle.mc_tree.specs.facts.Order.{IsOrder}
 use Rattle.mc_tree.specs.Tree as lists
@@ -15,7 +15,7 @@ pub record Listing (S K R C : Type 0) : Type 1 where
   -- where one has come to in a state, and the state after the row of that key
   pub position : S → Position K
   pub moved_to : S → K → S
-  -- where to go on behind a key, and its text
+  -- where to go on after a key, and its text
   pub cursor : S → K → C
   pub cursor_text : C → List ℕ
   -- what stands in place of the last key where there is no row
@@ -60,7 +60,7 @@ pub record Page (R C : Type 0) : Type 0 where
   pub goes_on : Option C
 
 module _ {S K R C : Type 0} (l : Listing S K R C) where
-  -- The page of at most so many of the rows to come. A full one goes on behind its last row.
+  -- The page of at most so many of the rows to come. A full one goes on after its last row.
   abbrev pub page_at : S → ℕ → List R → Page R C
   page_at state limit rows = record {
     rows = take limit rows;
@@ -96,11 +96,11 @@ module _ {S K R C : Type 0} (l : Listing S K R C) where
   pub record PageBegan (old : S) (limit : ℕ) (before after : Option (List ℕ)) : Type 0 where
     pub rows : List R
     pub rest : IsRest l old rows
-    pub out : AppendsFront before after (page_text (page_at old limit rows))
+    pub out : AppendsPrefix before after (page_text (page_at old limit rows))
 
   -- ---- a page of the rows before a key
 
-  -- It comes before that one. Where none is told, each does.
+  -- It comes before that one. Where none is given, each does.
   abbrev pub IsBefore : Option K → K → Type 0
   IsBefore None k = Unit {0}
   IsBefore (Some until) k = l.Before k until
@@ -140,7 +140,7 @@ module _ {S K R C : Type 0} (l : Listing S K R C) where
   -- A beginning of that page is out.
   pub record ShownBegan (until : Option K) (old : S) (limit : ℕ) (before after : Option (List ℕ)) : Type 0 where
     pub of : Shown until old
-    pub out : AppendsFront before after (page_text (page_at old limit of.shown))
+    pub out : AppendsPrefix before after (page_text (page_at old limit of.shown))
 
   -- The next row that is shown. There is none where none is past the position, or where the next row, which is taken all the same,
   -- does not come before the key.

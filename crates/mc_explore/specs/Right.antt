@@ -7,14 +7,14 @@ use Rattle.hex.specs.Hex.{IsBytes, encode_lower}
 use Rattle.mc_boot.specs.Outcome.{Report}
 use Rattle.mc_boot.specs.Plan.{PowerOn}
 use Rattle.mc_explore.specs.Census.{census_of, count_text, cut_number}
-use Rattle.mc_explore.specs.Rows.{IsRest, State, Told, at_start, report_of, subject}
+use Rattle.mc_explore.specs.Rows.{IsRest, State, ShownRow, at_start, report_of, subject}
 use Rattle.mc_explore.specs.Subject.{Subject, rows_of}
 use Rattle.mc_explore.specs.Survey.{Tally, is_boot, tally_by}
 use Rattle.mc_explore.specs.declared.census.Census.{Census}
 use Rattle.mc_explore.specs.declared.expectation.Expectation.{Expectation}
 use Rattle.mc_explore.specs.declared.expectation.Wanted.{Wanted}
 use Rattle.mc_explore.specs.declared.rights.RightsOf.{RightsOf}
-use Rattle.mc_explore.specs.declared.surveying.TallyOf.{TallyOf}
+use Rattle.mc_explore.specs.declared.tally.TallyOf.{TallyOf}
 use Rattle.mc_image.specs.Valid.{Identity}
 use Rattle.mc_image.specs.VersionText.{Names}
 use Rattle.mc_image.specs.declared.version.Version.{Version}
@@ -87,18 +87,18 @@ SurveysRows {C} {K} {R} {U} x e until old new limit tally rights =
 abbrev pub Rights : Type 0
 Rights = RightsOf (List ℕ)
 
-abbrev pub schedule_of : Told → List ℕ
+abbrev pub schedule_of : ShownRow → List ℕ
 schedule_of row = row.schedule
 
-abbrev pub AllRight : Expectation → List Told → Type 0
+abbrev pub AllRight : Expectation → List ShownRow → Type 0
 AllRight = AllEndRight report_of
 
-abbrev pub rights_of : Expectation → List Told → Rights
+abbrev pub rights_of : Expectation → List ShownRow → Rights
 rights_of = rights_by report_of schedule_of
 
 -- That is so of the one list of the rows of a start, for at most so many cuts.
 pub record AreRights (e : Expectation) (start : PowerOn) (bound : ℕ) (rights : Rights) : Type 0 where
-  pub rows : List Told
+  pub rows : List ShownRow
   pub rest : IsRest (at_start start bound) rows
   pub rights_are : rights ≡ rights_of e rows
 
@@ -119,11 +119,11 @@ rights_text x r = (codes "right " ++ (count_text r.right ++ codes "\nfirst-not-r
 abbrev pub judged : Expectation → Report → Report
 judged e o = if not (is_met e o) && is_boot o.result then record o { result = results.None } else o
 
-abbrev pub judged_row : Expectation → Told → Told
+abbrev pub judged_row : Expectation → ShownRow → ShownRow
 judged_row e row = record { schedule = row.schedule; outcome = judged e row.outcome }
 
 -- The census of the rows of a start that are counted so.
 pub record IsCensusOf (e : Expectation) (start : PowerOn) (bound : ℕ) (census : Census) : Type 0 where
-  pub rows : List Told
+  pub rows : List ShownRow
   pub rest : IsRest (at_start start bound) rows
   pub census_is : census ≡ census_of (map (judged_row e) rows)

@@ -42,15 +42,15 @@ abbrev pub moved_to : State → List ℕ → State
 moved_to = states.moved_to
 
 -- A row as callers see it.
-pub record Told : Type 0 where
+pub record ShownRow : Type 0 where
   pub schedule : List ℕ
   pub outcome : Report
 
-abbrev pub told : Row → Told
-told row = record { schedule = row.schedule; outcome = shown row.outcome }
+abbrev pub shown_row : Row → ShownRow
+shown_row row = record { schedule = row.schedule; outcome = shown row.outcome }
 
 -- A row ends as its boot does.
-abbrev pub report_of : Told → Report
+abbrev pub report_of : ShownRow → Report
 report_of row = row.outcome
 
 -- The outcome of the uncut boot from the flash that a schedule leaves.
@@ -59,14 +59,14 @@ outcome_after start l =
     option_and_then (λ u. outcome_of (again start u)) (after start l)
 
 -- The outcome of a row is the one of its schedule.
-abbrev pub HasOutcome : PowerOn → Told → Type 0
+abbrev pub HasOutcome : PowerOn → ShownRow → Type 0
 HasOutcome start row = outcome_after start row.schedule ≡ Some row.outcome
 
 -- What the restart theorem says of a row.
 
 -- From the start of two valid images that fit, under rules that do not forget reverts, the boot after the row's schedule ends
 -- what the start asks for: its result is to boot, and the images stand in their slots.
-abbrev pub RowRestarts : PowerOn → Told → Type 0
+abbrev pub RowRestarts : PowerOn → ShownRow → Type 0
 RowRestarts start row =
     (kind : Kind) (a b : List ℕ) → IsLayout start.geometry → BeginsImage start.geometry a → BeginsImage start.geometry b
     → (kind ≡ starts.Revert → forgets_reverts start.rules.grain start.rules.profile ≡ false)
@@ -90,7 +90,7 @@ abbrev pub slots_text : Report → List ℕ
 slots_text o = slot_text o.primary ++ (codes " " ++ (slot_text o.secondary ++ (codes " " ++ type_text o.next)))
 
 -- The schedule, then both of its outcome.
-abbrev pub row_text : Told → List ℕ
+abbrev pub row_text : ShownRow → List ℕ
 row_text row = (schedule_text row.schedule ++ (codes " " ++ outcome_text row.outcome)) ++ (codes " " ++ slots_text row.outcome)
 
 -- How many operations a row costs.
@@ -107,7 +107,7 @@ row_cost r g None = 0
 -- Schedules, as what is explored, and their rows, as they are listed.
 
 -- An explorer takes at most two boots a cut, and one, on its way to a schedule.
-abbrev pub subject : Subject (Unit {0}) (List ℕ) Told Cursor
+abbrev pub subject : Subject (Unit {0}) (List ℕ) ShownRow Cursor
 subject = record {
   IsListed = λ start _. IsMember start;
   Before = Precedes;
@@ -130,27 +130,27 @@ fields_of c = record { rules = c.rules; choice = tt; digest = c.digest; bound = 
 
 -- The next row with its outcome, or none where no schedule is past the position; and the state after that answer.
 abbrev pub Finds : State → Option Row → Type 0
-Finds state found = states.Finds subject state (option_map told found)
+Finds state found = states.Finds subject state (option_map shown_row found)
 
 abbrev pub state_after : State → Option Row → State
-state_after state found = states.state_after subject state (option_map told found)
+state_after state found = states.state_after subject state (option_map shown_row found)
 
 -- A row of the whole list: one of the schedules to go through, with its outcome.
-abbrev pub IsRow : PowerOn → ℕ → Told → Type 0
+abbrev pub IsRow : PowerOn → ℕ → ShownRow → Type 0
 IsRow start bound = states.IsRow subject start tt bound
 
-abbrev pub schedules : Listing State (List ℕ) Told Cursor
+abbrev pub schedules : Listing State (List ℕ) ShownRow Cursor
 schedules = states.rows_of subject
 
 -- The rows past the position, each of them and no others, in their order.
-abbrev pub IsRest : State → List Told → Type 0
+abbrev pub IsRest : State → List ShownRow → Type 0
 IsRest = listings.IsRest schedules
 
--- An explorer of schedules that goes on behind a cursor, or the first reason why there is none.
+-- An explorer of schedules that goes on after a cursor, or the first reason why there is none.
 
--- The state behind a schedule.
-abbrev pub behind : PowerOn → ℕ → List ℕ → State
-behind start bound = states.behind start tt bound
+-- The state after a schedule.
+abbrev pub after_key : PowerOn → ℕ → List ℕ → State
+after_key start bound = states.after_key start tt bound
 
 abbrev pub Resumes : PowerOn → ℕ → Cursor → Result Explored ExploreError → Type 0
 Resumes start bound c = states.Resumes subject start tt bound (fields_of c)

@@ -6,12 +6,12 @@ use Rattle.mc_boot.specs.Plan.{PowerOn, again, power_on}
 use Rattle.mc_boot.specs.Restart.{BeginsImage, EndsIn, forgets_reverts, named, other, start_flash}
 use Rattle.mc_boot.specs.declared.kind.Kind.{Kind}
 use Rattle.mc_boot.specs.declared.outcome.Outcome.{Outcome}
-use Rattle.mc_explore.specs.declared.replaying.ReplayError.{ReplayError}
+use Rattle.mc_explore.specs.declared.replays.ReplayError.{ReplayError}
 use Rattle.mc_flash.specs.Flash.{Content}
 use Rattle.mc_flash.specs.Usage.{Seen}
 use Rattle.mc_image.specs.Valid.{id_of}
 use Rattle.mc_trailer.specs.declared.tables.Rules.{Rules}
-use Rattle.mc_explore.specs.declared.replaying.ReplayError.TheVariants as errors
+use Rattle.mc_explore.specs.declared.replays.ReplayError.TheVariants as errors
 use Rattle.mc_boot.specs.declared.outcome.BootResult.TheVariants as results
 use Rattle.mc_boot.specs.declared.kind.Kind.TheVariants as starts
 
@@ -39,19 +39,19 @@ pub record IsReplayed (x : PowerOn) (cuts : List ℕ) (outcome : Report) (z : Co
   pub outcome_is : outcome_of (again x cut) ≡ Some outcome
   pub left : left_by (again x cut) ≡ Some z
 
--- The cuts before that place can occur, and the one there can't.
-pub record CannotOccurAt (x : PowerOn) (cuts : List ℕ) (place : ℕ) : Type 0 where
-  pub inside : place < length cuts
+-- The cuts before that one can occur, and the one there can't.
+pub record CannotOccurAt (x : PowerOn) (cuts : List ℕ) (index : ℕ) : Type 0 where
+  pub inside : index < length cuts
   pub cut : Content
-  pub before : after x (take place cuts) ≡ Some cut
-  pub not_there : after x (take (place + 1) cuts) ≡ None
+  pub before : after x (take index cuts) ≡ Some cut
+  pub not_there : after x (take (index + 1) cuts) ≡ None
 
 -- What is refused: the first cut that can't occur, unless memory ran out.
 abbrev pub Refuses : PowerOn → List ℕ → ReplayError → Type 0
-Refuses x cuts (errors.CannotOccur place) = CannotOccurAt x cuts place
+Refuses x cuts (errors.CannotOccur index) = CannotOccurAt x cuts index
 Refuses x cuts errors.Memory = ⊤
 
--- What is told of the boot after the cuts: the named image in the primary, the other in the secondary. Where no swap is asked
+-- The outcome of the boot after the cuts: the named image in the primary, the other in the secondary. Where no swap is asked
 -- for there is no operation at all: it makes none, and none came before it, so that nothing was cut.
 pub record IsSwapOutcome (kind : Kind) (a b : List ℕ) (cuts : List ℕ) (outcome : Report) : Type 0 where
   pub result : outcome.result ≡ results.Boot

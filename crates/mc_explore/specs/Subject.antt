@@ -16,7 +16,7 @@ use Rattle.mc_tree.specs.facts.Order.{IsOrder}
 use Rattle.mc_explore.specs.declared.error.ExploreError.TheVariants as errors
 use Rattle.mc_tree.specs.Tree as paths
 
--- What is explored, of whatever kind: which keys can occur from a start under a choice, in which order, and what is told of each.
+-- What is explored, of whatever kind: which keys can occur from a start under a choice, in which order, and the summary of each.
 
 -- Of a choice, a key, a row and a cursor.
 pub record Subject (C K R U : Type 0) : Type 1 where
@@ -30,13 +30,13 @@ pub record Subject (C K R U : Type 0) : Type 1 where
   pub no_key : K
   -- how a row ends, by which rows are counted
   pub ends : R → Report
-  -- the row tells the outcomes of its key, and what the restart theorem says of that
+  -- the row has the outcomes of its key, and what the restart theorem says of that
   pub HasOutcome : PowerOn → C → R → Type 0
   pub Restarts : PowerOn → C → R → Type 0
   -- the most operations for a row, and how many an explorer of so many cuts may have taken on the way to a key
   pub most_for_row : Rules → Geometry → ℕ
   pub IsCheap : Rules → Geometry → ℕ → ℕ → Type 0
-  -- where to go on behind a key, with so many cuts at most, and its text
+  -- where to go on after a key, with so many cuts at most, and its text
   pub cursor : PowerOn → C → ℕ → K → U
   pub cursor_text : U → List ℕ
 
@@ -51,7 +51,7 @@ pub record State (C K : Type 0) : Type 0 where
   pub position : Position K
   pub failed : Bool
 
--- The state after the row of a key, at the start, and behind a key.
+-- The state after the row of a key, at the start, and after a key.
 abbrev pub moved_to : {C K : Type 0} → State C K → K → State C K
 moved_to state k =
     record { start = state.start; choice = state.choice; bound = state.bound; position = After k; failed = state.failed }
@@ -60,8 +60,8 @@ abbrev pub at_start : {C K : Type 0} → PowerOn → C → ℕ → State C K
 at_start start choice bound =
     record { start = start; choice = choice; bound = bound; position = AtStart; failed = false }
 
-abbrev pub behind : {C K : Type 0} → PowerOn → C → ℕ → K → State C K
-behind start choice bound k =
+abbrev pub after_key : {C K : Type 0} → PowerOn → C → ℕ → K → State C K
+after_key start choice bound k =
     record { start = start; choice = choice; bound = bound; position = After k; failed = false }
 
 -- What callers see of an explorer: its state; the content of its flash and the usage; and how many contents are marked there.
@@ -97,10 +97,10 @@ module _ {C K R U : Type 0} (x : Subject C K R U) where
   Restarts state (Some row) = x.Restarts state.start state.choice row
   Restarts state None = Unit {0}
 
-  -- An explorer goes on behind a key that is one of those to go through; or it is none; or memory is wanted.
-  abbrev pub GoesOnBehind : PowerOn → C → ℕ → K → Result (Explored C K) ExploreError → Type 0
-  GoesOnBehind start choice bound k (Ok explorer) = x.IsListed start choice bound k × (explorer.state ≡ behind start choice bound k)
-  GoesOnBehind start choice bound k (Err e) = (e ≡ errors.Memory) ⊎ ((e ≡ errors.CannotOccur) × (x.IsListed start choice bound k → ⊥))
+  -- An explorer goes on after a key that is one of those to go through; or it is none; or an allocation failed.
+  abbrev pub GoesOnBeyond : PowerOn → C → ℕ → K → Result (Explored C K) ExploreError → Type 0
+  GoesOnBeyond start choice bound k (Ok explorer) = x.IsListed start choice bound k × (explorer.state ≡ after_key start choice bound k)
+  GoesOnBeyond start choice bound k (Err e) = (e ≡ errors.Memory) ⊎ ((e ≡ errors.CannotOccur) × (x.IsListed start choice bound k → ⊥))
 
   -- So many operations for a call that finds one, and none for a call that finds none.
   abbrev pub row_cost : State C K → Option R → ℕ
@@ -150,7 +150,7 @@ module _ {C K R U : Type 0} (x : Subject C K R U) where
 
 -- Where a cursor serves to go on, and the first reason why it does not.
 
--- What the cursor behind a key says.
+-- What the cursor after a key says.
 abbrev pub fields_of : {C K : Type 0} → PowerOn → C → ℕ → K → Fields C K
 fields_of start choice bound k = record { rules = start.rules; choice = choice; digest = start_digest start; bound = bound; key = k }
 
@@ -163,7 +163,7 @@ module _ {C K R U : Type 0} (x : Subject C K R U) (start : PowerOn) (choice : C)
     pub bound_is : c.bound ≡ bound
 
   -- Why it is refused: another start; else other rules, or another choice; else another bound; else its key is none of those to go
-  -- through. Memory is wanted only for a cursor that names them all.
+  -- through. An allocation failed only for a cursor that names them all.
   abbrev pub Refuses : ExploreError → Type 0
   Refuses errors.OtherStart = c.digest ≢ start_digest start
   Refuses errors.OtherRules = (c.digest ≡ start_digest start) × ((c.rules ≢ start.rules) ⊎ (c.choice ≢ choice))
@@ -173,7 +173,7 @@ module _ {C K R U : Type 0} (x : Subject C K R U) (start : PowerOn) (choice : C)
   Refuses errors.Failed = ⊥
   Refuses errors.Write = ⊥
 
-  -- An explorer that goes on behind the cursor's key, or the first reason why there is none.
+  -- An explorer that goes on after the cursor's key, or the first reason why there is none.
   abbrev pub Resumes : Result (Explored C K) ExploreError → Type 0
-  Resumes (Ok explorer) = Names × x.IsListed start choice bound c.key × (explorer.state ≡ behind start choice bound c.key)
+  Resumes (Ok explorer) = Names × x.IsListed start choice bound c.key × (explorer.state ≡ after_key start choice bound c.key)
   Resumes (Err e) = Refuses e

@@ -4,9 +4,9 @@ use Rattle.std.specs.Str.Iter.{LacksByte}
 use Rattle.mc_boot.specs.Outcome.{Report}
 use Rattle.mc_boot.specs.declared.outcome.BootResult.{BootResult}
 use Rattle.mc_explore.specs.Page.{Page, TakesPage, page_at, row_line, state_past}
-use Rattle.mc_explore.specs.Rows.{IsRest, State, Told, moved_to, report_of, row_text}
+use Rattle.mc_explore.specs.Rows.{IsRest, State, ShownRow, moved_to, report_of, row_text}
 use Rattle.mc_explore.specs.Subject.{Subject, rows_of}
-use Rattle.mc_explore.specs.declared.surveying.TallyOf.{TallyOf}
+use Rattle.mc_explore.specs.declared.tally.TallyOf.{TallyOf}
 use Rattle.mc_start.specs.Start.{IsSchedule, schedule_text}
 use Rattle.mc_start.specs.declared.cursor.Cursor.{Cursor}
 use Rattle.mc_explore.specs.Pages as pages
@@ -99,13 +99,13 @@ pub record IsWithin {U : Type 0} (t : TallyOf U) : Type 0 where
 abbrev pub Tally : Type 0
 Tally = TallyOf Cursor
 
-abbrev pub AllBoot : List Told → Type 0
+abbrev pub AllBoot : List ShownRow → Type 0
 AllBoot = AllEndInBoot report_of
 
-abbrev pub rows_with : (BootResult → Bool) → List Told → ℕ
+abbrev pub rows_with : (BootResult → Bool) → List ShownRow → ℕ
 rows_with = ending_with report_of
 
-abbrev pub most_ops_of : List Told → ℕ
+abbrev pub most_ops_of : List ShownRow → ℕ
 most_ops_of = most_ops report_of
 
 abbrev pub tally_of : Page → Tally
@@ -127,7 +127,7 @@ SurveysUntil until old new limit tally = (page : Page) × TakesPage until old ne
 
 -- That is the tally of the page of the rows to come, and the explorer is past its rows.
 pub record Surveys (old new : State) (limit : ℕ) (tally : Tally) : Type 0 where
-  pub rows : List Told
+  pub rows : List ShownRow
   pub rest : IsRest old rows
   pub tally_is : tally ≡ tally_of (page_at old limit rows)
   pub left : IsRest new (drop limit rows)
@@ -135,7 +135,7 @@ pub record Surveys (old new : State) (limit : ℕ) (tally : Tally) : Type 0 wher
 
 -- A page of which only a beginning is out, and where to go on.
 
--- The whole lines of a text, without their line feeds: what stands before the first line feed, and the whole lines behind it.
+-- The whole lines of a text, without their line feeds: what stands before the first line feed, and the whole lines after it.
 abbrev pub AreLines : List ℕ → List (List ℕ) → Type 0
 AreLines text [] = LacksByte 10 text
 AreLines text (line ∷ lines) = (rest : List ℕ) × (text ≡ line ++ 10 ∷ rest) × LacksByte 10 line × AreLines rest lines
@@ -163,7 +163,7 @@ pub record HasRows (text : List ℕ) (found : List (List ℕ)) : Type 0 where
 -- The schedule of the last of some row lines, or none where there are none.
 abbrev pub IsOfLast : List (List ℕ) → Option (List ℕ) → Type 0
 IsOfLast found None = found ≡ []
-IsOfLast found (Some l) = (front : List (List ℕ)) × (line : List ℕ) × (found ≡ front ++ line ∷ []) × IsRowLine l line
+IsOfLast found (Some l) = (prefix : List (List ℕ)) × (line : List ℕ) × (found ≡ prefix ++ line ∷ []) × IsRowLine l line
 
 -- The schedule of the last whole row line of a text.
 abbrev pub IsLastRow : List ℕ → Option (List ℕ) → Type 0
@@ -171,15 +171,15 @@ IsLastRow text last = (found : List (List ℕ)) × HasRows text found × IsOfLas
 
 -- Those rows are whole in the torn page, and with the rows of the whole list after the last of them they are those that were to
 -- come when the page began.
-pub record GoesOn (state : State) (rows : List Told) (torn l : List ℕ) : Type 0 where
-  pub whole : List Told
-  pub later : List Told
+pub record GoesOn (state : State) (rows : List ShownRow) (torn l : List ℕ) : Type 0 where
+  pub whole : List ShownRow
+  pub later : List ShownRow
   pub lines : HasRows torn (map row_text whole)
   pub rest : IsRest (moved_to state l) later
   pub joined : whole ++ later ≡ rows
 
 -- One goes on after the last whole row. Where there is none, the page is torn within its first row, and its own start serves.
-abbrev pub Continues : State → List Told → List Told → List ℕ → Option (List ℕ) → Type 0
+abbrev pub Continues : State → List ShownRow → List ShownRow → List ℕ → Option (List ℕ) → Type 0
 Continues state rows page torn (Some l) = GoesOn state rows torn l
 Continues state rows page torn None =
-    HasRows torn [] × ((row : Told) (more : List Told) → page ≡ row ∷ more → length torn < length (row_line row))
+    HasRows torn [] × ((row : ShownRow) (more : List ShownRow) → page ≡ row ∷ more → length torn < length (row_line row))

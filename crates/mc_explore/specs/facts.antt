@@ -1,6 +1,6 @@
 -- Lemmas that the crates above cite. The definitions above them are what must be believed.
 pub mod Occurring
-pub mod Telling
+pub mod Summaries
 pub mod Restarts
 pub mod Listed
 pub mod Keys

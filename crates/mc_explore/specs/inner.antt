@@ -1,5 +1,5 @@
 -- Views, invariants and states of the code's own. No public contract needs them to be believed.
-pub mod Once
+pub mod OneRound
 pub mod LastCuts
 pub mod Table
 pub mod View

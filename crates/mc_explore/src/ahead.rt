@@ -1,11 +1,11 @@
-//! Rows that are told without the flash.
+//! Rows that are found without the flash.
 ghost use Rattle.std.specs.Prelude.{◌≡◌, ◌<◌, Some, IfSome, MatchOption};
 ghost use Rattle.mc_explore.specs.inner.Exploring.{IsSpent};
 
-/// The rows of the children of a node, the last of their path, that are told without the flash.
+/// The rows of the children of a node, the last of their path, that are found without the flash.
 #[derive(Clone, Copy)]
 pub struct RowsAhead<A> {
-    /// By what they are told.
+    /// By what they are found.
     pub ahead: A,
     /// How many children the node has.
     pub count: u32,

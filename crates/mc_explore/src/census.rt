@@ -2,10 +2,9 @@
 ghost use Rattle.std.specs.Prelude.{◌≡◌, ◌↔◌, true, List};
 ghost use Rattle.mc_boot.specs.Outcome.{shown};
 ghost use Rattle.mc_start.specs.Start.{lowered};
-ghost use Rattle.mc_explore.specs.Census.{census_of};
-ghost use Rattle.mc_explore.specs.Rows.{Told};
+ghost use Rattle.mc_explore.specs.Census.{census_of, Totals, both, cut_off, no_totals, report_totals, totals, with_first};
+ghost use Rattle.mc_explore.specs.Rows.{ShownRow};
 ghost use Rattle.mc_explore.specs.Survey.{AllBoot};
-ghost use Rattle.mc_explore.specs.Census.{Totals, both, cut_off, no_totals, report_totals, totals, with_first};
 
 use mc_boot::{BootResult, Outcome};
 use mc_start::Schedule;
@@ -87,17 +86,18 @@ impl Census {
 
     /// Whether each of the schedules ends in a boot.
     pub fn all_boot(&self) -> bool
-        ensures { (rows : List Told) → self.now ≡ census_of rows → (result ≡ true) ↔ AllBoot rows }
+        ensures { (rows : List ShownRow) → self.now ≡ census_of rows → (result ≡ true) ↔ AllBoot
+            rows }
     {
         self.first_not_boot.is_none()
     }
 
     /// Of the same schedules, each after that cut.
-    pub(crate) fn behind(&self, cut: u32) -> Census
-        ensures { (a : Totals) → self.now ≡ cut_off a → result ≡ cut_off (totals.behind cut a) }
+    pub(crate) fn prefixed(&self, cut: u32) -> Census
+        ensures { (a : Totals) → self.now ≡ cut_off a → result ≡ cut_off (totals.prefixed cut a) }
     {
         let first_not_boot = match &self.first_not_boot {
-            Some(first) => Some(first.behind(cut)),
+            Some(first) => Some(first.prefixed(cut)),
             None => None,
         };
         Census {
@@ -107,12 +107,12 @@ impl Census {
     }
 
     /// Of the same schedules, the first cut of each so many operations earlier.
-    pub(crate) fn back(&self, operations: u32) -> Census
+    pub(crate) fn first_lowered(&self, operations: u32) -> Census
         ensures { (a : Totals) → self.now ≡ cut_off a
-            → result ≡ cut_off (totals.back operations a) }
+            → result ≡ cut_off (totals.first_lowered operations a) }
     {
         let first_not_boot = match &self.first_not_boot {
-            Some(first) => Some(first.back(operations)),
+            Some(first) => Some(first.first_lowered(operations)),
             None => None,
         };
         Census {

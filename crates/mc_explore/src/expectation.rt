@@ -23,7 +23,7 @@ pub enum Wanted {
 }
 
 impl Wanted {
-    /// What a text tells: a version, `none`, or a digest in 64 lower-case digits.
+    /// What a text says: a version, `none`, or a digest in 64 lower-case digits.
     ///
     /// # Errors
     ///

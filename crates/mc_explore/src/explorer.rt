@@ -4,16 +4,12 @@ ghost use Rattle.mc_flash.specs.Usage.{limits_for, most_operations};
 ghost use Rattle.mc_start.specs.Cursor.{cursor_of};
 ghost use Rattle.mc_start.specs.Start.{begun};
 ghost use Rattle.mc_tree.specs.Tree.{After};
-ghost use Rattle.mc_explore.specs.Rows.{most_for_row, row_cost};
+ghost use Rattle.mc_explore.specs.Rows.{most_for_row, row_cost, Finds, schedules, state_after, RowRestarts, Resumes, shown_row, at_start};
 ghost use Rattle.mc_explore.specs.Subject.{Explores};
-ghost use Rattle.mc_explore.specs.Rows.{Finds, schedules, state_after};
 ghost use Rattle.mc_explore.specs.Pages.{FindsBefore};
-ghost use Rattle.mc_explore.specs.Rows.{RowRestarts};
-ghost use Rattle.mc_explore.specs.Rows.{Resumes};
-ghost use Rattle.mc_explore.specs.Rows.{told, at_start};
 
 use crate::error::ExploreError;
-use crate::once::Once;
+use crate::one_round::OneRound;
 use crate::row::Row;
 use crate::source::RowSource;
 use crate::tree_explorer::TreeExplorer;
@@ -26,7 +22,7 @@ use std::marker::Model;
 /// flash.
 #[derive(Drop)]
 pub struct Explorer<'a, F: Flash> {
-    pub(crate) inner: TreeExplorer<'a, F, Once>,
+    pub(crate) inner: TreeExplorer<'a, F, OneRound>,
 }
 
 impl<'a, F: Flash> Model for Explorer<'a, F> {
@@ -66,7 +62,7 @@ impl<'a, F: Flash + Drop> Explorer<'a, F> {
     /// # Errors
     ///
     /// `CannotOccur` where it is none of the schedules to go through; `Memory`.
-    pub fn behind(
+    pub fn after(
         alloc: Global,
         start: &'a Start,
         bound: u8,
@@ -120,7 +116,7 @@ impl<'a, F: Flash + Drop> Explorer<'a, F> {
         ensures moved { IfOk result (λ found. self.new.state ≡ state_after self.old.state found) }
         // The restart theorem, for that row.
         ensures restarts { IfOk result (λ found. IfSome found
-            (λ row. RowRestarts self.old.state.start (told row))) }
+            (λ row. RowRestarts self.old.state.start (shown_row row))) }
         // It takes at most one boot and two operations, and none where there is no row.
         ensures applied { IfOk result (λ
             found. self.new.usage.applied ≤ self.old.usage.applied + row_cost
@@ -141,14 +137,14 @@ impl<'a, F: Flash + Drop> Explorer<'a, F> {
         self.inner.flash()
     }
 
-    // The next row, where it comes before that schedule, if one is told; none where it does not, or where there is no further row.
+    // The next row, where it comes before that schedule, if one is given; none where it does not, or where there is no further row.
     #[inline]
     pub(crate) fn next_before(
         &mut self,
         until: &Option<Schedule>,
     ) -> Result<Option<Row>, ExploreError>
         ensures found { IfOk result (λ found. FindsBefore schedules until.now self.old.state
-            (option_map told found) self.new.state) }
+            (option_map shown_row found) self.new.state) }
         ensures applied { IfOk result (λ _. self.new.usage.applied ≤ self.old.usage.applied
             + most_for_row self.old.state.start.rules self.old.state.start.geometry) }
         ensures explores { Explores F.counted self.old result self.new }
@@ -157,7 +153,7 @@ impl<'a, F: Flash + Drop> Explorer<'a, F> {
         self.inner.next_before(until)
     }
 
-    // Where to go on behind the last row.
+    // Where to go on after the last row.
     pub(crate) fn cursor(&self) -> Cursor
         ensures { (last : List ℕ) → self.now.state.position ≡ After last → result
             ≡ cursor_of self.now.state.start self.now.state.bound last }

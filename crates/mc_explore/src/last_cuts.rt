@@ -1,14 +1,14 @@
-//! The schedules of the most cuts: the outcomes behind their last cuts are found among those at the cuts of another boot.
+//! The schedules of the most cuts: the outcomes after their last cuts are found among those at the cuts of another boot.
 ghost use Rattle.std.specs.Prelude.{◌≡◌, ℕ, List, ◌+◌, ◌∷◌, ◌++◌, [], ◌<◌, ◌≤◌, ◌^◌, length, slice_get, Some, IfOk, IfSome, MatchOption, true};
 ghost use Rattle.mc_boot.specs.Outcome.{outcome_of, shown};
 ghost use Rattle.mc_boot.specs.Plan.{PowerOn, again};
-ghost use Rattle.mc_boot.specs.Rejoin.{place_of};
+ghost use Rattle.mc_boot.specs.SharedTail.{index_in_parent};
 ghost use Rattle.mc_explore.specs.inner.LastCuts.{flash_at, AreAtCuts, AreLastCuts};
-ghost use Rattle.mc_explore.specs.inner.Once.{begun_of};
+ghost use Rattle.mc_explore.specs.inner.OneRound.{begun_of};
 
 use crate::ahead::RowsAhead;
-use crate::once::Once;
-use mc_boot::{Outcome, Rejoin};
+use crate::one_round::OneRound;
+use mc_boot::{Outcome, SharedTail};
 use mc_flash::Flash;
 use mc_start::Schedule;
 use mc_walk::Walk;
@@ -21,7 +21,7 @@ const MOST_COUNT: u32 = 0x8000_0000;
 /// only when it is made.
 #[derive(Drop)]
 pub struct AtCuts {
-    /// The schedule behind which that boot begins.
+    /// The schedule after which that boot begins.
     pub of: Schedule,
     pub outcomes: Vec<Outcome>,
 }
@@ -42,17 +42,22 @@ impl AtCuts {
     }
 
     /// The outcome at the cut of its boot where that of the other boot finds its flash, if it is kept.
-    pub fn outcome(&self, rejoin: &Rejoin, number: u32) -> Option<Outcome>
+    pub fn outcome(&self, shared_tail: &SharedTail, number: u32) -> Option<Outcome>
         requires { number < 2 ^ 31 }
-        ensures { result ≡ slice_get self.now.outcomes.items (place_of rejoin.now number) }
+        ensures { result ≡ slice_get self.now.outcomes.items (index_in_parent shared_tail.now
+            number) }
     {
-        let place = rejoin.place(number) as usize;
-        self.outcomes.get(place).copied()
+        let index = shared_tail.index_in_parent(number) as usize;
+        self.outcomes.get(index).copied()
     }
 
-    /// The last cuts behind the path of a walk, where its boot goes on with the one that was cut, and all outcomes at the cuts of
+    /// The last cuts after the path of a walk, where its boot goes on with the one that was cut, and all outcomes at the cuts of
     /// that one are there.
-    pub fn behind<F: Flash>(&self, walk: &Walk<F, Once>, path: &[u32]) -> Option<RowsAhead<Rejoin>>
+    pub fn find_last_cuts<F: Flash>(
+        &self,
+        walk: &Walk<F, OneRound>,
+        path: &[u32],
+    ) -> Option<RowsAhead<SharedTail>>
         requires stands { walk.now.stands ≡ true }
         requires path { path.now ≡ walk.now.path }
         ensures cuts { IfSome result (λ rows. AreLastCuts (begun_of walk.now) self.now.of path.now
@@ -61,8 +66,8 @@ impl AtCuts {
     {
         let step = walk.last_step()?;
         let (_, of) = path.split_last()?;
-        let told = walk.told();
-        let count = told.outcome.ops;
+        let summary = walk.summary();
+        let count = summary.outcome.ops;
         let whole = step.parent.outcome.ops as usize;
         if self.of.cuts() != of
             || self.outcomes.len() != whole
@@ -71,18 +76,18 @@ impl AtCuts {
         {
             return None;
         }
-        let rejoin = Rejoin::find(walk.flash(), &step.at, &told.boot)?;
+        let shared_tail = SharedTail::find(walk.flash(), &step.at, &summary.boot)?;
         Some(RowsAhead {
-            ahead: rejoin,
+            ahead: shared_tail,
             count,
             next: 0,
         })
     }
 
-    /// Keeps the outcome behind a schedule whose last cut but one is before the first operation: what the boot there begins with is
+    /// Keeps the outcome after a schedule whose last cut but one is before the first operation: what the boot there begins with is
     /// what the boot before it began with.
     pub fn keep(&mut self, schedule: &[u32], outcome: Outcome)
-        requires few { length schedule.now ≤ 16 }
+        requires at_most { length schedule.now ≤ 16 }
         ensures { (x : PowerOn) → AreAtCuts x self.old.of self.old.outcomes.items
             → outcome_of (again x (flash_at x schedule.now)) ≡ Some (shown outcome)
             → AreAtCuts x self.new.of self.new.outcomes.items }

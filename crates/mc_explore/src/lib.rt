@@ -11,20 +11,20 @@ mod labels;
 mod last_cuts;
 mod laws;
 mod loading;
-mod once;
+mod one_round;
 mod output;
 mod pages;
-mod replaying;
+mod replays;
 mod rights;
 mod row;
 mod row_text;
 mod rows;
 mod schedules;
 mod source;
+mod start_census;
 mod subject;
-mod surveying;
 mod table;
-mod taking;
+mod tally;
 mod torn;
 mod tree_explorer;
 mod tree_loading;
@@ -43,18 +43,18 @@ pub use mc_start::{
     Cursor, CursorError, Line, MOST_CUTS, MOST_LINE, RulesField, Schedule, ScheduleError, Start,
     StartError, StartField, next_field,
 };
-pub use once::{Once, Told};
+pub use one_round::{OneRound, Summary};
 pub use output::write_text;
 pub use pages::{write_page, write_page_until, write_rows};
-pub use replaying::{ReplayError, flash_at_cut, replay, replay_on};
+pub use replays::{ReplayError, flash_at_cut, replay, replay_on};
 pub use rights::{Rights, RightsOf, all_right, write_rights};
 pub use row::Row;
 pub use row_text::{put_outcome, put_slots};
 pub use source::RowSource;
+pub use start_census::{take_census, take_rights};
 pub use subject::{Fields, Subject};
-pub use surveying::{
+pub use tally::{
     Tally, TallyOf, all_boot, survey, survey_right, survey_rows, survey_until, write_tally,
 };
-pub use taking::{take_census, take_rights};
 pub use torn::last_row;
 pub use tree_explorer::TreeExplorer;

@@ -1,7 +1,7 @@
 //! Text, written whole and without memory.
 ghost use Rattle.std.specs.Prelude.{◌≡◌, IfErr, OnOk, OnErr};
 ghost use Rattle.std.specs.Io.KnownBytes.{Appends};
-ghost use Rattle.mc_output.specs.Text.{AppendsFront};
+ghost use Rattle.mc_output.specs.Text.{AppendsPrefix};
 
 use crate::error::ExploreError;
 use mc_output::WriteFailed;
@@ -14,7 +14,7 @@ use std::io::Write;
 /// `Write` where a write fails or takes no bytes.
 pub fn write_text<W: Write>(writer: &mut W, text: &[u8]) -> Result<(), ExploreError>
     ensures whole { OnOk result (Appends (W.contents writer.old) (W.contents writer.new) text.now) }
-    ensures front { OnErr result (AppendsFront (W.contents writer.old) (W.contents writer.new)
+    ensures prefix { OnErr result (AppendsPrefix (W.contents writer.old) (W.contents writer.new)
         text.now) }
     ensures err { IfErr result (λ e. e ≡ ExploreError.Write) }
 {

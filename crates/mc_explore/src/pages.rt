@@ -2,9 +2,8 @@
 ghost use Rattle.std.specs.Prelude.{◌≡◌, ◌+◌, ◌*◌, ◌≤◌, ◌⊎◌, IfErr, OnOk, OnErr, IsErrOf};
 ghost use Rattle.mc_tree.specs.Tree.{Lost};
 ghost use Rattle.mc_explore.specs.Rows.{most_for_row};
-ghost use Rattle.mc_explore.specs.Page.{PageIsOut, PageBegan};
+ghost use Rattle.mc_explore.specs.Page.{PageIsOut, PageBegan, ShownIsOut, ShownBegan};
 ghost use Rattle.mc_explore.specs.Pages as pages;
-ghost use Rattle.mc_explore.specs.Page.{ShownIsOut, ShownBegan};
 ghost use Rattle.mc_explore.specs.Explores.{ExploresOn, GoesOn};
 ghost use Rattle.mc_explore.specs.Subject.{Explores};
 
@@ -50,8 +49,8 @@ fn write_lines<S: RowSource, W: Write>(
     source.write_next(writer)
 }
 
-/// Writes a page of the next rows that come before that key, if one is told. It has at most so many rows, a line each; then
-/// where to go on, or `end` where there are fewer. It takes no memory but through the flash.
+/// Writes a page of the next rows that come before that key, if one is given. It has at most so many rows, a line each;
+/// then where to go on, or `end` where there are fewer. It takes no memory but through the flash.
 ///
 /// # Errors
 ///
@@ -78,14 +77,14 @@ pub fn write_rows<S: RowSource, W: Write>(
 {
     let done = write_lines(source, until, limit, writer);
     if done.is_err() {
-        source.give_up();
+        source.mark_failed();
     }
     done
 }
 
-/// Writes a page of the next rows that come before that schedule, if one is told: a prefix of it comes before it, else the
-/// first cut that differs decides. It has at most so many rows, a line each; then where to go on, or `end` where there are
-/// fewer. It takes no memory but through the flash.
+/// Writes a page of the next rows that come before that schedule, if one is given: a prefix of it comes before it, else
+/// the first cut that differs decides. It has at most so many rows, a line each; then where to go on, or `end` where there
+/// are fewer. It takes no memory but through the flash.
 ///
 /// After a full page the explorer is past its rows. After one that says `end` it is also past the next row, if there is
 /// one: that one does not come before the schedule, and to go on with it resume after the page's last row.

@@ -2,8 +2,7 @@
 ghost use Rattle.std.specs.Prelude.{◌≡◌, ◌+◌, ◌<◌, ◌≤◌, ◌++◌, [], length, Some, option_map};
 ghost use Rattle.mc_boot.specs.Plan.{identity_of};
 ghost use Rattle.mc_boot.specs.Outcome.{shown};
-ghost use Rattle.mc_explore.specs.Rows.{slot_text, outcome_text, slots_text, row_text};
-ghost use Rattle.mc_explore.specs.Rows.{told};
+ghost use Rattle.mc_explore.specs.Rows.{slot_text, outcome_text, slots_text, row_text, shown_row};
 
 use crate::labels::Labels;
 use crate::row::Row;
@@ -51,7 +50,7 @@ pub fn put_outcome(line: &mut Line, outcome: &Outcome)
 }
 
 /// Adds what a boot left, in words: what the slots hold (the version and the size of the valid image, or `none`), and
-/// the next type. Images with a label are told by that.
+/// the next type. Images with a label are named by that.
 pub fn put_slots(line: &mut Line, outcome: &Outcome, labels: &Labels)
     requires { length line.old + 116 ≤ MOST_LINE }
     ensures text { line.new ≡ line.old ++ slots_text (shown outcome.now) }
@@ -67,7 +66,7 @@ pub fn put_slots(line: &mut Line, outcome: &Outcome, labels: &Labels)
 /// The schedule, the result, the type, how many operations happened, what the slots hold (the version and the size of the
 /// valid image, or `none`), and the next type: one space between, no line feed.
 impl fmt::Display for Row {
-    ghost output = { λ row. Some (row_text (told row)) };
+    ghost output = { λ row. Some (row_text (shown_row row)) };
 
     fn fmt<W: fmt::Write>(&self, f: &mut fmt::Formatter<W>) -> fmt::Result {
         let mut line = Line::new();
@@ -80,7 +79,7 @@ impl Row {
     // Puts its text into an empty line, where there is room for it and more.
     pub(crate) fn put_into(&self, line: &mut Line, labels: &Labels)
         requires { line.old ≡ [] }
-        ensures text { line.new ≡ row_text (told self.now) }
+        ensures text { line.new ≡ row_text (shown_row self.now) }
         ensures length { length line.new < MOST_LINE }
     {
         self.schedule.put_into(line);

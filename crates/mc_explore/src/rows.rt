@@ -1,8 +1,7 @@
 //! The rows of an exploration, one after another.
 ghost use Rattle.std.specs.Prelude.{◌≡◌, ℕ, List, ◌≤◌, [], true, option_map, IfOk};
 ghost use Rattle.mc_tree.specs.Tree.{Position};
-ghost use Rattle.mc_walk.specs.Walks.{Costs, Visits};
-ghost use Rattle.mc_walk.specs.Walks.{IsFresh, origin_of};
+ghost use Rattle.mc_walk.specs.Walks.{Costs, Visits, IsFresh, origin_of};
 ghost use Rattle.mc_explore.specs.inner.Exploring.{CostsRow, FindsRow, StandsFor};
 
 use crate::ahead::{RowsAhead, still_to_come};
@@ -12,21 +11,19 @@ use mc_start::{Schedule, Start};
 use mc_walk::{Phase, Tour, TourError, Walk};
 use std::marker::Model;
 
-/// Goes through the rows of a subject over one flash. Those behind a node that can be told without the flash are told so.
+/// Goes through the rows of a subject over one flash. Those after a node that can be found without the flash are found so.
 #[derive(Drop)]
 pub struct Rows<F: Flash, X: Subject> {
     tour: Tour<F, X>,
     // The path at which the tour stands.
     path: Schedule,
     kept: X::Kept,
-    // The rows behind that path, where they are told without the flash.
+    // The rows after that path, where they are found without the flash.
     ahead: Option<RowsAhead<X::Ahead>>,
 }
 
 impl<F: Flash, X: Subject> Model for Rows<F, X> {
-    ghost use Rattle.mc_explore.specs.inner.Exploring.{last_of};
-    ghost use Rattle.mc_explore.specs.inner.Exploring.{IsRowing};
-    ghost use Rattle.mc_explore.specs.inner.Exploring.{Rowed};
+    ghost use Rattle.mc_explore.specs.inner.Exploring.{last_of, IsRowing, Rowed};
 
     ghost Value = { Rowed X };
 
@@ -36,22 +33,22 @@ impl<F: Flash, X: Subject> Model for Rows<F, X> {
       last = last_of rows.path rows.ahead;
     } };
 
-    ghost invariant = { λ rows. IsRowing X.kind X.holds X.is_ahead rows.tour rows.kept rows.path
+    ghost invariant = { λ rows. IsRowing X.model X.holds X.is_ahead rows.tour rows.kept rows.path
         rows.ahead };
 }
 
-// Goes on to the next node: from where a tour stands, or behind all children of that node.
-fn go_on<F: Flash, X: Subject>(
+// Goes on to the next node: from where a tour stands, or after all children of that node.
+fn next_node<F: Flash, X: Subject>(
     tour: &mut Tour<F, X>,
-    is_behind: bool,
+    is_beyond: bool,
     start: &Start,
 ) -> Result<bool, TourError>
     ensures visits { IfOk result (λ went. (position : Position (List ℕ))
-        → StandsFor X.kind is_behind tour.old position
-        → Visits (X.kind tour.old.walk.branches) tour.old position went tour.new) }
-    ensures costs { Costs (X.kind tour.old.walk.branches) tour.old result tour.new }
+        → StandsFor X.model is_beyond tour.old position
+        → Visits (X.model tour.old.walk.flash_tree) tour.old position went tour.new) }
+    ensures costs { Costs (X.model tour.old.walk.flash_tree) tour.old result tour.new }
 {
-    if is_behind {
+    if is_beyond {
         tour.leave(start)
     } else {
         tour.visit(start)
@@ -61,9 +58,9 @@ fn go_on<F: Flash, X: Subject>(
 impl<F: Flash + Drop, X: Subject> Rows<F, X> {
     /// From the root.
     pub fn fresh(walk: Walk<F, X>, kept: X::Kept) -> Rows<F, X>
-        requires fresh { IsFresh (X.kind walk.branches) walk }
-        requires few { walk.bound ≤ 16 }
-        requires kept { X.holds walk.branches (origin_of walk.seen) kept }
+        requires fresh { IsFresh (X.model walk.flash_tree) walk }
+        requires at_most { walk.bound ≤ 16 }
+        requires kept { X.holds walk.flash_tree (origin_of walk.seen) kept }
         ensures { result ≡ record { walk = walk; phase = Phase.Fresh; last = [] } }
     {
         let tour = Tour::fresh(walk);
@@ -75,16 +72,16 @@ impl<F: Flash + Drop, X: Subject> Rows<F, X> {
         }
     }
 
-    /// Behind the path along which a walk came.
-    pub fn behind(walk: Walk<F, X>, kept: X::Kept) -> Rows<F, X>
+    /// After the path along which a walk came.
+    pub fn after(walk: Walk<F, X>, kept: X::Kept) -> Rows<F, X>
         requires stands { walk.stands ≡ true }
-        requires few { walk.bound ≤ 16 }
-        requires kept { X.holds walk.branches (origin_of walk.seen) kept }
+        requires at_most { walk.bound ≤ 16 }
+        requires kept { X.holds walk.flash_tree (origin_of walk.seen) kept }
         ensures { result ≡ record { walk = walk; phase = Phase.Going; last = walk.path } }
     {
         let path = Schedule::of(walk.path().as_slice());
         Rows {
-            tour: Tour::behind(walk),
+            tour: Tour::after(walk),
             path,
             kept,
             ahead: None,
@@ -97,9 +94,9 @@ impl<F: Flash + Drop, X: Subject> Rows<F, X> {
     ///
     /// `Memory` where the flash was refused memory; from then on always `Failed`.
     pub fn next(&mut self, start: &Start) -> Result<Option<X::Row>, TourError>
-        ensures finds { IfOk result (λ found. FindsRow X.subject X.kind X.begins X.choice X.key_of
+        ensures finds { IfOk result (λ found. FindsRow X.subject X.model X.begins X.choice X.key_of
             self.old (option_map X.shown found) self.new) }
-        ensures costs { CostsRow X.kind self.old result self.new }
+        ensures costs { CostsRow X.model self.old result self.new }
     {
         if let Some(rows) = still_to_come(self.ahead) {
             let row = X::row_ahead(&self.kept, &self.path, &rows);
@@ -109,7 +106,7 @@ impl<F: Flash + Drop, X: Subject> Rows<F, X> {
             });
             return Ok(row);
         }
-        if !go_on(&mut self.tour, self.ahead.is_some(), start)? {
+        if !next_node(&mut self.tour, self.ahead.is_some(), start)? {
             return Ok(None);
         }
         let walk = self.tour.walk();
@@ -128,7 +125,7 @@ impl<F: Flash + Drop, X: Subject> Rows<F, X> {
     }
 
     /// Makes it one that failed.
-    pub fn give_up(&mut self)
+    pub fn mark_failed(&mut self)
         ensures { self.new ≡ record {
           walk = self.old.walk;
           phase = Phase.Broken;
@@ -136,6 +133,6 @@ impl<F: Flash + Drop, X: Subject> Rows<F, X> {
         } }
     {
         self.ahead = None;
-        self.tour.give_up();
+        self.tour.mark_failed();
     }
 }

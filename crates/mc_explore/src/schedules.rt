@@ -2,32 +2,32 @@
 use crate::ahead::RowsAhead;
 use crate::labels::Labels;
 use crate::last_cuts::AtCuts;
-use crate::once::Once;
+use crate::one_round::OneRound;
 use crate::row::Row;
 use crate::subject::{Fields, Subject};
-use mc_boot::{Outcome, Rejoin, restart_law};
+use mc_boot::{Outcome, SharedTail, restart_law};
 use mc_flash::{Flash, FlashError, most_operations};
 use mc_start::{Cursor, Line, Schedule, Start};
 use mc_walk::Walk;
 use std::alloc::{AllocError, Global};
 
-/// For how many cuts of one boot an explorer keeps what is told there, at the most.
+/// For how many cuts of one boot an explorer keeps the outcomes, at the most.
 const MOST_KEPT: u64 = 0x1_0000;
 
-impl Subject for Once {
+impl Subject for OneRound {
     ghost use Rattle.std.specs.Prelude.{◌≡◌};
     ghost use Rattle.mc_boot.specs.Plan.{PowerOn};
     ghost use Rattle.mc_start.specs.Cursor.{cursor_of};
     ghost use Rattle.mc_start.specs.Start.{start_digest};
     ghost use Rattle.mc_tree.specs.facts.Order.{paths_in_order};
     ghost use Rattle.mc_explore.specs.inner.LastCuts.{AreAtCuts, AreLastCuts};
-    ghost use Rattle.mc_explore.specs.inner.Once.{begins};
+    ghost use Rattle.mc_explore.specs.inner.OneRound.{begins};
     ghost use Rattle.mc_explore.specs.Rows.{fields_of, subject};
     ghost use Rattle.mc_explore.specs.Rows as states;
     ghost use Rattle.mc_explore.specs.facts.Keys.{are_schedules, one_more, schedule_costs, schedules_clear};
     ghost use Rattle.mc_explore.specs.facts.Listed.{some_rest};
 
-    ghost Shown = { states.Told };
+    ghost Shown = { states.ShownRow };
 
     type Choice = ();
 
@@ -39,7 +39,7 @@ impl Subject for Once {
 
     type Kept = AtCuts;
 
-    type Ahead = Rejoin;
+    type Ahead = SharedTail;
 
     ghost subject = { subject };
 
@@ -49,21 +49,21 @@ impl Subject for Once {
 
     ghost key_of = { λ _ _ path. path };
 
-    ghost shown = { states.told };
+    ghost shown = { states.shown_row };
 
     ghost fields = { fields_of };
 
     ghost holds = { λ o c kept. AreAtCuts (begins o c) kept.of kept.outcomes.items };
 
-    ghost is_ahead = { λ o c kept path rejoin count. AreLastCuts (begins o c) kept.of path
-        kept.outcomes.items rejoin count };
+    ghost is_ahead = { λ o c kept path shared_tail count. AreLastCuts (begins o c) kept.of path
+        kept.outcomes.items shared_tail count };
 
     ghost MORE = { 1 };
 
     const MORE: u32 = 1;
 
-    fn of(start: &Start, _chosen: ()) -> Once {
-        Once {
+    fn of(start: &Start, _chosen: ()) -> OneRound {
+        OneRound {
             rules: start.rules(),
             layout: *start.layout(),
         }
@@ -78,7 +78,7 @@ impl Subject for Once {
     }
 
     fn follow<F: Flash>(
-        walk: &mut Walk<F, Once>,
+        walk: &mut Walk<F, OneRound>,
         key: &Schedule,
         start: &Start,
     ) -> Result<bool, FlashError> {
@@ -86,10 +86,10 @@ impl Subject for Once {
         Ok(went)
     }
 
-    fn row<F: Flash>(walk: &Walk<F, Once>, path: &Schedule) -> Row {
+    fn row<F: Flash>(walk: &Walk<F, OneRound>, path: &Schedule) -> Row {
         Row {
             schedule: *path,
-            outcome: walk.told().outcome,
+            outcome: walk.summary().outcome,
         }
     }
 
@@ -104,23 +104,23 @@ impl Subject for Once {
 
     fn arrive<F: Flash>(
         kept: &mut AtCuts,
-        walk: &Walk<F, Once>,
+        walk: &Walk<F, OneRound>,
         path: &Schedule,
-    ) -> Option<RowsAhead<Rejoin>> {
+    ) -> Option<RowsAhead<SharedTail>> {
         let path = path.cuts();
         if path.len() == walk.bound() {
-            kept.keep(path, walk.told().outcome);
+            kept.keep(path, walk.summary().outcome);
             return None;
         }
         if path.len() + 1 == walk.bound() {
-            kept.behind(walk, path)
+            kept.find_last_cuts(walk, path)
         } else {
             None
         }
     }
 
     #[inline]
-    fn row_ahead(kept: &AtCuts, path: &Schedule, rows: &RowsAhead<Rejoin>) -> Option<Row> {
+    fn row_ahead(kept: &AtCuts, path: &Schedule, rows: &RowsAhead<SharedTail>) -> Option<Row> {
         let outcome = kept.outcome(&rows.ahead, rows.next)?;
         let mut schedule = *path;
         schedule.push(rows.next);

@@ -3,16 +3,15 @@ use crate::error::ExploreError;
 use mc_start::Line;
 use std::io::Write;
 
-/// Gives rows, one after another and each as a line, and says where to go on behind the last: what pages are made of.
+/// Gives rows, one after another and each as a line, and says where to go on after the last: what pages are made of.
 pub trait RowSource {
     ghost use Rattle.std.specs.Prelude.{◌≡◌, ℕ, Bool, Option, Some, ◌+◌, ◌≤◌, ◌⊎◌, IfOk, IfErr, OnOk, OnErr, option_map};
     ghost use Rattle.std.specs.Io.KnownBytes.{Appends};
     ghost use Rattle.mc_flash.specs.Usage.{Usage};
-    ghost use Rattle.mc_output.specs.Text.{AppendsFront};
+    ghost use Rattle.mc_output.specs.Text.{AppendsPrefix};
     ghost use Rattle.mc_tree.specs.Tree.{After, Lost};
     ghost use Rattle.mc_explore.specs.Explores.{ExploresOn};
-    ghost use Rattle.mc_explore.specs.Pages.{Listing, IsLawful};
-    ghost use Rattle.mc_explore.specs.Pages.{FindsBefore, row_line, last_line};
+    ghost use Rattle.mc_explore.specs.Pages.{Listing, IsLawful, FindsBefore, row_line, last_line};
 
     ghost State: { Type 0 };
 
@@ -42,8 +41,8 @@ pub trait RowSource {
 
     ghost most_for_row: { State → ℕ };
 
-    /// The next row, where it comes before that one, if one is told; none where it does not, or where there is no further
-    /// row.
+    /// The next row, where it comes before that one, if one is given; none where it does not, or where there is no
+    /// further row.
     ///
     /// # Errors
     ///
@@ -70,11 +69,11 @@ pub trait RowSource {
     ) -> Result<(), ExploreError>
         ensures whole { OnOk result (Appends (W.contents writer.old) (W.contents writer.new)
             (row_line listing (shown row.now))) }
-        ensures front { OnErr result (AppendsFront (W.contents writer.old) (W.contents writer.new)
+        ensures prefix { OnErr result (AppendsPrefix (W.contents writer.old) (W.contents writer.new)
             (row_line listing (shown row.now))) }
         ensures err { IfErr result (λ e. e ≡ ExploreError.Write) };
 
-    /// Writes the line that says where to go on behind the last row, or a prefix of it.
+    /// Writes the line that says where to go on after the last row, or a prefix of it.
     ///
     /// # Errors
     ///
@@ -83,13 +82,13 @@ pub trait RowSource {
         ensures whole { (last : Key) → listing.position (state self.now) ≡ After last
             → OnOk result (Appends (W.contents writer.old) (W.contents writer.new)
             (last_line listing (Some (listing.cursor (state self.now) last)))) }
-        ensures front { (last : Key) → listing.position (state self.now) ≡ After last
-            → OnErr result (AppendsFront (W.contents writer.old) (W.contents writer.new)
+        ensures prefix { (last : Key) → listing.position (state self.now) ≡ After last
+            → OnErr result (AppendsPrefix (W.contents writer.old) (W.contents writer.new)
             (last_line listing (Some (listing.cursor (state self.now) last)))) }
         ensures err { IfErr result (λ e. e ≡ ExploreError.Write) };
 
     /// Makes it one that failed, for a caller that could not write a row.
-    fn give_up(&mut self)
+    fn mark_failed(&mut self)
         ensures lost { listing.position (state self.new) ≡ Lost }
         ensures usage { usage self.new ≡ usage self.old }
         ensures still { listing.position (state self.old) ≡ Lost → self.new ≡ self.old };

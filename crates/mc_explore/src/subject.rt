@@ -5,10 +5,10 @@ use mc_boot::Outcome;
 use mc_flash::{Flash, FlashError};
 use mc_start::{Line, Schedule, Start};
 use mc_trailer::Rules;
-use mc_walk::{Branches, Walk};
+use mc_walk::{FlashTree, Walk};
 use std::alloc::{AllocError, Global};
 
-/// What a cursor says: where to go on, of a start (told by its digest) under some rules and a choice, with so many cuts at most.
+/// What a cursor says: where to go on, of a start (named by its digest) under some rules and a choice, with so many cuts at most.
 #[derive(Clone, Copy)]
 pub struct Fields<C, K> {
     pub rules: Rules,
@@ -19,7 +19,7 @@ pub struct Fields<C, K> {
 }
 
 /// A kind of tree whose paths are gone through as rows, each found by a key.
-pub trait Subject: Branches<Known = Start> {
+pub trait Subject: FlashTree<Known = Start> {
     ghost use Rattle.std.specs.Prelude.{◌≡◌, ◌≢◌, ◌↔◌, ℕ, ◌+◌, ◌<◌, ◌≤◌, Bool, ◌^◌, List, [], ◌∷◌, length, ◌++◌, true, false, IfOk, IfErr, IfSome, IsSomeAnd, OnOk};
     ghost use Rattle.mc_tree.specs.Tree.{Allowed};
     ghost use Rattle.mc_tree.specs.facts.Order.{IsOrder};
@@ -33,12 +33,8 @@ pub trait Subject: Branches<Known = Start> {
     ghost use Rattle.mc_explore.specs.Pages.{IsRest};
     ghost use Rattle.mc_explore.specs.Subject as subjects;
     ghost use Rattle.mc_explore.specs.declared.subject.Fields.{Fields as FieldsOf};
-    ghost use Rattle.mc_explore.specs.inner.Exploring.{FollowsKey, IsCalm, IsCheapFor};
-    ghost use Rattle.mc_explore.specs.inner.Exploring.{AreKeys};
-    ghost use Rattle.mc_explore.specs.inner.Exploring.{LoadsFor};
-    ghost use Rattle.mc_explore.specs.inner.Exploring.{AreFresh};
-    ghost use Rattle.mc_explore.specs.Subject.{IsRowAt, rows_of};
-    ghost use Rattle.mc_explore.specs.Subject.{State};
+    ghost use Rattle.mc_explore.specs.inner.Exploring.{FollowsKey, NoAllocationFailed, IsCheapFor, AreKeys, LoadsFor, AreFresh};
+    ghost use Rattle.mc_explore.specs.Subject.{IsRowAt, rows_of, State};
 
     ghost Shown: { Type 0 };
 
@@ -54,10 +50,10 @@ pub trait Subject: Branches<Known = Start> {
     /// Where to go on.
     type Cursor: Copy;
 
-    /// What is kept of nodes for the rows that are told without the flash.
+    /// What is kept of nodes for the rows that are found without the flash.
     type Kept: Drop;
 
-    /// By what the rows of the children of a node are told without the flash.
+    /// By what the rows of the children of a node are found without the flash.
     type Ahead: Copy;
 
     ghost subject: { subjects.Subject Self.Choice Self.Key Shown Self.Cursor };
@@ -107,12 +103,13 @@ pub trait Subject: Branches<Known = Start> {
     ) -> Result<bool, FlashError>
         requires stands { walk.old.stands ≡ true }
         requires root { walk.old.path ≡ [] }
-        requires valid { IsLayout (begins walk.old.branches (origin_of walk.old.seen)).geometry }
-        ensures follows { IfOk result (λ went. FollowsKey subject Self.kind begins choice key_of
+        requires valid { IsLayout (begins walk.old.flash_tree (origin_of walk.old.seen)).geometry }
+        ensures follows { IfOk result (λ went. FollowsKey subject Self.model begins choice key_of
             walk.old key.now went walk.new) }
-        ensures calm { OnOk result (IsCalm walk.old.seen walk.new.seen) }
+        ensures no_allocation_failed { OnOk result (NoAllocationFailed walk.old.seen
+            walk.new.seen) }
         ensures cheap { IfOk result (λ went. went ≡ true → walk.old.seen.usage.applied
-            ≤ (Self.kind walk.old.branches).all.entries → IsCheapFor subject begins walk.old
+            ≤ (Self.model walk.old.flash_tree).all.entries → IsCheapFor subject begins walk.old
             walk.new.seen.usage.applied) }
         ensures err { IfErr result (λ e. e ≡ FlashError.Memory) };
 
@@ -120,11 +117,11 @@ pub trait Subject: Branches<Known = Start> {
     fn row<F: Flash>(walk: &Walk<F, Self>, path: &Schedule) -> Self::Row
         requires stands { walk.now.stands ≡ true }
         requires path { path.now ≡ walk.now.path }
-        requires listed { IsPath (Self.kind walk.now.branches) walk.now walk.now.path }
-        ensures key { subject.key (shown result) ≡ key_of walk.now.branches
+        requires listed { IsPath (Self.model walk.now.flash_tree) walk.now walk.now.path }
+        ensures key { subject.key (shown result) ≡ key_of walk.now.flash_tree
             (origin_of walk.now.seen) walk.now.path }
-        ensures outcome { subject.HasOutcome (begins walk.now.branches (origin_of walk.now.seen))
-            (choice walk.now.branches) (shown result) };
+        ensures outcome { subject.HasOutcome (begins walk.now.flash_tree (origin_of walk.now.seen))
+            (choice walk.now.flash_tree) (shown result) };
 
     /// Nothing yet, with room for what is kept of an exploration of at most so many cuts.
     ///
@@ -134,7 +131,7 @@ pub trait Subject: Branches<Known = Start> {
     fn kept(alloc: Global, start: &Start, bound: u8) -> Result<Self::Kept, AllocError>
         ensures { IfOk result (λ kept. (b : Self) (c : Content) → holds b c kept) };
 
-    /// Keeps what is told where a walk came to, and says which rows behind that path are told without the flash.
+    /// Keeps the outcome where a walk came to, and says which rows after that path are found without the flash.
     fn arrive<F: Flash>(
         kept: &mut Self::Kept,
         walk: &Walk<F, Self>,
@@ -142,13 +139,13 @@ pub trait Subject: Branches<Known = Start> {
     ) -> Option<RowsAhead<Self::Ahead>>
         requires stands { walk.now.stands ≡ true }
         requires path { path.now ≡ walk.now.path }
-        requires listed { IsPath (Self.kind walk.now.branches) walk.now walk.now.path }
-        ensures kept { holds walk.now.branches (origin_of walk.now.seen) kept.old
-            → holds walk.now.branches (origin_of walk.now.seen) kept.new }
-        ensures ahead { IfSome result (AreFresh Self.kind holds is_ahead walk.now kept.new
+        requires listed { IsPath (Self.model walk.now.flash_tree) walk.now walk.now.path }
+        ensures kept { holds walk.now.flash_tree (origin_of walk.now.seen) kept.old
+            → holds walk.now.flash_tree (origin_of walk.now.seen) kept.new }
+        ensures ahead { IfSome result (AreFresh Self.model holds is_ahead walk.now kept.new
             path.now) };
 
-    /// The next row of those, which is there wherever rows are told ahead.
+    /// The next row of those, which is there wherever rows are found ahead.
     fn row_ahead(
         kept: &Self::Kept,
         path: &Schedule,
@@ -159,7 +156,7 @@ pub trait Subject: Branches<Known = Start> {
         requires small { rows.now.count ≤ 2 ^ 31 }
         ensures { (b : Self) (c : Content) → holds b c kept.now
             → is_ahead b c kept.now path.now rows.now.ahead rows.now.count
-            → Allowed (Self.kind b).tree ((Self.kind b).root c)
+            → Allowed (Self.model b).tree ((Self.model b).root c)
             (path.now ++ rows.now.next ∷ [])
             → IsSomeAnd result (λ row. IsRowAt subject begins choice key_of b c
             (path.now ++ rows.now.next ∷ []) (shown row)) };
@@ -209,19 +206,19 @@ pub trait Subject: Branches<Known = Start> {
         ensures text { line.new ≡ line.old ++ subject.cursor_text cursor.now }
         ensures length { length line.new ≤ length line.old + 303 };
 
-    ghost are_keys: { (b : Self) (c : Content) → AreKeys subject (Self.kind b).tree
-        ((Self.kind b).root c) (begins b c) (choice b) (key_of b c) };
+    ghost are_keys: { (b : Self) (c : Content) → AreKeys subject (Self.model b).tree
+        ((Self.model b).root c) (begins b c) (choice b) (key_of b c) };
 
     ghost order: { IsOrder subject.Before };
 
     ghost some_rest: { (state : State Self.Choice Self.Key) → (rows : List Shown)
         × IsRest (rows_of subject) state rows };
 
-    ghost costs: { (b : Self) (c : Content) → (Self.kind b).step + (Self.kind b).all.entries
+    ghost costs: { (b : Self) (c : Content) → (Self.model b).step + (Self.model b).all.entries
         ≤ subject.most_for_row (begins b c).rules (begins b c).geometry };
 
     ghost few_more: { (1 ≤ MORE) × (MORE ≤ 16) };
 
     ghost clear: { (b : Self) (counted : Bool) (c : Content) (bound : ℕ) (f : Seen)
-        → LoadsFor counted (begins b c) (bound + MORE) f → IsClear (Self.kind b) bound f };
+        → LoadsFor counted (begins b c) (bound + MORE) f → IsClear (Self.model b) bound f };
 }

@@ -4,23 +4,23 @@ ghost use Rattle.mc_flash.specs.Flash.{Content};
 ghost use Rattle.mc_flash.specs.Geometry.{Geometry};
 ghost use Rattle.mc_trailer.specs.declared.tables.Rules.{Rules};
 ghost use Rattle.mc_boot.specs.Plan.{power_on};
-ghost use Rattle.mc_boot.specs.Rejoin.{IsRejoined, place_of};
+ghost use Rattle.mc_boot.specs.SharedTail.{IsSharedTail, index_in_parent};
 ghost use Rattle.mc_boot.specs.Outcome.{ops_of};
-ghost use Rattle.mc_tree.specs.inner.Weights.{from, placed_below};
+ghost use Rattle.mc_tree.specs.inner.Weights.{from, shared_below};
 ghost use Rattle.mc_explore.specs.declared.expectation.Expectation.{Expectation};
-ghost use Rattle.mc_explore.specs.inner.Once.{at_cut};
+ghost use Rattle.mc_explore.specs.inner.OneRound.{at_cut};
 ghost use Rattle.mc_explore.specs.inner.Table.{AreCutOff, ArePositions, AreSums, IsColumn, IsInside, IsLevel, IsPosition, own_totals, weigh, weigh_fewer};
 ghost use Rattle.mc_explore.specs.Census.{Totals, both, cut_off, totals};
 
 use crate::census::Census;
-use mc_boot::Rejoin;
+use mc_boot::SharedTail;
 use std::alloc::{AllocError, Global};
 
 /// The schedules from a flash on the way of a boot.
 #[derive(Drop)]
 pub(crate) enum Below {
     /// Its boot goes on with that one.
-    Joined(Rejoin),
+    Joined(SharedTail),
     /// Their censuses by themselves, for each bound.
     Apart(Vec<Census>),
 }
@@ -32,12 +32,12 @@ pub(crate) struct Position {
     pub below: Below,
 }
 
-/// The census at a place of a list, and that of no schedules past its end.
-pub(crate) fn census_at(list: &[Census], place: usize) -> Census
-    ensures { (under : ℕ → Totals) → AreCutOff under list.now → place < length list.now
-        → result ≡ cut_off (under place) }
+/// The census of a number in a list, and that of no schedules past its end.
+pub(crate) fn census_at(list: &[Census], index: usize) -> Census
+    ensures { (under : ℕ → Totals) → AreCutOff under list.now → index < length list.now
+        → result ≡ cut_off (under index) }
 {
-    list.get(place).copied().unwrap_or(Census::new())
+    list.get(index).copied().unwrap_or(Census::new())
 }
 
 /// The sums of the last of so many censuses, each after its number as a first cut: of none, of one, and so on to all of them.
@@ -50,37 +50,39 @@ fn sums(alloc: Global, level: &[Census], count: u32) -> Result<Vec<Census>, Allo
     sums.push(sum)?;
     for later in 0..count {
         let number = count - 1 - later;
-        sum = census_at(level, number as usize).behind(number).both(&sum);
+        sum = census_at(level, number as usize)
+            .prefixed(number)
+            .both(&sum);
         sums.push(sum)?;
     }
     Ok(sums)
 }
 
 /// The census of the children that a boot has before it goes on with another one, by the censuses of that one's children.
-fn early(rejoin: &Rejoin, level: &[Census]) -> Census
+fn early(shared_tail: &SharedTail, level: &[Census]) -> Census
     ensures { (under : ℕ → Totals) → AreCutOff under level.now
-        → IsInside rejoin.now (length level.now) → result ≡ cut_off
-        (from totals (λ i. under (place_of rejoin.now i)) rejoin.now.erases 0) }
+        → IsInside shared_tail.now (length level.now) → result ≡ cut_off
+        (from totals (λ i. under (index_in_parent shared_tail.now i)) shared_tail.now.erases 0) }
 {
     let mut sum = Census::new();
-    for number in 0..rejoin.erases() {
-        let place = rejoin.place(number) as usize;
-        sum = sum.both(&census_at(level, place).behind(number));
+    for number in 0..shared_tail.erases() {
+        let index = shared_tail.index_in_parent(number) as usize;
+        sum = sum.both(&census_at(level, index).prefixed(number));
     }
     sum
 }
 
 /// The census of all children of a boot that goes on with another one, by the censuses of that one's children and their sums.
-fn rejoined(rejoin: &Rejoin, level: &[Census], sums: &[Census]) -> Census
+fn with_shared_tail(shared_tail: &SharedTail, level: &[Census], sums: &[Census]) -> Census
     ensures { (under : ℕ → Totals) → AreCutOff under level.now
         → AreSums under (length level.now) sums.now
-        → IsInside rejoin.now (length level.now) → result ≡ cut_off
-        (placed_below totals under (length level.now) rejoin.now.kept rejoin.now.erases
-        (place_of rejoin.now)) }
+        → IsInside shared_tail.now (length level.now) → result ≡ cut_off
+        (shared_below totals under (length level.now) shared_tail.now.kept shared_tail.now.erases
+        (index_in_parent shared_tail.now)) }
 {
-    let from = (rejoin.kept() + rejoin.erases()) as usize;
+    let from = (shared_tail.kept() + shared_tail.erases()) as usize;
     let later = census_at(sums, level.len().saturating_sub(from));
-    early(rejoin, level).both(&later.back(rejoin.kept()))
+    early(shared_tail, level).both(&later.first_lowered(shared_tail.kept()))
 }
 
 impl Position {
@@ -92,7 +94,9 @@ impl Position {
             sums.now → bound < most → result ≡ cut_off (weigh e r g bound u) }
     {
         match &self.below {
-            Below::Joined(rejoin) => self.own.both(&rejoined(rejoin, level, sums)),
+            Below::Joined(shared_tail) => self
+                .own
+                .both(&with_shared_tail(shared_tail, level, sums)),
             Below::Apart(column) => census_at(column, bound as usize),
         }
     }

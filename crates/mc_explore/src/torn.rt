@@ -2,23 +2,21 @@
 ghost use Rattle.std.specs.Prelude.{◌≡◌, ℕ, ◌≤◌, List, ◌∷◌, ◌++◌, Option, Some, take, IfSome, IfNone};
 ghost use Rattle.std.specs.Str.Iter.{LacksByte};
 ghost use Rattle.mc_flash.specs.Geometry.{IsLayout};
-ghost use Rattle.mc_explore.specs.Page.{page_at, page_text};
-ghost use Rattle.mc_explore.specs.Rows.{IsRest};
-ghost use Rattle.mc_explore.specs.Rows.{State, Told};
+ghost use Rattle.mc_explore.specs.Page.{page_at, page_text, Shown};
+ghost use Rattle.mc_explore.specs.Rows.{IsRest, State, ShownRow};
 ghost use Rattle.mc_explore.specs.Survey.{IsRowLine, IsLastRow, Continues};
-ghost use Rattle.mc_explore.specs.Page.{Shown};
 
 use mc_start::Schedule;
 use std::str;
 
-// What stands before the first such byte, and what stands behind it.
+// What stands before the first such byte, and what stands after it.
 fn split_at_first(text: &[u8], byte: u8) -> Option<(&[u8], &[u8])>
     ensures some { IfSome result (λ parts. LacksByte byte parts.0.now × (text.now
         ≡ parts.0.now ++ byte ∷ parts.1.now)) }
     ensures none { IfNone result (LacksByte byte text.now) }
 {
-    let place = text.iter().position(|other| *other == byte)?;
-    Some((&text[..place], &text[place + 1..]))
+    let index = text.iter().position(|other| *other == byte)?;
+    Some((&text[..index], &text[index + 1..]))
 }
 
 // The schedule of a row line.
@@ -42,7 +40,7 @@ pub fn last_row(torn: &[u8]) -> Option<Schedule>
     ensures exact { IsLastRow torn.now result }
     // The rows of these lines, and then those of the whole list after the schedule, are those that were to come when the
     // page began. Where there is none, no row of the page is whole.
-    ensures goes_on { (state : State) (limit n : ℕ) (rows : List Told)
+    ensures goes_on { (state : State) (limit n : ℕ) (rows : List ShownRow)
         → IsLayout state.start.geometry → state.bound ≤ 16 → IsRest state rows
         → torn.now ≡ take n (page_text (page_at state limit rows))
         → Continues state rows (take limit rows) torn.now result }

@@ -4,8 +4,7 @@ ghost use Rattle.mc_explore.specs.Pages.{IsBefore};
 ghost use Rattle.mc_flash.specs.Usage.{limits_for};
 ghost use Rattle.mc_start.specs.Start.{begun};
 ghost use Rattle.mc_tree.specs.Tree.{After};
-ghost use Rattle.mc_explore.specs.Subject.{Resumes};
-ghost use Rattle.mc_explore.specs.Subject.{Explores, Finds, GoesOnBehind, Restarts, at_start, row_cost, rows_of, state_after};
+ghost use Rattle.mc_explore.specs.Subject.{Resumes, Explores, Finds, GoesOnBeyond, Restarts, at_start, row_cost, rows_of, state_after};
 
 use crate::error::ExploreError;
 use crate::labels::Labels;
@@ -13,7 +12,7 @@ use crate::output::write_text;
 use crate::rows::Rows;
 use crate::source::RowSource;
 use crate::subject::{Fields, Subject};
-use crate::tree_loading::{ask, load};
+use crate::tree_loading::{check_cursor, load};
 use mc_flash::Flash;
 use mc_start::{Line, Start};
 use std::alloc::Global;
@@ -24,7 +23,7 @@ use std::marker::Model;
 #[derive(Drop)]
 pub struct TreeExplorer<'a, F: Flash, X: Subject> {
     start: &'a Start,
-    // What tells the start apart, where a cursor told it.
+    // What distinguishes the start, where a cursor gave it.
     digest: Option<[u8; 32]>,
     choice: X::Choice,
     bound: u8,
@@ -45,7 +44,7 @@ impl<'a, F: Flash, X: Subject> Model for TreeExplorer<'a, F, X> {
 
     ghost view = { λ e. explored X.begins X.choice e.rows.walk (position_of e.rows.phase e.last) };
 
-    ghost invariant = { λ e. IsSound X.kind X.begins X.choice X.key_of F.counted
+    ghost invariant = { λ e. IsSound X.model X.begins X.choice X.key_of F.counted
         (begun e.start.now) e.choice e.bound e.rows e.last
         × IsDigestOf (begun e.start.now) e.digest };
 }
@@ -98,7 +97,7 @@ impl<'a, F: Flash + Drop, X: Subject> TreeExplorer<'a, F, X> {
         key: &X::Key,
     ) -> Result<TreeExplorer<'a, F, X>, ExploreError>
         requires { bound ≤ 16 }
-        ensures resumes { GoesOnBehind X.subject (begun start.now) choice bound key.now result }
+        ensures resumes { GoesOnBeyond X.subject (begun start.now) choice bound key.now result }
         ensures cheap { IfOk result (λ explorer. X.subject.IsCheap start.now.rules
             start.now.geometry bound explorer.usage.applied) }
         ensures exact { IfOk result (λ explorer. F.counted ≡ true → explorer.usage.limits
@@ -115,7 +114,7 @@ impl<'a, F: Flash + Drop, X: Subject> TreeExplorer<'a, F, X> {
             digest: None,
             choice,
             bound,
-            rows: Rows::behind(walk, kept),
+            rows: Rows::after(walk, kept),
             last: *key,
             labels: Labels::of(start),
         })
@@ -144,13 +143,13 @@ impl<'a, F: Flash + Drop, X: Subject> TreeExplorer<'a, F, X> {
             ≡ limits_for start.now.rules.grain start.now.geometry (bound + X.MORE)) }
     {
         let fields = X::fields(cursor);
-        ask::<X>(start, bound, choice, &fields)?;
+        check_cursor::<X>(start, bound, choice, &fields)?;
         let mut explorer = TreeExplorer::after(alloc, start, bound, choice, &fields.key)?;
         explorer.digest = Some(fields.digest);
         Ok(explorer)
     }
 
-    /// Where to go on behind the last row. Only here the start is hashed, where no cursor told its digest.
+    /// Where to go on after the last row. Only here the start is hashed, where no cursor gave its digest.
     pub fn cursor(&self) -> X::Cursor
         ensures { (last : X.Key) → self.now.state.position ≡ After last → result
             ≡ X.subject.cursor self.now.state.start self.now.state.choice self.now.state.bound
@@ -210,7 +209,7 @@ impl<'a, F: Flash + Drop, X: Subject> TreeExplorer<'a, F, X> {
     }
 }
 
-// Whether a row comes before that key, if one is told.
+// Whether a row comes before that key, if one is given.
 #[inline]
 fn comes_before<X: Subject>(row: &X::Row, until: &Option<X::Key>) -> bool
     ensures { (result ≡ true) ↔ IsBefore (rows_of X.subject) until.now
@@ -289,7 +288,7 @@ impl<'a, F: Flash + Drop, X: Subject> RowSource for TreeExplorer<'a, F, X> {
         write_text(writer, line.as_str().as_bytes())
     }
 
-    fn give_up(&mut self) {
-        self.rows.give_up();
+    fn mark_failed(&mut self) {
+        self.rows.mark_failed();
     }
 }

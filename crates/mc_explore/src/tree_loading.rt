@@ -24,7 +24,7 @@ pub fn load<F: Flash, X: Subject>(
     choice: X::Choice,
 ) -> Result<Walk<F, X>, FlashError>
     requires { bound ≤ 16 }
-    ensures loaded { IfOk result (IsLoaded X.kind X.begins X.choice F.counted (begun start.now)
+    ensures loaded { IfOk result (IsLoaded X.model X.begins X.choice F.counted (begun start.now)
         choice bound) }
     ensures exact { IfOk result (λ walk. F.counted ≡ true → walk.seen.usage.limits
         ≡ limits_for start.now.rules.grain start.now.geometry (bound + X.MORE)) }
@@ -33,12 +33,12 @@ pub fn load<F: Flash, X: Subject>(
     let layout = *start.layout();
     // Reading a field gives the prover that it is a layout.
     let _sector = layout.sector();
-    let branches = X::of(start, choice);
+    let flash_tree = X::of(start, choice);
     let boots = u32::from(bound) + X::MORE;
     let grain = start.rules().grain;
     let (primary, secondary) = (start.primary(), start.secondary());
     let flash = F::load(alloc, &layout, grain, primary, secondary, boots)?;
-    Walk::start(alloc, branches, usize::from(bound), flash)
+    Walk::start(alloc, flash_tree, usize::from(bound), flash)
 }
 
 /// Whether a cursor is one of this start, this choice and this bound.
@@ -46,7 +46,7 @@ pub fn load<F: Flash, X: Subject>(
 /// # Errors
 ///
 /// `OtherStart`, `OtherRules` (also for another choice), `OtherBound`: the first that holds.
-pub fn ask<X: Subject>(
+pub fn check_cursor<X: Subject>(
     start: &Start,
     bound: u8,
     choice: X::Choice,

@@ -25,7 +25,7 @@ static PADDED: [u8; 40] = [
     1, 2, 3, 4, 5, 6, 7, 8,
 ];
 
-/// The image of `PAYLOAD`, of version 1.2.3+4, with a header of 32 bytes and the digest alone behind it.
+/// The image of `PAYLOAD`, of version 1.2.3+4, with a header of 32 bytes and the digest alone after it.
 pub static PLAIN_IMAGE: [u8; 80] = [
     0x3d, 0xb8, 0xf3, 0x96, 0x00, 0x00, 0x00, 0x00, 0x20, 0x00, 0x00, 0x00, 0x08, 0x00, 0x00, 0x00,
     0x00, 0x00, 0x00, 0x00, 0x01, 0x02, 0x03, 0x00, 0x04, 0x00, 0x00, 0x00, 0x00, 0x00, 0x00, 0x00,
@@ -65,7 +65,7 @@ pub static SECOND_IMAGE: [u8; 80] = [
     0x4f, 0xc0, 0x3f, 0xbf, 0xc5, 0xa5, 0xef, 0xb6, 0x62, 0xf2, 0x00, 0xb2, 0x69, 0x39, 0x23, 0xee,
 ];
 
-/// What is told of `FIRST_IMAGE` in a slot.
+/// What is reported of `FIRST_IMAGE` in a slot.
 pub static FIRST_TOLD: &str =
     "1.0.0+0 80 e3103e985884e987aaeb3091f107d4ad2ae5ff4720f4c43459c3d0ff3a12650d";
 
@@ -103,7 +103,7 @@ digest good
 /// Zeros, as many as an image has that is one byte too large for the worked layout.
 static ZEROS: [u8; 441] = [0; 441];
 
-/// The bytes above by their names, as tests tell of them.
+/// The bytes above by their names, as tests name them.
 pub fn named(name: &str) -> Option<&'static [u8]> {
     match name {
         "first" => Some(&FIRST_IMAGE),

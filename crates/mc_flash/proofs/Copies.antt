@@ -48,40 +48,40 @@ pub copies_load : (g h : Geometry) (p q : List ℕ) (s : Content) (checkpoints :
     → boots ≤ 32
     → Loads false g p q grain boots (copies_seen h s (map copy_seen checkpoints) false)
 unfolding ample
-copies_load g h p q s checkpoints grain boots is content none few = record {
+copies_load g h p q s checkpoints grain boots is content none at_most = record {
   geometry_is = is;
   content_is = content;
   none = ap (map copy_seen) none;
   usage_is = refl;
   counted_is = refl;
-  room = rw is (ample_allows grain g boots few);
+  room = rw is (ample_allows grain g boots at_most);
   exact = λ e. let no : false ≡ true = e in absurd cc;
 }
 
-pub copies_mark : (g : Geometry) (s : Content) (items more : List Content) (copy : Content) (failed : Bool) (place : ℕ) → more ≡ items ++ copy ∷ [] → copy ≡ s → place ≡ length items
-    → Marks (copies_seen g s (map copy_seen items) failed) (Ok place) (copies_seen g s (map copy_seen more) failed)
-copies_mark g s items more copy failed place is same at = (
+pub copies_mark : (g : Geometry) (s : Content) (items more : List Content) (copy : Content) (failed : Bool) (number : ℕ) → more ≡ items ++ copy ∷ [] → copy ≡ s → number ≡ length items
+    → Marks (copies_seen g s (map copy_seen items) failed) (Ok number) (copies_seen g s (map copy_seen more) failed)
+copies_mark g s items more copy failed number is same at = (
   at ∙ sym (length-map items copy_seen),
   ap (λ (ms : List Checkpoint). copies_seen g s ms failed) (ap (map copy_seen) is ∙ map-append copy_seen items (copy ∷ []) ∙ ap (λ (x : Content). map copy_seen items ++ copy_seen x ∷ []) same),
   λ counted full. counts_nothing g counted,
 )
 
-at_place : (items : List Content) (place : ℕ) (copy : Content) → place < length items → copy ≡ get_or items place copy → get_or (map copy_seen items) place no_checkpoint ≡ copy_seen copy
-at_place [] place copy below is = absurd (omega (arith, below))
-at_place (m ∷ ms) zero copy below is = ap copy_seen (sym is)
-at_place (m ∷ ms) (suc place) copy below is = at_place ms place copy (omega (arith, below)) is
+at_number : (items : List Content) (number : ℕ) (copy : Content) → number < length items → copy ≡ get_or items number copy → get_or (map copy_seen items) number no_checkpoint ≡ copy_seen copy
+at_number [] number copy below is = absurd (omega (arith, below))
+at_number (m ∷ ms) zero copy below is = ap copy_seen (sym is)
+at_number (m ∷ ms) (suc number) copy below is = at_number ms number copy (omega (arith, below)) is
 
 back_parts : (g h : Geometry) (s t : Content) (ms ns : List Checkpoint) (b : Bool) → h ≡ g → s ≡ t → ms ≡ ns → copies_seen h s ms b ≡ copies_seen g t ns b
 back_parts g h s t ms ns b p q r = cc
 
-pub copies_back : (g h : Geometry) (s t : Content) (items left : List Content) (copy : Content) (failed : Bool) (place : ℕ) → h ≡ g → place < length items → copy ≡ get_or items place copy
-    → left ≡ take place items → t ≡ copy
-    → copies_seen h t (map copy_seen left) failed ≡ went_back place (copies_seen g s (map copy_seen items) failed)
+pub copies_back : (g h : Geometry) (s t : Content) (items left : List Content) (copy : Content) (failed : Bool) (number : ℕ) → h ≡ g → number < length items → copy ≡ get_or items number copy
+    → left ≡ take number items → t ≡ copy
+    → copies_seen h t (map copy_seen left) failed ≡ went_back number (copies_seen g s (map copy_seen items) failed)
 unfolding went_back
-copies_back g h s t items left copy failed place same below is rest bytes =
-    let checkpoint = at_place items place copy below is in
-    back_parts g h t _ (map copy_seen left) _ failed same (bytes ∙ sym (ap (λ (x : Checkpoint). x.content) checkpoint)) (ap (map copy_seen) rest ∙ sym (take-map copy_seen place items))
-    ∙ ap (λ (counts : Counts). back_with g (get_or (map copy_seen items) place no_checkpoint).content (take place (map copy_seen items)) failed counts) (sym (ap (λ (x : Checkpoint). x.counts)
+copies_back g h s t items left copy failed number same below is rest bytes =
+    let checkpoint = at_number items number copy below is in
+    back_parts g h t _ (map copy_seen left) _ failed same (bytes ∙ sym (ap (λ (x : Checkpoint). x.content) checkpoint)) (ap (map copy_seen) rest ∙ sym (take-map copy_seen number items))
+    ∙ ap (λ (counts : Counts). back_with g (get_or (map copy_seen items) number no_checkpoint).content (take number (map copy_seen items)) failed counts) (sym (ap (λ (x : Checkpoint). x.counts)
     checkpoint))
   where
     back_with : Geometry → Content → List Checkpoint → Bool → Counts → Seen

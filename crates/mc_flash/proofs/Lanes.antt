@@ -1,6 +1,5 @@
 -- A test of all lanes of a vector, of the bytes of a word, and of a list in groups of one length.
-use Rattle.std.proofs.Common.{Bool, List, [], ap, arith, cond, drop, eqb, false, get_or, inl, inr, length, map, refl, suc, sym, take, true, zero, ℕ, ◌&&◌, ◌*◌, ◌+◌, ◌/◌, ◌<◌, ◌^◌, ◌∙◌, ◌∷◌, ◌≡◌}
-use Rattle.std.proofs.Common.{◌≤◌}
+use Rattle.std.proofs.Common.{Bool, List, [], ap, arith, cond, drop, eqb, false, get_or, inl, inr, length, map, refl, suc, sym, take, true, zero, ℕ, ◌&&◌, ◌*◌, ◌+◌, ◌/◌, ◌<◌, ◌^◌, ◌∙◌, ◌∷◌, ◌≡◌, ◌≤◌}
 use Rattle.std.proofs.Math.Bool.{and_assoc}
 use Rattle.std.proofs.Math.Nat.{two-pow-succ}
 use Rattle.std.proofs.lemmas.Bool.{and_cases, and_parts, cases_Bool, eq-eqb, eqb-true, ne_eqb, true≢false}
@@ -87,7 +86,7 @@ module _ {X : Type 0} (p : X → Bool) where
   -- The same of what a cut into groups gives, with the test of each group.
   pub by_groups : (n : ℕ) (xs rest : List X) (groups : List (List X)) (all : Bool) → groups ≡ first_chunks n (length xs / n) xs
       → rest ≡ drop (length xs / n * n) xs → all ≡ list_all (list_all p) groups → (all && list_all p rest) ≡ list_all p xs
-  by_groups n xs rest groups all front back each =
-      ap (λ b. b && list_all p rest) (each ∙ ap (list_all (list_all p)) front)
+  by_groups n xs rest groups all prefix back each =
+      ap (λ b. b && list_all p rest) (each ∙ ap (list_all (list_all p)) prefix)
       ∙ ap (λ r. list_all (list_all p) (first_chunks n (length xs / n) xs) && list_all p r) back
       ∙ all_in_groups n (length xs / n) xs

@@ -30,19 +30,19 @@ zero_or_positive t m p q (suc n) e =
 
 pub ample_allows : (grain : Grain) (g : Geometry) (boots : ℕ) → boots ≤ 32 → IsWithin (limits_for grain g boots) (ample g)
 unfolding limits_for ample
-ample_allows grain g boots few = record {
+ample_allows grain g boots at_most = record {
   entries = enough grain;
-  saved = mul-le-mul_right (most_saved g) few;
+  saved = mul-le-mul_right (most_saved g) at_most;
   checkpoints = omega arith;
 }
   where
     enough : (grain : Grain) → boots * most_operations grain g ≤ 32 * (most_operations grains.Call g + most_operations grains.Unit g)
-    enough grains.Call = let h : boots * most_operations grains.Call g ≤ 32 * most_operations grains.Call g = mul-le-mul_right (most_operations grains.Call g) few in
+    enough grains.Call = let h : boots * most_operations grains.Call g ≤ 32 * most_operations grains.Call g = mul-le-mul_right (most_operations grains.Call g) at_most in
         more (boots * most_operations grains.Call g) (most_operations grains.Call g) (most_operations grains.Unit g) h
       where
         more : (z a b : ℕ) → z ≤ 32 * a → z ≤ 32 * (a + b)
         more z a b h = omega arith
-    enough grains.Unit = let h : boots * most_operations grains.Unit g ≤ 32 * most_operations grains.Unit g = mul-le-mul_right (most_operations grains.Unit g) few in
+    enough grains.Unit = let h : boots * most_operations grains.Unit g ≤ 32 * most_operations grains.Unit g = mul-le-mul_right (most_operations grains.Unit g) at_most in
         more (boots * most_operations grains.Unit g) (most_operations grains.Call g) (most_operations grains.Unit g) h
       where
         more : (z a b : ℕ) → z ≤ 32 * b → z ≤ 32 * (a + b)

@@ -18,8 +18,7 @@ use Rattle.mc_flash.specs.declared.op.Slot.TheVariants.{Primary, Secondary}
 use Rattle.mc_flash.specs.declared.reserve.Reserve.{Reserve}
 use Rattle.mc_flash.specs.facts.Changes.{and_true}
 use Rattle.mc_flash.specs.facts.Done.{done_as, done_not}
-use Rattle.mc_flash.specs.inner.Journal.{Ascend, Change, IsInside, IsJournal, IsSound, IsUndoneTo, Journal, all_saved, all_taken_back, changes, checkpoint_after, journal_with, limits_of}
-use Rattle.mc_flash.specs.inner.Journal.{saved_by, seen_of, taken_back}
+use Rattle.mc_flash.specs.inner.Journal.{Ascend, Change, IsInside, IsJournal, IsSound, IsUndoneTo, Journal, all_saved, all_taken_back, changes, checkpoint_after, journal_with, limits_of, saved_by, seen_of, taken_back}
 use Rattle.mc_flash.specs.declared.flash.FlashError.TheVariants as errors
 use Rattle.mc_flash.specs.declared.op.Op.TheVariants as ops
 
@@ -40,12 +39,12 @@ blank_is (x ∷ xs) h =
 pub put_again : (xs new : List ℕ) (at : ℕ) → at + length new ≤ length xs → put (put xs at new) at (between at (at + length new) xs) ≡ xs
 put_again xs new at fits =
     let n = length new in
-    let front : length (take at xs) ≡ at = length-take-le at xs (omega (arith, fits)) in
+    let prefix : length (take at xs) ≡ at = length-take-le at xs (omega (arith, fits)) in
     let old : List ℕ = between at (at + n) xs in
     let len : length old ≡ n = omega (arith, length-between xs at (at + n) fits) in
-    let head : take at (put xs at new) ≡ take at xs = ap (λ k. take k (put xs at new)) (sym front) ∙ take-append_seam (take at xs) (new ++ drop (at + n) xs) in
+    let head : take at (put xs at new) ≡ take at xs = ap (λ k. take k (put xs at new)) (sym prefix) ∙ take-append_seam (take at xs) (new ++ drop (at + n) xs) in
     let tail : drop (at + length old) (put xs at new) ≡ drop (at + n) xs =
-    ap (λ k. drop k (put xs at new)) (let e : at + length old ≡ length (take at xs) + n = omega (arith, len, front) in e)
+    ap (λ k. drop k (put xs at new)) (let e : at + length old ≡ length (take at xs) + n = omega (arith, len, prefix) in e)
     ∙ drop-append-add (take at xs) (new ++ drop (at + n) xs) n
     ∙ drop-append_seam new (drop (at + n) xs) in
     ap (λ (l : List ℕ). l ++ (old ++ drop (at + length old) (put xs at new))) head
@@ -155,7 +154,7 @@ checkpoint_now j s whole =
     (drop_all (length j.entries) (changes j.entries j.saved) (omega (arith, length-changes j.entries j.saved)))
     ∙ ap (λ (k : ℕ). record { content = s; counts = record { entries = length j.entries; saved = k } }) (ap all_saved (take_all (length j.entries) j.entries (omega arith)) ∙ sym whole)
 
--- the checkpoints' places
+-- the checkpoints' numbers
 ascend_top : (low : ℕ) (ns : List ℕ) (top : ℕ) → Ascend low ns top → low ≤ top
 ascend_top low [] top a = a
 ascend_top low (n ∷ ns) top a = omega (arith, a.0, ascend_top n ns top a.1)
@@ -186,20 +185,20 @@ inside_push : (g : Geometry) (es : List Entry) (e : Entry) → AllByRecursion (I
 inside_push g [] e all one = (one, tt)
 inside_push g (x ∷ es) e all one = (all.0, inside_push g es e all.1 one)
 
-pub inside_front : (g : Geometry) (es : List Entry) (n : ℕ) → AllByRecursion (IsInside g) es → AllByRecursion (IsInside g) (take n es)
-inside_front g [] zero all = tt
-inside_front g [] (suc n) all = tt
-inside_front g (x ∷ es) zero all = tt
-inside_front g (x ∷ es) (suc n) all = (all.0, inside_front g es n all.1)
+pub inside_prefix : (g : Geometry) (es : List Entry) (n : ℕ) → AllByRecursion (IsInside g) es → AllByRecursion (IsInside g) (take n es)
+inside_prefix g [] zero all = tt
+inside_prefix g [] (suc n) all = tt
+inside_prefix g (x ∷ es) zero all = tt
+inside_prefix g (x ∷ es) (suc n) all = (all.0, inside_prefix g es n all.1)
 
 pub inside_pop : (g : Geometry) (es : List Entry) (e : Entry) → AllByRecursion (IsInside g) (es ++ e ∷ []) → AllByRecursion (IsInside g) es × IsInside g e
 inside_pop g [] e all = (tt, all.0)
 inside_pop g (x ∷ es) e all = let rest = inside_pop g es e all.1 in ((all.0, rest.0), rest.1)
 
 -- The entries of a checkpoint are among all.
-pub checkpoint_below : (es : List Entry) (checkpoints : List ℕ) (place count : ℕ) → Ascend 0 checkpoints (length es) → count ≡ get_or checkpoints place count → place < length checkpoints
+pub checkpoint_below : (es : List Entry) (checkpoints : List ℕ) (number count : ℕ) → Ascend 0 checkpoints (length es) → count ≡ get_or checkpoints number count → number < length checkpoints
     → count ≤ length es
-checkpoint_below es checkpoints place count order is below = omega (arith, (ascend_take 0 checkpoints (length es) place count order below).1, is)
+checkpoint_below es checkpoints number count order is below = omega (arith, (ascend_take 0 checkpoints (length es) number count order below).1, is)
 
 fewer_saved : (n : ℕ) (es : List Entry) → all_saved (take n es) ≤ all_saved es
 fewer_saved zero es = omega arith
@@ -221,7 +220,7 @@ module _ (g : Geometry) (limits taken : Limits) (j : Journal) (checkpoints : Lis
       subst (λ (x : Geometry). IsSound x limits taken' j' checkpoints) (sym same) (record {
         layout = sound.layout;
         room = within taken' more;
-        few = record { entries = omega (arith, n, below); saved = omega (arith, grown.saved, little); checkpoints = sound.few.checkpoints };
+        at_most = record { entries = omega (arith, n, below); saved = omega (arith, grown.saved, little); checkpoints = sound.at_most.checkpoints };
         journal = record {
           saved_for = omega (arith, grown.saved, sound.journal.saved_for, ap all_saved grown.entries, saves_push j.entries e);
           inside = subst (AllByRecursion (IsInside g)) (sym grown.entries) (inside_push g j.entries e sound.journal.inside fits);
@@ -237,30 +236,30 @@ module _ (g : Geometry) (limits taken : Limits) (j : Journal) (checkpoints : Lis
       record {
         layout = sound.layout;
         room = within taken' wider;
-        few = record { entries = sound.few.entries; saved = sound.few.saved; checkpoints = omega (arith, n, below) };
+        at_most = record { entries = sound.at_most.entries; saved = sound.at_most.saved; checkpoints = omega (arith, n, below) };
         journal = sound.journal;
         ascend = subst (λ z. Ascend 0 z (length j.entries)) (sym more) (ascend_push 0 checkpoints (length j.entries) sound.ascend);
       }
 
   -- back at a checkpoint
-  pub sound_back : (g' : Geometry) (taken' : Limits) (s t : Content) (j' : Journal) (checkpoints' : List ℕ) (place count : ℕ) → IsUndoneTo count j s j' t → checkpoints' ≡ take place checkpoints
-      → count ≡ get_or checkpoints place count → place < length checkpoints → g' ≡ g → IsWithin taken taken' → IsSound g' limits taken' j' checkpoints'
-  sound_back g' taken' s t j' checkpoints' place count undone front is below same wider =
-      let order = ascend_take 0 checkpoints (length j.entries) place count sound.ascend below in
-      let early = checkpoint_below j.entries checkpoints place count sound.ascend is below in
+  pub sound_back : (g' : Geometry) (taken' : Limits) (s t : Content) (j' : Journal) (checkpoints' : List ℕ) (number count : ℕ) → IsUndoneTo count j s j' t → checkpoints' ≡ take number checkpoints
+      → count ≡ get_or checkpoints number count → number < length checkpoints → g' ≡ g → IsWithin taken taken' → IsSound g' limits taken' j' checkpoints'
+  sound_back g' taken' s t j' checkpoints' number count undone prefix is below same wider =
+      let order = ascend_take 0 checkpoints (length j.entries) number count sound.ascend below in
+      let early = checkpoint_below j.entries checkpoints number count sound.ascend is below in
       let n : length j'.entries ≡ count = ap length undone.left ∙ length-take-le count j.entries early in
-      let m : length checkpoints' ≡ place = ap length front ∙ length-take-le place checkpoints (omega (arith, below)) in
-      let few = sound.few in
+      let m : length checkpoints' ≡ number = ap length prefix ∙ length-take-le number checkpoints (omega (arith, below)) in
+      let at_most = sound.at_most in
       subst (λ (x : Geometry). IsSound x limits taken' j' checkpoints') (sym same) (record {
         layout = sound.layout;
         room = within taken' wider;
-        few = record {
-          entries = omega (arith, n, early, few.entries);
-          saved = omega (arith, few.saved, sound.journal.saved_for, undone.saved_for, ap all_saved undone.left, fewer_saved count j.entries);
-          checkpoints = omega (arith, m, below, few.checkpoints);
+        at_most = record {
+          entries = omega (arith, n, early, at_most.entries);
+          saved = omega (arith, at_most.saved, sound.journal.saved_for, undone.saved_for, ap all_saved undone.left, fewer_saved count j.entries);
+          checkpoints = omega (arith, m, below, at_most.checkpoints);
         };
-        journal = record { saved_for = undone.saved_for; inside = subst (AllByRecursion (IsInside g)) (sym undone.left) (inside_front g j.entries count sound.journal.inside) };
-        ascend = subst (λ z. Ascend 0 z (length j'.entries)) (sym front) (subst (Ascend 0 (take place checkpoints)) (sym (n ∙ is)) order.0);
+        journal = record { saved_for = undone.saved_for; inside = subst (AllByRecursion (IsInside g)) (sym undone.left) (inside_prefix g j.entries count sound.journal.inside) };
+        ascend = subst (λ z. Ascend 0 z (length j'.entries)) (sym prefix) (subst (Ascend 0 (take number checkpoints)) (sym (n ∙ is)) order.0);
       })
 
 -- a copy, by whether its target is blank
@@ -281,10 +280,10 @@ module _ (g : Geometry) (s t : Content) (from to : Slot) (at offset len : ℕ) (
   pub copy_refused : is_blank (between offset (offset + len) (bytes_of s to)) ≡ false → apply g (ops.Copy from at to offset len) s ≡ None
   copy_refused other = copy_is g s from to at offset len fits ∙ rw other refl
 
-at_place : (checkpoints : List Checkpoint) (place : ℕ) (checkpoint : Checkpoint) → slice_get checkpoints place ≡ Some checkpoint → get_or checkpoints place no_checkpoint ≡ checkpoint
-at_place [] place checkpoint is = absurd cc
-at_place (m ∷ ms) zero checkpoint is = cc
-at_place (m ∷ ms) (suc place) checkpoint is = at_place ms place checkpoint is
+at_number : (checkpoints : List Checkpoint) (number : ℕ) (checkpoint : Checkpoint) → slice_get checkpoints number ≡ Some checkpoint → get_or checkpoints number no_checkpoint ≡ checkpoint
+at_number [] number checkpoint is = absurd cc
+at_number (m ∷ ms) zero checkpoint is = cc
+at_number (m ∷ ms) (suc number) checkpoint is = at_number ms number checkpoint is
 
 abbrev seen_with : Geometry → Content → List Checkpoint → Usage → Seen
 seen_with g t checkpoints usage = record { geometry = g; content = t; checkpoints = checkpoints; usage = usage }
@@ -313,7 +312,7 @@ module _ (g : Geometry) (s : Content) (r : Reserve) (j : Journal) (checkpoints :
     pub does : (g' : Geometry) (t : Content) (j' : Journal) (applied' : ℕ) (e : Entry) (c : Change) → Grown j j' e c → saved_by e ≡ saves g op → taken_back c t ≡ s
         → apply g op s ≡ Some t → g' ≡ g → Ascend 0 checkpoints (length j.entries) → applied' ≡ min (applied + 1) (2 ^ 64 - 1) → length j.entries < r.entries
         → length j.saved + saves g op ≤ r.saved → Does op old (Ok tt) (seen_of g' t (limits_of r) j' checkpoints applied')
-    does g' t j' applied' e c grown entry back is same order on few little =
+    does g' t j' applied' e c grown entry back is same order on at_most little =
         let kept : map (checkpoint_after j s) checkpoints ≡ map (checkpoint_after j' t) checkpoints =
         sym (same_checkpoints (checkpoint_after j' t) (checkpoint_after j s) 0 checkpoints (length j.entries) order (λ n early. same_earlier j j' e c grown s t n back early)) in
         let usage = usage_is (limits_of r) (length j.entries + 1) (length j'.entries) (length j.saved + saves g op) (length j'.saved) (min (applied + 1) (2 ^ 64 - 1)) applied'
@@ -321,7 +320,7 @@ module _ (g : Geometry) (s : Content) (r : Reserve) (j : Journal) (checkpoints :
         subst (λ (f : Seen). Does op f (Ok tt) (seen_of g' t (limits_of r) j' checkpoints applied')) seen
         (subst (λ (x : Geometry). Does op before (Ok tt) (seen_of x t (limits_of r) j' checkpoints applied')) (sym same) (
           done_as before op t is ∙ ap (λ (z : Seen). Some z) (seen_is g t t _ _ _ _ refl kept usage),
-          λ _ full. elim full [ inl x ↦ omega (arith, x, few) | inr x ↦ omega (arith, x, little) ],
+          λ _ full. elim full [ inl x ↦ omega (arith, x, at_most) | inr x ↦ omega (arith, x, little) ],
         ))
 
   pub marks_more : (checkpoints' : List ℕ) → length j.saved ≡ all_saved j.entries → checkpoints' ≡ checkpoints ++ length j.entries ∷ []
@@ -331,33 +330,33 @@ module _ (g : Geometry) (s : Content) (r : Reserve) (j : Journal) (checkpoints :
       ∙ map-append (checkpoint_after j s) checkpoints (length j.entries ∷ [])
       ∙ ap (λ (z : Checkpoint). map (checkpoint_after j s) checkpoints ++ z ∷ []) (checkpoint_now j s whole)) refl
 
-  pub has_place : (place : ℕ) → place < length old.checkpoints → place < length checkpoints
-  has_place place below = omega (arith, below, ap (λ (f : Seen). length f.checkpoints) seen, length-map checkpoints (checkpoint_after j s))
+  pub mark_fits : (number : ℕ) → number < length old.checkpoints → number < length checkpoints
+  mark_fits number below = omega (arith, below, ap (λ (f : Seen). length f.checkpoints) seen, length-map checkpoints (checkpoint_after j s))
 
   -- Back at a checkpoint it is as it was marked there, and the earlier checkpoints are left.
-  pub back : (g' : Geometry) (t : Content) (j' : Journal) (checkpoints' : List ℕ) (place count : ℕ) → IsUndoneTo count j s j' t → checkpoints' ≡ take place checkpoints
-      → count ≡ get_or checkpoints place count → place < length checkpoints → Ascend 0 checkpoints (length j.entries) → g' ≡ g
-      → seen_of g' t (limits_of r) j' checkpoints' applied ≡ went_back place old
+  pub back : (g' : Geometry) (t : Content) (j' : Journal) (checkpoints' : List ℕ) (number count : ℕ) → IsUndoneTo count j s j' t → checkpoints' ≡ take number checkpoints
+      → count ≡ get_or checkpoints number count → number < length checkpoints → Ascend 0 checkpoints (length j.entries) → g' ≡ g
+      → seen_of g' t (limits_of r) j' checkpoints' applied ≡ went_back number old
   unfolding went_back
-  back g' t j' checkpoints' place count undone front is below order same =
-      let first = ascend_take 0 checkpoints (length j.entries) place count order below in
-      let n = ap length undone.left ∙ length-take-le count j.entries (checkpoint_below j.entries checkpoints place count order is below) in
-      let there : slice_get (map (checkpoint_after j s) checkpoints) place ≡ Some (record { content = t; counts = record { entries = length j'.entries; saved = length j'.saved } }) =
-      slice_get-map (checkpoint_after j s) checkpoints place
-      ∙ ap (option_map (checkpoint_after j s)) (slice_get-get_or checkpoints place count below)
+  back g' t j' checkpoints' number count undone prefix is below order same =
+      let first = ascend_take 0 checkpoints (length j.entries) number count order below in
+      let n = ap length undone.left ∙ length-take-le count j.entries (checkpoint_below j.entries checkpoints number count order is below) in
+      let there : slice_get (map (checkpoint_after j s) checkpoints) number ≡ Some (record { content = t; counts = record { entries = length j'.entries; saved = length j'.saved } }) =
+      slice_get-map (checkpoint_after j s) checkpoints number
+      ∙ ap (option_map (checkpoint_after j s)) (slice_get-get_or checkpoints number count below)
       ∙ ap (λ (k : ℕ). Some (checkpoint_after j s k)) (sym is)
       ∙ ap (λ (x : Checkpoint). Some x) (sym (undone.same count (omega arith)))
       ∙ ap (λ (k : ℕ). Some (checkpoint_after j' t k)) (sym n)
       ∙ ap (λ (x : Checkpoint). Some x) (checkpoint_now j' t undone.saved_for) in
-      let earlier : map (checkpoint_after j' t) checkpoints' ≡ take place (map (checkpoint_after j s) checkpoints) =
-      ap (map (checkpoint_after j' t)) front
-      ∙ same_checkpoints (checkpoint_after j' t) (checkpoint_after j s) 0 (take place checkpoints) (get_or checkpoints place count) first.0 (λ k h. undone.same k (omega (arith, h, is)))
-      ∙ sym (take-map (checkpoint_after j s) place checkpoints) in
-      let checkpoint = at_place (map (checkpoint_after j s) checkpoints) place _ there in
+      let earlier : map (checkpoint_after j' t) checkpoints' ≡ take number (map (checkpoint_after j s) checkpoints) =
+      ap (map (checkpoint_after j' t)) prefix
+      ∙ same_checkpoints (checkpoint_after j' t) (checkpoint_after j s) 0 (take number checkpoints) (get_or checkpoints number count) first.0 (λ k h. undone.same k (omega (arith, h, is)))
+      ∙ sym (take-map (checkpoint_after j s) number checkpoints) in
+      let checkpoint = at_number (map (checkpoint_after j s) checkpoints) number _ there in
       let usage : Checkpoint → Usage = λ x. record { counts = x.counts; limits = limits_of r; applied = applied; failed = false } in
-      subst (λ (x : Geometry). seen_of x t (limits_of r) j' checkpoints' applied ≡ went_back place old) (sym same)
+      subst (λ (x : Geometry). seen_of x t (limits_of r) j' checkpoints' applied ≡ went_back number old) (sym same)
       (seen_is g t _ (map (checkpoint_after j' t) checkpoints') _ _ _ (sym (ap (λ (x : Checkpoint). x.content) checkpoint)) earlier (sym (ap usage checkpoint))
-      ∙ ap (went_back place) seen)
+      ∙ ap (went_back number) seen)
 
 module _ (g : Geometry) (s t : Content) (slot : Slot) (at : ℕ) (new : List ℕ) where
   pub program_done : is_blank (between at (at + length new) (bytes_of s slot)) ≡ true → t ≡ with_bytes s slot (put (bytes_of s slot) at new)
@@ -396,8 +395,8 @@ newest g j before x e whole popped is =
     }
 
 module _ (g : Geometry) (j : Journal) (before : List Entry) (e : Entry) (top : Newest g j before e) where
-  pub same_front : (n : ℕ) → n ≤ length before → take n before ≡ take n j.entries
-  same_front n early = sym (ap (take n) top.entries ∙ take-append-le n before (e ∷ []) early)
+  pub same_prefix : (n : ℕ) → n ≤ length before → take n before ≡ take n j.entries
+  same_prefix n early = sym (ap (take n) top.entries ∙ take-append-le n before (e ∷ []) early)
 
   -- the bytes that were saved last
   pub saved_last : (k : ℕ) (bytes : List ℕ) → bytes ≡ j.saved → k + saved_by e ≡ length j.saved
@@ -410,6 +409,6 @@ pub erase_undone : (g : Geometry) (j : Journal) (before : List Entry) (slot : Sl
     → k + len ≡ length j.saved → saved' ≡ take k j.saved
     → (length saved' ≡ k) × Grown (journal_with before saved') j (Erased slot at len) (record { slot = slot; at = at; old = drop k j.saved })
 erase_undone g j before slot at len k saved' top whole left =
-    let front : length saved' ≡ k = ap length left ∙ length-take-le k j.saved (omega (arith, whole)) in
+    let prefix : length saved' ≡ k = ap length left ∙ length-take-le k j.saved (omega (arith, whole)) in
     let split : j.saved ≡ saved' ++ drop k j.saved = sym (ap (λ (z : List ℕ). z ++ drop k j.saved) left ∙ take-append-drop k j.saved) in
-    (front, by_erase (journal_with before saved') j slot at len (drop k j.saved) top.entries split (omega (arith, front, whole, top.saves)) (omega (arith, length-drop k j.saved, whole)))
+    (prefix, by_erase (journal_with before saved') j slot at len (drop k j.saved) top.entries split (omega (arith, prefix, whole, top.saves)) (omega (arith, length-drop k j.saved, whole)))

@@ -1,8 +1,7 @@
 -- The layout of two slots, from MCUboot's design document ("image trailer", "image swap without scratch"): the trailer
 -- of a slot, and how many sectors of an image can be swapped by moving. Which numbers make a layout, and in which order
 -- they are judged, is this project's own choice.
-use Rattle.std.specs.Prelude.{◌≡◌, ◌⊎◌, ℕ, ◌+◌, ◌-◌, ◌*◌, ◌%◌, ◌^◌, ◌<◌, ◌≤◌, min, ℤ, pos, ◌-ℤ◌, int_le, int_lt, Bool, true, not, ◌||◌, ◌&&◌, ◌==◌, nat_lt, nat_le, if◌then◌else◌, Option, Some}
-use Rattle.std.specs.Prelude.{None}
+use Rattle.std.specs.Prelude.{◌≡◌, ◌⊎◌, ℕ, ◌+◌, ◌-◌, ◌*◌, ◌%◌, ◌^◌, ◌<◌, ◌≤◌, min, ℤ, pos, ◌-ℤ◌, int_le, int_lt, Bool, true, not, ◌||◌, ◌&&◌, ◌==◌, nat_lt, nat_le, if◌then◌else◌, Option, Some, None}
 use Rattle.std.specs.Int.{div_ceil, int_min, is_power_of_two}
 use Rattle.mc_flash.specs.declared.layout.LayoutError.{LayoutError}
 use Rattle.mc_flash.specs.declared.layout.LayoutError.TheVariants as refusals

@@ -21,12 +21,12 @@ few_rows size sector n some = (to, from)
     rows = div_ceil_times size sector some
 
     to : div_ceil size sector ≤ n → size ≤ n * sector
-    to few = let more : div_ceil size sector * sector ≤ n * sector = mul-le-mul_right sector few in omega (arith, more, rows)
+    to at_most = let more : div_ceil size sector * sector ≤ n * sector = mul-le-mul_right sector at_most in omega (arith, more, rows)
 
     from : size ≤ n * sector → div_ceil size sector ≤ n
     from inside = elim (cases_lt n (div_ceil size sector)) [
       | inl above ↦ let more : (n + 1) * sector ≤ div_ceil size sector * sector = mul-le-mul_right sector (omega (arith, above)) in absurd (omega (arith, more, rows, inside))
-      | inr few ↦ omega (arith, few)
+      | inr at_most ↦ omega (arith, at_most)
     ]
 
 -- An image fits exactly where it has no more bytes than the largest.
@@ -36,11 +36,11 @@ fits_largest g size ok =
     let rows = few_rows size g.sector (greatest_sectors g) (omega (arith, wide)) in
     let greatest = greatest_is g ok in (
       λ fit. rows.0 (fits_few g size ok fit),
-      λ inside. ap (λ (z : ℤ). int_le (pos (div_ceil size g.sector)) z) greatest ∙ at_most (div_ceil size g.sector) (greatest_sectors g) (rows.1 inside),
+      λ inside. ap (λ (z : ℤ). int_le (pos (div_ceil size g.sector)) z) greatest ∙ is_at_most (div_ceil size g.sector) (greatest_sectors g) (rows.1 inside),
     )
   where
-    at_most : (a b : ℕ) → a ≤ b → int_le (pos a) (pos b) ≡ true
-    at_most a b few = grind (arith, nat_tests)
+    is_at_most : (a b : ℕ) → a ≤ b → int_le (pos a) (pos b) ≡ true
+    is_at_most a b at_most = grind (arith, nat_tests)
 
 -- It lies in the primary.
 pub largest_inside : (g : Geometry) → IsLayout g → largest_image g ≤ 2 ^ 24

@@ -1,8 +1,7 @@
 -- What a flash counts that works in room which it took when it was loaded, and how far it may count. Of another flash,
 -- which takes memory as it goes, the counts stand still and the limits are never met.
 use Rattle.std.specs.Int.{div_ceil}
-use Rattle.std.specs.Prelude.{Bool, Err, IsSome, List, None, Ok, Option, Result, Some, [], false, length, min, option_map, slice_index_or, take, true, ℕ, ◌*◌, ◌++◌, ◌+◌, ◌-◌, ◌/◌, ◌<◌, ◌^◌, ◌∷◌}
-use Rattle.std.specs.Prelude.{◌≡◌, ◌≤◌, ◌⊎◌}
+use Rattle.std.specs.Prelude.{Bool, Err, IsSome, List, None, Ok, Option, Result, Some, [], false, length, min, option_map, slice_index_or, take, true, ℕ, ◌*◌, ◌++◌, ◌+◌, ◌-◌, ◌/◌, ◌<◌, ◌^◌, ◌∷◌, ◌≡◌, ◌≤◌, ◌⊎◌}
 use Rattle.mc_flash.specs.Flash.{Content, apply}
 use Rattle.mc_flash.specs.Geometry.{Geometry, greatest_sectors, trailer_sectors}
 use Rattle.mc_flash.specs.declared.flash.FlashError.{FlashError}
@@ -130,7 +129,7 @@ done op f = option_map (λ content. with_content f content (noted f.geometry op 
 abbrev pub failed : Seen → Seen
 failed f = with_content f f.content (run_out f.usage)
 
--- Memory was wanted: a flash that counts was full, and nothing changed; another was refused a growth.
+-- An allocation failed: a flash that counts was full, and nothing changed; another was refused a growth.
 abbrev pub GivesUp : Type 0 → Seen → Seen → Type 0
 GivesUp full old new =
     ((old.usage.limits.counted ≡ true) × full × (new ≡ old))
@@ -140,7 +139,7 @@ GivesUp full old new =
 abbrev pub HadRoom : Type 0 → Seen → Type 0
 HadRoom full old = old.usage.limits.counted ≡ true → full → ⊥
 
--- What a call does: the operation, for which there was room; or it is undefined, and always refused; or memory was wanted.
+-- What a call does: the operation, for which there was room; or it is undefined, and always refused; or an allocation failed.
 abbrev pub Does : Op → Seen → Result (Unit {0}) FlashError → Seen → Type 0
 Does op old (Ok _) new = (done op old ≡ Some new) × HadRoom (IsFull old.geometry op old.usage) old
 Does op old (Err errors.NotErased) new = (done op old ≡ None) × (new ≡ old)
@@ -161,30 +160,30 @@ checkpoint_of f = record { content = f.content; counts = f.usage.counts }
 abbrev pub marked : Seen → Seen
 marked f = record { geometry = f.geometry; content = f.content; checkpoints = f.checkpoints ++ checkpoint_of f ∷ []; usage = f.usage }
 
--- No checkpoint more finds a place.
-abbrev pub HasNoPlace : Seen → Type 0
-HasNoPlace f = f.usage.limits.checkpoints < length f.checkpoints + 1
+-- No checkpoint more has room.
+abbrev pub NoMarkFits : Seen → Type 0
+NoMarkFits f = f.usage.limits.checkpoints < length f.checkpoints + 1
 
--- The content is marked, and the answer is the checkpoint's place; or memory was wanted.
+-- The content is marked, and the answer is the checkpoint's number; or an allocation failed.
 abbrev pub Marks : Seen → Result ℕ FlashError → Seen → Type 0
-Marks old (Ok place) new = (place ≡ length old.checkpoints) × (new ≡ marked old) × HadRoom (HasNoPlace old) old
-Marks old (Err errors.Memory) new = GivesUp (HasNoPlace old) old new
+Marks old (Ok number) new = (number ≡ length old.checkpoints) × (new ≡ marked old) × HadRoom (NoMarkFits old) old
+Marks old (Err errors.Memory) new = GivesUp (NoMarkFits old) old new
 Marks old (Err errors.NotErased) new = ⊥
 
 abbrev pub no_checkpoint : Checkpoint
 no_checkpoint = record { content = record { primary = []; secondary = [] }; counts = no_counts }
 
--- The checkpoint at a place.
+-- The checkpoint of a number.
 abbrev pub checkpoint_at : Seen → ℕ → Checkpoint
-checkpoint_at f place = slice_index_or f.checkpoints place no_checkpoint
+checkpoint_at f number = slice_index_or f.checkpoints number no_checkpoint
 
 -- The flash back at a checkpoint, which is given up, and all later ones.
 unfoldable pub went_back : ℕ → Seen → Seen
-went_back place f = record {
+went_back number f = record {
   geometry = f.geometry;
-  content = (checkpoint_at f place).content;
-  checkpoints = take place f.checkpoints;
-  usage = back_at (checkpoint_at f place).counts f.usage;
+  content = (checkpoint_at f number).content;
+  checkpoints = take number f.checkpoints;
+  usage = back_at (checkpoint_at f number).counts f.usage;
 }
 
 -- ---- loading

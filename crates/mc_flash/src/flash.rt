@@ -48,8 +48,7 @@ impl<T: Drop> From<AllocFailed<T>> for FlashError {
 
 /// A flash, seen as one value: its layout, its content, the contents that were marked, and its usage: counts, and their limits.
 pub trait Flash: Sized + Drop {
-    ghost use Rattle.mc_flash.specs.Flash.{bytes_of, size_of};
-    ghost use Rattle.mc_flash.specs.Flash.{CanTry};
+    ghost use Rattle.mc_flash.specs.Flash.{bytes_of, size_of, CanTry};
     ghost use Rattle.mc_flash.specs.Usage.{Seen, Does, Marks, Loads, went_back};
     ghost use Rattle.mc_flash.specs.declared.op.Op.TheVariants.{Erase, Program, Copy};
     ghost use Rattle.mc_flash.specs.declared.op.Slot.TheVariants.{Primary, Secondary};
@@ -107,12 +106,12 @@ pub trait Flash: Sized + Drop {
         requires { CanTry (seen self.old).geometry (Copy from at to offset len) }
         ensures { Does (Copy from at to offset len) (seen self.old) result (seen self.new) };
 
-    /// Marks the content, and returns the checkpoint's place.
+    /// Marks the content, and returns the checkpoint's number.
     fn mark(&mut self) -> Result<usize, FlashError>
         ensures { Marks (seen self.old) result (seen self.new) };
 
     /// Gives back a marked content, and gives up that checkpoint and all later ones. It takes no memory.
-    fn back_to(&mut self, place: usize)
-        requires { place < length (seen self.old).checkpoints }
-        ensures { seen self.new ≡ went_back place (seen self.old) };
+    fn back_to(&mut self, number: usize)
+        requires { number < length (seen self.old).checkpoints }
+        ensures { seen self.new ≡ went_back number (seen self.old) };
 }

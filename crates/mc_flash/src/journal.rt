@@ -29,10 +29,8 @@ pub struct JournalFlash {
 
 impl Model for JournalFlash {
     ghost use Rattle.std.specs.Vec.{vec_capacity};
-    ghost use Rattle.mc_flash.specs.inner.Journal.{limits_of};
-    ghost use Rattle.mc_flash.specs.Usage.{room_for};
-    ghost use Rattle.mc_flash.specs.inner.Journal.{journal_with, seen_of, IsSound};
-    ghost use Rattle.mc_flash.specs.Usage.{Seen};
+    ghost use Rattle.mc_flash.specs.inner.Journal.{limits_of, journal_with, seen_of, IsSound};
+    ghost use Rattle.mc_flash.specs.Usage.{room_for, Seen};
 
     ghost Value = { Seen };
 
@@ -72,7 +70,7 @@ impl JournalFlash {
     /// How many operations can be taken back.
     pub fn entries(&self) -> u64
         ensures value { result ≡ self.now.usage.counts.entries }
-        ensures few { result ≤ self.now.usage.limits.entries }
+        ensures at_most { result ≤ self.now.usage.limits.entries }
     {
         self.entries.len() as u64
     }
@@ -80,7 +78,7 @@ impl JournalFlash {
     /// How many bytes are saved for that.
     pub fn saved_bytes(&self) -> u64
         ensures value { result ≡ self.now.usage.counts.saved }
-        ensures few { result ≤ self.now.usage.limits.saved }
+        ensures at_most { result ≤ self.now.usage.limits.saved }
     {
         self.saved.len() as u64
     }
@@ -88,7 +86,7 @@ impl JournalFlash {
     /// How many contents are marked.
     pub fn marks(&self) -> u64
         ensures value { result ≡ length self.now.checkpoints }
-        ensures few { result ≤ self.now.usage.limits.checkpoints }
+        ensures at_most { result ≤ self.now.usage.limits.checkpoints }
     {
         self.checkpoints.len() as u64
     }
@@ -185,17 +183,17 @@ impl Flash for JournalFlash {
     }
 
     fn mark(&mut self) -> Result<usize, FlashError> {
-        let place = self.checkpoints.len();
-        if place >= self.reserve.checkpoints {
+        let number = self.checkpoints.len();
+        if number >= self.reserve.checkpoints {
             return Err(FlashError::Memory);
         }
         self.checkpoints.push(self.entries.len())?;
-        Ok(place)
+        Ok(number)
     }
 
-    fn back_to(&mut self, place: usize) {
-        let count = self.checkpoints[place];
-        self.checkpoints.truncate(place);
+    fn back_to(&mut self, number: usize) {
+        let count = self.checkpoints[number];
+        self.checkpoints.truncate(number);
         undo_to(&mut self.slots, &mut self.entries, &mut self.saved, count);
     }
 }

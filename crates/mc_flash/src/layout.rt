@@ -1,10 +1,8 @@
 //! The layout of two slots: six numbers that go together.
 ghost use Rattle.std.specs.Prelude.{◌≡◌, ℕ, ◌≤◌, ◌<◌, ◌+◌, ◌*◌, ◌^◌, ◌-◌, ◌==◌, min, pos, int_lt, true, ◌↔◌, Some, None, MatchResult};
-ghost use Rattle.mc_flash.specs.Geometry.{Geometry, IsLayout, trailer_bytes, trailer_sectors, count_beside, greatest_count, greatest_sectors, fits, refusal_of, of_numbers};
-ghost use Rattle.mc_flash.specs.Geometry.{is_unit, is_sector, is_chunk, are_counts};
+ghost use Rattle.mc_flash.specs.Geometry.{Geometry, IsLayout, trailer_bytes, trailer_sectors, count_beside, greatest_count, greatest_sectors, fits, refusal_of, of_numbers, is_unit, is_sector, is_chunk, are_counts, in_pieces};
 ghost use Rattle.mc_flash.specs.Flash.{sectors_of, size_of};
 ghost use Rattle.mc_flash.specs.Largest.{largest_image};
-ghost use Rattle.mc_flash.specs.Geometry.{in_pieces};
 
 use crate::flash::Grain;
 use crate::op::Slot;

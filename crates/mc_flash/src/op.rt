@@ -50,7 +50,7 @@ impl Bytes16 {
     /// The bytes.
     pub fn bytes(&self) -> &[u8]
         ensures value { result.now ≡ self.now }
-        ensures few { length result.now ≤ 16 }
+        ensures at_most { length result.now ≤ 16 }
     {
         &self.room[..self.len]
     }

@@ -19,7 +19,7 @@ fn transfer_operations(sectors: u32, pieces: u32) -> u64
     requires sectors { sectors ≤ 1024 }
     requires pieces { pieces ≤ 65536 }
     ensures value { result ≡ 3 * sectors * (pieces + 2) }
-    ensures few { result ≤ 201332736 }
+    ensures at_most { result ≤ 201332736 }
 {
     3 * sectors as u64 * (pieces as u64 + 2)
 }
@@ -27,7 +27,7 @@ fn transfer_operations(sectors: u32, pieces: u32) -> u64
 /// The most operations of a boot: those of its transfers, and those on the trailers. It takes no memory.
 pub fn most_operations(layout: &Layout, grain: Grain) -> u64
     ensures value { result ≡ most_operations grain layout.now }
-    ensures few { result ≤ 204000000 }
+    ensures at_most { result ≤ 204000000 }
 {
     let trailers = 3 * layout.trailer_sectors() as u64;
     let sectors = layout.greatest_sectors();
@@ -49,7 +49,7 @@ pub fn most_operations(layout: &Layout, grain: Grain) -> u64
 // The most bytes that a boot's erases save: at most three slots of 2^24.
 fn most_saved(layout: &Layout) -> u64
     ensures value { result ≡ most_saved layout.now }
-    ensures few { result ≤ 50331648 }
+    ensures at_most { result ≤ 50331648 }
 {
     let sectors = 3 * layout.trailer_sectors() as u64 + 3 * layout.greatest_sectors() as u64;
     sectors * layout.sector() as u64

@@ -1,9 +1,7 @@
 //! The bytes of both slots of a layout, and what the operations do to them.
 ghost use Rattle.std.specs.Prelude.{◌≡◌, ℕ, ◌+◌, ◌*◌, ◌<◌, ◌≤◌, length, replicate, ◌⊎◌, IfOk, IfErr};
 ghost use Rattle.std.specs.List.{between};
-ghost use Rattle.mc_flash.specs.Flash.{IsSized, bytes_of, with_bytes, put, sectors_of, size_of};
-ghost use Rattle.mc_flash.specs.Flash.{AreApart, CanTry, Becomes, apply, erased};
-ghost use Rattle.mc_flash.specs.Flash.{is_blank};
+ghost use Rattle.mc_flash.specs.Flash.{IsSized, bytes_of, with_bytes, put, sectors_of, size_of, AreApart, CanTry, Becomes, apply, erased, is_blank};
 ghost use Rattle.mc_flash.specs.declared.op.Op.TheVariants.{Program, Copy};
 ghost use Rattle.mc_flash.specs.declared.op.Slot.TheVariants.{Primary, Secondary};
 
@@ -30,7 +28,7 @@ fn erase_part(bytes: &mut [u8], at: usize, len: usize)
     bytes[at..at + len].fill(0xff);
 }
 
-// Puts bytes into the place of others.
+// Puts bytes in place of others.
 fn put_part(target: &mut [u8], at: usize, bytes: &[u8])
     requires { at + length bytes.now ≤ length target.old }
     ensures { target.new ≡ put target.old at bytes.now }
@@ -38,7 +36,7 @@ fn put_part(target: &mut [u8], at: usize, bytes: &[u8])
     target[at..at + bytes.len()].copy_from_slice(bytes);
 }
 
-// Puts a part of the bytes into the place of another part of them.
+// Puts a part of the bytes in place of another part of them.
 fn copy_part(bytes: &mut [u8], at: usize, offset: usize, len: usize)
     requires source { at + len ≤ length bytes.old }
     requires target { offset + len ≤ length bytes.old }

@@ -73,7 +73,7 @@ impl Flash for SnapFlash {
     }
 
     fn mark(&mut self) -> Result<usize, FlashError> {
-        let place = self.checkpoints.len();
+        let number = self.checkpoints.len();
         let Ok(content) = self.slots.copied(self.alloc) else {
             self.failed = true;
             return Err(FlashError::Memory);
@@ -82,11 +82,11 @@ impl Flash for SnapFlash {
             self.failed = true;
             return Err(FlashError::Memory);
         }
-        Ok(place)
+        Ok(number)
     }
 
-    fn back_to(&mut self, place: usize) {
-        self.checkpoints.truncate(place + 1);
+    fn back_to(&mut self, number: usize) {
+        self.checkpoints.truncate(number + 1);
         if let Some(content) = self.checkpoints.pop() {
             self.slots.replace(content);
         }

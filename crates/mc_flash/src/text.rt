@@ -23,7 +23,7 @@ impl Grain {
     /// Its name in one word.
     pub fn name(self) -> &'static str
         ensures text { result.now ≡ grain_text self }
-        ensures few { length result.now ≤ 4 }
+        ensures at_most { length result.now ≤ 4 }
     {
         match self {
             Grain::Call => "call",
@@ -44,7 +44,7 @@ impl Slot {
     /// Its name in one word.
     pub fn name(self) -> &'static str
         ensures text { result.now ≡ slot_text self }
-        ensures few { length result.now ≤ 9 }
+        ensures at_most { length result.now ≤ 9 }
     {
         match self {
             Slot::Primary => "primary",

@@ -27,7 +27,7 @@ pub u32_at-lt : (i : ℕ) (b : List ℕ) → IsBytes b → u32_at i b < 2 ^ 32
 unfolding u32_at
 u32_at-lt i b h = little_from-lt 0 4 (drop i b) (IsBytes-drop i b h)
 
--- what stands from a place on begins with the spelling of the number there
+-- what stands from an offset on begins with the spelling of the number there
 number_back : (n i : ℕ) (b : List ℕ) → little_bytes n (little_number n (drop i b)) ≡ take n (drop i b) → drop i b ≡ little_bytes n (little_number n (drop i b)) ++ drop (i + n) b
 number_back n i b back = cc (take-append-drop n (drop i b), drop-drop n i b)
 
@@ -45,10 +45,10 @@ u32_back i b h le =
     number_back 4 i b (le_bytes_4 (take 4 d) (little_number 4 d) (omega (arith, length-take 4 d, length-drop i b)) (IsBytes-take 4 d (IsBytes-drop i b h))
     (omega (arith, little_from-take 0 4 4 d (omega arith))))
 
--- a number behind some bytes
-pub u16_read : (i : ℕ) (front : List ℕ) (x : ℕ) (rest : List ℕ) → length front ≡ i → x < 2 ^ 16 → u16_at i (front ++ (little_bytes 2 x ++ rest)) ≡ x
+-- a number after some bytes
+pub u16_read : (i : ℕ) (prefix : List ℕ) (x : ℕ) (rest : List ℕ) → length prefix ≡ i → x < 2 ^ 16 → u16_at i (prefix ++ (little_bytes 2 x ++ rest)) ≡ x
 unfolding u16_at
-u16_read i front x rest e lt = ap (little_number 2) (drop_at front (little_bytes 2 x ++ rest) i e) ∙ little_number-reads_back 2 x rest lt
+u16_read i prefix x rest e lt = ap (little_number 2) (drop_at prefix (little_bytes 2 x ++ rest) i e) ∙ little_number-reads_back 2 x rest lt
 
 -- Fronts and rests of lists that were put together from pieces.
 
@@ -62,7 +62,7 @@ drop_split zero xs ys = ap (λ (k : ℕ). xs ++ drop k ys) (let e : 0 ≡ 0 - le
 drop_split (suc n) [] ys = ap (λ (k : ℕ). drop k ys) (let e : suc n ≡ suc n - 0 = omega arith in e)
 drop_split (suc n) (x ∷ xs) ys = drop_split n xs ys ∙ ap (λ (k : ℕ). drop n xs ++ drop k ys) (let e : n - length xs ≡ suc n - suc (length xs) = omega arith in e)
 
--- what a room of n bytes holds once a piece was put behind its first c
+-- what a room of n bytes holds once a piece was put after its first c
 pub gathered : (n c t : ℕ) (xs p r : List ℕ) → length xs ≡ n → c ≤ n → t ≡ min (n - c) (length p) → take (c + t) (take c xs ++ (take t p ++ r)) ≡ take n (take c xs ++ p)
 gathered n c t xs p r len le is =
     let l : length (take c xs) ≡ c = omega (arith, length-take c xs) in

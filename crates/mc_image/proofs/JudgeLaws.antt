@@ -1,20 +1,17 @@
 -- What the first bytes of an image say stays said; a judge's answers and steps.
-use Rattle.std.proofs.Common.{Bool, Err, List, None, Ok, Some, [], ap, append_assoc, arith, drop, false, get_or, inl, inr, is_some, length, length-append, min, refl, subst, sym, take, true, ℕ}
-use Rattle.std.proofs.Common.{◌++◌, ◌+◌, ◌-◌, ◌<◌, ◌∙◌, ◌∷◌, ◌≡◌, ◌≢◌, ◌≤◌}
+use Rattle.std.proofs.Common.{Bool, Err, List, None, Ok, Some, [], ap, append_assoc, arith, drop, false, get_or, inl, inr, is_some, length, length-append, min, refl, subst, sym, take, true, ℕ, ◌++◌, ◌+◌, ◌-◌, ◌<◌, ◌∙◌, ◌∷◌, ◌≡◌, ◌≢◌, ◌≤◌}
 use Rattle.std.proofs.lemmas.Bool.{cases_lt, le-ltb, lt-ltb, ne_eqb}
-use Rattle.std.proofs.lemmas.List.{append-nil, append_cancel_right, drop-append-le, drop_at, get_or-append_right, get_or_append_left, length-drop, length-take, take-append-drop, take-append-le}
-use Rattle.std.proofs.lemmas.List.{take_all, take_at, take_min}
+use Rattle.std.proofs.lemmas.List.{append-nil, append_cancel_right, drop-append-le, drop_at, get_or-append_right, get_or_append_left, length-drop, length-take, take-append-drop, take-append-le, take_all, take_at, take_min}
 use Rattle.std.specs.Prelude.{Result, is_none, nat_lt, not, ◌&&◌, ◌==◌}
 use Rattle.mc_image.proofs.ByteNumbers.{IsBytes-take, take_split}
 use Rattle.mc_image.proofs.ImageLaws.{cut_is, not_some, reading, size_is}
 use Rattle.mc_image.proofs.Views.{fault_read, from_parts}
-use Rattle.mc_image.proofs.Walks.{behind_error, digest_good, late_fault, plain_entries, plain_short, u16_more, u32_more}
+use Rattle.mc_image.proofs.Scans.{beyond_error, digest_good, late_fault, plain_entries, plain_short, u16_more, u32_more}
 use Rattle.mc_image.proofs.Written.{appended}
-use Rattle.mc_image.specs.Image.{Image, IsBytes, IsGood, after_body, area_in, covered_text, digest_of, digests, entries_in, entries_of, header_end, header_in, header_text, image_in, image_text}
-use Rattle.mc_image.specs.Image.{payload_end, payload_in, protected_end, protected_in, protected_text, u16_at, version_in}
+use Rattle.mc_image.specs.Image.{Image, IsBytes, IsGood, after_body, area_in, covered_text, digest_of, digests, entries_in, entries_of, header_end, header_in, header_text, image_in, image_text, payload_end, payload_in, protected_end, protected_in, protected_text, u16_at, version_in}
 use Rattle.mc_image.specs.Valid.{body_fault, digest_fault, fault_if, first_fault, header_fault, is_bad_area, plain_fault, protected_fault, ◌<+>◌}
 use Rattle.mc_image.specs.declared.areas.ProtectedArea.{ProtectedArea}
-use Rattle.mc_image.specs.declared.areas.Walk.{Walk}
+use Rattle.mc_image.specs.declared.areas.EntryScan.{EntryScan}
 use Rattle.mc_image.specs.declared.error.ImageError.{ImageError}
 use Rattle.mc_image.specs.declared.error.ImageError.TheVariants.{BadProtected, BadTlvLength, BadTlvMagic, Truncated, TruncatedBody, WrongDigest}
 use Rattle.mc_image.specs.declared.gather.Gather.{Gather}
@@ -24,8 +21,8 @@ use Rattle.mc_image.specs.declared.judge.Judged.{Judged}
 use Rattle.mc_image.specs.declared.judge.Sealed.{Sealed}
 use Rattle.mc_image.specs.declared.judge.Stage.{Stage}
 use Rattle.mc_image.specs.facts.Valid.{good_false, good_true}
-use Rattle.mc_image.specs.inner.Judging.{HasHeader, IsBehind, IsInStage, IsPlain, IsProtected, IsSealed, Judges, judged_or_fault, verdict}
-use Rattle.mc_image.specs.inner.Reading.{Follows, Goes, IsHeader, Walks, entries_fault, head_fault, held}
+use Rattle.mc_image.specs.inner.Judging.{HasHeader, IsBeyond, IsInStage, IsPlain, IsProtected, IsSealed, Judges, judged_or_fault, verdict}
+use Rattle.mc_image.specs.inner.Reading.{Follows, Goes, IsHeader, Scans, entries_fault, head_fault, held}
 use Rattle.sha2.specs.Hashers.{Holds256}
 use Rattle.sha2.specs.Sha256.{sha256}
 use Rattle.sha2.specs.declared.Sha256.{Sha256}
@@ -92,7 +89,7 @@ header_ends h b f = (omega (arith, f.size, f.payload), omega (arith, f.size, f.p
 
 fault_header : (b : List ℕ) (e : ImageError) → header_fault b ≡ Some e → first_fault b ≡ Some e
 unfolding first_fault
-fault_header b e h = behind_error (header_fault b) _ e h
+fault_header b e h = beyond_error (header_fault b) _ e h
 
 pub header_error : (b c : List ℕ) (e : ImageError) → 32 ≤ length b → header_fault b ≡ Some e → verdict (b ++ c) ≡ Err e
 header_error b c e long h = fault_verdict (b ++ c) e (fault_header (b ++ c) e (header_fault_more b c long ∙ h))
@@ -120,14 +117,14 @@ third_fault b e h1 h2 h3 = rw (h1, h2, h3) refl
 -- ---- header, payload and protected area
 
 -- the protected area of a body that ends with it
-pub protected_is : (front rest : List ℕ) → 32 ≤ length front → length front ≡ payload_end front → length rest ≡ u16_at 10 front → (more : List ℕ) → protected_in (front ++ (rest ++ more)) ≡ rest
+pub protected_is : (prefix rest : List ℕ) → 32 ≤ length prefix → length prefix ≡ payload_end prefix → length rest ≡ u16_at 10 prefix → (more : List ℕ) → protected_in (prefix ++ (rest ++ more)) ≡ rest
 unfolding protected_in
-protected_is front rest long len size more =
-    let p = payload_end_more front (rest ++ more) long in
-    let q = u16_more 10 front (rest ++ more) (omega (arith, long)) in
-    ap (λ (n : ℕ). take n (drop (payload_end (front ++ (rest ++ more))) (front ++ (rest ++ more)))) q
-    ∙ ap (take (u16_at 10 front)) (drop_at front (rest ++ more) (payload_end (front ++ (rest ++ more))) (len ∙ sym p))
-    ∙ take_at rest more (u16_at 10 front) size
+protected_is prefix rest long len size more =
+    let p = payload_end_more prefix (rest ++ more) long in
+    let q = u16_more 10 prefix (rest ++ more) (omega (arith, long)) in
+    ap (λ (n : ℕ). take n (drop (payload_end (prefix ++ (rest ++ more))) (prefix ++ (rest ++ more)))) q
+    ∙ ap (take (u16_at 10 prefix)) (drop_at prefix (rest ++ more) (payload_end (prefix ++ (rest ++ more))) (len ∙ sym p))
+    ∙ take_at rest more (u16_at 10 prefix) size
 
 pub protected_none : (b : List ℕ) → u16_at 10 b ≡ 0 → protected_fault b ≡ None
 unfolding protected_fault
@@ -140,28 +137,28 @@ by_area b t ne is =
     rw (z, is) refl
 
 -- by the test of the area
-module _ (h : Header) (front rest : List ℕ) (has : HasHeader h front) (len : length front ≡ payload_end front) (size : length rest ≡ h.protected) (ne : h.protected ≢ 0) where
-  pub protected_tested : (more : List ℕ) (t : Bool) → t ≡ is_bad_area 0x6908 rest → protected_fault (front ++ (rest ++ more)) ≡ fault_if t BadProtected
+module _ (h : Header) (prefix rest : List ℕ) (has : HasHeader h prefix) (len : length prefix ≡ payload_end prefix) (size : length rest ≡ h.protected) (ne : h.protected ≢ 0) where
+  pub protected_tested : (more : List ℕ) (t : Bool) → t ≡ is_bad_area 0x6908 rest → protected_fault (prefix ++ (rest ++ more)) ≡ fault_if t BadProtected
   protected_tested more t is =
       let long = has.long in
       let q = has.fields.protected in
-      let m = u16_more 10 front (rest ++ more) (omega (arith, long)) in
-      by_area (front ++ (rest ++ more)) t (λ (z : u16_at 10 (front ++ (rest ++ more)) ≡ 0). ne (q ∙ sym m ∙ z)) (ap (is_bad_area 0x6908) (protected_is front rest long len (size ∙ q) more) ∙ sym is)
+      let m = u16_more 10 prefix (rest ++ more) (omega (arith, long)) in
+      by_area (prefix ++ (rest ++ more)) t (λ (z : u16_at 10 (prefix ++ (rest ++ more)) ≡ 0). ne (q ∙ sym m ∙ z)) (ap (is_bad_area 0x6908) (protected_is prefix rest long len (size ∙ q) more) ∙ sym is)
 
-  pub body_ends : length (front ++ rest) ≡ protected_end (front ++ rest)
+  pub body_ends : length (prefix ++ rest) ≡ protected_end (prefix ++ rest)
   body_ends =
-      let e = (header_ends h front has.fields) in
-      omega (arith, length-append front rest, len, size, e.0, e.1, protected_end_more front rest has.long)
+      let e = (header_ends h prefix has.fields) in
+      omega (arith, length-append prefix rest, len, size, e.0, e.1, protected_end_more prefix rest has.long)
 
-  pub protected_bad : (more : List ℕ) → true ≡ is_bad_area 0x6908 rest → verdict ((front ++ rest) ++ more) ≡ Err BadProtected
+  pub protected_bad : (more : List ℕ) → true ≡ is_bad_area 0x6908 rest → verdict ((prefix ++ rest) ++ more) ≡ Err BadProtected
   protected_bad more is =
-      let b : List ℕ = front ++ (rest ++ more) in
-      let p = protected_end_more (front ++ rest) more (omega (arith, length-append front rest, has.long)) in
-      let same = append_assoc front rest more in
-      let whole : protected_end b ≤ length b = subst (λ (x : List ℕ). protected_end x ≤ length x) same (omega (arith, body_ends, length-append (front ++ rest) more, p)) in
-      ap verdict same ∙ fault_verdict b BadProtected (third_fault b BadProtected (header_fault_more front (rest ++ more) has.long ∙ has.none) (body_whole b whole) (protected_tested more true is))
+      let b : List ℕ = prefix ++ (rest ++ more) in
+      let p = protected_end_more (prefix ++ rest) more (omega (arith, length-append prefix rest, has.long)) in
+      let same = append_assoc prefix rest more in
+      let whole : protected_end b ≤ length b = subst (λ (x : List ℕ). protected_end x ≤ length x) same (omega (arith, body_ends, length-append (prefix ++ rest) more, p)) in
+      ap verdict same ∙ fault_verdict b BadProtected (third_fault b BadProtected (header_fault_more prefix (rest ++ more) has.long ∙ has.none) (body_whole b whole) (protected_tested more true is))
 
--- ---- behind header, payload and protected area
+-- ---- after header, payload and protected area
 module _ (s : Sealed) (body : List ℕ) (is : IsSealed s body) (rest : List ℕ) where
   long : 32 ≤ length body
   long = is.header.long
@@ -191,13 +188,13 @@ module _ (s : Sealed) (body : List ℕ) (is : IsSealed s body) (rest : List ℕ)
       ∙ ap (λ (x : List ℕ). fault_if (not (u16_at 10 body == 0) && is_bad_area 0x6908 x) BadProtected) same_protected
 
   -- the first fault is that of what follows
-  pub fault_behind : first_fault (body ++ rest) ≡ (plain_fault rest <+> digest_fault (digests (entries_in (drop 4 (area_in rest)))))
-  fault_behind =
+  pub fault_beyond : first_fault (body ++ rest) ≡ (plain_fault rest <+> digest_fault (digests (entries_in (drop 4 (area_in rest)))))
+  fault_beyond =
       late_fault (body ++ rest) (header_fault_more body rest long ∙ is.header.none) (body_whole (body ++ rest) (omega (arith, ends, length-append body rest))) (same_fault ∙ is.protected)
       ∙ ap (λ (x : List ℕ). plain_fault x <+> digest_fault (digests (entries_in (drop 4 (area_in x))))) after_is
 
   pub plain_error : (e : ImageError) → plain_fault rest ≡ Some e → verdict (body ++ rest) ≡ Err e
-  plain_error e h = fault_verdict (body ++ rest) e (fault_behind ∙ behind_error (plain_fault rest) _ e h)
+  plain_error e h = fault_verdict (body ++ rest) e (fault_beyond ∙ beyond_error (plain_fault rest) _ e h)
 
 -- The answer for a plain area that is whole.
 
@@ -211,7 +208,7 @@ head_fault_more a more four =
     let n = u16_more 2 a more (omega (arith, four)) in
     rw (p, q, m, n) refl
 
-module _ (s : Sealed) (body : List ℕ) (is : IsSealed s body) (t : ℕ) (walk : Walk) (area : List ℕ) (plain : IsPlain t 0 walk area) (more : List ℕ) where
+module _ (s : Sealed) (body : List ℕ) (is : IsSealed s body) (t : ℕ) (scan : EntryScan) (area : List ℕ) (plain : IsPlain t 0 scan area) (more : List ℕ) where
   total : u16_at 2 (area ++ more) ≡ length area
   total = omega (arith, plain.total, plain.left, u16_more 2 area more (omega (arith, plain.head)))
 
@@ -221,7 +218,7 @@ module _ (s : Sealed) (body : List ℕ) (is : IsSealed s body) (t : ℕ) (walk :
 
   first_is : first_fault (body ++ (area ++ more)) ≡ entries_fault (drop 4 area)
   first_is =
-      fault_behind s body is (area ++ more)
+      fault_beyond s body is (area ++ more)
       ∙ plain_entries (area ++ more) (drop 4 area) (head_fault_more area more plain.head ∙ plain.none) (omega (arith, total, length-append area more)) (ap (drop 4) (sym area_is))
 
   -- a fault of the entries
@@ -298,8 +295,8 @@ pub no_magic : (rest : List ℕ) → length rest < 4 → plain_fault rest ≡ So
 unfolding plain_fault
 no_magic rest lt = let t : nat_lt (length rest) 4 ≡ true = lt-ltb _ _ lt in rw t refl
 
-pub no_room : (t n : ℕ) (walk : Walk) (rest : List ℕ) → IsPlain t n walk rest → 0 < n → plain_fault rest ≡ Some BadTlvLength
-no_room t n walk rest p lt = let a = p.total in let b = p.left in plain_short rest p.none (omega (arith, a, b, lt))
+pub no_room : (t n : ℕ) (scan : EntryScan) (rest : List ℕ) → IsPlain t n scan rest → 0 < n → plain_fault rest ≡ Some BadTlvLength
+no_room t n scan rest p lt = let a = p.total in let b = p.left in plain_short rest p.none (omega (arith, a, b, lt))
 
 -- The steps of a judge.
 
@@ -330,10 +327,10 @@ over_goes j piece answer e lt are = takes_bytes j j piece piece [] (sym (append-
       ap verdict same ∙ at_stage (stages.Over answer) e h (piece ++ more) (subst (λ (x : List ℕ). IsBytes x) same both));
 })
 
--- what stands behind a body grows
-behind_more : {k : Judge} {P : List ℕ → Type 0} (s : Sealed) (bytes more : List ℕ) → IsBehind s bytes P → IsBytes (bytes ++ more)
+-- what stands after a body grows
+beyond_more : {k : Judge} {P : List ℕ → Type 0} (s : Sealed) (bytes more : List ℕ) → IsBeyond s bytes P → IsBytes (bytes ++ more)
     → ((body rest : List ℕ) → IsBytes (body ++ (rest ++ more)) → IsSealed s body → P rest → Judges k (body ++ (rest ++ more))) → Judges k (bytes ++ more)
-behind_more {k} s bytes more b all goes =
+beyond_more {k} s bytes more b all goes =
     let same = ap (λ (x : List ℕ). x ++ more) b.split ∙ append_assoc b.body b.rest more in
     subst (λ (x : List ℕ). Judges k x) (sym same) (goes b.body b.rest (subst (λ (x : List ℕ). IsBytes x) same all) b.sealed b.stands)
 
@@ -366,7 +363,7 @@ module _ (j k : Judge) (piece rest : List ℕ) (fed : (bytes : List ℕ) × Judg
   head_taken s old new is is_new is_rest goes =
       let known = (at_stage _ is fed.1).stands in
       takes_room 4 (held old) (held new) (let e = ap length known.1 in let lt = known.0 in omega (arith, e, lt)) is_new is_rest (λ bytes taken h all more le _.
-      behind_more s bytes taken (at_stage _ is h) all (λ body seen both sealed stands.
+      beyond_more s bytes taken (at_stage _ is h) all (λ body seen both sealed stands.
       let same = more ∙ ap (λ (x : List ℕ). x ++ taken) stands.1 in
       goes body (seen ++ taken) both sealed same (omega (arith, ap length same, le))))
 
@@ -386,32 +383,32 @@ module _ (j k : Judge) (piece inside rest : List ℕ) (fed : (bytes : List ℕ) 
   pub protected_taken : (hasher : Sha256) (h : Header) (old new : ProtectedArea) → j.stage ≡ stages.Protected h left old
       → ((bytes : List ℕ) → Holds256 j.hasher bytes → Holds256 hasher (bytes ++ inside)) → ((seen : List ℕ) → Follows old seen → Follows new (seen ++ inside))
       → ((bytes : List ℕ) → IsBytes bytes → Holds256 hasher bytes → h.protected ≢ 0 → IsProtected h (left - length inside) new bytes → Judges k bytes) → Goes (Judges j) (Judges k) piece rest
-  protected_taken hasher h old new is hashed along goes =
+  protected_taken hasher h old new is hashed feed goes =
       let more = (at_stage _ is fed.1).1 in
       takes_bytes j k piece inside rest split (omega (arith, len, more, some)) are (λ bytes judged all.
       let s = at_stage _ is judged in
       let p = s.2 in
       goes (bytes ++ inside) all (hashed bytes s.0) (λ z. absurd (omega (arith, z, p.left, more))) (record {
-        front = p.front;
+        prefix = p.prefix;
         rest = p.rest ++ inside;
-        split = appended p.front bytes _ p.rest inside p.split refl;
+        split = appended p.prefix bytes _ p.rest inside p.split refl;
         header = p.header;
         len = p.len;
         left = omega (arith, length-append p.rest inside, p.left, len);
-        area = along p.rest p.area;
+        area = feed p.rest p.area;
       }))
 
   -- of a plain area
-  pub plain_taken : (s : Sealed) (t : ℕ) (old new : Walk) → j.stage ≡ stages.Plain s t left old → ((seen : List ℕ) → Walks old seen → Walks new (seen ++ inside))
+  pub plain_taken : (s : Sealed) (t : ℕ) (old new : EntryScan) → j.stage ≡ stages.Plain s t left old → ((seen : List ℕ) → Scans old seen → Scans new (seen ++ inside))
       → ((body area : List ℕ) → IsBytes (body ++ area) → IsSealed s body → IsPlain t (left - length inside) new area → Judges k (body ++ area)) → Goes (Judges j) (Judges k) piece rest
-  plain_taken s t old new is along goes =
+  plain_taken s t old new is feed goes =
       takes_bytes j k piece inside rest split (omega (arith, len, (at_stage _ is fed.1).0, some)) are (λ bytes judged all.
-      behind_more s bytes inside (at_stage _ is judged).1 all (λ body area both sealed p.
+      beyond_more s bytes inside (at_stage _ is judged).1 all (λ body area both sealed p.
       let l = length-append area inside in
       goes body (area ++ inside) both sealed (record {
         none = head_fault_more area inside p.head ∙ p.none;
         head = omega (arith, l, p.head);
         total = p.total ∙ sym (u16_more 2 area inside (omega (arith, p.head)));
         left = omega (arith, l, p.left, len);
-        walk = subst (λ (x : List ℕ). Walks new x) (sym (drop-append-le 4 area inside p.head)) (along (drop 4 area) p.walk);
+        scan = subst (λ (x : List ℕ). Scans new x) (sym (drop-append-le 4 area inside p.head)) (feed (drop 4 area) p.scan);
       })))

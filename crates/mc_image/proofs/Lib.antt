@@ -5,6 +5,6 @@ pub mod VersionLaws
 pub mod VersionJudged
 pub mod ImageLaws
 pub mod Written
-pub mod Walks
+pub mod Scans
 pub mod Views
 pub mod JudgeLaws

@@ -145,14 +145,14 @@ then_some f None y e = absurd cc
 then_some f (Some x) y e = (x, refl, e)
 
 -- the separator stands in front
-in_front : {A : Type 0} (c s : ℕ) (o : Option A) (y : A) → cond (c == s) o None ≡ Some y → (c ≡ s) × (o ≡ Some y)
-in_front c s o y e =
+in_prefix : {A : Type 0} (c s : ℕ) (o : Option A) (y : A) → cond (c == s) o None ≡ Some y → (c ≡ s) × (o ≡ Some y)
+in_prefix c s o y e =
     elim (c == s) as (λ b. (c == s) ≡ b → cond b o None ≡ Some y → (c ≡ s) × (o ≡ Some y)) [
       | true ↦ λ t f. (eqb-true _ _ t, f)
       | false ↦ λ t f. absurd cc
     ] refl e
 
--- what is read behind a number
+-- what is read after a number
 pub record Takes (ss rest xs : List ℕ) : Type 0 where
   pub numbers : List ℕ
   pub follows : Follows ss rest numbers
@@ -168,7 +168,7 @@ takes_more ss xs zs cs x s c at r t e = record {
   same = sym e ∙ ap (λ (l : List ℕ). x.0 ∷ l) t.same ∙ ap (λ (n : ℕ). n ∷ padded ss t.numbers) r.value;
 }
 
--- what is read behind a number follows it in the form
+-- what is read after a number follows it in the form
 pub parts_take : (ss rest xs : List ℕ) → parts_after ss rest ≡ Some xs → Takes ss rest xs
 unfolding parts_after part_at
 parts_take [] rest xs e = let p = cond_some (length rest == 0) [] xs e in record { numbers = []; follows = nil_from_length rest (eqb-true _ _ p.0); same = sym p.1 }
@@ -181,7 +181,7 @@ parts_take (s ∷ ss) [] xs e =
 parts_take (s ∷ ss) (c ∷ cs) xs e =
     let x = then_some (λ x. option_map (λ ns. x.0 ∷ ns) (parts_after ss x.1)) (part_at s (c ∷ cs)) xs e in
     let zs = map_some (λ ns. x.0.0 ∷ ns) (parts_after ss x.0.1) xs x.2 in
-    let at = in_front c s (numeral_at cs) x.0 x.1 in
+    let at = in_prefix c s (numeral_at cs) x.0 x.1 in
     takes_more ss xs zs.0 cs x.0 s c at.0 (numeral_takes cs x.0 at.1) (parts_take ss x.0.1 zs.0 zs.1) zs.2
 
 -- what follows a number in the form is read

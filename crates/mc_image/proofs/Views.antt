@@ -7,8 +7,7 @@ use Rattle.std.specs.Cmp.Derive.{both_true}
 use Rattle.std.specs.Prelude.{IfSome, is_none, not, unwrap_or}
 use Rattle.mc_image.proofs.EntryLaws.{entries-again, entries-nil, in-first, in-none}
 use Rattle.mc_image.proofs.ImageLaws.{begins_is, begins_none, begins_one, both_none, header_len, header_reads, none_both, version_again}
-use Rattle.mc_image.specs.Image.{Begins, EntriesFit, Entry, Image, IsBytes, IsGood, IsImage, IsView, Listed, entries_in, entries_of, first_entry, header_text, image_in, image_text, left_of}
-use Rattle.mc_image.specs.Image.{listed, listing, plain_text, protected_area, protected_text, u32_at, version_in}
+use Rattle.mc_image.specs.Image.{Begins, EntriesFit, Entry, Image, IsBytes, IsGood, IsImage, IsView, Listed, entries_in, entries_of, first_entry, header_text, image_in, image_text, left_of, listed, listing, plain_text, protected_area, protected_text, u32_at, version_in}
 use Rattle.mc_image.specs.Valid.{Identity, IsValid, fault_if, first_fault, id_of, identity, image_fault, is_good, is_valid}
 use Rattle.mc_image.specs.declared.entries.Area.TheVariants.{Plain, Protected}
 use Rattle.mc_image.specs.declared.error.ImageError.{ImageError}
@@ -16,7 +15,7 @@ use Rattle.mc_image.specs.declared.error.ImageError.TheVariants.{WrongDigest}
 use Rattle.mc_image.specs.declared.version.Version.{Version}
 use Rattle.mc_image.specs.facts.Valid.{good_false, good_true, test_good}
 
--- The tests of a valid image decide, and images go along with the front of the bytes.
+-- The tests of a valid image decide, and images go along with the prefix of the bytes.
 
 none_true : {A : Type 0} (o : Option A) → is_none o ≡ true → o ≡ None
 none_true None e = refl
@@ -28,7 +27,7 @@ valid_true b h e =
     let p = and_parts (is_none (first_fault b)) (is_good (image_in b)) e in
     record { image = image_in b; begins = begins_is b h (none_true _ p.0); good = test_good _ p.1 }
 
--- the image of a valid front is the one that is read there
+-- the image of a valid prefix is the one that is read there
 image_is : (b : List ℕ) (h : IsValid b) → image_in b ≡ h.image
 image_is b h = begins_one b h.image h.begins
 
@@ -65,13 +64,13 @@ pub valid_fault : (b : List ℕ) → IsValid b → image_fault b ≡ None
 unfolding image_fault
 valid_fault b h = both_none (first_fault b) _ (begins_none b h.image h.begins) (ap (λ t. fault_if (not t) WrongDigest) (good_in b h))
 
--- ---- the same front
+-- ---- the same prefix
 
 pub begins_same : (b c : List ℕ) (v : Image) → Begins b v → take (length (image_text v)) c ≡ take (length (image_text v)) b → Begins c v
 begins_same b c v begins same =
     let n : ℕ = length (image_text v) in
-    let front : take n b ≡ image_text v = ap (λ (l : List ℕ). take n l) begins.front.1 ∙ take_at (image_text v) begins.front.0 n refl in
-    record { fits = begins.fits; front = (drop n c, sym (take-append-drop n c) ∙ ap (λ (l : List ℕ). l ++ drop n c) (same ∙ front)) }
+    let prefix : take n b ≡ image_text v = ap (λ (l : List ℕ). take n l) begins.prefix.1 ∙ take_at (image_text v) begins.prefix.0 n refl in
+    record { fits = begins.fits; prefix = (drop n c, sym (take-append-drop n c) ∙ ap (λ (l : List ℕ). l ++ drop n c) (same ∙ prefix)) }
 
 some_id : (i j : Identity) → Some i ≡ Some j → i ≡ j
 some_id i j e = cc

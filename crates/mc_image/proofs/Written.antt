@@ -11,8 +11,7 @@ use Rattle.std.specs.Prelude.{IfSome, OnOk, cond, if◌then◌else◌, nat_lt, �
 use Rattle.std.specs.Result.{is_ok}
 use Rattle.byteorder.specs.Endian.{little_bytes}
 use Rattle.mc_image.proofs.ImageLaws.{header_len}
-use Rattle.mc_image.specs.Image.{EntriesFit, Entry, EntryFits, Image, IsGood, IsImage, area_text, covered_text, digest_of, digests, entries_text, entry_text, header_text, image_text, plain_text}
-use Rattle.mc_image.specs.Image.{protected_area, protected_text, version_text}
+use Rattle.mc_image.specs.Image.{EntriesFit, Entry, EntryFits, Image, IsGood, IsImage, area_text, covered_text, digest_of, digests, entries_text, entry_text, header_text, image_text, plain_text, protected_area, protected_text, version_text}
 use Rattle.mc_image.specs.Writing.{AreSizes, AreSmall, FieldsFit, area_of, entry_view, image_of, is_too_large, sizes_text, undigested, views, with_digest, write_fault}
 use Rattle.mc_image.specs.declared.error.ImageError.{ImageError}
 use Rattle.mc_image.specs.declared.error.ImageError.TheVariants.{ManyDigests, TooLarge}
@@ -126,8 +125,8 @@ pub image-written : (p : ImageParts) (o x y d : List ℕ) (n : ℕ) → n ≡ le
 unfolding image_text covered_text
 image-written p o x y d n len e1 e2 e3 =
     let v : Image = image_of p in
-    let behind : drop n x ≡ covered_text v = ap (λ (t : List ℕ). drop n t) e1 ∙ drop_at o (covered_text v) n (sym len) in
-    let digest : d ≡ sha256 (covered_text (undigested p)) = e2 ∙ ap sha256 behind ∙ digest-is p in
+    let beyond : drop n x ≡ covered_text v = ap (λ (t : List ℕ). drop n t) e1 ∙ drop_at o (covered_text v) n (sym len) in
+    let digest : d ≡ sha256 (covered_text (undigested p)) = e2 ∙ ap sha256 beyond ∙ digest-is p in
     e3 ∙ ap (λ (t : List ℕ). x ++ area_text 0x6907 (record { kind = 0x10; value = t } ∷ views p.plain.now)) digest
     ∙ ap (λ (t : List ℕ). x ++ t) (plain-written p)
     ∙ ap (λ (t : List ℕ). t ++ plain_text v) e1
@@ -206,7 +205,7 @@ fault-small p small =
     let h1 = small.header in
     let h3 = small.protected in
     let h4 = small.plain in
-    let at_most = protected_len (views p.protected.now) in
+    let most = protected_len (views p.protected.now) in
     let sizes = not_large p q a (omega arith) small.payload (omega arith) refl (omega arith) refl in
     fault-none p sizes.0 small.one_digest
 

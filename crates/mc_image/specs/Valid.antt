@@ -2,11 +2,9 @@
 -- this project's own order of judging.
 use Rattle.std.specs.Prelude.{Bool, List, None, Option, Some, [], drop, false, if◌then◌else◌, is_none, length, nat_lt, not, true, ℕ, ◌&&◌, ◌==◌, ◌||◌, ◌∷◌}
 use Rattle.std.specs.Str.{bytes_eq}
-use Rattle.mc_image.specs.Image.{Begins, Image, IsGood, after_body, area_in, covered_text, digest_of, digests, entries_in, entries_of, image_in, image_text, protected_end, protected_in, u16_at}
-use Rattle.mc_image.specs.Image.{u32_at}
+use Rattle.mc_image.specs.Image.{Begins, Image, IsGood, after_body, area_in, covered_text, digest_of, digests, entries_in, entries_of, image_in, image_text, protected_end, protected_in, u16_at, u32_at}
 use Rattle.mc_image.specs.declared.error.ImageError.{ImageError}
-use Rattle.mc_image.specs.declared.error.ImageError.TheVariants.{BadHeaderSize, BadMagic, BadProtected, BadTlvLength, BadTlvMagic, DigestLength, ManyDigests, NoDigest, Truncated, TruncatedBody}
-use Rattle.mc_image.specs.declared.error.ImageError.TheVariants.{UnsupportedFlags, WrongDigest}
+use Rattle.mc_image.specs.declared.error.ImageError.TheVariants.{BadHeaderSize, BadMagic, BadProtected, BadTlvLength, BadTlvMagic, DigestLength, ManyDigests, NoDigest, Truncated, TruncatedBody, UnsupportedFlags, WrongDigest}
 use Rattle.mc_image.specs.declared.version.Version.{Version}
 use Rattle.sha2.specs.Sha256.{sha256}
 
@@ -63,15 +61,15 @@ first_fault b =
     <+> plain_fault (after_body b)
     <+> digest_fault (digests (entries_in (drop 4 (area_in (after_body b)))))
 
--- Valid images (MCUboot's image format, entry type 0x10; FIPS 180-4), and what tells them apart.
+-- Valid images (MCUboot's image format, entry type 0x10; FIPS 180-4), and what distinguishes them.
 
--- an image is spelled at the front of the bytes, and its digest is that of what it covers
+-- an image is spelled at the start of the bytes, and its digest is that of what it covers
 pub record IsValid (b : List ℕ) : Type 0 where
   pub image : Image
   pub begins : Begins b image
   pub good : IsGood image
 
--- what tells valid images apart
+-- what distinguishes valid images
 pub record Identity : Type 0 where
   pub version : Version
   pub size : ℕ

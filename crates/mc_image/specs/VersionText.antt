@@ -11,7 +11,7 @@ use Rattle.mc_image.specs.declared.error.VersionError.TheVariants.{Syntax, Range
 abbrev pub version_line : Version → List ℕ
 version_line v = decimal v.major ++ codes "." ++ decimal v.minor ++ codes "." ++ decimal v.revision ++ codes "+" ++ decimal v.build
 
--- the number that digits write behind a number
+-- the number that digits write after a number
 abbrev pub value_after : ℕ → List ℕ → ℕ
 value_after n [] = n
 value_after n (c ∷ cs) = value_after (10 * n + (c - 48)) cs
@@ -23,7 +23,7 @@ pub record IsNumeral (ds : List ℕ) (n : ℕ) : Type 0 where
   pub plain : get_or ds 0 0 ≡ 48 → length ds ≡ 1
   pub value : n ≡ value_after 0 ds
 
--- behind a number stands nothing more, or the next separator and the next number
+-- after a number stands nothing more, or the next separator and the next number
 abbrev pub Follows : List ℕ → List ℕ → List ℕ → Type 0
 Follows separators rest [] = rest ≡ []
 Follows [] rest (n ∷ ns) = ⊥

@@ -1,18 +1,15 @@
 //! The areas of an image, which come in pieces: their heads, and a walk along their entries.
 ghost use Rattle.std.specs.Prelude.{◌≡◌, ℕ, List, ◌+◌, ◌≤◌, ◌<◌, [], ◌++◌, length, is_some, true, MatchResult, IfOk, None, Some, ◌==◌, ◌||◌, not};
-ghost use Rattle.mc_image.specs.Image.{u16_at};
-ghost use Rattle.mc_image.specs.Image.{entries_of, entries_in, digests};
+ghost use Rattle.mc_image.specs.Image.{u16_at, entries_of, entries_in, digests};
 ghost use Rattle.mc_image.specs.Valid.{digest_fault, is_bad_area};
-ghost use Rattle.mc_image.specs.inner.Reading.{held};
-ghost use Rattle.mc_image.specs.inner.Reading.{head_fault, entries_fault};
-ghost use Rattle.mc_image.specs.inner.Reading.{IsAt, IsOne, IsEntered, Finds, Reaches, Walks, Follows, Goes};
+ghost use Rattle.mc_image.specs.inner.Reading.{held, head_fault, entries_fault, IsAt, IsOne, IsEntered, Finds, Reaches, Scans, Follows, Goes};
 
 use crate::ImageError;
 use crate::entries::{DIGEST, PLAIN_MAGIC, PROTECTED_MAGIC};
 use crate::gather::Gather;
 use crate::numbers::u16_at;
 
-/// The value of a digest's entry: where it starts among the entries, and its first 33 bytes, which tell whether it has
+/// The value of a digest's entry: where it starts among the entries, and its first 33 bytes, which show whether it has
 /// 32.
 #[derive(Clone, Copy)]
 pub(crate) struct DigestValue {
@@ -55,7 +52,7 @@ impl Found {
 
 /// Where a walk stands.
 #[derive(Clone, Copy)]
-enum Place {
+enum EntryPart {
     /// In an entry's head; with no byte of it, between entries.
     Head(Gather<4>),
     /// In a value of which so many bytes are to come.
@@ -64,63 +61,63 @@ enum Place {
     Digest(usize, DigestValue),
 }
 
-impl Place {
-    /// The place after some bytes of an entry's head, at a distance from the first entry.
-    fn after_head(head: Gather<4>, distance: usize) -> Place
+impl EntryPart {
+    /// The part after some bytes of an entry's head, at a distance from the first entry.
+    fn after_head(head: Gather<4>, distance: usize) -> EntryPart
         ensures { (before : ℕ) (begun : List ℕ) → length begun ≤ 4 → held head ≡ begun
             → distance ≡ before + length begun → IsAt result before begun }
     {
         if !head.is_full() {
-            return Place::Head(head);
+            return EntryPart::Head(head);
         }
         let left = u16_at(head.as_slice(), 2) as usize;
         if u16_at(head.as_slice(), 0) != DIGEST {
-            return Place::Value(left);
+            return EntryPart::Value(left);
         }
         let value = DigestValue {
             start: distance,
             bytes: Gather::new(),
         };
-        Place::Digest(left, value)
+        EntryPart::Digest(left, value)
     }
 }
 
 /// A walk along entries.
 #[derive(Clone, Copy)]
-pub(crate) struct Walk {
+pub(crate) struct EntryScan {
     /// How many bytes it has passed.
-    walked: usize,
-    place: Place,
+    scanned: usize,
+    part: EntryPart,
     found: Found,
 }
 
-impl Walk {
+impl EntryScan {
     /// A walk at the first entry.
-    pub(crate) fn new() -> Walk
-        ensures { Walks result [] }
+    pub(crate) fn new() -> EntryScan
+        ensures { Scans result [] }
     {
-        Walk {
-            walked: 0,
-            place: Place::Head(Gather::new()),
+        EntryScan {
+            scanned: 0,
+            part: EntryPart::Head(Gather::new()),
             found: Found::Nothing,
         }
     }
 
     /// Goes on in an entry's head.
-    fn in_head<'p>(self, head: Gather<4>, piece: &'p [u8]) -> (Walk, &'p [u8])
-        requires place { self.place ≡ Place.Head head }
-        requires some { 0 < length piece.now }
-        requires fits { (bytes : List ℕ) × Walks self bytes
+    fn in_head<'p>(self, head: Gather<4>, piece: &'p [u8]) -> (EntryScan, &'p [u8])
+        requires part { self.part ≡ EntryPart.Head head }
+        requires nonempty { 0 < length piece.now }
+        requires fits { (bytes : List ℕ) × Scans self bytes
             × (length bytes + length piece.now ≤ 65535) }
-        ensures { Goes (Walks self) (Reaches result.0) piece.now result.1.now }
+        ensures { Goes (Scans self) (Reaches result.0) piece.now result.1.now }
     {
         let (head, rest) = head.with(piece);
-        let walked = self.walked + (piece.len() - rest.len());
-        let place = Place::after_head(head, walked);
+        let scanned = self.scanned + (piece.len() - rest.len());
+        let part = EntryPart::after_head(head, scanned);
         (
-            Walk {
-                walked,
-                place,
+            EntryScan {
+                scanned,
+                part,
                 found: self.found,
             },
             rest,
@@ -128,18 +125,18 @@ impl Walk {
     }
 
     /// Goes on in a value.
-    fn in_value<'p>(self, left: usize, piece: &'p [u8]) -> (Walk, &'p [u8])
-        requires place { self.place ≡ Place.Value left }
-        requires some { 0 < length piece.now }
-        requires fits { (bytes : List ℕ) × Walks self bytes
+    fn in_value<'p>(self, left: usize, piece: &'p [u8]) -> (EntryScan, &'p [u8])
+        requires part { self.part ≡ EntryPart.Value left }
+        requires nonempty { 0 < length piece.now }
+        requires fits { (bytes : List ℕ) × Scans self bytes
             × (length bytes + length piece.now ≤ 65535) }
-        ensures { Goes (Walks self) (Reaches result.0) piece.now result.1.now }
+        ensures { Goes (Scans self) (Reaches result.0) piece.now result.1.now }
     {
         let taken = left.min(piece.len());
         (
-            Walk {
-                walked: self.walked + taken,
-                place: Place::Value(left - taken),
+            EntryScan {
+                scanned: self.scanned + taken,
+                part: EntryPart::Value(left - taken),
                 found: self.found,
             },
             &piece[taken..],
@@ -147,12 +144,17 @@ impl Walk {
     }
 
     /// Goes on in the value of a digest's entry.
-    fn in_digest<'p>(self, left: usize, value: DigestValue, piece: &'p [u8]) -> (Walk, &'p [u8])
-        requires place { self.place ≡ Place.Digest left value }
-        requires some { 0 < length piece.now }
-        requires fits { (bytes : List ℕ) × Walks self bytes
+    fn in_digest<'p>(
+        self,
+        left: usize,
+        value: DigestValue,
+        piece: &'p [u8],
+    ) -> (EntryScan, &'p [u8])
+        requires part { self.part ≡ EntryPart.Digest left value }
+        requires nonempty { 0 < length piece.now }
+        requires fits { (bytes : List ℕ) × Scans self bytes
             × (length bytes + length piece.now ≤ 65535) }
-        ensures { Goes (Walks self) (Reaches result.0) piece.now result.1.now }
+        ensures { Goes (Scans self) (Reaches result.0) piece.now result.1.now }
     {
         let taken = left.min(piece.len());
         let (bytes, _) = value.bytes.with(&piece[..taken]);
@@ -161,9 +163,9 @@ impl Walk {
             bytes,
         };
         (
-            Walk {
-                walked: self.walked + taken,
-                place: Place::Digest(left - taken, value),
+            EntryScan {
+                scanned: self.scanned + taken,
+                part: EntryPart::Digest(left - taken, value),
                 found: self.found,
             },
             &piece[taken..],
@@ -171,90 +173,90 @@ impl Walk {
     }
 
     /// Between entries, with these digests.
-    fn behind(self, found: Found) -> Walk
+    fn between_entries(self, found: Found) -> EntryScan
         ensures { (bytes : List ℕ) → Reaches self bytes → is_some (entries_of bytes) ≡ true
-            → Finds found bytes → Walks result bytes }
+            → Finds found bytes → Scans result bytes }
     {
-        Walk {
-            walked: self.walked,
-            place: Place::Head(Gather::new()),
+        EntryScan {
+            scanned: self.scanned,
+            part: EntryPart::Head(Gather::new()),
             found,
         }
     }
 
     /// Goes on in the entry that is begun.
-    fn entered<'p>(self, piece: &'p [u8]) -> (Walk, &'p [u8])
-        requires some { 0 < length piece.now }
-        requires fits { (bytes : List ℕ) × Walks self bytes
+    fn feed_entry<'p>(self, piece: &'p [u8]) -> (EntryScan, &'p [u8])
+        requires nonempty { 0 < length piece.now }
+        requires fits { (bytes : List ℕ) × Scans self bytes
             × (length bytes + length piece.now ≤ 65535) }
-        ensures { Goes (Walks self) (Reaches result.0) piece.now result.1.now }
+        ensures { Goes (Scans self) (Reaches result.0) piece.now result.1.now }
     {
-        match self.place {
-            Place::Head(head) => self.in_head(head, piece),
-            Place::Value(left) => self.in_value(left, piece),
-            Place::Digest(left, value) => self.in_digest(left, value, piece),
+        match self.part {
+            EntryPart::Head(head) => self.in_head(head, piece),
+            EntryPart::Value(left) => self.in_value(left, piece),
+            EntryPart::Digest(left, value) => self.in_digest(left, value, piece),
         }
     }
 
     /// Passes an entry that is complete.
-    fn settled(self) -> Walk
-        ensures { (bytes : List ℕ) → Reaches self bytes → Walks result bytes }
+    fn finish_entry(self) -> EntryScan
+        ensures { (bytes : List ℕ) → Reaches self bytes → Scans result bytes }
     {
-        match self.place {
-            Place::Head(_) => self,
-            Place::Value(left) => {
+        match self.part {
+            EntryPart::Head(_) => self,
+            EntryPart::Value(left) => {
                 if left > 0 {
                     return self;
                 }
-                self.behind(self.found)
+                self.between_entries(self.found)
             }
-            Place::Digest(left, value) => {
+            EntryPart::Digest(left, value) => {
                 if left > 0 {
                     return self;
                 }
-                self.behind(self.found.with(value))
+                self.between_entries(self.found.with(value))
             }
         }
     }
 
     /// Goes along the first bytes of a piece, one at least, and leaves the rest.
-    fn step<'p>(self, piece: &'p [u8]) -> (Walk, &'p [u8])
-        requires some { 0 < length piece.now }
-        requires fits { (bytes : List ℕ) × Walks self bytes
+    fn step<'p>(self, piece: &'p [u8]) -> (EntryScan, &'p [u8])
+        requires nonempty { 0 < length piece.now }
+        requires fits { (bytes : List ℕ) × Scans self bytes
             × (length bytes + length piece.now ≤ 65535) }
-        ensures { Goes (Walks self) (Walks result.0) piece.now result.1.now }
+        ensures { Goes (Scans self) (Scans result.0) piece.now result.1.now }
     {
-        let (walk, rest) = self.entered(piece);
-        (walk.settled(), rest)
+        let (scan, rest) = self.feed_entry(piece);
+        (scan.finish_entry(), rest)
     }
 
     /// Goes along a piece.
-    pub(crate) fn along(self, piece: &[u8]) -> Walk
-        requires { (bytes : List ℕ) × Walks self bytes × (length bytes + length piece.now ≤ 65535) }
-        ensures { (bytes : List ℕ) → Walks self bytes → Walks result (bytes ++ piece.now) }
+    pub(crate) fn feed(self, piece: &[u8]) -> EntryScan
+        requires { (bytes : List ℕ) × Scans self bytes × (length bytes + length piece.now ≤ 65535) }
+        ensures { (bytes : List ℕ) → Scans self bytes → Scans result (bytes ++ piece.now) }
     {
-        let mut walk = self;
+        let mut scan = self;
         let mut rest = piece;
         while !rest.is_empty() {
-            (walk, rest) = walk.step(rest);
+            (scan, rest) = scan.step(rest);
         }
-        walk
+        scan
     }
 
     /// Whether it stands between entries.
     pub(crate) fn is_between(&self) -> bool
-        ensures { (bytes : List ℕ) → Walks self.now bytes → result ≡ is_some (entries_of bytes) }
+        ensures { (bytes : List ℕ) → Scans self.now bytes → result ≡ is_some (entries_of bytes) }
     {
-        match self.place {
-            Place::Head(head) => head.is_empty(),
-            Place::Value(_) | Place::Digest(_, _) => false,
+        match self.part {
+            EntryPart::Head(head) => head.is_empty(),
+            EntryPart::Value(_) | EntryPart::Digest(_, _) => false,
         }
     }
 
     /// The value of the one entry of the digest's type, of 32 bytes.
     fn found_digest(&self) -> Result<DigestValue, ImageError>
         ensures len { IfOk result (λ v. length (held v.bytes) ≡ 32) }
-        ensures exact { (bytes : List ℕ) → Walks self.now bytes → is_some (entries_of bytes) ≡ true
+        ensures exact { (bytes : List ℕ) → Scans self.now bytes → is_some (entries_of bytes) ≡ true
             → MatchResult result (λ v. IsOne v bytes)
             (λ e. digest_fault (digests (entries_in bytes)) ≡ Some e) }
     {
@@ -275,7 +277,7 @@ impl Walk {
     #[tactic(auto, unfolding(crate::specs::inner::Reading::entries_fault))]
     pub(crate) fn digest(&self) -> Result<DigestValue, ImageError>
         ensures len { IfOk result (λ v. length (held v.bytes) ≡ 32) }
-        ensures exact { (bytes : List ℕ) → Walks self.now bytes → MatchResult result
+        ensures exact { (bytes : List ℕ) → Scans self.now bytes → MatchResult result
             (λ v. (is_some (entries_of bytes) ≡ true) × IsOne v bytes)
             (λ e. entries_fault bytes ≡ Some e) }
     {
@@ -314,7 +316,7 @@ fn is_other_head(head: &[u8], total: u16) -> bool
 #[derive(Clone, Copy)]
 pub(crate) struct ProtectedArea {
     head: Gather<4>,
-    walk: Walk,
+    scan: EntryScan,
 }
 
 impl ProtectedArea {
@@ -324,19 +326,19 @@ impl ProtectedArea {
     {
         ProtectedArea {
             head: Gather::new(),
-            walk: Walk::new(),
+            scan: EntryScan::new(),
         }
     }
 
     /// Goes along a piece.
-    pub(crate) fn along(self, piece: &[u8]) -> ProtectedArea
+    pub(crate) fn feed(self, piece: &[u8]) -> ProtectedArea
         requires { (bytes : List ℕ) × Follows self bytes
             × (length bytes + length piece.now ≤ 65535) }
         ensures { (bytes : List ℕ) → Follows self bytes → Follows result (bytes ++ piece.now) }
     {
         let (head, entries) = self.head.with(piece);
-        let walk = self.walk.along(entries);
-        ProtectedArea { head, walk }
+        let scan = self.scan.feed(entries);
+        ProtectedArea { head, scan }
     }
 
     /// Whether the bytes so far, of this length, are no protected area that its entries fill exactly.
@@ -350,6 +352,6 @@ impl ProtectedArea {
         if is_other_head(self.head.as_slice(), total) {
             return true;
         }
-        !self.walk.is_between()
+        !self.scan.is_between()
     }
 }

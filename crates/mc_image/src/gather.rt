@@ -1,7 +1,7 @@
 //! The first bytes of a list that comes in pieces.
 ghost use Rattle.std.specs.Prelude.{◌≤◌};
 
-/// Room for `N` bytes, filled from the front.
+/// Room for `N` bytes, filled from the start.
 #[derive(Clone, Copy)]
 pub(crate) struct Gather<const N: usize> {
     bytes: [u8; N],

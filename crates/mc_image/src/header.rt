@@ -1,9 +1,8 @@
 //! The header's fields and their faults.
 ghost use Rattle.std.specs.Prelude.{◌≡◌, ◌+◌, ◌≤◌, ◌<◌, ◌^◌, length, MatchResult, None, Some};
-ghost use Rattle.mc_image.specs.Image.{u16_at};
+ghost use Rattle.mc_image.specs.Image.{u16_at, version_in};
 ghost use Rattle.mc_image.specs.Valid.{header_fault};
 ghost use Rattle.mc_image.specs.inner.Reading.{IsHeader};
-ghost use Rattle.mc_image.specs.Image.{version_in};
 
 use crate::numbers::{u16_at, u32_at};
 use crate::{ImageError, Version};

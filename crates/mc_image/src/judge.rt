@@ -1,21 +1,19 @@
 //! An image judged as its bytes come, in pieces of any length.
 ghost use Rattle.std.specs.Prelude.{◌≡◌, ℕ, List, ◌+◌, ◌≤◌, ◌<◌, ◌^◌, [], ◌++◌, length, None};
 ghost use Rattle.sha2.specs.Hashers.{Holds256};
-ghost use Rattle.mc_image.specs.Image.{IsBytes};
+ghost use Rattle.mc_image.specs.Image.{IsBytes, payload_end, protected_end};
 ghost use Rattle.mc_image.specs.Valid.{protected_fault};
-ghost use Rattle.mc_image.specs.inner.Reading.{held};
-ghost use Rattle.mc_image.specs.Image.{payload_end, protected_end};
+ghost use Rattle.mc_image.specs.inner.Reading.{held, Goes};
 ghost use Rattle.mc_image.specs.inner.Judging.{verdict, Finishes, HasHeader, IsSealed, IsPlain, Judges};
-ghost use Rattle.mc_image.specs.inner.Reading.{Goes};
 
-use crate::areas::{ProtectedArea, Walk, plain_total};
+use crate::areas::{EntryScan, ProtectedArea, plain_total};
 use crate::gather::Gather;
 use crate::header::{FIELDS, Header};
 use crate::view::are_same;
 use crate::{ImageError, Version};
 use sha2::{Digest, Sha256};
 
-/// What is told of a valid image.
+/// What is known of a valid image.
 #[derive(Clone, Copy, Debug, PartialEq, Eq)]
 pub struct Judged {
     /// The version in the header.
@@ -46,7 +44,7 @@ enum Stage {
     /// The plain area's magic and total.
     PlainHead(Sealed, Gather<4>),
     /// In a plain area of this length, so many bytes.
-    Plain(Sealed, u16, usize, Walk),
+    Plain(Sealed, u16, usize, EntryScan),
     /// Nothing that would change the answer.
     Over(Result<Judged, ImageError>),
 }
@@ -60,13 +58,13 @@ pub struct Judge {
     hasher: Sha256,
 }
 
-/// The answer for a plain area of this length behind header, payload and protected area.
-fn answer_of(sealed: &Sealed, total: u16, walk: &Walk) -> Result<Judged, ImageError>
-    ensures { (body area : List ℕ) → IsSealed sealed.now body → IsPlain total 0 walk.now area
+/// The answer for a plain area of this length after header, payload and protected area.
+fn answer_of(sealed: &Sealed, total: u16, scan: &EntryScan) -> Result<Judged, ImageError>
+    ensures { (body area : List ℕ) → IsSealed sealed.now body → IsPlain total 0 scan.now area
         → (more : List ℕ) → IsBytes (body ++ (area ++ more)) → verdict (body ++ (area ++ more))
         ≡ result }
 {
-    let digest = walk.digest()?.to_array();
+    let digest = scan.digest()?.to_array();
     if are_same(digest.as_slice(), sealed.digest.as_slice()) {
         Ok(Judged {
             version: sealed.header.version,
@@ -89,7 +87,7 @@ impl Judge {
         }
     }
 
-    /// Behind header, payload and protected area.
+    /// After header, payload and protected area.
     fn seal(&mut self, header: Header)
         ensures { (bytes : List ℕ) → IsBytes bytes → Holds256 self.old.hasher bytes
             → HasHeader header bytes → length bytes ≡ protected_end bytes
@@ -99,7 +97,7 @@ impl Judge {
         self.stage = Stage::PlainHead(Sealed { header, digest }, Gather::new());
     }
 
-    /// Behind header and payload.
+    /// After header and payload.
     fn after_payload(&mut self, header: Header)
         ensures { (bytes : List ℕ) → IsBytes bytes → Holds256 self.old.hasher bytes
             → HasHeader header bytes → length bytes ≡ payload_end bytes → Judges self.new bytes }
@@ -112,7 +110,7 @@ impl Judge {
         }
     }
 
-    /// Behind the header's fields.
+    /// After the header's fields.
     fn after_fields(&mut self, fields: Gather<32>)
         ensures { (bytes : List ℕ) → IsBytes bytes → Holds256 self.old.hasher bytes
             → held fields ≡ bytes → length bytes ≡ 32 → Judges self.new bytes }
@@ -133,7 +131,7 @@ impl Judge {
     /// Takes bytes of the header's fields.
     fn in_fields<'p>(&mut self, fields: Gather<32>, piece: &'p [u8]) -> &'p [u8]
         requires stage { self.old.stage ≡ Stage.Fields fields }
-        requires some { 0 < length piece.now }
+        requires nonempty { 0 < length piece.now }
         requires fed { (bytes : List ℕ) × Judges self.old bytes }
         ensures { Goes (Judges self.old) (Judges self.new) piece.now result.now }
     {
@@ -150,7 +148,7 @@ impl Judge {
     /// Takes bytes of the rest of the header and of the payload.
     fn in_payload<'p>(&mut self, header: Header, left: u64, piece: &'p [u8]) -> &'p [u8]
         requires stage { self.old.stage ≡ Stage.Payload header left }
-        requires some { 0 < length piece.now }
+        requires nonempty { 0 < length piece.now }
         requires fed { (bytes : List ℕ) × Judges self.old bytes }
         ensures { Goes (Judges self.old) (Judges self.new) piece.now result.now }
     {
@@ -165,7 +163,7 @@ impl Judge {
         rest
     }
 
-    /// Takes bytes of the protected area. Its fault is told only once it is whole.
+    /// Takes bytes of the protected area. Its fault is reported only once it is whole.
     fn in_protected<'p>(
         &mut self,
         header: Header,
@@ -174,14 +172,14 @@ impl Judge {
         piece: &'p [u8],
     ) -> &'p [u8]
         requires stage { self.old.stage ≡ Stage.Protected header left area }
-        requires some { 0 < length piece.now }
+        requires nonempty { 0 < length piece.now }
         requires fed { (bytes : List ℕ) × Judges self.old bytes }
         ensures { Goes (Judges self.old) (Judges self.new) piece.now result.now }
     {
         let taken = left.min(piece.len());
         let (inside, rest) = piece.split_at(taken);
         self.hasher.update(inside);
-        let area = area.along(inside);
+        let area = area.feed(inside);
         if left > taken {
             self.stage = Stage::Protected(header, left - taken, area);
         } else if area.is_bad(header.protected) {
@@ -193,32 +191,32 @@ impl Judge {
     }
 
     /// In the plain area, of which so many bytes are left.
-    fn go_on(&mut self, sealed: Sealed, total: u16, left: usize, walk: Walk)
+    fn continue_plain(&mut self, sealed: Sealed, total: u16, left: usize, scan: EntryScan)
         ensures { (body area : List ℕ) → IsBytes (body ++ area) → IsSealed sealed body
-            → IsPlain total left walk area → Judges self.new (body ++ area) }
+            → IsPlain total left scan area → Judges self.new (body ++ area) }
     {
         if left > 0 {
-            self.stage = Stage::Plain(sealed, total, left, walk);
+            self.stage = Stage::Plain(sealed, total, left, scan);
         } else {
-            self.stage = Stage::Over(answer_of(&sealed, total, &walk));
+            self.stage = Stage::Over(answer_of(&sealed, total, &scan));
         }
     }
 
-    /// Behind the head of the plain area.
+    /// After the head of the plain area.
     fn after_head(&mut self, sealed: Sealed, head: Gather<4>)
         ensures { (body rest : List ℕ) → IsBytes (body ++ rest) → IsSealed sealed body
             → held head ≡ rest → length rest ≡ 4 → Judges self.new (body ++ rest) }
     {
         match plain_total(head.as_slice()) {
             Err(error) => self.stage = Stage::Over(Err(error)),
-            Ok(total) => self.go_on(sealed, total, total as usize - 4, Walk::new()),
+            Ok(total) => self.continue_plain(sealed, total, total as usize - 4, EntryScan::new()),
         }
     }
 
     /// Takes bytes of the head of the plain area.
     fn in_plain_head<'p>(&mut self, sealed: Sealed, head: Gather<4>, piece: &'p [u8]) -> &'p [u8]
         requires stage { self.old.stage ≡ Stage.PlainHead sealed head }
-        requires some { 0 < length piece.now }
+        requires nonempty { 0 < length piece.now }
         requires fed { (bytes : List ℕ) × Judges self.old bytes }
         ensures { Goes (Judges self.old) (Judges self.new) piece.now result.now }
     {
@@ -237,23 +235,23 @@ impl Judge {
         sealed: Sealed,
         total: u16,
         left: usize,
-        walk: Walk,
+        scan: EntryScan,
         piece: &'p [u8],
     ) -> &'p [u8]
-        requires stage { self.old.stage ≡ Stage.Plain sealed total left walk }
-        requires some { 0 < length piece.now }
+        requires stage { self.old.stage ≡ Stage.Plain sealed total left scan }
+        requires nonempty { 0 < length piece.now }
         requires fed { (bytes : List ℕ) × Judges self.old bytes }
         ensures { Goes (Judges self.old) (Judges self.new) piece.now result.now }
     {
         let taken = left.min(piece.len());
         let (inside, rest) = piece.split_at(taken);
-        self.go_on(sealed, total, left - taken, walk.along(inside));
+        self.continue_plain(sealed, total, left - taken, scan.feed(inside));
         rest
     }
 
     /// Takes the first bytes of a piece, one at least, and leaves the rest.
     fn advance<'p>(&mut self, piece: &'p [u8]) -> &'p [u8]
-        requires some { 0 < length piece.now }
+        requires nonempty { 0 < length piece.now }
         requires fed { (bytes : List ℕ) × Judges self.old bytes }
         ensures { Goes (Judges self.old) (Judges self.new) piece.now result.now }
     {
@@ -262,8 +260,8 @@ impl Judge {
             Stage::Payload(header, left) => self.in_payload(header, left, piece),
             Stage::Protected(header, left, area) => self.in_protected(header, left, area, piece),
             Stage::PlainHead(sealed, head) => self.in_plain_head(sealed, head, piece),
-            Stage::Plain(sealed, total, left, walk) => {
-                self.in_plain(sealed, total, left, walk, piece)
+            Stage::Plain(sealed, total, left, scan) => {
+                self.in_plain(sealed, total, left, scan, piece)
             }
             Stage::Over(_) => &piece[piece.len()..],
         }

@@ -1,13 +1,12 @@
 -- What goes through readers and writers, and each end of an engine.
-use Rattle.std.proofs.Common.{Err, List, None, Ok, Option, Result, Some, [], ap, append-nil, arith, inl, inr, length, length-append, length-take, min, subst, sym, take, ℕ, ◌++◌, ◌+◌, ◌-◌, ◌<◌}
-use Rattle.std.proofs.Common.{◌^◌, ◌∙◌, ◌≡◌, ◌≤◌}
+use Rattle.std.proofs.Common.{Err, List, None, Ok, Option, Result, Some, [], ap, append-nil, arith, inl, inr, length, length-append, length-take, min, subst, sym, take, ℕ, ◌++◌, ◌+◌, ◌-◌, ◌<◌, ◌^◌, ◌∙◌, ◌≡◌, ◌≤◌}
 use Rattle.std.proofs.KnownBytes.{Consumes-trans, Keeps-refl}
 use Rattle.std.specs.Io.KnownBytes.{Consumes}
 use Rattle.std.specs.Prelude.{IfSome, ◌⊎◌}
 use Rattle.mc_imgtool.specs.Engines.{Refuses, RefusesReading}
 use Rattle.mc_imgtool.specs.declared.error.ToolError.{ToolError}
 use Rattle.mc_imgtool.specs.declared.error.ToolError.TheVariants.{Image, InputTooLong, Memory, NeedsSlotSize, NotZeros, Read, SlotTooSmall, Write}
-use Rattle.mc_output.specs.Text.{AppendsFront}
+use Rattle.mc_output.specs.Text.{AppendsPrefix}
 
 -- What two transfers in turn do to known bytes.
 
@@ -17,14 +16,14 @@ has_room most taken room buffer piece below is all e = omega (arith, length-take
 
 -- a read stays within the limit
 pub within : (most taken room count : ℕ) (buffer piece : List ℕ) → room ≤ most - taken → taken ≤ most → length piece ≡ length (take room buffer) → count ≤ length piece → taken + count ≤ most
-within most taken room count buffer piece fits below e few = omega (arith, length-take room buffer, fits, e, few, below)
+within most taken room count buffer piece fits below e at_most = omega (arith, length-take room buffer, fits, e, at_most, below)
 
 -- what was read goes on within the limit
 pub fits_with_more : (most len room count : ℕ) (had buffer piece : List ℕ) → room ≡ min (most - len) 4096 → len ≡ length had → length had ≤ most → length piece ≡ length (take room buffer)
     → (count ≤ length piece) × (count ≡ length (take count piece)) → length (had ++ take count piece) ≤ most
-fits_with_more most len room count had buffer piece is all below e few =
-    let le = within most (length had) room count buffer piece (omega (arith, is, all)) below e few.0 in
-    omega (arith, length-append had (take count piece), few.1, le)
+fits_with_more most len room count had buffer piece is all below e at_most =
+    let le = within most (length had) room count buffer piece (omega (arith, is, all)) below e at_most.0 in
+    omega (arith, length-append had (take count piece), at_most.1, le)
 
 -- a read that gave nothing took nothing
 pub nothing : (old mid new : Option (List ℕ)) (bytes buf : List ℕ) (count : ℕ) → Consumes old mid bytes → Consumes mid new (take count buf) → count ≡ 0 → Consumes old new bytes
@@ -84,8 +83,8 @@ known_text wanted None xs text P same h p = tt
 known_text wanted (Some ys) xs text P same h p = (text, ap wanted (sym same) ∙ h, p)
 
 at_write : (wanted : List ℕ → Result (List ℕ) ToolError) (known old new : Option (List ℕ)) (e : ToolError) → e ≡ Write
-    → IfSome known (λ xs. (text : List ℕ) × (wanted xs ≡ Ok text) × AppendsFront old new text) → Refuses wanted known old new e
-at_write wanted known old new e h front = let P : ToolError → Type 0 = λ x. Refuses wanted known old new x in subst P (sym h) front
+    → IfSome known (λ xs. (text : List ℕ) × (wanted xs ≡ Ok text) × AppendsPrefix old new text) → Refuses wanted known old new e
+at_write wanted known old new e h prefix = let P : ToolError → Type 0 = λ x. Refuses wanted known old new x in subst P (sym h) prefix
 
 known_all : (wanted : List ℕ → Result (List ℕ) ToolError) (known : Option (List ℕ)) (e : ToolError) → ((xs : List ℕ) → wanted xs ≡ Err e) → IfSome known (λ xs. wanted xs ≡ Err e)
 known_all wanted None e h = tt

@@ -9,7 +9,7 @@ use Rattle.mc_image.specs.inner.Judging.{judged_of, judged_or_fault, verdict}
 use Rattle.mc_image.specs.declared.error.ImageError.{ImageError}
 use Rattle.mc_image.specs.declared.judge.Judged.{Judged}
 use Rattle.mc_imgtool.specs.Engines.{Answers, Refuses, Judges}
-use Rattle.mc_output.specs.Text.{AppendsFront}
+use Rattle.mc_output.specs.Text.{AppendsPrefix}
 use Rattle.mc_imgtool.specs.Lines.{good_line, good_text, line_or_fault, verified}
 use Rattle.mc_imgtool.specs.declared.error.ToolError.{ToolError}
 use Rattle.mc_imgtool.specs.declared.error.ToolError.TheVariants.{Image as image_error, NotZeros, SlotTooSmall, NeedsSlotSize, InputTooLong, Read, Write, Memory}
@@ -59,11 +59,12 @@ known_good : (known : Option (List ℕ)) (j : Judged) (P : List ℕ → Type 0) 
 known_good None j P h p = tt
 known_good (Some xs) j P h p = (good_text j, verified_ok xs j h.0 h.1, p)
 
-at_write : (known old new : Option (List ℕ)) (e : ToolError) → e ≡ Write → IfSome known (λ xs. (text : List ℕ) × (verified xs ≡ Ok text) × AppendsFront old new text) → Refuses verified known old new e
-at_write known old new e h front = let P : ToolError → Type 0 = λ x. Refuses verified known old new x in subst P (sym h) front
+at_write : (known old new : Option (List ℕ)) (e : ToolError) → e ≡ Write → IfSome known (λ xs. (text : List ℕ) × (verified xs ≡ Ok text) × AppendsPrefix old new text)
+    → Refuses verified known old new e
+at_write known old new e h prefix = let P : ToolError → Type 0 = λ x. Refuses verified known old new x in subst P (sym h) prefix
 
 -- what is written for a valid image
 pub answered_good : {A : Type 0} (known old new : Option (List ℕ)) (j : Judged) (r : Result A ToolError) → Judges known (2 ^ 24) (Ok j)
-    → OnOk r (Appends old new (good_text j)) → IfErr r (λ e. (e ≡ Write) × AppendsFront old new (good_text j)) → Answers verified known old new r
-answered_good known old new j (Ok x) h whole front = known_good known j (Appends old new) h whole
-answered_good known old new j (Err e) h whole front = at_write known old new e front.0 (known_good known j (AppendsFront old new) h front.1)
+    → OnOk r (Appends old new (good_text j)) → IfErr r (λ e. (e ≡ Write) × AppendsPrefix old new (good_text j)) → Answers verified known old new r
+answered_good known old new j (Ok x) h whole prefix = known_good known j (Appends old new) h whole
+answered_good known old new j (Err e) h whole prefix = at_write known old new e prefix.0 (known_good known j (AppendsPrefix old new) h prefix.1)

@@ -1,6 +1,5 @@
 -- What is wanted of each engine, and what is made.
-use Rattle.std.proofs.Common.{Bool, Err, List, None, Ok, Option, Result, Some, [], ap, append_assoc, arith, cond, drop, false, inl, inr, length, length-drop, refl, replicate, subst, sym, true, ℕ}
-use Rattle.std.proofs.Common.{◌++◌, ◌<◌, ◌^◌, ◌∙◌, ◌≡◌, ◌≤◌}
+use Rattle.std.proofs.Common.{Bool, Err, List, None, Ok, Option, Result, Some, [], ap, append_assoc, arith, cond, drop, false, inl, inr, length, length-drop, refl, replicate, subst, sym, true, ℕ, ◌++◌, ◌<◌, ◌^◌, ◌∙◌, ◌≡◌, ◌≤◌}
 use Rattle.std.proofs.lemmas.Bool.{le-ltb, lt-ltb}
 use Rattle.std.specs.Prelude.{IfOk, nat_lt, ◌-◌, ◌⊎◌}
 use Rattle.mc_image.specs.Image.{Entry, Image, image_in, image_text}
@@ -39,11 +38,11 @@ parts_are p v e = ap with_digest e
 pub written_is : (p : ImageParts) (v : Image) (start out : List ℕ) → undigested p ≡ v → start ≡ [] → out ≡ start ++ image_text (image_of p) → out ≡ image_text (with_digest v)
 written_is p v start out bare none e = e ∙ ap (λ (l : List ℕ). l ++ image_text (image_of p)) none ∙ ap image_text (parts_are p v bare)
 
--- bytes behind a valid image leave it valid
+-- bytes after a valid image leave it valid
 pub IsValid-more : (b x : List ℕ) → IsValid b → IsValid (b ++ x)
 IsValid-more b x h = record {
   image = h.image;
-  begins = record { fits = h.begins.fits; front = (h.begins.front.0 ++ x, ap (λ (l : List ℕ). l ++ x) h.begins.front.1 ∙ append_assoc (image_text h.image) h.begins.front.0 x) };
+  begins = record { fits = h.begins.fits; prefix = (h.begins.prefix.0 ++ x, ap (λ (l : List ℕ). l ++ x) h.begins.prefix.1 ∙ append_assoc (image_text h.image) h.begins.prefix.0 x) };
   good = h.good;
 }
 
@@ -105,7 +104,7 @@ same_error x y h = cc
 pub never_error : (o : CreateOptions) (xs : List ℕ) (d : ToolError) → (d ≡ Memory) ⊎ (created o xs ≡ Err d) → (e : ImageError) → failed d ≡ failed (image_error e) → ⊥
 never_error o xs d made e h = let P : ToolError → Type 0 = λ x. (x ≡ Memory) ⊎ (created o xs ≡ Err x) in never_image o xs e (subst P (same_error d (image_error e) h) made)
 
--- once its size is told no slot size is missing
+-- once its size is given no slot size is missing
 needs_no_more : (a b c : Bool) (r : Result (List ℕ) ToolError) → a ≡ false → (r ≡ Err NeedsSlotSize → ⊥)
     → cond a (Err NeedsSlotSize) (cond b (Err InputTooLong) (cond c (Err NotZeros) r)) ≡ Err NeedsSlotSize → ⊥
 needs_no_more true b c r e h q = absurd cc
@@ -123,18 +122,18 @@ slotted_no_needs o image h = slot_no_needs (is_too_small o (length image) o.slot
 
 created_no_needs : (o : CreateOptions) (xs : List ℕ) → needs_slot_size o ≡ false → created o xs ≡ Err NeedsSlotSize → ⊥
 unfolding created
-created_no_needs o xs told h = needs_no_more (needs_slot_size o) (nat_lt (2 ^ 24) (length xs)) (lacks_zeros o xs) _ told (slotted_no_needs o _) h
+created_no_needs o xs given h = needs_no_more (needs_slot_size o) (nat_lt (2 ^ 24) (length xs)) (lacks_zeros o xs) _ given (slotted_no_needs o _) h
 
 not_memory_needs : NeedsSlotSize ≡ Memory → ⊥
 not_memory_needs h = cc
 
-told_made : (o : CreateOptions) (xs : List ℕ) → needs_slot_size o ≡ false → (NeedsSlotSize ≡ Memory) ⊎ (created o xs ≡ Err NeedsSlotSize) → ⊥
-told_made o xs told (inl h) = not_memory_needs h
-told_made o xs told (inr h) = created_no_needs o xs told h
+given_made : (o : CreateOptions) (xs : List ℕ) → needs_slot_size o ≡ false → (NeedsSlotSize ≡ Memory) ⊎ (created o xs ≡ Err NeedsSlotSize) → ⊥
+given_made o xs given (inl h) = not_memory_needs h
+given_made o xs given (inr h) = created_no_needs o xs given h
 
--- an error that is made says nothing of a slot's size once that is told
-pub told_error : (o : CreateOptions) (xs : List ℕ) (d : ToolError) → needs_slot_size o ≡ false → (d ≡ Memory) ⊎ (created o xs ≡ Err d) → failed d ≡ failed NeedsSlotSize → ⊥
-told_error o xs d told made h = let P : ToolError → Type 0 = λ x. (x ≡ Memory) ⊎ (created o xs ≡ Err x) in told_made o xs told (subst P (same_error d NeedsSlotSize h) made)
+-- an error that is made says nothing of a slot's size once that is given
+pub given_error : (o : CreateOptions) (xs : List ℕ) (d : ToolError) → needs_slot_size o ≡ false → (d ≡ Memory) ⊎ (created o xs ≡ Err d) → failed d ≡ failed NeedsSlotSize → ⊥
+given_error o xs d given made h = let P : ToolError → Type 0 = λ x. (x ≡ Memory) ⊎ (created o xs ≡ Err x) in given_made o xs given (subst P (same_error d NeedsSlotSize h) made)
 
 -- what is made for its slot is what is wanted
 pub made_slotted : {A : Type 0} (view : A → List ℕ) (o : CreateOptions) (r : Result A ToolError) (wanted : Result (List ℕ) ToolError) (image : List ℕ) → wanted ≡ slotted o image
@@ -200,15 +199,15 @@ dumped_bad xs e h some = dumped_short xs h ∙ ap (report_or_fault xs) some
 
 pub dumped_good : (xs text : List ℕ) (v : Image) (size rest : ℕ) → length xs ≤ 2 ^ 24 → first_fault xs ≡ None → v ≡ image_in xs → size ≡ length (image_text v) → rest ≡ length xs - size
     → text ≡ report v rest → dumped xs ≡ Ok text
-dumped_good xs text v size rest h none is total behind line =
-    let n : rest ≡ length xs - length (image_text (image_in xs)) = behind ∙ ap (λ (k : ℕ). length xs - k) (total ∙ ap (λ (w : Image). length (image_text w)) is) in
+dumped_good xs text v size rest h none is total beyond line =
+    let n : rest ≡ length xs - length (image_text (image_in xs)) = beyond ∙ ap (λ (k : ℕ). length xs - k) (total ∙ ap (λ (w : Image). length (image_text w)) is) in
     dumped_short xs h ∙ ap (report_or_fault xs) none ∙ ap (λ (k : ℕ). Ok (report (image_in xs) k)) (sym n) ∙ ap (λ (w : Image). Ok (report w rest)) (sym is) ∙ ap (λ (l : List ℕ). Ok l) (sym line)
 
 -- ---- create
 
 created_long : (o : CreateOptions) (xs : List ℕ) → needs_slot_size o ≡ false → 2 ^ 24 < length xs → created o xs ≡ Err InputTooLong
 unfolding created
-created_long o xs told h = let t : nat_lt (2 ^ 24) (length xs) ≡ true = lt-ltb _ _ h in rw (told, t) refl
+created_long o xs given h = let t : nat_lt (2 ^ 24) (length xs) ≡ true = lt-ltb _ _ h in rw (given, t) refl
 
 slotted_no_write : (o : CreateOptions) (image : List ℕ) → slotted o image ≡ Err Write → ⊥
 unfolding slotted
@@ -229,7 +228,7 @@ unfolding created
 created_no_write o xs e = three_no_write (needs_slot_size o) (nat_lt (2 ^ 24) (length xs)) (lacks_zeros o xs) _ (slotted_no_write o _) e
 
 pub created_wanted : (o : CreateOptions) → needs_slot_size o ≡ false → IsWanted (created o)
-created_wanted o told = record { long = λ xs h. created_long o xs told h; no_write = created_no_write o }
+created_wanted o given = record { long = λ xs h. created_long o xs given h; no_write = created_no_write o }
 
 pub created_needs : (o : CreateOptions) (xs : List ℕ) → needs_slot_size o ≡ true → created o xs ≡ Err NeedsSlotSize
 unfolding created
@@ -237,11 +236,11 @@ created_needs o xs e = rw e refl
 
 pub created_refused : (o : CreateOptions) (xs : List ℕ) → needs_slot_size o ≡ false → length xs ≤ 2 ^ 24 → lacks_zeros o xs ≡ true → created o xs ≡ Err NotZeros
 unfolding created
-created_refused o xs told h lacks = let t : nat_lt (2 ^ 24) (length xs) ≡ false = le-ltb _ _ h in rw (told, t, lacks) refl
+created_refused o xs given h lacks = let t : nat_lt (2 ^ 24) (length xs) ≡ false = le-ltb _ _ h in rw (given, t, lacks) refl
 
 pub created_made : (o : CreateOptions) (xs payload : List ℕ) → needs_slot_size o ≡ false → length xs ≤ 2 ^ 24 → lacks_zeros o xs ≡ false → payload ≡ payload_in o xs
     → created o xs ≡ slotted o (image_text (with_digest (bare_image o payload)))
 unfolding created
-created_made o xs payload told h lacks is =
+created_made o xs payload given h lacks is =
     let t : nat_lt (2 ^ 24) (length xs) ≡ false = le-ltb _ _ h in
-    rw (told, t, lacks) (ap (λ (p : List ℕ). slotted o (image_text (with_digest (bare_image o p)))) (sym is))
+    rw (given, t, lacks) (ap (λ (p : List ℕ). slotted o (image_text (with_digest (bare_image o p)))) (sym is))

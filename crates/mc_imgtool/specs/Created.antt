@@ -1,7 +1,5 @@
 -- Created bytes: what `create` makes of options and input (imgtool's documentation, `create`).
-use Rattle.std.specs.Prelude.{ℕ, ◌+◌, ◌-◌, ◌*◌, ◌^◌, Bool, false, List, [], ◌∷◌, ◌++◌, length, take, drop, replicate, nat_lt, ◌==◌, ◌&&◌, ◌||◌, not, is_none, if◌then◌else◌, Option, None, Some}
-use Rattle.std.specs.Prelude.{Result}
-use Rattle.std.specs.Prelude.{Ok, Err}
+use Rattle.std.specs.Prelude.{ℕ, ◌+◌, ◌-◌, ◌*◌, ◌^◌, Bool, false, List, [], ◌∷◌, ◌++◌, length, take, drop, replicate, nat_lt, ◌==◌, ◌&&◌, ◌||◌, not, is_none, if◌then◌else◌, Option, None, Some, Result, Ok, Err}
 use Rattle.std.specs.List.{list_all}
 use Rattle.byteorder.specs.Endian.{little_bytes}
 use Rattle.mc_image.specs.Image.{Entry, Image, image_text}
@@ -14,7 +12,7 @@ use Rattle.mc_imgtool.specs.declared.error.ToolError.TheVariants.{NotZeros, Slot
 abbrev pub fills_slot : CreateOptions → Bool
 fills_slot o = o.pad || o.confirm
 
--- the slot is to be filled, and its size is not told
+-- the slot is to be filled, and its size is not given
 abbrev pub needs_slot_size : CreateOptions → Bool
 needs_slot_size o = fills_slot o && is_none o.slot_size
 

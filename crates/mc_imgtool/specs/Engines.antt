@@ -6,7 +6,7 @@ use Rattle.mc_image.specs.inner.Judging.{verdict}
 use Rattle.mc_image.specs.declared.judge.Judged.{Judged}
 use Rattle.mc_imgtool.specs.declared.error.ToolError.{ToolError}
 use Rattle.mc_imgtool.specs.declared.error.ToolError.TheVariants.{Image, NotZeros, SlotTooSmall, NeedsSlotSize, InputTooLong, Read, Write, Memory}
-use Rattle.mc_output.specs.Text.{AppendsFront}
+use Rattle.mc_output.specs.Text.{AppendsPrefix}
 
 -- when a reader of at most `limit` bytes gives each refusal: the known input, the limit
 abbrev pub RefusesReading : Option (List ℕ) → ℕ → ToolError → Type 0
@@ -49,7 +49,7 @@ IsWantedRefusal wanted known old new e = IfSome known (λ xs. wanted xs ≡ Err 
 abbrev pub Refuses : (List ℕ → Result (List ℕ) ToolError) → Option (List ℕ) → Option (List ℕ) → Option (List ℕ) → ToolError → Type 0
 Refuses wanted known old new Read = Keeps old new
 Refuses wanted known old new Memory = Keeps old new
-Refuses wanted known old new Write = IfSome known (λ xs. (text : List ℕ) × (wanted xs ≡ Ok text) × AppendsFront old new text)
+Refuses wanted known old new Write = IfSome known (λ xs. (text : List ℕ) × (wanted xs ≡ Ok text) × AppendsPrefix old new text)
 Refuses wanted known old new (Image e) = IsWantedRefusal wanted known old new (Image e)
 Refuses wanted known old new NotZeros = IsWantedRefusal wanted known old new NotZeros
 Refuses wanted known old new SlotTooSmall = IsWantedRefusal wanted known old new SlotTooSmall

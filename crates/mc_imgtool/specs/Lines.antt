@@ -17,7 +17,7 @@ use Rattle.mc_imgtool.specs.declared.error.ToolError.TheVariants.{Image as image
 unfoldable pub good_line : Image → List ℕ
 good_line v = codes "good " ++ (version_line v.version ++ (codes " " ++ (decimal (length (image_text v)) ++ (codes " " ++ (encode_lower (digest_of v) ++ 10 ∷ [])))))
 
--- the same of what is told of it
+-- the same of what is known of it
 unfoldable pub good_text : Judged → List ℕ
 good_text j = codes "good " ++ (version_line j.version ++ (codes " " ++ (decimal j.size ++ (codes " " ++ (encode_lower j.digest ++ 10 ∷ [])))))
 
@@ -57,7 +57,7 @@ abbrev pub area_word : Area → List ℕ
 area_word Protected = codes "protected"
 area_word Plain = codes "plain"
 
--- a value's digits behind a space; an empty value has neither
+-- a value's digits after a space; an empty value has neither
 abbrev pub value_text : List ℕ → List ℕ
 value_text [] = []
 value_text (b ∷ bytes) = codes " " ++ encode_lower (b ∷ bytes)
@@ -74,7 +74,7 @@ entry_lines xs = flat_map entry_line xs
 abbrev pub judgement : Bool → List ℕ
 judgement good = if good then codes "good" else codes "wrong"
 
--- the last three lines: the image's size, the bytes behind it, the digest
+-- the last three lines: the image's size, the bytes after it, the digest
 unfoldable pub last_lines : Image → ℕ → List ℕ
 last_lines v rest = codes "total " ++ (decimal (length (image_text v)) ++ (codes "\nrest " ++ (decimal rest ++ (codes "\ndigest " ++ (judgement (is_good v) ++ 10 ∷ [])))))
 

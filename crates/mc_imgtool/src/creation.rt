@@ -34,7 +34,7 @@ const TRAILER_MAGIC: [u8; 16] = [
     0x77, 0xc2, 0x95, 0xf3, 0x60, 0xd2, 0xef, 0x7f, 0x35, 0x52, 0x50, 0x0f, 0x2c, 0xb6, 0x79, 0x80,
 ];
 
-/// What `create` is told (imgtool, `create`).
+/// What `create` is given (imgtool, `create`).
 #[derive(Clone, Copy, Debug)]
 pub struct CreateOptions {
     /// The image's version.
@@ -65,7 +65,7 @@ impl CreateOptions {
         self.pad || self.confirm
     }
 
-    /// Whether the slot is to be filled, and its size is not told.
+    /// Whether the slot is to be filled, and its size is not given.
     fn needs_slot_size(&self) -> bool
         ensures { result ≡ needs_slot_size self.now }
     {
@@ -81,7 +81,7 @@ impl CreateOptions {
         slot < trailer || slot - trailer < size as u64
     }
 
-    /// How many bytes are made at once, as far as the options tell.
+    /// How many bytes are made at once, as far as the options say.
     fn room(&self) -> usize {
         if self.fills_slot() {
             self.slot_size.unwrap_or(0) as usize
@@ -205,7 +205,7 @@ fn slotted(options: &CreateOptions, image: Vec<u8>) -> Result<Vec<u8>, ToolError
 /// What is written for an input that was read whole.
 fn bytes_for(alloc: Global, options: &CreateOptions, input: &[u8]) -> Result<Vec<u8>, ToolError>
     requires size { 32 ≤ options.now.header_size }
-    requires told { needs_slot_size options.now ≡ false }
+    requires given { needs_slot_size options.now ≡ false }
     requires fits { length input.now ≤ 2 ^ 24 }
     ensures made { Gives (λ v. v.items) result (created options.now input.now) }
     ensures valid { IfOk result (λ v. IsValid v.items) }
@@ -225,10 +225,10 @@ fn bytes_for(alloc: Global, options: &CreateOptions, input: &[u8]) -> Result<Vec
 ///
 /// # Errors
 ///
-/// `NeedsSlotSize` where the slot is to be filled and its size is not told: nothing is read; `Read` where a read fails;
-/// `InputTooLong` above 2^24 bytes; `NotZeros` where the input does not begin with zeros in the header's place, and
-/// `pad_header` is not set; `SlotTooSmall` where the slot has no room for the image and a trailer; `Memory`. Nothing is
-/// written then. `Write` where a write fails or takes no bytes: a prefix of the bytes is out. Never `Image`.
+/// `NeedsSlotSize` where the slot is to be filled and its size is not given: nothing is read; `Read` where a read
+/// fails; `InputTooLong` above 2^24 bytes; `NotZeros` where the input does not begin with zeros in the header's place,
+/// and `pad_header` is not set; `SlotTooSmall` where the slot has no room for the image and a trailer; `Memory`.
+/// Nothing is written then. `Write` where a write fails or takes no bytes: a prefix of the bytes is out. Never `Image`.
 pub fn create<R: Read, W: Write>(
     alloc: Global,
     options: &CreateOptions,

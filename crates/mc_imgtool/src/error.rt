@@ -14,7 +14,7 @@ pub enum ToolError {
     /// The slot has no room for the image and a trailer.
     #[error("E21 SlotTooSmall")]
     SlotTooSmall,
-    /// The slot is to be filled, and its size is not told.
+    /// The slot is to be filled, and its size is not given.
     #[error("E22 NeedsSlotSize")]
     NeedsSlotSize,
     /// The input has more bytes than the limit.

@@ -1,7 +1,7 @@
 //! Output, written whole.
 ghost use Rattle.std.specs.Prelude.{◌≡◌, IfErr, OnOk};
 ghost use Rattle.std.specs.Io.KnownBytes.{Appends};
-ghost use Rattle.mc_output.specs.Text.{AppendsFront};
+ghost use Rattle.mc_output.specs.Text.{AppendsPrefix};
 
 use crate::ToolError;
 use mc_output::WriteFailed;
@@ -14,9 +14,9 @@ use std::io::Write;
 /// `Write` where a write fails or takes no bytes.
 pub(crate) fn write_text<W: Write>(output: &mut W, text: &[u8]) -> Result<(), ToolError>
     ensures whole { OnOk result (Appends (W.contents output.old) (W.contents output.new) text.now) }
-    ensures front { IfErr result
+    ensures prefix { IfErr result
         (λ e. (e ≡ ToolError.Write)
-        × AppendsFront (W.contents output.old) (W.contents output.new) text.now) }
+        × AppendsPrefix (W.contents output.old) (W.contents output.new) text.now) }
 {
     match mc_output::write_text(output, text) {
         Ok(()) => Ok(()),

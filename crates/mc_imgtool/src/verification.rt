@@ -2,7 +2,7 @@
 ghost use Rattle.std.specs.Prelude.{◌≡◌, ℕ, List, ◌+◌, ◌≤◌, ◌^◌, length, IfErr, OnOk, ◌≢◌};
 ghost use Rattle.std.specs.Io.KnownBytes.{Appends, Consumes, IsAtEnd};
 ghost use Rattle.mc_imgtool.specs.Engines.{Answers, Judges, RefusesAnImage};
-ghost use Rattle.mc_output.specs.Text.{AppendsFront};
+ghost use Rattle.mc_output.specs.Text.{AppendsPrefix};
 ghost use Rattle.mc_imgtool.specs.Lines.{good_text, verified};
 
 use crate::ToolError;
@@ -36,8 +36,8 @@ fn good_line(judged: &Judged) -> Line
 fn write_good<W: Write>(output: &mut W, judged: &Judged) -> Result<(), ToolError>
     ensures whole { OnOk result
         (Appends (W.contents output.old) (W.contents output.new) (good_text judged.now)) }
-    ensures front { IfErr result (λ e. (e ≡ ToolError.Write)
-        × AppendsFront (W.contents output.old) (W.contents output.new) (good_text judged.now)) }
+    ensures prefix { IfErr result (λ e. (e ≡ ToolError.Write)
+        × AppendsPrefix (W.contents output.old) (W.contents output.new) (good_text judged.now)) }
 {
     let line = good_line(judged);
     write_text(output, line.as_str().as_bytes())

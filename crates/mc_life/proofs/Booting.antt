@@ -1,13 +1,12 @@
 -- A boot that goes on step by step, and how far it has come at a cut.
-use Rattle.std.specs.Prelude.{◌≡◌, ℕ, zero, suc, ◌+◌, ◌<◌, ◌≤◌, ◌⊎◌, nat_lt, Bool, true, false, if◌then◌else◌, List, [], ◌∷◌, ◌++◌, length, take, drop, slice_get, Option, Some, None, is_some}
-use Rattle.std.specs.Prelude.{option_and_then, IfSome, IsSomeAnd, Ok, Err, refl}
+use Rattle.std.specs.Prelude.{◌≡◌, ℕ, zero, suc, ◌+◌, ◌<◌, ◌≤◌, ◌⊎◌, nat_lt, Bool, true, false, if◌then◌else◌, List, [], ◌∷◌, ◌++◌, length, take, drop, slice_get, Option, Some, None, is_some, option_and_then, IfSome, IsSomeAnd, Ok, Err, refl}
 use Rattle.std.proofs.Common.{arith, inl, inr, sym, ap, subst, append-nil, append_assoc, drop-cons, get_or, ◌∙◌}
 use Rattle.std.proofs.lemmas.Bool.Decides.{nat_tests}
 use Rattle.std.proofs.lemmas.List.{length-append, take_all, take_at}
 use Rattle.mc_boot.specs.Boot.{Progress, Steps, StepsAlong, begun, HasCome}
 use Rattle.mc_boot.specs.Outcome.{Report, outcome_of, after, at, cut_at, first_then, happening, ops_of}
 use Rattle.mc_boot.specs.Plan.{plan, PowerOn, again, power_on, powered}
-use Rattle.mc_boot.specs.facts.Run.{come_at, come_count, come_front, come_ops}
+use Rattle.mc_boot.specs.facts.Run.{come_at, come_count, come_prefix, come_ops}
 use Rattle.mc_flash.specs.Flash.{apply, in_slot, is_blank, Content, bytes_of, put, size_of}
 use Rattle.mc_flash.specs.Geometry.{Geometry}
 use Rattle.mc_flash.specs.Usage.{Seen}
@@ -76,11 +75,11 @@ module _ (x : PowerOn) (p : Progress) (t : Content) (come : HasCome x p t) where
 
   -- ---- the operations that happened
 
-  pub front_is : take p.count (ops_of x) ≡ take p.count list
-  front_is = ap (take p.count) (come_front x p t come) ∙ take_at (take p.count list) (happening x.geometry (drop p.count list) t) p.count (come_count x p t come)
+  pub prefix_is : take p.count (ops_of x) ≡ take p.count list
+  prefix_is = ap (take p.count) (come_prefix x p t come) ∙ take_at (take p.count list) (happening x.geometry (drop p.count list) t) p.count (come_count x p t come)
 
   pub all_are : p.to_come ≡ [] → take p.count list ≡ ops_of x
-  all_are end = let long = come_ops x p t come end in sym front_is ∙ take_all p.count (ops_of x) (omega (arith, long))
+  all_are end = let long = come_ops x p t come end in sym prefix_is ∙ take_all p.count (ops_of x) (omega (arith, long))
 
   -- ---- a cut
 
@@ -99,24 +98,24 @@ module _ (x : PowerOn) (p : Progress) (t : Content) (come : HasCome x p t) where
 
     -- There is a next operation, which is done, or refused.
     module _ (op : Op) (first : slice_get p.to_come 0 ≡ Some op) (here : p.count ≡ count) where
-      behind : Option Content → List Op
-      behind o = first_then op (λ u. happening x.geometry (comes_next op first).0 u) o
+      beyond : Option Content → List Op
+      beyond o = first_then op (λ u. happening x.geometry (comes_next op first).0 u) o
 
-      ops_are : (o : Option Content) → apply x.geometry op t ≡ o → length (ops_of x) ≡ count + length (behind o)
-      unfolding behind
+      ops_are : (o : Option Content) → apply x.geometry op t ≡ o → length (ops_of x) ≡ count + length (beyond o)
+      unfolding beyond
       ops_are o is =
           let next = comes_next op first in
-          let all : ops_of x ≡ take p.count list ++ behind o =
-          come_front x p t come ∙ ap (λ os. take p.count list ++ happening x.geometry os t) next.1 ∙ ap (λ z. take p.count list ++ behind z) is in
-          let both = ap (λ (os : List Op). length os) all ∙ length-append (take p.count list) (behind o) in
+          let all : ops_of x ≡ take p.count list ++ beyond o =
+          come_prefix x p t come ∙ ap (λ os. take p.count list ++ happening x.geometry os t) next.1 ∙ ap (λ z. take p.count list ++ beyond z) is in
+          let both = ap (λ (os : List Op). length os) all ∙ length-append (take p.count list) (beyond o) in
           omega (arith, both, come_count x p t come, here)
 
-      more : (u : Content) → length (ops_of x) ≡ count + length (behind (Some u)) → count < length (ops_of x)
-      unfolding behind
+      more : (u : Content) → length (ops_of x) ≡ count + length (beyond (Some u)) → count < length (ops_of x)
+      unfolding beyond
       more u is = omega (arith, is)
 
-      no_more : length (ops_of x) ≡ count + length (behind None) → length (ops_of x) ≤ count
-      unfolding behind
+      no_more : length (ops_of x) ≡ count + length (beyond None) → length (ops_of x) ≤ count
+      unfolding beyond
       no_more is = omega (arith, is)
 
       pub decided : (b : Bool) → b ≡ is_some (apply x.geometry op t) → Cuts x count b t
@@ -163,8 +162,8 @@ ended ops n count lt (inr at) = absurd (omega (arith, lt, at))
 
 pub outcome_on : (x : PowerOn) (p : Progress) (t : Content) (o : Report) (g : Geometry) → g ≡ x.geometry
     → ((r : Rules) (s : Content) → HasCome (power_on r g s) p t → p.to_come ≡ [] → outcome_of (power_on r g s) ≡ Some o) → HasCome x p t → p.to_come ≡ [] → outcome_of x ≡ Some o
-outcome_on x p t o g same tells come end =
-    subst (λ (y : Geometry). HasCome (power_on x.rules y x.content) p t → outcome_of (power_on x.rules y x.content) ≡ Some o) same (λ here. tells x.rules x.content here end) come
+outcome_on x p t o g same happened come end =
+    subst (λ (y : Geometry). HasCome (power_on x.rules y x.content) p t → outcome_of (power_on x.rules y x.content) ≡ Some o) same (λ here. happened x.rules x.content here end) come
 
 pub copy_defined : (g : Geometry) (s : Content) (from to : Slot) (at offset len : ℕ) → at + len ≤ size_of g from → length (bytes_of s from) ≡ size_of g from
     → is_blank (between offset (offset + len) (bytes_of s to)) ≡ is_some (apply g (Copy from at to offset len) s)
@@ -182,14 +181,14 @@ copy_defined g s from to at offset len inside long =
 
 after_first : (x : PowerOn) (cuts : List ℕ) (c : ℕ) (u t : Content) → ((z : Content) → after (again x z) cuts ≡ Some u → after (again x z) (cuts ++ c ∷ []) ≡ Some t)
     → (o : Option Content) → option_and_then (λ z. after (again x z) cuts) o ≡ Some u → option_and_then (λ z. after (again x z) (cuts ++ c ∷ [])) o ≡ Some t
-after_first x cuts c u t behind None is = absurd cc
-after_first x cuts c u t behind (Some z) is = behind z is
+after_first x cuts c u t beyond None is = absurd cc
+after_first x cuts c u t beyond (Some z) is = beyond z is
 
-ops_first : (x : PowerOn) (cuts : List ℕ) (c : ℕ) (front last : List Op) (u : Content) → ((z : Content) → after (again x z) cuts ≡ Some u
+ops_first : (x : PowerOn) (cuts : List ℕ) (c : ℕ) (prefix last : List Op) (u : Content) → ((z : Content) → after (again x z) cuts ≡ Some u
     → cut_ops (again x z) (cuts ++ c ∷ []) ≡ cut_ops (again x z) cuts ++ last)
-    → (o : Option Content) → option_and_then (λ z. after (again x z) cuts) o ≡ Some u → front ++ from x (λ y. cut_ops y (cuts ++ c ∷ [])) o ≡ (front ++ from x (λ y. cut_ops y cuts) o) ++ last
-ops_first x cuts c front last u behind None is = absurd cc
-ops_first x cuts c front last u behind (Some z) is = ap (λ (w : List Op). front ++ w) (behind z is) ∙ sym (append_assoc front (cut_ops (again x z) cuts) last)
+    → (o : Option Content) → option_and_then (λ z. after (again x z) cuts) o ≡ Some u → prefix ++ from x (λ y. cut_ops y (cuts ++ c ∷ [])) o ≡ (prefix ++ from x (λ y. cut_ops y cuts) o) ++ last
+ops_first x cuts c prefix last u beyond None is = absurd cc
+ops_first x cuts c prefix last u beyond (Some z) is = ap (λ (w : List Op). prefix ++ w) (beyond z is) ∙ sym (append_assoc prefix (cut_ops (again x z) cuts) last)
 
 -- One cut more.
 pub after_more : (x : PowerOn) (cuts : List ℕ) (c : ℕ) (u t : Content) → after x cuts ≡ Some u → cut_at (again x u) c ≡ Some t → after x (cuts ++ c ∷ []) ≡ Some t
@@ -202,12 +201,12 @@ pub ops_more : (x : PowerOn) (cuts : List ℕ) (c : ℕ) (u t : Content) → aft
     → cut_ops x (cuts ++ c ∷ []) ≡ cut_ops x cuts ++ take c (ops_of (again x u))
 ops_more x [] c u t so_far cut =
     let same : x.content ≡ u = cc in
-    let behind : from {A = Op} x (λ y. cut_ops y []) (cut_at x c) ≡ [] = none_behind x (cut_at x c) in
-    ap (λ (z : List Op). take c (ops_of x) ++ z) behind ∙ append-nil (take c (ops_of x)) ∙ ap (λ (s : Content). take c (ops_of (again x s))) same
+    let beyond : from {A = Op} x (λ y. cut_ops y []) (cut_at x c) ≡ [] = none_beyond x (cut_at x c) in
+    ap (λ (z : List Op). take c (ops_of x) ++ z) beyond ∙ append-nil (take c (ops_of x)) ∙ ap (λ (s : Content). take c (ops_of (again x s))) same
   where
-    none_behind : (x : PowerOn) (o : Option Content) → from {A = Op} x (λ y. cut_ops y []) o ≡ []
-    none_behind x None = refl
-    none_behind x (Some z) = refl
+    none_beyond : (x : PowerOn) (o : Option Content) → from {A = Op} x (λ y. cut_ops y []) o ≡ []
+    none_beyond x None = refl
+    none_beyond x (Some z) = refl
 ops_more x (d ∷ cuts) c u t so_far cut =
     ops_first x cuts c (take d (ops_of x)) (take c (ops_of (again x u))) u (λ z is. ops_more (again x z) cuts c u t is cut) (cut_at x d) so_far
 
@@ -248,8 +247,8 @@ module _ (x : PowerOn) (cuts : List ℕ) (done : ℕ) (w v : Counts) (f : Seen) 
         ∙ ap (λ (l : List ℕ). worn w (cut_ops x l)) (sym next_is);
   }
 
-  pub cut_fails : (count place : ℕ) → count ≡ here → place ≡ done → cut_at (powered x.rules f) count ≡ None → FailsAt x cuts place
-  cut_fails count place is at cut = subst (FailsAt x cuts) (sym at) (record {
+  pub cut_fails : (count number : ℕ) → count ≡ here → number ≡ done → cut_at (powered x.rules f) count ≡ None → FailsAt x cuts number
+  cut_fails count number is at cut = subst (FailsAt x cuts) (sym at) (record {
     left = f.content;
     before = are.after_is;
     cut = here;

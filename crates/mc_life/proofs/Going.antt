@@ -1,6 +1,5 @@
 -- What happens to a device, as the events that it is.
-use Rattle.std.specs.Prelude.{◌≡◌, ℕ, Bool, true, false, List, [], ◌∷◌, ◌++◌, length, map, ◌≤◌, Option, Some, None, option_and_then, option_map, Result, Ok, Err, OnOk, IfErr, if◌then◌else◌, ◌+◌}
-use Rattle.std.specs.Prelude.{refl}
+use Rattle.std.specs.Prelude.{◌≡◌, ℕ, Bool, true, false, List, [], ◌∷◌, ◌++◌, length, map, ◌≤◌, Option, Some, None, option_and_then, option_map, Result, Ok, Err, OnOk, IfErr, if◌then◌else◌, ◌+◌, refl}
 use Rattle.std.specs.List.{between}
 use Rattle.std.proofs.Common.{inl, inr, sym, ap, subst, ◌∙◌}
 use Rattle.mc_boot.specs.Restart.{confirmed}
@@ -61,8 +60,8 @@ module _ (d e : Standing) (ops : List Op) (stays : Stays d e ops) where
 
   pub marks : (bytes : List ℕ) → d.runs ≡ true → is_set (trailer_of d.seen.geometry d.seen.content Primary).copy_done ≡ true → length bytes ≤ room field.ImageOk → e.runs ≡ d.runs
       → e.seen.content ≡ marked d.seen.geometry d.seen.content bytes → Goes d (mark bytes ∷ []) ops e
-  marks bytes runs finished few still left =
-      one_event (mark bytes) (λ rested. (e.seen.content, (runs, finished, few, rests (marked d.seen.geometry d.seen.content bytes) true left (still ∙ runs))))
+  marks bytes runs finished at_most still left =
+      one_event (mark bytes) (λ rested. (e.seen.content, (runs, finished, at_most, rests (marked d.seen.geometry d.seen.content bytes) true left (still ∙ runs))))
 
   -- ---- power cuts
 
@@ -92,9 +91,9 @@ lives_cut r g (c ∷ cuts) s t rested runs is = first (cut_at (power_on r g s) c
         → ((z : Content) → after (power_on r g z) cuts ≡ Some t
         → (still : Bool) × Lives r g (record { content = z; rested = rested; runs = false }) (map cut cuts) (record { content = t; rested = rested; runs = still }))
         → (still : Bool) × Lives r g (record { content = s; rested = rested; runs = runs }) (cut c ∷ map cut cuts) (record { content = t; rested = rested; runs = still })
-    first None at on behind = absurd cc
-    first (Some z) at on behind =
-        let rest = behind z on in
+    first None at on beyond = absurd cc
+    first (Some z) at on beyond =
+        let rest = beyond z on in
         (rest.0, (record { content = z; rested = rested; runs = false }, (z, at, refl), rest.1))
 
 module _ (d e : Standing) (f : Seen) (cuts : List ℕ) (v : Counts) (after_is : after (powered d.rules d.seen) cuts ≡ Some f.content) (layout : f.geometry ≡ d.seen.geometry)

@@ -4,6 +4,6 @@ mod Booting
 mod Going
 mod Reading
 mod Lines
-mod Telling
+mod ReplayProof
 mod Worst
 mod Naming

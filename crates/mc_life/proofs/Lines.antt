@@ -3,40 +3,40 @@ use Rattle.std.specs.Prelude.{◌≡◌, ℕ, suc, ◌+◌, ◌<◌, ◌≤◌, 
 use Rattle.std.specs.Io.KnownBytes.{Appends}
 use Rattle.std.proofs.Common.{arith, sym, ap, subst, append-nil, get_or, drop-cons, drop_of_length-le, ◌∙◌}
 use Rattle.mc_life.specs.Script.{Named, file_of}
-use Rattle.mc_output.specs.Text.{AppendsFront}
-use Rattle.mc_output.specs.facts.Fronts.{IsOut, out_all, out_begun, out_front, out_more}
+use Rattle.mc_output.specs.Text.{AppendsPrefix}
+use Rattle.mc_output.specs.facts.Prefixes.{IsOut, out_all, out_begun, out_prefix, out_more}
 
 module _ (a w b : List ℕ) (before mid : Option (List ℕ)) where
-  pub first_begun : AppendsFront before mid a → AppendsFront before mid (a ++ (w ++ b))
-  first_begun p = out_front before before mid (a ++ (w ++ b)) a (w ++ b) (out_begun before (a ++ (w ++ b))) p
+  pub first_begun : AppendsPrefix before mid a → AppendsPrefix before mid (a ++ (w ++ b))
+  first_begun p = out_prefix before before mid (a ++ (w ++ b)) a (w ++ b) (out_begun before (a ++ (w ++ b))) p
 
   module _ (first : Appends before mid a) (last : Option (List ℕ)) where
     after_first : IsOut before mid (a ++ (w ++ b)) (w ++ b)
     after_first = out_more before before mid (a ++ (w ++ b)) a (w ++ b) (out_begun before (a ++ (w ++ b))) first
 
-    pub words_begun : AppendsFront mid last w → AppendsFront before last (a ++ (w ++ b))
-    words_begun p = out_front before mid last (a ++ (w ++ b)) w b after_first p
+    pub words_begun : AppendsPrefix mid last w → AppendsPrefix before last (a ++ (w ++ b))
+    words_begun p = out_prefix before mid last (a ++ (w ++ b)) w b after_first p
 
     module _ (words : Appends mid last w) (now : Option (List ℕ)) where
       after_words : IsOut before last (a ++ (w ++ b)) (b ++ [])
       after_words = subst (IsOut before last (a ++ (w ++ b))) (sym (append-nil b)) (out_more before mid last (a ++ (w ++ b)) w b after_first words)
 
-      pub end_begun : AppendsFront last now b → AppendsFront before now (a ++ (w ++ b))
-      end_begun p = out_front before last now (a ++ (w ++ b)) b [] after_words p
+      pub end_begun : AppendsPrefix last now b → AppendsPrefix before now (a ++ (w ++ b))
+      end_begun p = out_prefix before last now (a ++ (w ++ b)) b [] after_words p
 
       pub all_out : Appends last now b → Appends before now (a ++ (w ++ b))
       all_out p = out_all before now (a ++ (w ++ b)) (out_more before last now (a ++ (w ++ b)) b [] after_words p)
 
 -- Two lines come out.
 module _ (a b : List ℕ) (before : Option (List ℕ)) where
-  pub first_of_two : (now : Option (List ℕ)) → AppendsFront before now a → AppendsFront before now (a ++ b)
-  first_of_two now p = out_front before before now (a ++ b) a b (out_begun before (a ++ b)) p
+  pub first_of_two : (now : Option (List ℕ)) → AppendsPrefix before now a → AppendsPrefix before now (a ++ b)
+  first_of_two now p = out_prefix before before now (a ++ b) a b (out_begun before (a ++ b)) p
 
-  pub last_of_two : (mid now : Option (List ℕ)) → Appends before mid a → AppendsFront mid now b → AppendsFront before now (a ++ b)
+  pub last_of_two : (mid now : Option (List ℕ)) → Appends before mid a → AppendsPrefix mid now b → AppendsPrefix before now (a ++ b)
   last_of_two mid now out p =
       let o : IsOut before mid (a ++ b) (b ++ []) =
       subst (IsOut before mid (a ++ b)) (sym (append-nil b)) (out_more before before mid (a ++ b) a b (out_begun before (a ++ b)) out) in
-      out_front before mid now (a ++ b) b [] o p
+      out_prefix before mid now (a ++ b) b [] o p
 
 -- ---- files
 

@@ -20,16 +20,16 @@ names_more (l ∷ lines) line names e reads named = (
     put_before None a b = refl
     put_before (Some n) a b = refl
 
--- What the lines told so far name; the others are left.
+-- What the lines so far name; the others are left.
 pub record AreNamed (script : List ℕ) (rest : Option (List ℕ)) (names : List (List ℕ)) : Type 0 where
-  pub told : List (List ℕ)
-  pub are : lines_of script ≡ told ++ lines_left rest
-  pub named : Names told names
+  pub replayed : List (List ℕ)
+  pub are : lines_of script ≡ replayed ++ lines_left rest
+  pub named : Names replayed names
 
 pub names_line : (script text : List ℕ) (names : List (List ℕ)) → AreNamed script (Some text) names → (line : List ℕ) (after : Option (List ℕ)) → lines_of text ≡ line ∷ lines_left after
     → (found : Option (List ℕ)) → (e : Option Event) × ReadsEvent line e × (found ≡ option_and_then file_named e) → AreNamed script after (names ++ before found [])
 names_line script text names at line after lines found (e, reads, is) = record {
-  told = at.told ++ line ∷ [];
-  are = at.are ∙ ap (λ (z : List (List ℕ)). at.told ++ z) lines ∙ sym (append_assoc at.told (line ∷ []) (lines_left after));
-  named = rw is (names_more at.told line names e reads at.named);
+  replayed = at.replayed ++ line ∷ [];
+  are = at.are ∙ ap (λ (z : List (List ℕ)). at.replayed ++ z) lines ∙ sym (append_assoc at.replayed (line ∷ []) (lines_left after));
+  named = rw is (names_more at.replayed line names e reads at.named);
 }

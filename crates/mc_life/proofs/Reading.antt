@@ -6,19 +6,19 @@ use Rattle.hex.specs.Hex.{IsBytes, decode_sized, encode_lower, lower_digits}
 use Rattle.hex.specs.declared.error.FromHexError.{FromHexError}
 use Rattle.hex.proofs.HexLemmas.{length-encode_with, decode_of-encode_lower, decode_sized-twice}
 use Rattle.mc_output.specs.facts.Parting.{AreParts, no_part, one_part}
-use Rattle.mc_life.specs.Script.{TellsNone, name_of}
+use Rattle.mc_life.specs.Script.{SaysNone, name_of}
 use Rattle.mc_life.specs.declared.event.Event.TheVariants as events
 
 some_is : {A : Type 0} (x y : A) → Some x ≡ Some y → x ≡ y
 some_is x y e = cc
 
 -- A file of more than one word is not stored.
-pub no_store : (rest first after : List ℕ) → AreParts 32 rest first after → TellsNone (codes "store") (Some rest)
+pub no_store : (rest first after : List ℕ) → AreParts 32 rest first after → SaysNone (codes "store") (Some rest)
 no_store rest first after p (events.Store file) t = no_part 32 file.now first after t.event (sym (some_is rest file.now t.rest_is) ∙ p.parts)
 no_store rest first after p e t = let letter : get_or (codes "store") 0 0 ≡ get_or (name_of e) 0 0 = ap (λ (z : List ℕ). get_or z 0 0) t.name_is in absurd (omega (arith, letter))
 
 -- Nor is one downloaded, unless a number is the second.
-pub no_download : (rest first after : List ℕ) → AreParts 32 rest first after → ((n : ℕ) → n < 2 ^ 32 → after ≡ decimal n → ⊥) → TellsNone (codes "download") (Some rest)
+pub no_download : (rest first after : List ℕ) → AreParts 32 rest first after → ((n : ℕ) → n < 2 ^ 32 → after ≡ decimal n → ⊥) → SaysNone (codes "download") (Some rest)
 no_download rest first after p no_number (events.Download file None) t = no_part 32 file.now first after t.event.0 (sym (some_is rest file.now t.rest_is) ∙ p.parts)
 no_download rest first after p no_number (events.Download file (Some n)) t =
     let same : first ++ 32 ∷ after ≡ file.now ++ 32 ∷ decimal n = sym p.parts ∙ some_is rest (file.now ++ 32 ∷ decimal n) t.rest_is in
@@ -47,6 +47,6 @@ pub no_error : {E : Type 0} (r : Result (Unit {0}) E) → r ≡ Ok tt → true �
 no_error (Ok x) is wrong = absurd cc
 no_error (Err e) is wrong = absurd cc
 
--- The front of some bytes in which others were put.
-pub front_bytes : (new old : List ℕ) (n m : ℕ) → length new ≡ n → take n (new ++ drop m old) ≡ new
-front_bytes new old n m len = take_at new (drop m old) n len
+-- The prefix of some bytes in which others were put.
+pub prefix_bytes : (new old : List ℕ) (n m : ℕ) → length new ≡ n → take n (new ++ drop m old) ≡ new
+prefix_bytes new old n m len = take_at new (drop m old) n len

@@ -1,13 +1,11 @@
 -- The secondary, erased sector by sector from its end.
-use Rattle.std.specs.Prelude.{◌≡◌, ℕ, zero, suc, ◌+◌, ◌-◌, ◌*◌, ◌≤◌, List, [], ◌∷◌, ◌++◌, length, take, drop, replicate, Some, None, Result, Ok, Err, OnOk, IfErr, Bool, true, refl, if◌then◌else◌}
-use Rattle.std.specs.Prelude.{◌%◌}
+use Rattle.std.specs.Prelude.{◌≡◌, ℕ, zero, suc, ◌+◌, ◌-◌, ◌*◌, ◌≤◌, List, [], ◌∷◌, ◌++◌, length, take, drop, replicate, Some, None, Result, Ok, Err, OnOk, IfErr, Bool, true, refl, if◌then◌else◌, ◌%◌}
 use Rattle.std.proofs.Common.{append-nil, drop_of_length-le, arith, sym, ap, subst, ◌∙◌}
-use Rattle.std.proofs.lemmas.List.{length-take-le, length-drop, replicate-append-replicate, length-append, length-replicate}
+use Rattle.std.proofs.lemmas.List.{length-take-le, length-drop, replicate-append-replicate, length-append, length-replicate, take_all}
 use Rattle.std.proofs.Math.Seq.{drop-append_seam}
 use Rattle.std.proofs.Math.Nat.{zero-mod}
 use Rattle.std.proofs.lemmas.Slice.{between_from_start}
 use Rattle.std.specs.List.{between}
-use Rattle.std.proofs.lemmas.List.{take_all}
 use Rattle.mc_flash.specs.Flash.{IsRange, apply, in_slot, is_blank, Content, put, size_of, with_bytes}
 use Rattle.mc_flash.specs.Geometry.{Geometry, IsLayout}
 use Rattle.mc_flash.specs.Usage.{Does, Seen, done}
@@ -32,8 +30,8 @@ pub record IsWiping (old f : Seen) (left : ℕ) : Type 0 where
 more : (a c : ℕ) → suc a * c ≡ a * c + c
 more a c = omega arith
 
-put_behind : (xs new : List ℕ) (at : ℕ) → at ≤ length xs → drop at (put xs at new) ≡ new ++ drop (at + length new) xs
-put_behind xs new at le = subst (λ n. drop n (put xs at new) ≡ new ++ drop (at + length new) xs) (length-take-le at xs le) (drop-append_seam (take at xs) (new ++ drop (at + length new) xs))
+put_beyond : (xs new : List ℕ) (at : ℕ) → at ≤ length xs → drop at (put xs at new) ≡ new ++ drop (at + length new) xs
+put_beyond xs new at le = subst (λ n. drop n (put xs at new) ≡ new ++ drop (at + length new) xs) (length-take-le at xs le) (drop-append_seam (take at xs) (new ++ drop (at + length new) xs))
 
 put_long : (xs new : List ℕ) (at : ℕ) → at + length new ≤ length xs → length (put xs at new) ≡ length xs
 put_long xs new at le =
@@ -76,7 +74,7 @@ module _ (old f h : Seen) (left now : ℕ) (next : suc left ≡ now) (so_far : I
       let n = length-replicate {A = ℕ} S 255 in
       let on : left * S + length (replicate {A = ℕ} S 255) ≡ suc left * S = omega (arith, n, more left S) in
       let all : S + (size_of old.geometry Secondary - suc left * S) ≡ size_of old.geometry Secondary - left * S = omega (arith, inside, more left S) in
-      put_behind f.content.secondary (replicate S 255) (left * S) (omega (arith, inside, is.long))
+      put_beyond f.content.secondary (replicate S 255) (left * S) (omega (arith, inside, is.long))
       ∙ ap (λ k. replicate S 255 ++ drop k f.content.secondary) on
       ∙ ap (λ (z : List ℕ). replicate S 255 ++ z) is.blank
       ∙ replicate-append-replicate S (size_of old.geometry Secondary - suc left * S) 255

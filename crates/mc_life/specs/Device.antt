@@ -1,6 +1,5 @@
 -- A device as callers see it, what can happen to it, what is refused of that, and how often its sectors were erased (docs/LIFE.md).
-use Rattle.std.specs.Prelude.{Bool, List, None, Option, Some, [], codes, decimal, false, get_or, length, map, min, replicate, slice_get, suc, take, true, zero, ℕ, ⊤, ◌++◌, ◌+◌, ◌-◌, ◌<◌, ◌^◌}
-use Rattle.std.specs.Prelude.{◌∷◌, ◌≡◌, ◌≢◌, ◌≤◌, ◌⊎◌}
+use Rattle.std.specs.Prelude.{Bool, List, None, Option, Some, [], codes, decimal, false, get_or, length, map, min, replicate, slice_get, suc, take, true, zero, ℕ, ⊤, ◌++◌, ◌+◌, ◌-◌, ◌<◌, ◌^◌, ◌∷◌, ◌≡◌, ◌≢◌, ◌≤◌, ◌⊎◌}
 use Rattle.mc_boot.specs.Life.{Event, Lives, Moment, all_erases, boot, cut}
 use Rattle.mc_boot.specs.Outcome.{Report, after, cut_at, ops_of, outcome_of}
 use Rattle.mc_boot.specs.Plan.{PowerOn, again, image_ok_write}
@@ -23,36 +22,36 @@ use Rattle.mc_trailer.specs.declared.places.Field.TheVariants as field
 use Rattle.mc_flash.specs.declared.flash.FlashError.TheVariants as flashes
 use Rattle.mc_life.specs.declared.request.Request.TheVariants as requests
 
--- Power cuts, one after another, and the boot behind them.
+-- Power cuts, one after another, and the boot after them.
 
 -- The power is lost after so many operations and leaves t; or the boot makes no more than that.
 abbrev pub Cuts : PowerOn → ℕ → Bool → Content → Type 0
 Cuts x count true t = cut_at x count ≡ Some t
 Cuts x count false t = cut_at x count ≡ None
 
--- What is told of a boot from there, where something is left.
+-- What is reported of a boot from there, where something is left.
 abbrev pub from : {A : Type 0} → PowerOn → (PowerOn → List A) → Option Content → List A
-from x behind None = []
-from x behind (Some t) = behind (again x t)
+from x beyond None = []
+from x beyond (Some t) = beyond (again x t)
 
 -- The operations of boots that are cut.
 abbrev pub cut_ops : PowerOn → List ℕ → List Op
 cut_ops x [] = []
 cut_ops x (c ∷ cuts) = take c (ops_of x) ++ from x (λ y. cut_ops y cuts) (cut_at x c)
 
--- And those of the boot behind them.
+-- And those of the boot after them.
 abbrev pub boot_ops : PowerOn → List ℕ → List Op
 boot_ops x cuts = cut_ops x cuts ++ from x ops_of (after x cuts)
 
--- The cuts before that place can occur, one after another, and the one there can't.
-pub record FailsAt (x : PowerOn) (cuts : List ℕ) (place : ℕ) : Type 0 where
+-- The cuts before that one can occur, one after another, and the one there can't.
+pub record FailsAt (x : PowerOn) (cuts : List ℕ) (index : ℕ) : Type 0 where
   pub left : Content
-  pub before : after x (take place cuts) ≡ Some left
+  pub before : after x (take index cuts) ≡ Some left
   pub cut : ℕ
-  pub there : slice_get cuts place ≡ Some cut
+  pub there : slice_get cuts index ≡ Some cut
   pub fails : cut_at (again x left) cut ≡ None
 
--- The boot behind the cuts has that outcome.
+-- The boot after the cuts has that outcome.
 pub record EndsAs (x : PowerOn) (cuts : List ℕ) (outcome : Report) : Type 0 where
   pub left : Content
   pub occurs : after x cuts ≡ Some left
@@ -193,7 +192,7 @@ of_flash flashes.Memory = errors.Memory
 
 -- The first cut that can't occur.
 abbrev pub RefusesCuts : PowerOn → List ℕ → EventError → Type 0
-RefusesCuts x cuts (errors.CannotOccur place) = FailsAt x cuts place
+RefusesCuts x cuts (errors.CannotOccur index) = FailsAt x cuts index
 RefusesCuts x cuts errors.Memory = ⊤
 RefusesCuts x cuts _ = ⊥
 
@@ -224,7 +223,7 @@ RefusesDownload d file count errors.NotThatLong = (d.runs ≡ true) × (size_of 
 RefusesDownload d file count errors.Memory = ⊤
 RefusesDownload d file count _ = ⊥
 
--- A write of a request is refused: that of the magic, or, for good, that of image-ok behind it.
+-- A write of a request is refused: that of the magic, or, for good, that of image-ok after it.
 abbrev pub AskFails : Geometry → Content → Request → FlashError → Type 0
 AskFails g s request flashes.NotErased =
     (apply g (magic_write g) s ≡ None)

@@ -1,3 +1,3 @@
 pub mod Device
 pub mod Script
-pub mod Told
+pub mod Replay

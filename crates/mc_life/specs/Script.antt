@@ -12,7 +12,7 @@ use Rattle.mc_life.specs.declared.error.ScriptError.TheVariants as refusals
 use Rattle.mc_life.specs.declared.event.Event.TheVariants as events
 use Rattle.mc_life.specs.declared.request.Request.TheVariants as requests
 
--- The line of a script that tells an event.
+-- The line of a script that states an event.
 
 abbrev pub request_text : Request → List ℕ
 request_text requests.Test = codes "test"
@@ -37,7 +37,7 @@ abbrev pub cuts_text : List ℕ → Option (List ℕ)
 cuts_text [] = None
 cuts_text (c ∷ cuts) = Some (schedule_text (c ∷ cuts))
 
--- What stands behind it, if something does.
+-- What stands after it, if something does.
 abbrev pub rest_of : Event → Option (List ℕ)
 rest_of (events.Download file bytes) = Some (with_count file.now bytes)
 rest_of (events.Request request) = Some (request_text request)
@@ -56,7 +56,7 @@ line_of name (Some rest) = name ++ 32 ∷ rest
 abbrev pub event_text : Event → List ℕ
 event_text e = line_of (name_of e) (rest_of e)
 
--- An event that a line can tell.
+-- An event that a line can state.
 abbrev pub IsEvent : Event → Type 0
 IsEvent (events.Download file bytes) = Lacks 32 file.now × IfSome bytes (λ n. n < 2 ^ 32)
 IsEvent (events.Request request) = ⊤
@@ -67,16 +67,16 @@ IsEvent (events.Mark bytes) = (length bytes ≤ 8) × IsBytes bytes
 IsEvent (events.Boot cuts) = IsSchedule cuts
 IsEvent (events.Cut count) = count < 2 ^ 32
 
--- What a first word and what stands behind it tell.
-pub record Tells (name : List ℕ) (rest : Option (List ℕ)) (e : Event) : Type 0 where
+-- What a first word and what comes after it state.
+pub record Says (name : List ℕ) (rest : Option (List ℕ)) (e : Event) : Type 0 where
   pub event : IsEvent e
   pub name_is : name ≡ name_of e
   pub rest_is : rest ≡ rest_of e
 
-abbrev pub TellsNone : List ℕ → Option (List ℕ) → Type 0
-TellsNone name rest = (e : Event) → Tells name rest e → ⊥
+abbrev pub SaysNone : List ℕ → Option (List ℕ) → Type 0
+SaysNone name rest = (e : Event) → Says name rest e → ⊥
 
--- A line tells an event that has this line, and none where there is no such event.
+-- A line states an event that has this line, and none where there is no such event.
 abbrev pub ReadsEvent : List ℕ → Option Event → Type 0
 ReadsEvent line None = (e : Event) → IsEvent e → line ≡ event_text e → ⊥
 ReadsEvent line (Some e) = IsEvent e × (line ≡ event_text e)
@@ -142,7 +142,7 @@ abbrev pub size_left : Option (List ℕ) → ℕ
 size_left None = 0
 size_left (Some text) = length text + 1
 
--- A line that tells nothing: it is empty, or begins with `#`.
+-- A line that states nothing: it is empty, or begins with `#`.
 abbrev pub is_skipped : List ℕ → Bool
 is_skipped [] = true
 is_skipped (c ∷ cs) = c == 35

@@ -1,19 +1,12 @@
 //! One boot of a device, and what it erases.
 ghost use Rattle.std.specs.List.{between};
 ghost use Rattle.std.specs.Prelude.{◌≡◌, ◌⊎◌, ◌+◌, ◌≤◌, true, [], length, take, IfErr, IfOk, IfSome, IsSomeAnd, OnOk, Some, is_some};
-ghost use Rattle.mc_flash.specs.Flash.{CanTry, IsRange, apply};
-ghost use Rattle.mc_flash.specs.Flash.{is_blank};
-ghost use Rattle.mc_flash.specs.Flash.{bytes_of};
-ghost use Rattle.mc_boot.specs.Boot.{progress, to_come, IsBootOf};
+ghost use Rattle.mc_flash.specs.Flash.{CanTry, IsRange, apply, is_blank, bytes_of};
+ghost use Rattle.mc_boot.specs.Boot.{progress, to_come, IsBootOf, HasCome};
 ghost use Rattle.mc_boot.specs.Life.{is_boot};
-ghost use Rattle.mc_boot.specs.Outcome.{outcome_of, shown};
-ghost use Rattle.mc_boot.specs.Plan.{plan};
-ghost use Rattle.mc_boot.specs.Plan.{powered};
-ghost use Rattle.mc_boot.specs.Boot.{HasCome};
-ghost use Rattle.mc_boot.specs.Outcome.{after, left_by, ops_of};
-ghost use Rattle.mc_life.specs.Device.{Cuts, cut_ops};
-ghost use Rattle.mc_life.specs.Device.{RefusesCuts};
-ghost use Rattle.mc_life.specs.Device.{worn};
+ghost use Rattle.mc_boot.specs.Outcome.{outcome_of, shown, after, left_by, ops_of};
+ghost use Rattle.mc_boot.specs.Plan.{plan, powered};
+ghost use Rattle.mc_life.specs.Device.{Cuts, cut_ops, RefusesCuts, worn};
 
 use crate::error::EventError;
 use crate::wear::Wear;
@@ -49,7 +42,7 @@ fn is_defined<F: Flash>(flash: &F, op: Op) -> bool
         Op::Erase(_, _) => true,
         Op::Program(slot, at, bytes) => is_free(flash, slot, at, bytes.bytes().len() as u32),
         Op::Copy(from, _, to, offset, len) => {
-            // A slot tells how long it is.
+            // Reading a slot gives the prover its length.
             let _from = flash.read(from);
             is_free(flash, to, offset, len)
         }
@@ -148,7 +141,7 @@ pub fn boot<F: Flash>(
 ///
 /// # Errors
 ///
-/// `CannotOccur` with the place of the first cut that can't occur; `Memory`, where the flash can't grow.
+/// `CannotOccur` with the number of the first cut that can't occur; `Memory`, where the flash can't grow.
 pub fn cut_all<F: Flash>(
     flash: &mut F,
     wear: &mut Wear,
@@ -165,12 +158,12 @@ pub fn cut_all<F: Flash>(
     ensures refused { IfErr result (RefusesCuts (powered rules (F.seen flash.old)) cuts.now) }
 {
     wear.idles();
-    let mut place = 0;
+    let mut number = 0;
     'cuts: for count in cuts {
         if !cut(flash, wear, rules, *count, known)? {
-            return Err(EventError::CannotOccur(place));
+            return Err(EventError::CannotOccur(number));
         }
-        place += 1;
+        number += 1;
     }
     Ok(())
 }

@@ -9,10 +9,7 @@ ghost use Rattle.mc_trailer.specs.Trailer.{trailer_of};
 ghost use Rattle.mc_trailer.specs.Tables.{is_set};
 ghost use Rattle.mc_flash.specs.declared.op.Op.TheVariants.{Erase};
 ghost use Rattle.mc_flash.specs.declared.op.Slot.TheVariants.{Primary, Secondary};
-ghost use Rattle.mc_life.specs.Device.{EndsAs, boot_ops, cut_ops};
-ghost use Rattle.mc_life.specs.Device.{RefusesConfirm, RefusesCuts, RefusesDownload, RefusesErase, RefusesMark, RefusesRequest, RefusesStore};
-ghost use Rattle.mc_life.specs.Device.{Goes, IsNew};
-ghost use Rattle.mc_life.specs.Device.{asked, boots, loaded, wipes};
+ghost use Rattle.mc_life.specs.Device.{EndsAs, boot_ops, cut_ops, RefusesConfirm, RefusesCuts, RefusesDownload, RefusesErase, RefusesMark, RefusesRequest, RefusesStore, Goes, IsNew, asked, boots, loaded, wipes};
 
 use crate::error::EventError;
 use crate::request::Request;
@@ -202,7 +199,7 @@ impl<F: Flash> Device<F> {
     ///
     /// # Errors
     ///
-    /// `CannotOccur` with the place of the first cut that can't occur; `Memory`.
+    /// `CannotOccur` with the number of the first cut that can't occur; `Memory`.
     pub fn boot(
         &mut self,
         cuts: &[u32],

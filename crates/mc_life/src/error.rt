@@ -12,7 +12,7 @@ pub enum EventError {
     /// A byte that is to be written is not 0xff.
     #[error("E40 NotErased")]
     NotErased,
-    /// The cut at that place of the event, counted from 0, is the first that can't occur.
+    /// The cut of that number of the event, counted from 0, is the first that can't occur.
     #[error("E53 CannotOccur at {0}")]
     CannotOccur(usize),
     /// The file cannot be opened.

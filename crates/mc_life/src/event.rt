@@ -1,7 +1,7 @@
-//! What can happen to a device, as a line of a script tells it.
+//! What can happen to a device, as a line of a script states it.
 ghost use Rattle.std.specs.Prelude.{◌≡◌, ℕ, ◌<◌, ◌≤◌, ◌^◌, List, length, codes, decimal, MatchOption, Some, None, option_map, true, false};
 ghost use Rattle.hex.specs.Hex.{IsBytes, encode_lower};
-ghost use Rattle.mc_life.specs.Script.{ReadsEvent, Tells, TellsNone, file_named};
+ghost use Rattle.mc_life.specs.Script.{ReadsEvent, Says, SaysNone, file_named};
 
 use crate::request::Request;
 use mc_flash::Bytes16;
@@ -84,8 +84,8 @@ fn bytes_of(text: &str) -> Option<Bytes16>
 
 // A download of a file, and until when.
 fn download(rest: &str) -> Option<Event<'_>>
-    ensures { MatchOption result (TellsNone (codes "download") (Some rest.now))
-        (Tells (codes "download") (Some rest.now)) }
+    ensures { MatchOption result (SaysNone (codes "download") (Some rest.now))
+        (Says (codes "download") (Some rest.now)) }
 {
     let Some((file, count)) = rest.split_once(' ') else {
         return Some(Event::Download(rest, None));
@@ -98,8 +98,8 @@ fn download(rest: &str) -> Option<Event<'_>>
 
 // A request.
 fn request(rest: &str) -> Option<Event<'_>>
-    ensures { MatchOption result (TellsNone (codes "request") (Some rest.now))
-        (Tells (codes "request") (Some rest.now)) }
+    ensures { MatchOption result (SaysNone (codes "request") (Some rest.now))
+        (Says (codes "request") (Some rest.now)) }
 {
     match rest {
         "test" => Some(Event::Request(Request::Test)),
@@ -110,8 +110,8 @@ fn request(rest: &str) -> Option<Event<'_>>
 
 // The bytes of a file.
 fn store(rest: &str) -> Option<Event<'_>>
-    ensures { MatchOption result (TellsNone (codes "store") (Some rest.now))
-        (Tells (codes "store") (Some rest.now)) }
+    ensures { MatchOption result (SaysNone (codes "store") (Some rest.now))
+        (Says (codes "store") (Some rest.now)) }
 {
     let Some((_file, _more)) = rest.split_once(' ') else {
         return Some(Event::Store(rest));
@@ -121,8 +121,8 @@ fn store(rest: &str) -> Option<Event<'_>>
 
 // An erase of a sector.
 fn erase(rest: &str) -> Option<Event<'_>>
-    ensures { MatchOption result (TellsNone (codes "erase") (Some rest.now))
-        (Tells (codes "erase") (Some rest.now)) }
+    ensures { MatchOption result (SaysNone (codes "erase") (Some rest.now))
+        (Says (codes "erase") (Some rest.now)) }
 {
     match number_of(rest) {
         Some(sector) => Some(Event::Erase(sector)),
@@ -132,8 +132,8 @@ fn erase(rest: &str) -> Option<Event<'_>>
 
 // A confirmation that is torn.
 fn mark(rest: &str) -> Option<Event<'_>>
-    ensures { MatchOption result (TellsNone (codes "mark") (Some rest.now))
-        (Tells (codes "mark") (Some rest.now)) }
+    ensures { MatchOption result (SaysNone (codes "mark") (Some rest.now))
+        (Says (codes "mark") (Some rest.now)) }
 {
     match bytes_of(rest) {
         Some(bytes) => Some(Event::Mark(bytes)),
@@ -143,8 +143,8 @@ fn mark(rest: &str) -> Option<Event<'_>>
 
 // A boot with cuts.
 fn boot(rest: &str) -> Option<Event<'_>>
-    ensures { MatchOption result (TellsNone (codes "boot") (Some rest.now))
-        (Tells (codes "boot") (Some rest.now)) }
+    ensures { MatchOption result (SaysNone (codes "boot") (Some rest.now))
+        (Says (codes "boot") (Some rest.now)) }
 {
     match Schedule::read(rest) {
         Ok(cuts) if !cuts.cuts().is_empty() => Some(Event::Boot(cuts)),
@@ -154,8 +154,8 @@ fn boot(rest: &str) -> Option<Event<'_>>
 
 // A power cut.
 fn cut(rest: &str) -> Option<Event<'_>>
-    ensures { MatchOption result (TellsNone (codes "cut") (Some rest.now))
-        (Tells (codes "cut") (Some rest.now)) }
+    ensures { MatchOption result (SaysNone (codes "cut") (Some rest.now))
+        (Says (codes "cut") (Some rest.now)) }
 {
     match number_of(rest) {
         Some(count) => Some(Event::Cut(count)),
@@ -163,9 +163,9 @@ fn cut(rest: &str) -> Option<Event<'_>>
     }
 }
 
-// What one word tells.
+// What one word states.
 fn of_word<'a>(name: &'a str) -> Option<Event<'a>>
-    ensures { MatchOption result (TellsNone name.now None) (Tells name.now None) }
+    ensures { MatchOption result (SaysNone name.now None) (Says name.now None) }
 {
     match name {
         "confirm" => Some(Event::Confirm),
@@ -174,10 +174,10 @@ fn of_word<'a>(name: &'a str) -> Option<Event<'a>>
     }
 }
 
-// What a first word and what stands behind it tell.
+// What a first word and what comes after it state.
 fn of_words<'a>(name: &'a str, rest: &'a str) -> Option<Event<'a>>
-    ensures { MatchOption result (TellsNone name.now (Some rest.now))
-        (Tells name.now (Some rest.now)) }
+    ensures { MatchOption result (SaysNone name.now (Some rest.now))
+        (Says name.now (Some rest.now)) }
 {
     match name {
         "download" => download(rest),
@@ -192,7 +192,7 @@ fn of_words<'a>(name: &'a str, rest: &'a str) -> Option<Event<'a>>
 }
 
 impl<'a> Event<'a> {
-    /// The event that a line tells, if it tells one.
+    /// The event that a line states, if it states one.
     pub fn read(line: &'a str) -> Option<Event<'a>>
         ensures { ReadsEvent line.now result }
     {

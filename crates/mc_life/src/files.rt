@@ -75,8 +75,8 @@ pub fn find<'a>(files: &'a [File], name: &str) -> Option<&'a [u8]>
     None
 }
 
-/// The image of the file at a place, if there is such a file, and it begins with one.
-pub fn known_at(files: &[File], place: usize) -> Option<KnownImage<'_>> {
-    let file = files.get(place)?;
+/// The image of the file of a number, if there is such a file, and it begins with one.
+pub fn known_at(files: &[File], number: usize) -> Option<KnownImage<'_>> {
+    let file = files.get(number)?;
     file.known()
 }

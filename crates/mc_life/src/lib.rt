@@ -1,4 +1,4 @@
-//! A device's life, replayed: what can happen to a device, as a script tells it, and what it comes to.
+//! A device's life, replayed: what can happen to a device, as a script states it, and what it comes to.
 #![tactic(auto)]
 
 mod boots;
@@ -18,7 +18,7 @@ pub use device::Device;
 pub use error::{EventError, ScriptError};
 pub use event::Event;
 pub use files::{File, find};
-pub use life::{LifeError, tell};
+pub use life::{LifeError, replay_life};
 pub use request::Request;
 pub use script::Script;
 pub use wear::Wear;

@@ -1,14 +1,11 @@
-//! A life, told event by event.
+//! A life, replayed event by event.
 ghost use Rattle.std.specs.Prelude.{◌≡◌, ◌<◌, ◌≤◌, ◌^◌, Option, length, option_map, IfErr, IfOk, MatchResult, None, Some, OnOk};
 ghost use Rattle.mc_boot.specs.Life.{IsDelivered, LivesOn};
-ghost use Rattle.mc_boot.specs.Outcome.{shown};
+ghost use Rattle.mc_boot.specs.Outcome.{shown, Report};
 ghost use Rattle.mc_flash.specs.Flash.{Content};
-ghost use Rattle.mc_life.specs.Told.{Ends, Refuses, happenings, operations};
-ghost use Rattle.mc_life.specs.Script.{file_of};
-ghost use Rattle.mc_boot.specs.Outcome.{Report};
+ghost use Rattle.mc_life.specs.Replay.{Ends, Refuses, happenings, operations, FailsLife, FailsLine, Happens, IsReplayed, RefusesLine, life_error, line_text};
+ghost use Rattle.mc_life.specs.Script.{file_of, is_skipped};
 ghost use Rattle.std.specs.Io.KnownBytes.{Appends};
-ghost use Rattle.mc_life.specs.Script.{is_skipped};
-ghost use Rattle.mc_life.specs.Told.{FailsLife, FailsLine, Happens, IsTold, RefusesLine, life_error, line_text};
 ghost use Rattle.mc_life.specs.Device.{Goes, moment};
 
 use crate::device::Device;
@@ -25,11 +22,11 @@ use std::alloc::Global;
 use std::io::Write;
 use thiserror::Error;
 
-/// Why a life is not told to its end.
+/// Why a life is not replayed to its end.
 #[derive(Clone, Copy, Debug, PartialEq, Eq, Error)]
 pub enum LifeError {
-    /// The event of that number, in the line of that number, can't happen, or its line tells none; both are counted from 1. All
-    /// before it is out.
+    /// The event of that number, in the line of that number, can't happen, or its line states none; both are counted from 1.
+    /// All before it is out.
     #[error("{0}, event {1}, line {2}")]
     Refused(EventError, u32, u32),
     /// An allocation failed, or the room of a flash that counts is full.
@@ -43,7 +40,7 @@ pub enum LifeError {
 /// The most bytes of an image.
 const MOST_IMAGE: usize = 1 << 24;
 
-// Whether a line tells nothing: it is empty, or begins with `#`.
+// Whether a line states nothing: it is empty, or begins with `#`.
 fn is_skipped(line: &str) -> bool
     ensures { result ≡ is_skipped line.now }
 {
@@ -90,7 +87,7 @@ fn happen<F: Flash>(
     Ok(None)
 }
 
-// Why a line is not told.
+// Why a line is not replayed.
 #[derive(Clone, Copy, Debug, PartialEq, Eq)]
 enum LineError {
     Event(EventError),
@@ -117,7 +114,7 @@ impl From<WriteFailed> for LineError {
     }
 }
 
-// What a line tells happens to a device.
+// What a line states happens to a device.
 fn happen_line<F: Flash>(
     device: &mut Device<F>,
     alloc: Global,
@@ -135,8 +132,8 @@ fn happen_line<F: Flash>(
     }
 }
 
-// Tells a line that is not skipped.
-fn tell_line<F: Flash, W: Write>(
+// Replays a line that is not skipped.
+fn replay_line<F: Flash, W: Write>(
     device: &mut Device<F>,
     alloc: Global,
     number: u32,
@@ -145,7 +142,7 @@ fn tell_line<F: Flash, W: Write>(
     known: &[Option<KnownImage<'_>>],
     writer: &mut W,
 ) -> Result<(), LineError>
-    ensures told { OnOk result ((o : Option Report) × Happens files.now line.now device.old
+    ensures replayed { OnOk result ((o : Option Report) × Happens files.now line.now device.old
         device.new o × Appends (W.contents writer.old) (W.contents writer.new)
         (line_text number line.now o device.new)) }
     ensures failed { IfErr result (FailsLine files.now number line.now device.old
@@ -180,7 +177,7 @@ fn known_images<'a>(start: &'a Start, files: &'a [File]) -> [Option<KnownImage<'
     ]
 }
 
-// Why a life is not told to its end, where that line is not told.
+// Why a life is not replayed to its end, where that line is not replayed.
 fn failure(error: LineError, number: u32, line: u32) -> LifeError
     ensures { result ≡ life_error error number line }
 {
@@ -191,23 +188,24 @@ fn failure(error: LineError, number: u32, line: u32) -> LifeError
     }
 }
 
-/// Tells what happens to a device from a start on, by a script: a line for each event, with its number, its words, for a boot its
-/// result, its type and how many operations happened, then the primary's image, whether that is on trial, the secondary's image,
-/// and the type of the next boot. The device at the end. At the start the power is off.
+/// Replays what happens to a device from a start on, by a script: a line for each event, with its number, its words, for a boot
+/// its result, its type and how many operations happened, then the primary's image, whether that is on trial, the secondary's
+/// image, and the type of the next boot. The device at the end. At the start the power is off.
 ///
 /// The images that the start and the first six files begin with are hashed once.
 ///
 /// # Errors
 ///
-/// `Refused` with the first event that can't happen, or the first line that tells none: all before it is out. `Memory`. `Write`.
-pub fn tell<F: Flash, W: Write>(
+/// `Refused` with the first event that can't happen, or the first line that states none: all before it is out. `Memory`. `Write`.
+pub fn replay_life<F: Flash, W: Write>(
     alloc: Global,
     start: &Start,
     script: &Script,
     files: &[File],
     writer: &mut W,
 ) -> Result<Device<F>, LifeError>
-    ensures told { IfOk result (IsTold files.now start.now script.now (W.contents writer.old)
+    ensures replayed { IfOk result (IsReplayed files.now start.now script.now (W.contents
+        writer.old)
         (W.contents writer.new)) }
     ensures failed { IfErr result (FailsLife files.now start.now script.now
         (W.contents writer.old) (W.contents writer.new)) }
@@ -216,7 +214,7 @@ pub fn tell<F: Flash, W: Write>(
         → (rested z : Content) × LivesOn start.now.rules start.now.geometry (moment d rested) z) }
 {
     life_law();
-    // The layout of a start tells that it is one.
+    // Reading a field gives the prover that it is a layout.
     let _layout = start.layout();
     let known = known_images(start, files);
     let Ok(mut device) = Device::new(alloc, start) else {
@@ -228,7 +226,7 @@ pub fn tell<F: Flash, W: Write>(
     'lines: while let Some(text) = rest {
         let (line, after) = next_line(text);
         if !is_skipped(line) {
-            match tell_line(&mut device, alloc, number, line, files, &known, writer) {
+            match replay_line(&mut device, alloc, number, line, files, &known, writer) {
                 Ok(()) => {}
                 Err(error) => return Err(failure(error, number, line_number)),
             }

@@ -30,7 +30,7 @@ impl Model for Script {
     ghost invariant = { λ s. length (string_bytes s.text) ≤ 2 ^ 24 };
 }
 
-/// The first line of a text, and what is left behind it, if something is.
+/// The first line of a text, and what is left after it, if something is.
 pub(crate) fn next_line(text: &str) -> (&str, Option<&str>)
     ensures lines { lines_of text.now ≡ result.0.now
         ∷ lines_left (option_map (λ t. t.now) result.1) }
@@ -42,7 +42,7 @@ pub(crate) fn next_line(text: &str) -> (&str, Option<&str>)
     }
 }
 
-// The file that a line names, if it tells an event that names one.
+// The file that a line names, if it states an event that names one.
 fn file_in(line: &str) -> Option<&str>
     ensures { (e : Option Event) × ReadsEvent line.now e
         × (option_map (λ t. t.now) result ≡ option_and_then file_named e) }
@@ -75,7 +75,7 @@ impl Script {
     /// Its text.
     pub fn text(&self) -> &str
         ensures text { result.now ≡ self.now }
-        ensures few { length self.now ≤ 2 ^ 24 }
+        ensures at_most { length self.now ≤ 2 ^ 24 }
     {
         &self.text
     }

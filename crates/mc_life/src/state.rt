@@ -5,9 +5,8 @@ ghost use Rattle.mc_boot.specs.Plan.{identity_of};
 ghost use Rattle.mc_boot.specs.Life.{device_state, is_on_trial};
 ghost use Rattle.mc_boot.specs.Outcome.{shown};
 ghost use Rattle.mc_flash.specs.Flash.{bytes_of};
-ghost use Rattle.mc_life.specs.Told.{stated};
-ghost use Rattle.mc_life.specs.Told.{event_line, outcome_text, slot_text, state_text, trial_text};
-ghost use Rattle.mc_output.specs.Text.{AppendsFront};
+ghost use Rattle.mc_life.specs.Replay.{stated, event_line, outcome_text, slot_text, state_text, trial_text};
+ghost use Rattle.mc_output.specs.Text.{AppendsPrefix};
 
 use mc_boot::{Boot, ImageId, KnownImage, Outcome, image_in};
 use mc_flash::{Flash, Slot};
@@ -38,7 +37,7 @@ fn is_on_trial(primary: &Trailer) -> bool
 // The bytes of a slot, as many as its layout says.
 fn slot_bytes<F: Flash>(flash: &F, slot: Slot) -> &[u8]
     ensures value { result.now ≡ bytes_of (F.seen flash.now).content slot }
-    ensures few { length result.now ≤ 2 ^ 24 }
+    ensures at_most { length result.now ≤ 2 ^ 24 }
 {
     let size = flash.layout().size(slot) as usize;
     &flash.read(slot)[..size]
@@ -119,10 +118,10 @@ fn number_line(number: u32) -> Line
     line
 }
 
-// What stands behind the words of an event.
+// What stands after the words of an event.
 fn end_line(outcome: &Option<Outcome>, state: &State) -> Line
-    ensures { let told = outcome_text (option_map shown outcome.now) in result
-        ≡ (told ++ state_text (stated state.now)) ++ 10 ∷ [] }
+    ensures { let ended = outcome_text (option_map shown outcome.now) in result
+        ≡ (ended ++ state_text (stated state.now)) ++ 10 ∷ [] }
 {
     let mut line = Line::new();
     put_outcome(&mut line, outcome);
@@ -145,7 +144,7 @@ pub fn write_event<W: Write>(
 ) -> Result<(), WriteFailed>
     ensures whole { OnOk result (Appends (W.contents writer.old) (W.contents writer.new)
         (event_line number words.now (option_map shown outcome.now) (stated state.now))) }
-    ensures front { OnErr result (AppendsFront (W.contents writer.old) (W.contents writer.new)
+    ensures prefix { OnErr result (AppendsPrefix (W.contents writer.old) (W.contents writer.new)
         (event_line number words.now (option_map shown outcome.now) (stated state.now))) }
 {
     write_line(writer, &number_line(number))?;

@@ -2,7 +2,7 @@
 ghost use Rattle.std.specs.Prelude.{◌≡◌, ◌≤◌, ◌++◌, codes, decimal, length, OnErr, OnOk};
 ghost use Rattle.std.specs.Io.KnownBytes.{Appends};
 ghost use Rattle.mc_life.specs.Device.{IsMost, OfWear, total};
-ghost use Rattle.mc_output.specs.Text.{AppendsFront};
+ghost use Rattle.mc_output.specs.Text.{AppendsPrefix};
 
 use crate::wear::Wear;
 use mc_flash::Slot;
@@ -78,8 +78,8 @@ fn slot_line(name: &str, most: Most, all: u64) -> Line
 pub fn write_wear<W: Write>(wear: &Wear, writer: &mut W) -> Result<(), WriteFailed>
     ensures whole { OnOk result
         (OfWear wear.now (Appends (W.contents writer.old) (W.contents writer.new))) }
-    ensures front { OnErr result
-        (OfWear wear.now (AppendsFront (W.contents writer.old) (W.contents writer.new))) }
+    ensures prefix { OnErr result
+        (OfWear wear.now (AppendsPrefix (W.contents writer.old) (W.contents writer.new))) }
 {
     let primary = wear.counts(Slot::Primary);
     let secondary = wear.counts(Slot::Secondary);

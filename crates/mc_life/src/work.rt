@@ -1,22 +1,19 @@
 //! What a running image does to the secondary, operation by operation, and what that erases.
 ghost use Rattle.std.specs.Prelude.{◌≡◌, ◌<◌, [], ◌∷◌, ◌≤◌, ◌%◌, length, IfErr, IfOk, OnOk, true};
 ghost use Rattle.mc_boot.specs.Life.{AreSecondary};
-ghost use Rattle.mc_image.specs.Image.{IsBytes};
 ghost use Rattle.mc_flash.specs.Flash.{put, sectors_of, size_of, with_bytes};
 ghost use Rattle.mc_flash.specs.Usage.{Does, limits_for};
 ghost use Rattle.mc_flash.specs.declared.op.Op.TheVariants.{Erase, Program};
 ghost use Rattle.mc_flash.specs.declared.op.Slot.TheVariants.{Primary, Secondary};
-ghost use Rattle.mc_life.specs.Device.{worn};
-ghost use Rattle.mc_life.specs.Device.{AskFails};
+ghost use Rattle.mc_life.specs.Device.{worn, AskFails, asked, magic_write, marked, wiped, wipes};
 ghost use Rattle.mc_boot.specs.Plan.{image_ok_write};
-ghost use Rattle.mc_trailer.specs.Trailer.{one_unit};
-ghost use Rattle.mc_life.specs.Device.{asked, magic_write, marked, wiped, wipes};
+ghost use Rattle.mc_trailer.specs.Trailer.{one_unit, before_end, place};
 ghost use Rattle.mc_boot.specs.Restart.{filled};
-ghost use Rattle.mc_trailer.specs.Trailer.{before_end, place};
 
 use crate::request::Request;
 use crate::wear::Wear;
 use mc_flash::{Bytes16, Flash, FlashError, Grain, Layout, Slot};
+use mc_image::are_bytes;
 use mc_trailer::{Field, MAGIC, place};
 use std::alloc::{AllocError, Global};
 
@@ -69,27 +66,22 @@ pub fn rewrite<F: Flash>(flash: &mut F, wear: &mut Wear, bytes: &[u8]) -> Result
         ≡ worn wear.old (wipes (F.seen flash.old).geometry.secondary)) }
     ensures err { IfErr result (λ e. e ≡ FlashError.Memory) }
 {
-    // Each number of a layout tells that it is one.
+    // Reading a field gives the prover that it is a layout.
     let _sector = flash.layout().sector();
     wipe(flash, wear)?;
     flash.program(Slot::Secondary, 0, bytes)
 }
 
-// What a slice holds are bytes.
-fn bytes_stand(bytes: &[u8])
-    ensures { IsBytes bytes.now }
-{}
-
 /// What stands in the secondary is something that may be stored there.
 pub fn secondary_stands<F: Flash>(flash: &F)
     ensures { AreSecondary (F.seen flash.now).geometry (F.seen flash.now).content.secondary }
 {
-    bytes_stand(flash.read(Slot::Secondary));
+    are_bytes(flash.read(Slot::Secondary));
 }
 
 // Writes a field of the secondary's trailer, of whole units.
 fn write_field<F: Flash>(flash: &mut F, field: Field, bytes: &[u8]) -> Result<(), FlashError>
-    requires some { 0 < length bytes.now }
+    requires nonempty { 0 < length bytes.now }
     requires fits { length bytes.now ≤ before_end field }
     requires whole { length bytes.now % (F.seen flash.old).geometry.unit ≡ 0 }
     ensures { let g = (F.seen flash.old).geometry in
@@ -114,7 +106,7 @@ fn write_magic<F: Flash>(flash: &mut F) -> Result<(), FlashError>
     ensures { Does (magic_write (F.seen flash.old).geometry) (F.seen flash.old) result
         (F.seen flash.new) }
 {
-    // Each number of a layout tells that it is one.
+    // Reading a field gives the prover that it is a layout.
     let _unit = flash.layout().unit();
     write_field(flash, Field::Magic, &MAGIC)
 }
@@ -124,7 +116,7 @@ fn write_image_ok<F: Flash>(flash: &mut F) -> Result<(), FlashError>
     ensures { Does (image_ok_write (F.seen flash.old).geometry Secondary) (F.seen flash.old) result
         (F.seen flash.new) }
 {
-    // Each number of a layout tells that it is one.
+    // Reading a field gives the prover that it is a layout.
     let _unit = flash.layout().unit();
     let unit = set_unit(flash.layout());
     write_field(flash, Field::ImageOk, unit.bytes())
@@ -169,7 +161,7 @@ pub fn filled(alloc: Global, layout: &Layout, image: &[u8]) -> Result<Vec<u8>, A
 // Puts bytes at the primary's image-ok.
 fn put_image_ok(layout: &Layout, primary: &mut [u8], bytes: &[u8])
     requires len { length primary.old ≡ size_of layout.now Primary }
-    requires few { length bytes.now ≤ 8 }
+    requires at_most { length bytes.now ≤ 8 }
     ensures value { let at = place layout.now Primary Field.ImageOk in primary.new
         ≡ put primary.old at bytes.now }
     ensures len { length primary.new ≡ length primary.old }
@@ -190,7 +182,7 @@ pub fn marked<F: Flash>(
     bytes: &[u8],
     boots: u32,
 ) -> Result<F, FlashError>
-    requires few { length bytes.now ≤ 8 }
+    requires at_most { length bytes.now ≤ 8 }
     requires boots { (1 ≤ boots) × (boots ≤ 32) }
     ensures content { let f = F.seen flash.now in IfOk result (λ made. (F.seen made).content
         ≡ marked f.geometry f.content bytes.now) }

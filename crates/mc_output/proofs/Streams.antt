@@ -4,6 +4,6 @@ use Rattle.std.specs.Io.KnownBytes.{Appends}
 use Rattle.std.proofs.KnownBytes.{Appends-trans}
 use Rattle.std.proofs.Math.Seq.{take-add}
 
--- A front of a text, and then the front of what is left.
+-- A prefix of a text, and then the prefix of what is left.
 pub Appends_more : (a b c : Option (List ℕ)) (text : List ℕ) (i n : ℕ) → Appends a b (take i text) → Appends b c (take n (drop i text)) → Appends a c (take (i + n) text)
 Appends_more a b c text i n p q = subst (Appends a c) (sym (take-add i n text)) (Appends-trans a b c _ _ p q)

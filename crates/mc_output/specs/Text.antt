@@ -8,7 +8,7 @@ abbrev pub joined : {A : Type 0} → List ℕ → (A → List ℕ) → List A �
 joined separator spell [] = codes "-"
 joined separator spell (x ∷ xs) = spell x ++ flat_map (λ y. separator ++ spell y) xs
 
--- The item that a text spells stands behind others, with which it goes.
+-- The item that a text spells stands after others, with which it goes.
 pub record IsAdded {A : Type 0} (spell : A → List ℕ) (Fits : List A → A → Type 0) (old : List A) (text : List ℕ) (new : List A) : Type 0 where
   pub item : A
   pub fits : Fits old item
@@ -17,6 +17,6 @@ pub record IsAdded {A : Type 0} (spell : A → List ℕ) (Fits : List A → A �
 
 -- A beginning of a text.
 
--- Some front of the text is out.
-abbrev pub AppendsFront : Option (List ℕ) → Option (List ℕ) → List ℕ → Type 0
-AppendsFront before after text = (n : ℕ) × Appends before after (take n text)
+-- Some prefix of the text is out.
+abbrev pub AppendsPrefix : Option (List ℕ) → Option (List ℕ) → List ℕ → Type 0
+AppendsPrefix before after text = (n : ℕ) × Appends before after (take n text)

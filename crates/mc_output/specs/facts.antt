@@ -1,5 +1,5 @@
 -- Lemmas that the crates above cite.
 pub mod Parting
 pub mod Reading
-pub mod Fronts
+pub mod Prefixes
 pub mod Results

@@ -3,7 +3,7 @@
 
 ghost use Rattle.std.specs.Prelude.{OnErr, OnOk};
 ghost use Rattle.std.specs.Io.KnownBytes.{Appends};
-ghost use Rattle.mc_output.specs.Text.{AppendsFront};
+ghost use Rattle.mc_output.specs.Text.{AppendsPrefix};
 
 mod line;
 
@@ -21,8 +21,8 @@ pub struct WriteFailed;
 /// `WriteFailed` where a write fails or takes no bytes.
 pub fn write_text<W: Write>(writer: &mut W, text: &[u8]) -> Result<(), WriteFailed>
     ensures whole { OnOk result (Appends (W.contents writer.old) (W.contents writer.new) text.now) }
-    ensures front { OnErr result
-        (AppendsFront (W.contents writer.old) (W.contents writer.new) text.now) }
+    ensures prefix { OnErr result
+        (AppendsPrefix (W.contents writer.old) (W.contents writer.new) text.now) }
 {
     let mut done = 0;
     while done < text.len() {
@@ -41,8 +41,8 @@ pub fn write_text<W: Write>(writer: &mut W, text: &[u8]) -> Result<(), WriteFail
 /// `WriteFailed` where a write fails or takes no bytes.
 pub fn write_line<W: Write>(writer: &mut W, line: &Line) -> Result<(), WriteFailed>
     ensures whole { OnOk result (Appends (W.contents writer.old) (W.contents writer.new) line.now) }
-    ensures front { OnErr result
-        (AppendsFront (W.contents writer.old) (W.contents writer.new) line.now) }
+    ensures prefix { OnErr result
+        (AppendsPrefix (W.contents writer.old) (W.contents writer.new) line.now) }
 {
     write_text(writer, line.as_str().as_bytes())
 }

@@ -1,7 +1,5 @@
 -- How the text of a cursor is taken apart.
-use Rattle.std.specs.Prelude.{◌≡◌, ◌≢◌, IsSomeAnd, ℕ, suc, ◌*◌, ◌/◌, ◌%◌, ◌<◌, ◌≤◌, List, [], ◌∷◌, ◌++◌, length, slice_index, Option, Some, None, decimal, Result, Ok, Err, MatchResult, true}
-use Rattle.std.specs.Prelude.{false}
-use Rattle.std.specs.Prelude.{IfSome, is_err, refl}
+use Rattle.std.specs.Prelude.{◌≡◌, ◌≢◌, IsSomeAnd, ℕ, suc, ◌*◌, ◌/◌, ◌%◌, ◌<◌, ◌≤◌, List, [], ◌∷◌, ◌++◌, length, slice_index, Option, Some, None, decimal, Result, Ok, Err, MatchResult, true, false, IfSome, is_err, refl}
 use Rattle.std.specs.Str.Parse.{ParsesUnsigned}
 use Rattle.std.proofs.Common.{append_assoc, arith, sym, ap, ◌∙◌}
 use Rattle.std.proofs.lemmas.Fmt.{parse-decimal}
@@ -83,7 +81,7 @@ field_there text None split = tt
 field_there text (Some (a, b)) split = (parted 58 (omega arith) text (Some (a, b)) split a b refl).parts
 
 pub lacks_bound : (n : ℕ) → n ≤ 16 → Lacks 58 (decimal n)
-lacks_bound n few = lacks_decimal 58 colon_no_digit n (omega (arith, few))
+lacks_bound n at_most = lacks_decimal 58 colon_no_digit n (omega (arith, at_most))
 
 abbrev pub field_of : List ℕ → ℕ → StartField
 field_of digest bound = record { digest = digest; bound = bound }
@@ -96,12 +94,12 @@ start_is d e m n a b = cc
 
 -- The start and the bound of a cursor are a field.
 pub start_of : (c : Cursor) → IsCursor c → IsStartField (field_of c.digest c.bound)
-start_of c ok = record { digest = ok.digest; bytes = ok.bytes; few = ok.few }
+start_of c ok = record { digest = ok.digest; bytes = ok.bytes; at_most = ok.at_most }
 
 -- A cursor that was read is the one of its fields.
-pub cursor_is : {E : Type 0} (told : Rules) (start : StartField) (schedule : List ℕ) (c : Cursor) → told ≡ c.rules → start ≡ field_of c.digest c.bound
+pub cursor_is : {E : Type 0} (given : Rules) (start : StartField) (schedule : List ℕ) (c : Cursor) → given ≡ c.rules → start ≡ field_of c.digest c.bound
     → ◌≡◌ {A = Result (List ℕ) E} (Ok schedule) (Ok c.schedule)
-    → record { rules = told; digest = start.digest; bound = start.bound; schedule = schedule } ≡ c
-cursor_is told start schedule c a b d =
-    let all : record { rules = told; digest = start.digest; bound = start.bound; schedule = schedule } ≡ record { rules = c.rules; digest = c.digest; bound = c.bound; schedule = c.schedule } = cc in
+    → record { rules = given; digest = start.digest; bound = start.bound; schedule = schedule } ≡ c
+cursor_is given start schedule c a b d =
+    let all : record { rules = given; digest = start.digest; bound = start.bound; schedule = schedule } ≡ record { rules = c.rules; digest = c.digest; bound = c.bound; schedule = c.schedule } = cc in
     all

@@ -16,7 +16,7 @@ use Rattle.mc_flash.specs.inner.Room.{zeros_after}
 use Rattle.mc_image.specs.Image.{Begins, Image, image_in, image_text}
 use Rattle.mc_image.specs.Valid.{Identity, first_fault, id_of, image_fault, ◌<+>◌}
 use Rattle.mc_image.specs.declared.error.ImageError.{ImageError}
-use Rattle.mc_image.specs.facts.Valid.{front_within}
+use Rattle.mc_image.specs.facts.Valid.{prefix_within}
 use Rattle.mc_start.specs.Start.{in_order, named_ids}
 use Rattle.mc_start.specs.facts.Room.{limits_are}
 use Rattle.mc_boot.specs.declared.kind.Kind.TheVariants as kinds
@@ -32,15 +32,15 @@ pub no_fault : (b : List ℕ) → image_fault b ≡ None → first_fault b ≡ N
 unfolding image_fault
 no_fault b is = none_first (first_fault b) _ is
 
--- The image that was read has that size, and its bytes are the front of that size.
+-- The image that was read has that size, and its bytes are the prefix of that size.
 pub read_size : (b : List ℕ) (v : Image) → image_fault b ≡ None → v ≡ image_in b → length (image_text v) ≡ image_size b
 read_size b v fine is = ap (λ (w : Image). length (image_text w)) is ∙ size_read b (no_fault b fine)
 
-pub read_front : (b : List ℕ) (v : Image) (size : ℕ) → image_fault b ≡ None → v ≡ image_in b → Begins b v → size ≡ length (image_text v)
+pub read_prefix : (b : List ℕ) (v : Image) (size : ℕ) → image_fault b ≡ None → v ≡ image_in b → Begins b v → size ≡ length (image_text v)
     → (length (take size b) ≡ image_size b) × (take size b ≡ take (image_size b) b)
-read_front b v size fine is begins size_is =
+read_prefix b v size fine is begins size_is =
     let same : size ≡ image_size b = size_is ∙ read_size b v fine is in
-    (length-take-le size b (omega (arith, size_is, front_within b v begins)) ∙ same, ap (λ n. take n b) same)
+    (length-take-le size b (omega (arith, size_is, prefix_within b v begins)) ∙ same, ap (λ n. take n b) same)
 
 -- The identities of two valid images, the named one first.
 pub names : (kind : Kind) (a b : List ℕ) (x y : Identity) → id_of a ≡ Some x → id_of b ≡ Some y → Some (in_order kind x y) ≡ named_ids kind a b
@@ -50,10 +50,10 @@ names kind a b x y first second = rw first (rw second refl)
 abbrev pub pair : Identity → Identity → Identity × Identity
 pair x y = (x, y)
 
-pub told_ids : (kind : Kind) (p : ImageId × ImageId) (i j : ImageId) (x y : Identity) → p ≡ in_order kind i j → identity_of i ≡ x → identity_of j ≡ y
+pub given_ids : (kind : Kind) (p : ImageId × ImageId) (i j : ImageId) (x y : Identity) → p ≡ in_order kind i j → identity_of i ≡ x → identity_of j ≡ y
     → pair (identity_of p.0) (identity_of p.1) ≡ in_order kind x y
-told_ids kinds.None p i j x y is first second = cc
-told_ids kind p i j x y is first second = cc
+given_ids kinds.None p i j x y is first second = cc
+given_ids kind p i j x y is first second = cc
 
 -- The boot of a flash that was just loaded, for a start that is what it leaves.
 
@@ -61,12 +61,12 @@ module _ (counted : Bool) (g : Geometry) (primary secondary : List ℕ) (f : See
   -- It has room for a boot.
   pub allows : (p : Progress) → Loads counted g primary secondary plain.grain 1 f → length p.to_come ≤ most_operations plain.grain f.geometry → (left_of f.geometry p).saved ≤ most_saved f.geometry
       → Allows (left_of f.geometry p) f
-  allows p l few saves =
+  allows p l at_most saves =
       let limits = limits_are plain.grain g 1 f.usage.limits l.room in
       let entries = ap (λ x. most_operations plain.grain x) l.geometry_is in
       let saved = ap most_saved l.geometry_is in
       record {
-        entries = omega (arith, few, entries, limits.for_entries, ap (λ (x : Usage). x.counts.entries) l.usage_is);
+        entries = omega (arith, at_most, entries, limits.for_entries, ap (λ (x : Usage). x.counts.entries) l.usage_is);
         saved = omega (arith, saves, saved, limits.for_saved, ap (λ (x : Usage). x.counts.saved) l.usage_is);
       }
 
@@ -77,11 +77,11 @@ module _ (counted : Bool) (g : Geometry) (primary secondary : List ℕ) (f : See
       ap (λ (x : Geometry). left_by (power_on plain x (record { primary = primary; secondary = secondary }))) (sym l.geometry_is) ∙ ap (λ s. left_by (power_on plain f.geometry s)) (sym l.content_is)
       ∙ come_left (powered plain f) p new.content come end ∙ ap (λ (x : Content). Some x) (sym same)
 
--- The fixed room of a schedule: behind its cuts stand zeros.
+-- The fixed room of a schedule: after its cuts stand zeros.
 
--- Zeros stand behind one cut more.
-pub zeros_behind : (cuts : List ℕ) (n c : ℕ) → n < 16 → drop n cuts ≡ zeros_after n → drop (n + 1) (slice_set cuts n c) ≡ zeros_after (n + 1)
-zeros_behind cuts n c room zeros =
+-- Zeros stand after one cut more.
+pub zeros_beyond : (cuts : List ℕ) (n c : ℕ) → n < 16 → drop n cuts ≡ zeros_after n → drop (n + 1) (slice_set cuts n c) ≡ zeros_after (n + 1)
+zeros_beyond cuts n c room zeros =
     drop-set-lt (n + 1) cuts n c (omega arith)
     ∙ sym (drop-drop 1 n cuts)
     ∙ ap (drop 1) zeros

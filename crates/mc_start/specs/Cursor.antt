@@ -1,4 +1,4 @@
--- What the texts of cursors are made of: fields with a colon behind each.
+-- What the texts of cursors are made of: fields with a colon after each.
 use Rattle.std.specs.Borrow.{Bor}
 use Rattle.std.specs.Prelude.{Err, IsSomeAnd, List, Ok, Option, Result, codes, decimal, length, ℕ, ◌++◌, ◌≡◌, ◌≤◌}
 use Rattle.hex.specs.Hex.{IsBytes, encode_lower}
@@ -26,7 +26,7 @@ start_text digest bound rest = encode_lower digest ++ (codes ":" ++ (decimal bou
 pub record IsStartField (field : StartField) : Type 0 where
   pub digest : length field.digest ≡ 32
   pub bytes : IsBytes field.digest
-  pub few : field.bound ≤ 16
+  pub at_most : field.bound ≤ 16
 
 -- A value was read from the beginning of a text, and this is left of it.
 abbrev pub IsRead : {A : Type 0} → Option (A × Bor (List ℕ)) → A → List ℕ → Type 0
@@ -43,15 +43,15 @@ head_text grain profile = codes "mc2:" ++ rules_text grain profile
 abbrev pub cursor_text : Cursor → List ℕ
 cursor_text c = head_text c.rules.grain c.rules.profile ++ start_text c.digest c.bound (schedule_text c.schedule)
 
--- The cursor that goes on behind a schedule, of a start and at most so many cuts.
+-- The cursor that goes on after a schedule, of a start and at most so many cuts.
 abbrev pub cursor_of : PowerOn → ℕ → List ℕ → Cursor
 cursor_of start bound l = record { rules = start.rules; digest = start_digest start; bound = bound; schedule = l }
 
--- A cursor of 32 bytes, at most 16 cuts, and a schedule that can be told.
+-- A cursor of 32 bytes, at most 16 cuts, and a schedule that can be printed.
 pub record IsCursor (c : Cursor) : Type 0 where
   pub digest : length c.digest ≡ 32
   pub bytes : IsBytes c.digest
-  pub few : c.bound ≤ 16
+  pub at_most : c.bound ≤ 16
   pub schedule : IsSchedule c.schedule
 
 -- A text is read as the cursor of that text, and is refused where it is that of none.

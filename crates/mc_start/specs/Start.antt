@@ -1,6 +1,5 @@
 -- Starts of an exploration, what is refused of them, and the texts of layouts and schedules (docs/MODEL.md, "Start flashes").
-use Rattle.std.specs.Prelude.{All, Err, IfSome, IsOk, List, None, Ok, Option, Result, Some, [], codes, decimal, drop, if◌then◌else◌, length, take, ℕ, ◌&&◌, ◌++◌, ◌+◌, ◌-◌, ◌<◌, ◌==◌, ◌^◌, ◌∷◌}
-use Rattle.std.specs.Prelude.{◌≡◌, ◌≤◌}
+use Rattle.std.specs.Prelude.{All, Err, IfSome, IsOk, List, None, Ok, Option, Result, Some, [], codes, decimal, drop, if◌then◌else◌, length, take, ℕ, ◌&&◌, ◌++◌, ◌+◌, ◌-◌, ◌<◌, ◌==◌, ◌^◌, ◌∷◌, ◌≡◌, ◌≤◌}
 use Rattle.mc_boot.specs.Plan.{PowerOn, identity_of, image_size, plain, power_on}
 use Rattle.mc_boot.specs.Restart.{named, other, start_flash}
 use Rattle.mc_boot.specs.declared.image.ImageId.{ImageId}
@@ -33,7 +32,7 @@ schedule_text cuts = joined (codes ".") decimal cuts
 
 -- At most 16 cuts, each below 2^32.
 pub record IsSchedule (l : List ℕ) : Type 0 where
-  pub few : length l ≤ 16
+  pub at_most : length l ≤ 16
   pub small : All (λ c. c < 2 ^ 32) l
 
 -- A text is read as the schedule of that text, and is refused where it is that of none.
@@ -46,7 +45,7 @@ pub record FitsCut (before : List ℕ) (cut : ℕ) : Type 0 where
   pub room : length before < 16
   pub small : cut < 2 ^ 32
 
--- The cut that a text writes stands behind others.
+-- The cut that a text writes stands after others.
 abbrev pub IsAdded : List ℕ → List ℕ → List ℕ → Type 0
 IsAdded old text new = joining.IsAdded decimal FitsCut old text new
 
@@ -66,7 +65,7 @@ refusal_of g a b = in_first (image_fault a)
     in_first None = in_second (image_fault b)
 
 -- A start: the layout, the rules of the boots from there on, and the flash; also its two images where it was made of them, that is
--- what tells the named one apart, and the other one.
+-- what distinguishes the named one, and the other one.
 pub record Started : Type 0 where
   pub geometry : Geometry
   pub rules : Rules
@@ -93,7 +92,7 @@ abbrev pub named_ids : Kind → List ℕ → List ℕ → Option (Identity × Id
 named_ids kind a b = both (id_of (named kind a b)) (id_of (other kind a b))
 
 -- The start of two images: it has the defined flash, and whole calls and the first profile are its rules. Where there is
--- none the first refusal is answered. Memory is wanted only for images that are not refused.
+-- none the first refusal is answered. An allocation failed only for images that are not refused.
 abbrev pub Starts : Geometry → Kind → List ℕ → List ℕ → Result Started StartError → Type 0
 Starts g kind a b (Ok s) =
     (refusal_of g a b ≡ None) × (s.geometry ≡ g) × (s.rules ≡ plain) × (start_flash g kind a b ≡ Some s.content)
@@ -108,19 +107,19 @@ of_flash g bytes =
     then Ok (record { primary = take (size_of g Primary) bytes; secondary = drop (size_of g Primary) bytes })
     else Err errors.FlashSize
 
--- The start of bytes, in the same way. It names no images. Memory is wanted only for bytes of the right length.
+-- The start of bytes, in the same way. It names no images. An allocation failed only for bytes of the right length.
 abbrev pub Gives : Geometry → Result Started StartError → Result Content StartError → Type 0
 Gives g (Ok s) wanted = (s.geometry ≡ g) × (s.rules ≡ plain) × (wanted ≡ Ok s.content) × (s.named ≡ None)
 Gives g (Err errors.Memory) wanted = IsOk wanted
 Gives g (Err e) wanted = wanted ≡ Err e
 
--- What tells starts apart in a cursor: the digest of the layout's line with its line feed, and then the bytes of both slots.
+-- What distinguishes starts in a cursor: the digest of the layout's line with its line feed, and then the bytes of both slots.
 abbrev pub start_digest : PowerOn → List ℕ
 start_digest s = sha256 (((layout_line s.geometry ++ 10 ∷ []) ++ s.content.primary) ++ s.content.secondary)
 
 -- What is known of the slots that a start has.
 
--- Where an identity is told of some bytes, they begin with that valid image.
+-- Where an identity is given of some bytes, they begin with that valid image.
 abbrev pub IsKnown : List ℕ → Option ImageId → Type 0
 IsKnown bytes id = IfSome id (λ i. id_of bytes ≡ Some (identity_of i))
 

@@ -13,17 +13,17 @@ use thiserror::Error;
 #[error("E55 Syntax")]
 pub struct CursorError;
 
-/// Where to go on with an exploration: after a schedule, of a start (told by its digest) under some rules, with so many
-/// cuts at most. It takes no memory.
+/// Where to go on with an exploration: after a schedule, of a start (named by its digest) under some rules, with so
+/// many cuts at most. It takes no memory.
 #[derive(Clone, Copy, Debug)]
 pub struct Cursor {
     /// The rules of the boots.
     pub rules: Rules,
-    /// What tells the start apart: `Start::digest`.
+    /// What distinguishes the start: `Start::digest`.
     pub digest: [u8; 32],
     /// The most cuts of a schedule.
     pub bound: u8,
-    /// The schedule behind which to go on.
+    /// The schedule after which to go on.
     pub schedule: Schedule,
 }
 

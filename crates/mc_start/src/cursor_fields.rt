@@ -1,4 +1,4 @@
-//! What the texts of cursors are made of: fields with a colon behind each. Nothing here takes memory.
+//! What the texts of cursors are made of: fields with a colon after each. Nothing here takes memory.
 ghost use Rattle.std.specs.Prelude.{◌≡◌, ℕ, ◌+◌, ◌≤◌, List, [], ◌∷◌, ◌++◌, length, decimal, Some, IfSome, IsSomeAnd};
 ghost use Rattle.hex.specs.Hex.{IsBytes, encode_lower};
 ghost use Rattle.mc_output.specs.facts.Parting.{Lacks};
@@ -91,7 +91,7 @@ pub fn read_digest(text: &str) -> Option<[u8; 32]>
 // The most cuts that a text writes, without leading zeros.
 fn bound_of(text: &str) -> Option<u8>
     ensures exact { IfSome result (λ n. text.now ≡ decimal n) }
-    ensures few { IfSome result (λ n. n ≤ 16) }
+    ensures at_most { IfSome result (λ n. n ≤ 16) }
     ensures only { (n : ℕ) → n ≤ 16 → text.now ≡ decimal n → result ≡ Some n }
 {
     match text.parse::<u8>() {
@@ -106,7 +106,7 @@ impl StartField {
     pub fn read(text: &str) -> Option<(StartField, &str)>
         ensures some { IfSome result (λ found. text.now
             ≡ start_text found.0.digest found.0.bound found.1.now) }
-        ensures few { IfSome result (λ found. found.0.bound ≤ 16) }
+        ensures at_most { IfSome result (λ found. found.0.bound ≤ 16) }
         ensures only { (start : StartField) (rest : List ℕ) → IsStartField start
             → text.now ≡ start_text start.digest start.bound rest → IsRead result start rest }
     {

@@ -1,7 +1,6 @@
 //! Cursors from their text.
 ghost use Rattle.std.specs.Prelude.{◌≡◌, ℕ, ◌≤◌, List, ◌++◌, Ok, IfOk, IfSome};
-ghost use Rattle.mc_start.specs.Cursor.{IsRead};
-ghost use Rattle.mc_start.specs.Cursor.{head_text, cursor_text, IsCursor, ReadsCursor};
+ghost use Rattle.mc_start.specs.Cursor.{IsRead, head_text, cursor_text, IsCursor, ReadsCursor};
 ghost use Rattle.mc_trailer.specs.declared.tables.Rules.{Rules};
 
 use crate::cursor::{Cursor, CursorError};
@@ -9,7 +8,7 @@ use crate::cursor_fields::{RulesField, StartField};
 use crate::schedule::Schedule;
 use mc_trailer::Rules;
 
-// The rules of a cursor, and what follows them. Whole calls and the first profile are told in a form of their own alone.
+// The rules of a cursor, and what follows them. Whole calls and the first profile are written in a form of their own alone.
 fn rules_of(text: &str) -> Option<(Rules, &str)>
     ensures some { IfSome result (λ found. text.now
         ≡ head_text found.0.grain found.0.profile ++ found.1.now) }
@@ -27,7 +26,7 @@ fn rules_of(text: &str) -> Option<(Rules, &str)>
 }
 
 impl Cursor {
-    /// The cursor that a text tells: `mc1:` for whole calls and the first profile, else `mc2:`, the grain (`call`, `unit`),
+    /// The cursor that a text says: `mc1:` for whole calls and the first profile, else `mc2:`, the grain (`call`, `unit`),
     /// `:`, the profile (`1`, `2`) and `:`; then the start's digest in 64 lower-case digits, `:`, the most cuts (0 to 16),
     /// `:`, and the schedule. It takes no memory.
     ///
@@ -36,7 +35,7 @@ impl Cursor {
     /// `CursorError` for every other text.
     pub fn read(text: &str) -> Result<Cursor, CursorError>
         ensures exact { ReadsCursor text.now result }
-        ensures few { IfOk result (λ c. c.bound ≤ 16) }
+        ensures at_most { IfOk result (λ c. c.bound ≤ 16) }
         // The text of each cursor is read as that cursor.
         ensures only { (c : Cursor) → IsCursor c → text.now ≡ cursor_text c → result ≡ Ok c }
     {

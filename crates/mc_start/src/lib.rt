@@ -1,4 +1,4 @@
-//! The flashes that a swap starts from, schedules of power cuts, and where to go on behind one.
+//! The flashes that a swap starts from, schedules of power cuts, and where to go on after one.
 #![tactic(auto)]
 
 mod cursor;

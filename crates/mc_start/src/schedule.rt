@@ -1,8 +1,7 @@
 //! Schedules of power cuts.
 ghost use Rattle.std.specs.Prelude.{◌≡◌, ◌↔◌, true, ℕ, ◌+◌, ◌<◌, ◌≤◌, ◌^◌, ◌++◌, List, [], ◌∷◌, length, take, decimal, Some, Ok, IfOk, MatchResult, OnOk, OnErr};
 ghost use Rattle.mc_tree.specs.Tree.{Precedes};
-ghost use Rattle.mc_start.specs.Start.{lowered};
-ghost use Rattle.mc_start.specs.Start.{schedule_text, FitsCut, IsSchedule, IsAdded, ReadsSchedule};
+ghost use Rattle.mc_start.specs.Start.{lowered, schedule_text, FitsCut, IsSchedule, IsAdded, ReadsSchedule};
 
 use mc_output::{Line, MOST_LINE};
 use mc_tree::precedes;
@@ -53,7 +52,7 @@ fn cut_of(text: &str) -> Result<u32, ScheduleError>
 }
 
 impl Schedule {
-    /// The schedule that a text tells: `-` for no cut, else 1 to 16 numbers below 2^32 without leading zeros, with points
+    /// The schedule that a text says: `-` for no cut, else 1 to 16 numbers below 2^32 without leading zeros, with points
     /// between them. It takes no memory.
     ///
     /// # Errors
@@ -117,7 +116,7 @@ impl Schedule {
     /// The cuts, in their order.
     pub fn cuts(&self) -> &[u32]
         ensures value { result.now ≡ self.now }
-        ensures few { length result.now ≤ 16 }
+        ensures at_most { length result.now ≤ 16 }
     {
         &self.cuts[..self.len]
     }
@@ -136,7 +135,7 @@ impl Schedule {
     }
 
     /// The same schedule after a cut, without its last one where it has 16.
-    pub fn behind(&self, cut: u32) -> Schedule
+    pub fn prefixed(&self, cut: u32) -> Schedule
         ensures { result ≡ take 16 (cut ∷ self.now) }
     {
         let cuts = self.cuts();
@@ -145,7 +144,7 @@ impl Schedule {
     }
 
     /// The same schedule with its first cut so many operations earlier, at 0 at the least.
-    pub fn back(&self, operations: u32) -> Schedule
+    pub fn first_lowered(&self, operations: u32) -> Schedule
         ensures { result ≡ lowered operations self.now }
     {
         match self.cuts().split_first() {

@@ -3,8 +3,7 @@ ghost use Rattle.std.specs.Prelude.{◌≡◌, ℕ, ◌≤◌, List, [], ◌∷�
 ghost use Rattle.mc_flash.specs.Flash.{size_of, put, IsSized};
 ghost use Rattle.mc_flash.specs.declared.op.Slot.TheVariants.{Primary, Secondary};
 ghost use Rattle.mc_trailer.specs.Trailer.{place, magic_bytes};
-ghost use Rattle.mc_boot.specs.Plan.{plain};
-ghost use Rattle.mc_boot.specs.Plan.{power_on};
+ghost use Rattle.mc_boot.specs.Plan.{plain, power_on};
 ghost use Rattle.mc_boot.specs.Outcome.{left_by};
 ghost use Rattle.mc_boot.specs.Restart.{image_bytes, filled, placed, test_flash, perm_flash, start_flash};
 

@@ -8,9 +8,7 @@ ghost use Rattle.mc_flash.specs.Flash.{size_of};
 ghost use Rattle.mc_flash.specs.declared.op.Slot.TheVariants.{Primary, Secondary};
 ghost use Rattle.mc_boot.specs.Plan.{image_size, identity_of};
 ghost use Rattle.mc_boot.specs.Restart.{image_bytes};
-ghost use Rattle.mc_start.specs.Start.{layout_line};
-ghost use Rattle.mc_start.specs.Start.{IsKnown};
-ghost use Rattle.mc_start.specs.Start.{Starts, Gives, begun, in_order, of_flash, start_digest};
+ghost use Rattle.mc_start.specs.Start.{layout_line, IsKnown, Starts, Gives, begun, in_order, of_flash, start_digest};
 
 use crate::slots::start_slots;
 use mc_boot::{ImageId, Kind, KnownImage, image_in, known_id};
@@ -78,14 +76,11 @@ pub struct Start {
 }
 
 impl Model for Start {
-    ghost use Rattle.mc_start.specs.Start.{Started};
-    ghost use Rattle.std.specs.Prelude.{option_map};
+    ghost use Rattle.mc_start.specs.Start.{Started, IsKnown, layout_line};
+    ghost use Rattle.std.specs.Prelude.{option_map, ◌≡◌, ◌++◌, ◌∷◌, [], length, string_bytes};
     ghost use Rattle.mc_boot.specs.Plan.{identity_of};
-    ghost use Rattle.std.specs.Prelude.{◌≡◌, ◌++◌, ◌∷◌, [], length, string_bytes};
     ghost use Rattle.mc_flash.specs.Geometry.{IsLayout};
     ghost use Rattle.mc_flash.specs.Flash.{IsSized};
-    ghost use Rattle.mc_start.specs.Start.{IsKnown};
-    ghost use Rattle.mc_start.specs.Start.{layout_line};
 
     ghost Value = { Started };
 
@@ -157,7 +152,7 @@ impl<'a> ValidImage<'a> {
         })
     }
 
-    // What tells it apart.
+    // What distinguishes it.
     fn id(&self) -> ImageId
         requires { length (image_text self.now.view) ≤ 2 ^ 24 }
         ensures { identity_of result ≡ identity self.now.view }
@@ -318,8 +313,8 @@ impl Start {
         ]
     }
 
-    /// What tells starts apart in a cursor: the SHA-256 of the layout's line, a line feed, the primary and the secondary. It
-    /// takes no memory.
+    /// What distinguishes starts in a cursor: the SHA-256 of the layout's line, a line feed, the primary and the secondary.
+    /// It takes no memory.
     pub fn digest(&self) -> [u8; 32]
         ensures { result ≡ start_digest (begun self.now) }
     {

@@ -8,7 +8,7 @@ mod joins;
 mod lives;
 
 use crate::common::{flash_of, same, same_at};
-use mc_boot::{Boot, BootResult, Outcome, Rejoin, confirm};
+use mc_boot::{Boot, BootResult, Outcome, SharedTail, confirm};
 use mc_flash::{Flash, SnapFlash};
 use mc_trailer::Rules;
 use std::process::Abort;
@@ -36,7 +36,7 @@ fn ended<F: Flash>(flash: &mut F, mut boot: Boot) -> Outcome
 }
 
 /// The outcome of a whole boot.
-fn told<F: Flash>(flash: &mut F, rules: Rules) -> Outcome
+fn shown<F: Flash>(flash: &mut F, rules: Rules) -> Outcome
     ensures { (F.seen flash.new).checkpoints ≡ (F.seen flash.old).checkpoints }
 {
     let boot = Boot::cold(flash, rules);
@@ -45,26 +45,26 @@ fn told<F: Flash>(flash: &mut F, rules: Rules) -> Outcome
 
 /// The outcome of a whole boot, from which the flash is taken back.
 fn whole_of<F: Flash>(rt: &impl Abort, flash: &mut F, rules: Rules) -> Outcome {
-    let place = flash.mark().expect(rt, "a checkpoint");
-    let whole = told(flash, rules);
-    flash.back_to(place);
+    let offset = flash.mark().expect(rt, "a checkpoint");
+    let whole = shown(flash, rules);
+    flash.back_to(offset);
     whole
 }
 
-/// What a boot tells, and what the same boot tells that was kept beside a checkpoint.
+/// What a boot reports, and what the same boot reports that was kept beside a checkpoint.
 #[tactic(auto, unfolding(mc_flash::specs::Usage::went_back))]
-fn told_again(rt: &impl Abort, flash: &mut SnapFlash) -> [Outcome; 2] {
+fn shown_again(rt: &impl Abort, flash: &mut SnapFlash) -> [Outcome; 2] {
     let mut boot = Boot::cold(flash, Rules::PLAIN);
     run(flash, &mut boot, 7);
-    let place = flash.mark().expect(rt, "a checkpoint");
+    let offset = flash.mark().expect(rt, "a checkpoint");
     let first = ended(flash, boot);
-    flash.back_to(place);
+    flash.back_to(offset);
     [first, ended(flash, boot)]
 }
 
 #[test]
 fn a_kept_boot_serves_again(rt: HostRuntime) {
-    let [first, again] = told_again(&rt, &mut flash_of(&rt, rt.alloc(), "IMAGES"));
+    let [first, again] = shown_again(&rt, &mut flash_of(&rt, rt.alloc(), "IMAGES"));
     same(&rt, &first, &again);
     same(&rt, &(again.result, again.ops), &(BootResult::Boot, 18));
 }
@@ -78,7 +78,7 @@ fn confirms(rt: &impl Abort, flash: &mut SnapFlash) -> bool {
 #[test]
 fn an_image_confirms_itself(rt: HostRuntime) {
     let mut flash = flash_of(&rt, rt.alloc(), "IMAGES");
-    let _ = told(&mut flash, Rules::PLAIN);
+    let _ = shown(&mut flash, Rules::PLAIN);
     let first = confirms(&rt, &mut flash);
     let second = confirms(&rt, &mut flash);
     let begun = confirms(&rt, &mut flash_of(&rt, rt.alloc(), "BEGUN,984=02"));
@@ -90,12 +90,12 @@ fn places(flash: &mut SnapFlash, cut: u32) -> Option<[u32; 4]> {
     let mut boot = Boot::cold(flash, Rules::PLAIN);
     run(flash, &mut boot, cut);
     let next = Boot::cold(flash, Rules::PLAIN);
-    let rejoin = Rejoin::find(flash, &boot, &next)?;
+    let shared_tail = SharedTail::find(flash, &boot, &next)?;
     Some([
-        rejoin.place(0),
-        rejoin.place(1),
-        rejoin.place(2),
-        rejoin.place(3),
+        shared_tail.index_in_parent(0),
+        shared_tail.index_in_parent(1),
+        shared_tail.index_in_parent(2),
+        shared_tail.index_in_parent(3),
     ])
 }
 

@@ -14,7 +14,7 @@ pub fn same<T: PartialEq + Debug>(rt: &impl Abort, found: &T, wanted: &T) {
     assert_eq!(rt; *found, *wanted);
 }
 
-/// The same of one row of a table, which is told where it is not so.
+/// The same of one row of a table, which is printed where it is not so.
 pub fn same_at<T: PartialEq + Debug, A: Debug>(rt: &impl Abort, at: &A, found: &T, wanted: &T) {
     assert_eq!(rt; *found, *wanted, "at {at:?}");
 }
@@ -68,12 +68,12 @@ pub fn rules_named(name: &str) -> Rules {
 /// Puts named bytes, or those of some digits, in their places, as in `0=first,984=02`. What there is no room for is left out.
 pub fn change(rt: &impl Abort, alloc: Global, bytes: &mut [u8], changes: &str) {
     let changes = in_full(rt, alloc, changes);
-    for told in changes.as_str().split(',') {
-        change_at(alloc, bytes, told).expect(rt, "a change");
+    for shown in changes.as_str().split(',') {
+        change_at(alloc, bytes, shown).expect(rt, "a change");
     }
 }
 
-/// A flash of the worked layout with these bytes, changed as told. The secondary's places are behind the primary's.
+/// A flash of the worked layout with these bytes, changed as given. The secondary's offsets come after the primary's.
 pub fn flash_with(rt: &impl Abort, alloc: Global, bytes: &mut [u8], changes: &str) -> SnapFlash {
     let layout = worked().expect(rt, "a layout");
     change(rt, alloc, bytes, changes);

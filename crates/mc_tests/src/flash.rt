@@ -45,12 +45,12 @@ fn first_unseen() -> Option<usize> {
         if !blank(&bytes[..len]) {
             return Some(len);
         }
-        for place in 0..len {
-            bytes[place] = 0xfe;
+        for offset in 0..len {
+            bytes[offset] = 0xfe;
             if blank(&bytes[..len]) {
                 return Some(len);
             }
-            bytes[place] = 0xff;
+            bytes[offset] = 0xff;
         }
     }
     None
@@ -119,7 +119,7 @@ fn is_copied<F: Flash>(rt: &impl Abort, flash: &mut F) -> [bool; 3]
     ]
 }
 
-/// Whether a sector is erased behind a checkpoint, and given back. The places of the checkpoints before it, behind it, and behind
+/// Whether a sector is erased after a checkpoint, and given back. The places of the checkpoints before it, after it, and after
 /// the way back.
 #[tactic(auto, using(mc_flash::specs::facts::Done::does_keep), unfolding(mc_flash::specs::Usage::went_back))]
 fn is_given_back<F: Flash>(rt: &impl Abort, flash: &mut F) -> ([bool; 2], [usize; 3])
@@ -129,18 +129,18 @@ fn is_given_back<F: Flash>(rt: &impl Abort, flash: &mut F) -> ([bool; 2], [usize
     let before = flash.mark().expect(rt, "a checkpoint");
     flash.erase(Slot::Secondary, 1).expect(rt, "an erase");
     let is_erased = flash.read(Slot::Secondary) == with_an_erased_sector().as_slice();
-    let behind = flash.mark().expect(rt, "a checkpoint");
+    let beyond = flash.mark().expect(rt, "a checkpoint");
     flash.back_to(0);
     let is_back = flash.read(Slot::Secondary) == [0xaa; 768].as_slice();
     (
         [is_erased, is_back],
-        [before, behind, flash.mark().expect(rt, "a checkpoint")],
+        [before, beyond, flash.mark().expect(rt, "a checkpoint")],
     )
 }
 
 type Played = (u32, [bool; 2], [bool; 3], ([bool; 2], [usize; 3]));
 
-/// What is told of a flash of one kind: whether it is programmed, whether it is copied, and how it is given back.
+/// What is reported of a flash of one kind: whether it is programmed, whether it is copied, and how it is given back.
 fn plays<F: Flash>(rt: &impl Abort, alloc: Global) -> Played {
     let mut flash = loaded::<F>(rt, alloc, 1);
     let sector = flash.layout().sector();
@@ -152,12 +152,12 @@ fn plays<F: Flash>(rt: &impl Abort, alloc: Global) -> Played {
 
 #[test]
 fn flashes_are_programmed_and_given_back(rt: HostRuntime) {
-    let told = [
+    let shown = [
         plays::<SnapFlash>(&rt, rt.alloc()),
         plays::<JournalFlash>(&rt, rt.alloc()),
     ];
     let wanted = (256, [true; 2], [true; 3], ([true; 2], [0, 1, 0]));
-    same(&rt, &told, &[wanted, wanted]);
+    same(&rt, &shown, &[wanted, wanted]);
 }
 
 /// Whether a checkpoint that is refused changes nothing.

@@ -31,14 +31,14 @@ fn parts_of<'a>(
     }
 }
 
-/// This comes of it that parts are written behind some bytes.
+/// This comes of it that parts are written after some bytes.
 fn writes(rt: &impl Abort, alloc: Global, before: &[u8], parts: &ImageParts, wanted: &[u8]) {
     let mut out = before.to_vec(alloc).expect(rt, "memory");
     write_image(parts, &mut out).expect(rt, "an image");
     same(rt, &out.as_slice(), &wanted);
 }
 
-/// The image of a payload, with an entry of no bytes behind the digest: the plain area's total is 44 in place of 40.
+/// The image of a payload, with an entry of no bytes after the digest: the plain area's total is 44 in place of 40.
 fn with_an_entry() -> [u8; 84] {
     let mut image = [0; 84];
     image[..80].copy_from_slice(&PLAIN_IMAGE);
@@ -47,8 +47,8 @@ fn with_an_entry() -> [u8; 84] {
     image
 }
 
-/// A byte, and the image of a payload behind it.
-fn behind_a_byte() -> [u8; 81] {
+/// A byte, and the image of a payload after it.
+fn beyond_a_byte() -> [u8; 81] {
     let mut bytes = [9; 81];
     bytes[1..].copy_from_slice(&PLAIN_IMAGE);
     bytes
@@ -58,7 +58,7 @@ fn behind_a_byte() -> [u8; 81] {
 fn worked_images_are_written(rt: HostRuntime) {
     let plain = parts_of(&PAYLOAD, &[], &[]);
     writes(&rt, rt.alloc(), &[], &plain, &PLAIN_IMAGE);
-    writes(&rt, rt.alloc(), &[9], &plain, &behind_a_byte());
+    writes(&rt, rt.alloc(), &[9], &plain, &beyond_a_byte());
     let empty = parts_of(&[], &[], &[]);
     writes(&rt, rt.alloc(), &[], &empty, &EMPTY_IMAGE)
 }
@@ -110,8 +110,8 @@ fn a_view_shows_the_parts(rt: HostRuntime) {
         &COUNTED_IMAGE[60..],
     ];
     same(&rt, &parts, &wanted);
-    let told = (view.size(), view.version(), view.check());
-    same(&rt, &told, &(92, VERSION, Ok(())));
+    let shown = (view.size(), view.version(), view.check());
+    same(&rt, &shown, &(92, VERSION, Ok(())));
 }
 
 #[test]

@@ -43,17 +43,17 @@ impl Engine {
         input: &mut R,
         output: &mut W,
     ) -> Result<(), ToolError> {
-        let told = match self {
+        let shown = match self {
             Engine::Create => create(alloc, &WORKED, input, output),
             Engine::Verify => verify(input, output),
             Engine::Dumpinfo => dumpinfo(alloc, input, output),
         };
-        assert!(rt; told != Err(ToolError::Memory), "error: Memory");
-        told
+        assert!(rt; shown != Err(ToolError::Memory), "error: Memory");
+        shown
     }
 
-    /// What it writes of an input, and behind it why it refuses, where it does. No write wants memory.
-    fn told<R: Read>(self, rt: &impl Abort, alloc: Global, input: &mut R) -> Vec<u8> {
+    /// What it writes of an input, and after it why it refuses, where it does. No write wants memory.
+    fn shown<R: Read>(self, rt: &impl Abort, alloc: Global, input: &mut R) -> Vec<u8> {
         let mut out = Vec::with_capacity(alloc, 1024).expect(rt, "memory");
         if let Err(error) = self.run(rt, alloc, input, &mut out) {
             let refusal = format!(in alloc; "{error}\n").expect(rt, "memory");
@@ -64,18 +64,18 @@ impl Engine {
     }
 }
 
-/// An engine tells this of an input.
-fn is_told<R: Read>(rt: &impl Abort, alloc: Global, engine: Engine, input: &mut R, wanted: &str) {
-    let told = engine.told(rt, alloc, input);
+/// An engine reports this of an input.
+fn is_shown<R: Read>(rt: &impl Abort, alloc: Global, engine: Engine, input: &mut R, wanted: &str) {
+    let shown = engine.shown(rt, alloc, input);
     same(
         rt,
-        &str::from_utf8(told.as_slice()).expect(rt, "a text"),
+        &str::from_utf8(shown.as_slice()).expect(rt, "a text"),
         &wanted,
     );
 }
 
 #[test]
-fn a_byte_behind_the_limit_is_read(rt: HostRuntime) {
+fn a_byte_beyond_the_limit_is_read(rt: HostRuntime) {
     let bytes = [7u8; 5000];
     let mut rest = bytes.as_slice();
     let refusal = read_bounded(rt.alloc(), &mut rest, 4000).err();

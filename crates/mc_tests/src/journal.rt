@@ -43,11 +43,11 @@ fn operated(rt: &impl Abort, flash: &mut JournalFlash) -> Operated
 
 /// Goes back to a checkpoint, and returns the counts then.
 #[tactic(auto, unfolding(mc_flash::specs::Usage::went_back))]
-fn counts_back(flash: &mut JournalFlash, place: usize) -> [u64; 4]
-    requires { place < length flash.old.checkpoints }
-    ensures { length flash.new.checkpoints ≡ place }
+fn counts_back(flash: &mut JournalFlash, offset: usize) -> [u64; 4]
+    requires { offset < length flash.old.checkpoints }
+    ensures { length flash.new.checkpoints ≡ offset }
 {
-    flash.back_to(place);
+    flash.back_to(offset);
     counts(flash)
 }
 

@@ -59,9 +59,9 @@ fn flags_of(rt: &impl Abort, alloc: Global, byte: u8) -> ([Flag; 4], u8) {
 #[test]
 fn every_byte_of_a_flag_is_read(rt: HostRuntime) {
     for byte in 0..=255u8 {
-        let told = flags_of(&rt, rt.alloc(), byte);
+        let shown = flags_of(&rt, rt.alloc(), byte);
         let (one, other) = (flag(byte), flag(255 - byte));
-        same(&rt, &told, &([one, other, other, one], byte));
+        same(&rt, &shown, &([one, other, other, one], byte));
     }
 }
 

@@ -1,4 +1,4 @@
-mod Telling
+mod OperationLines
 mod CutBoots
 mod Tracing
 mod Pictured

@@ -1,4 +1,4 @@
--- What a picture says of one sector, and of those behind it.
+-- What a picture says of one sector, and of those after it.
 use Rattle.std.specs.Prelude.{◌≡◌, ℕ, suc, ◌+◌, ◌-◌, ◌<◌, ◌≤◌, Bool, true, false, if◌then◌else◌, List, [], ◌∷◌, ◌++◌, codes, bytes_eq, Some}
 use Rattle.std.proofs.Common.{arith, sym, ap, ◌∙◌, append_assoc}
 use Rattle.std.proofs.lemmas.List.{append-nil}
@@ -33,19 +33,19 @@ module _ (g : Geometry) (start : Content) (slot : List ℕ) (i n : ℕ) where
   -- A text that grew by a word.
   pub grew : (text spaced now whole : List ℕ) → i < n → spaced ≡ text ++ codes " " → now ≡ spaced ++ sector_word g start (sector_of g slot i) → text ++ sector_words g start slot i (n - i) ≡ whole
       → now ++ sector_words g start slot (i + 1) (n - (i + 1)) ≡ whole
-  grew text spaced now whole below one two told =
+  grew text spaced now whole below one two written =
       let rest : List ℕ = sector_words g start slot (i + 1) (n - (i + 1)) in
       let regroup : ((text ++ codes " ") ++ sector_word g start (sector_of g slot i)) ++ sector_words g start slot (i + 1) (n - (i + 1)) ≡ text ++
       (codes " " ++ (sector_word g start (sector_of g slot i) ++ sector_words g start slot (i + 1) (n - (i + 1)))) = simp append_assoc in
       ap (λ xs. xs ++ sector_words g start slot (i + 1) (n - (i + 1))) (two ∙ ap (λ xs. xs ++ sector_word g start (sector_of g slot i)) one)
       ∙ regroup
       ∙ ap (λ xs. text ++ xs) (sym (words_next below))
-      ∙ told
+      ∙ written
 
   -- And its end.
   pub ended : (before named text now : List ℕ) (whole : List ℕ) → n ≤ i → text ++ sector_words g start slot i (n - i) ≡ (before ++ named) ++ whole → now ≡ text ++ 10 ∷ []
       → now ≡ before ++ (named ++ (whole ++ 10 ∷ []))
-  ended before named text now whole over told last =
-      let all : text ≡ (before ++ named) ++ whole = sym (append-nil text) ∙ sym (ap (λ xs. text ++ xs) (words_none over)) ∙ told in
+  ended before named text now whole over written last =
+      let all : text ≡ (before ++ named) ++ whole = sym (append-nil text) ∙ sym (ap (λ xs. text ++ xs) (words_none over)) ∙ written in
       let regroup : ((before ++ named) ++ whole) ++ 10 ∷ [] ≡ before ++ (named ++ (whole ++ 10 ∷ [])) = simp append_assoc in
       last ∙ ap (λ xs. xs ++ 10 ∷ []) all ∙ regroup

@@ -1,4 +1,4 @@
--- Boots that are told one after another.
+-- Boots that are traced one after another.
 use Rattle.std.specs.Prelude.{◌≡◌, ℕ, suc, ◌+◌, ◌*◌, ◌<◌, ◌≤◌, ◌⊎◌, nat_lt, Bool, true, false, if◌then◌else◌, List, [], ◌∷◌, ◌++◌, length, drop, Option, Some, None, option_and_then, refl}
 use Rattle.std.specs.Io.KnownBytes.{Appends}
 use Rattle.std.proofs.Common.{arith, inl, inr, sym, ap, subst, get_or, drop-cons, drop_of_length-le, append-nil, ◌∙◌}
@@ -9,21 +9,21 @@ use Rattle.mc_flash.specs.Geometry.{Geometry}
 use Rattle.mc_flash.specs.Usage.{Seen, LeaveRoom, plus, room_of, times, Counts, IsWithin, Limits, limits_for, most_operations, most_saved, no_counts}
 use Rattle.mc_trailer.specs.declared.tables.Rules.{Rules}
 use Rattle.mc_start.specs.facts.Room.{limits_are}
-use Rattle.mc_explore.specs.inner.Once.{most_of, at_cut, content_or}
-use Rattle.mc_output.specs.facts.Fronts.{IsOut, out_all, out_begun, out_front, out_more}
-use Rattle.mc_output.specs.Text.{AppendsFront}
+use Rattle.mc_explore.specs.inner.OneRound.{most_of, at_cut, content_or}
+use Rattle.mc_output.specs.facts.Prefixes.{IsOut, out_all, out_begun, out_prefix, out_more}
+use Rattle.mc_output.specs.Text.{AppendsPrefix}
 use Rattle.mc_boot.specs.Outcome.{Report, outcome_of, outcome_text, after, at, ops_of}
 use Rattle.mc_boot.specs.Plan.{PowerOn, again, power_on, powered}
 use Rattle.mc_trace.specs.Trace.{RefusesTrace, boots_text, cut_text, last_text, outcome_lines, trace_text}
 use Rattle.mc_trace.specs.declared.error.TraceError.{TraceError}
 use Rattle.mc_trace.specs.declared.error.TraceError.TheVariants as errors
 
--- So many cuts are told, and the flash stands where they left it.
-pub record AreTold (start : PowerOn) (cuts : List ℕ) (before now : Option (List ℕ)) (told : ℕ) (boot : ℕ) (f : Seen) : Type 0 where
-  pub out : IsOut before now (trace_text start cuts) (boots_text start.rules start.geometry boot f.content (drop told cuts))
-  pub path : after (again start f.content) (drop told cuts) ≡ after start cuts
+-- So many cuts are traced, and the flash stands where they left it.
+pub record AreWritten (start : PowerOn) (cuts : List ℕ) (before now : Option (List ℕ)) (written : ℕ) (boot : ℕ) (f : Seen) : Type 0 where
+  pub out : IsOut before now (trace_text start cuts) (boots_text start.rules start.geometry boot f.content (drop written cuts))
+  pub path : after (again start f.content) (drop written cuts) ≡ after start cuts
   pub layout : f.geometry ≡ start.geometry
-  pub number : boot ≡ told
+  pub number : boot ≡ written
 
 -- The next cut can occur.
 module _ (x : PowerOn) (cut : ℕ) (cuts : List ℕ) (u : Content) (occurs : after x (cut ∷ cuts) ≡ Some u) where
@@ -42,28 +42,28 @@ module _ (x : PowerOn) (cut : ℕ) (cuts : List ℕ) (u : Content) (occurs : aft
   there None e is = absurd cc
   there (Some t) e is = ap (λ o. after (again x (content_or x.content o)) cuts) e ∙ is
 
-  pub behind : after (again x (at_cut x cut)) cuts ≡ Some u
-  behind = there (at x cut) refl (ap (λ b. option_and_then (λ t. after (again x t) cuts) (if b then at x cut else None)) (sym inside_is) ∙ occurs)
+  pub beyond : after (again x (at_cut x cut)) cuts ≡ Some u
+  beyond = there (at x cut) refl (ap (λ b. option_and_then (λ t. after (again x t) cuts) (if b then at x cut else None)) (sym inside_is) ∙ occurs)
 
 module _ (start : PowerOn) (cuts : List ℕ) (before : Option (List ℕ)) where
-  pub none_told : (f : Seen) → f.content ≡ start.content → f.geometry ≡ start.geometry → AreTold start cuts before before 0 0 f
-  none_told f content layout = record {
+  pub none_written : (f : Seen) → f.content ≡ start.content → f.geometry ≡ start.geometry → AreWritten start cuts before before 0 0 f
+  none_written f content layout = record {
     out = subst (λ (c : Content). IsOut before before (trace_text start cuts) (boots_text start.rules start.geometry 0 c cuts)) (sym content) (out_begun before (trace_text start cuts));
     path = ap (λ (c : Content). after (again start c) cuts) content;
     layout = layout;
     number = refl;
   }
 
-  module _ (now new : Option (List ℕ)) (told boot : ℕ) (f : Seen) (are : AreTold start cuts before now told boot f) (more : told < length cuts) (u : Content)
+  module _ (now new : Option (List ℕ)) (written boot : ℕ) (f : Seen) (are : AreWritten start cuts before now written boot f) (more : written < length cuts) (u : Content)
       (occurs : after start cuts ≡ Some u) where
     abbrev cut : ℕ
-    cut = get_or cuts told 0
+    cut = get_or cuts written 0
 
     abbrev rest : List ℕ
-    rest = drop (told + 1) cuts
+    rest = drop (written + 1) cuts
 
-    next_is : drop told cuts ≡ cut ∷ rest
-    next_is = let e : suc told ≡ told + 1 = omega arith in drop-cons cuts told 0 more ∙ ap (λ n. cut ∷ drop n cuts) e
+    next_is : drop written cuts ≡ cut ∷ rest
+    next_is = let e : suc written ≡ written + 1 = omega arith in drop-cons cuts written 0 more ∙ ap (λ n. cut ∷ drop n cuts) e
 
     path_here : after (again start f.content) (cut ∷ rest) ≡ Some u
     path_here = ap (after (again start f.content)) (sym next_is) ∙ are.path ∙ occurs
@@ -72,32 +72,32 @@ module _ (start : PowerOn) (cuts : List ℕ) (before : Option (List ℕ)) where
         (at_cut (again start f.content) cut) rest)
     out_here = subst (λ cs. IsOut before now (trace_text start cuts) (boots_text start.rules start.geometry boot f.content cs)) next_is are.out
 
-    pub one_begun : AppendsFront now new (cut_text start.rules f.geometry boot f.content cut) → AppendsFront before new (trace_text start cuts)
-    one_begun p = out_front before now new _ (cut_text start.rules start.geometry boot f.content cut) _ out_here
-        (subst (λ g. AppendsFront now new (cut_text start.rules g boot f.content cut)) are.layout p)
+    pub one_begun : AppendsPrefix now new (cut_text start.rules f.geometry boot f.content cut) → AppendsPrefix before new (trace_text start cuts)
+    one_begun p = out_prefix before now new _ (cut_text start.rules start.geometry boot f.content cut) _ out_here
+        (subst (λ g. AppendsPrefix now new (cut_text start.rules g boot f.content cut)) are.layout p)
 
-    pub one_told : (h : Seen) → Appends now new (cut_text start.rules f.geometry boot f.content cut) → h.content ≡ at_cut (powered start.rules f) cut → h.geometry ≡ f.geometry
-        → AreTold start cuts before new (told + 1) (boot + 1) h
-    one_told h p left layout =
+    pub one_written : (h : Seen) → Appends now new (cut_text start.rules f.geometry boot f.content cut) → h.content ≡ at_cut (powered start.rules f) cut → h.geometry ≡ f.geometry
+        → AreWritten start cuts before new (written + 1) (boot + 1) h
+    one_written h p left layout =
         let content : h.content ≡ at_cut (again start f.content) cut = left ∙ ap (λ g. at_cut (power_on start.rules g f.content) cut) are.layout in
         let shown = out_more before now new _ (cut_text start.rules start.geometry boot f.content cut) _ out_here
         (subst (λ g. Appends now new (cut_text start.rules g boot f.content cut)) are.layout p) in
         record {
           out = subst (λ (c : Content). IsOut before new (trace_text start cuts) (boots_text start.rules start.geometry (boot + 1) c rest)) (sym content) shown;
-          path = ap (λ (c : Content). after (again start c) rest) content ∙ behind (again start f.content) cut rest u path_here ∙ sym occurs;
+          path = ap (λ (c : Content). after (again start c) rest) content ∙ beyond (again start f.content) cut rest u path_here ∙ sym occurs;
           layout = layout ∙ are.layout;
           number = omega (arith, are.number);
         }
 
-  module _ (now : Option (List ℕ)) (told boot : ℕ) (f : Seen) (are : AreTold start cuts before now told boot f) (end : length cuts ≤ told) (u : Content)
+  module _ (now : Option (List ℕ)) (written boot : ℕ) (f : Seen) (are : AreWritten start cuts before now written boot f) (end : length cuts ≤ written) (u : Content)
       (occurs : after start cuts ≡ Some u) (outcome : Report) (outcome_is : outcome_of (again start u) ≡ Some outcome) where
-    none_left : drop told cuts ≡ []
+    none_left : drop written cuts ≡ []
     none_left = drop_of_length-le cuts end
 
     at_end : f.content ≡ u
     at_end = let e : Some f.content ≡ Some u = sym (ap (after (again start f.content)) none_left) ∙ are.path ∙ occurs in cc
 
-    lines_are : boots_text start.rules start.geometry boot f.content (drop told cuts) ≡ last_text start.rules start.geometry boot f.content ++ (outcome_text outcome ++ [])
+    lines_are : boots_text start.rules start.geometry boot f.content (drop written cuts) ≡ last_text start.rules start.geometry boot f.content ++ (outcome_text outcome ++ [])
     lines_are =
         ap (boots_text start.rules start.geometry boot f.content) none_left
         ∙ ap (λ o. last_text start.rules start.geometry boot f.content ++ outcome_lines o) (ap (λ s. outcome_of (again start s)) at_end ∙ outcome_is)
@@ -107,44 +107,44 @@ module _ (start : PowerOn) (cuts : List ℕ) (before : Option (List ℕ)) where
     out_end = subst (IsOut before now (trace_text start cuts)) lines_are are.out
 
     module _ (mid : Option (List ℕ)) where
-      pub last_begun : AppendsFront now mid (last_text start.rules f.geometry boot f.content) → AppendsFront before mid (trace_text start cuts)
-      last_begun p = out_front before now mid _ (last_text start.rules start.geometry boot f.content) _ out_end
-          (subst (λ g. AppendsFront now mid (last_text start.rules g boot f.content)) are.layout p)
+      pub last_begun : AppendsPrefix now mid (last_text start.rules f.geometry boot f.content) → AppendsPrefix before mid (trace_text start cuts)
+      last_begun p = out_prefix before now mid _ (last_text start.rules start.geometry boot f.content) _ out_end
+          (subst (λ g. AppendsPrefix now mid (last_text start.rules g boot f.content)) are.layout p)
 
       module _ (last : Appends now mid (last_text start.rules f.geometry boot f.content)) (new : Option (List ℕ)) where
         out_last : IsOut before mid (trace_text start cuts) (outcome_text outcome ++ [])
         out_last = out_more before now mid _ (last_text start.rules start.geometry boot f.content) _ out_end (subst (λ g. Appends now mid (last_text start.rules g boot f.content)) are.layout last)
 
-        pub outcome_begun : AppendsFront mid new (outcome_text outcome) → AppendsFront before new (trace_text start cuts)
-        outcome_begun p = out_front before mid new _ (outcome_text outcome) [] out_last p
+        pub outcome_begun : AppendsPrefix mid new (outcome_text outcome) → AppendsPrefix before new (trace_text start cuts)
+        outcome_begun p = out_prefix before mid new _ (outcome_text outcome) [] out_last p
 
-        pub outcome_told : Appends mid new (outcome_text outcome) → Appends before new (trace_text start cuts)
-        outcome_told p = out_all before new _ (out_more before mid new _ (outcome_text outcome) [] out_last p)
+        pub outcome_written : Appends mid new (outcome_text outcome) → Appends before new (trace_text start cuts)
+        outcome_written p = out_all before new _ (out_more before mid new _ (outcome_text outcome) [] out_last p)
 
 -- Memory and a failed write are no refusals.
 pub no_refusal : {W : Type 0} (start : PowerOn) (cuts : List ℕ) (old new : W) (e : TraceError) → (e ≡ errors.Memory) ⊎ (e ≡ errors.Write) → RefusesTrace start cuts old new e
-no_refusal start cuts old new (errors.CannotOccur place) is = elim is [ inl m ↦ absurd cc | inr w ↦ absurd cc ]
+no_refusal start cuts old new (errors.CannotOccur index) is = elim is [ inl m ↦ absurd cc | inr w ↦ absurd cc ]
 no_refusal start cuts old new errors.Memory is = tt
 no_refusal start cuts old new errors.Write is = tt
 
 -- ---- the room of the flash
 
 -- After so many boots there is room for one more, among those for which the flash was loaded.
-module _ (r rules : Rules) (g place : Geometry) (same_rules : rules ≡ r) (same_place : place ≡ g) (n : ℕ) (old : Counts) (counts : LeaveRoom old no_counts (times n (most_of r g))) where
-  most_here : most_of rules place ≡ most_of r g
-  most_here = ap (λ (x : Rules). most_of x place) same_rules ∙ ap (most_of r) same_place
+module _ (r rules : Rules) (g layout : Geometry) (same_rules : rules ≡ r) (same_layout : layout ≡ g) (n : ℕ) (old : Counts) (counts : LeaveRoom old no_counts (times n (most_of r g))) where
+  most_here : most_of rules layout ≡ most_of r g
+  most_here = ap (λ (x : Rules). most_of x layout) same_rules ∙ ap (most_of r) same_layout
 
-  pub one_counted : (new : Counts) → LeaveRoom new no_counts (plus old (most_of rules place)) → LeaveRoom new no_counts (times (n + 1) (most_of r g))
+  pub one_counted : (new : Counts) → LeaveRoom new no_counts (plus old (most_of rules layout)) → LeaveRoom new no_counts (times (n + 1) (most_of r g))
   one_counted new more =
       let here : LeaveRoom new no_counts (plus old (most_of r g)) = subst (λ (c : Counts). LeaveRoom new no_counts (plus old c)) most_here more in
       record { entries = omega (arith, counts.entries, here.entries); saved = omega (arith, counts.saved, here.saved) }
 
-  pub room_left : (boots : ℕ) (limits : Limits) → n + 1 ≤ boots → IsWithin (limits_for r.grain g boots) limits → LeaveRoom old (most_of rules place) (room_of limits)
-  room_left boots limits few within =
+  pub room_left : (boots : ℕ) (limits : Limits) → n + 1 ≤ boots → IsWithin (limits_for r.grain g boots) limits → LeaveRoom old (most_of rules layout) (room_of limits)
+  room_left boots limits at_most within =
       let l = limits_are r.grain g boots limits within in
       let most = most_operations r.grain g in
-      let entries : n * most + most ≤ boots * most = rw (← more most) (mul-le-mul_right most few) in
-      let saved : n * most_saved g + most_saved g ≤ boots * most_saved g = rw (← more (most_saved g)) (mul-le-mul_right (most_saved g) few) in
+      let entries : n * most + most ≤ boots * most = rw (← more most) (mul-le-mul_right most at_most) in
+      let saved : n * most_saved g + most_saved g ≤ boots * most_saved g = rw (← more (most_saved g)) (mul-le-mul_right (most_saved g) at_most) in
       subst (λ (c : Counts). LeaveRoom old c (room_of limits)) (sym most_here) (record {
         entries = omega (arith, counts.entries, entries, l.for_entries);
         saved = omega (arith, counts.saved, saved, l.for_saved);

@@ -13,7 +13,7 @@ use Rattle.mc_trailer.specs.declared.places.Field.{Field}
 use Rattle.mc_trailer.specs.declared.places.Field.TheVariants as fields
 use Rattle.mc_boot.specs.WholeSwap.{swap_operations}
 use Rattle.mc_trace.specs.Trace.{part_text}
-use Rattle.mc_trace.specs.declared.layout.Place.{Place}
+use Rattle.mc_trace.specs.declared.layout.PartLine.{PartLine}
 use Rattle.mc_trace.specs.declared.operation.Part.TheVariants as parts
 
 -- What a trailer takes of a slot, and the most that an image may have, in sectors and in bytes.
@@ -25,27 +25,27 @@ sizes_text g =
     ++ (codes "image-bytes " ++ (decimal (largest_image g) ++ codes "\n"))))
 
 -- Where a field of a slot stands, and a status entry, which the primary alone has.
-abbrev pub place_of_field : Geometry → Slot → Field → Place
-place_of_field g slot f = record { slot = slot; at = place g slot f; part = parts.Field f }
+abbrev pub line_of_field : Geometry → Slot → Field → PartLine
+line_of_field g slot f = record { slot = slot; at = place g slot f; part = parts.Field f }
 
-abbrev pub place_of_entry : Geometry → ℕ → Place
-place_of_entry g e = record { slot = Primary; at = entry_place g e; part = parts.Entry e }
+abbrev pub line_of_entry : Geometry → ℕ → PartLine
+line_of_entry g e = record { slot = Primary; at = entry_place g e; part = parts.Entry e }
 
 -- The words of a trace.
-abbrev pub place_line : Place → List ℕ
-place_line p = slot_text p.slot ++ (codes " " ++ (decimal p.at ++ (codes " " ++ (part_text p.part ++ codes "\n"))))
+abbrev pub part_line : PartLine → List ℕ
+part_line p = slot_text p.slot ++ (codes " " ++ (decimal p.at ++ (codes " " ++ (part_text p.part ++ codes "\n"))))
 
--- The fields of a slot, as they stand behind one another.
+-- The fields of a slot, as they stand one after another.
 abbrev pub fields_text : Geometry → Slot → List ℕ
 fields_text g slot =
-    (place_line (place_of_field g slot fields.SwapSize) ++ place_line (place_of_field g slot fields.SwapInfo))
-    ++ (place_line (place_of_field g slot fields.CopyDone)
-    ++ (place_line (place_of_field g slot fields.ImageOk) ++ place_line (place_of_field g slot fields.Magic)))
+    (part_line (line_of_field g slot fields.SwapSize) ++ part_line (line_of_field g slot fields.SwapInfo))
+    ++ (part_line (line_of_field g slot fields.CopyDone)
+    ++ (part_line (line_of_field g slot fields.ImageOk) ++ part_line (line_of_field g slot fields.Magic)))
 
 -- The first and the last status entry, and the fields of both slots.
-unfoldable pub places_text : Geometry → List ℕ
-places_text g =
-    (place_line (place_of_entry g 0) ++ place_line (place_of_entry g (3 * g.max_sectors - 1)))
+unfoldable pub parts_text : Geometry → List ℕ
+parts_text g =
+    (part_line (line_of_entry g 0) ++ part_line (line_of_entry g (3 * g.max_sectors - 1)))
     ++ (fields_text g Primary ++ fields_text g Secondary)
 
 -- By a grain: how many operations the whole swap of the largest images for a test has, and the most that a boot has.
@@ -55,4 +55,4 @@ operations_text c g =
     ++ (codes "\n" ++ (grain_text c ++ (codes " most-ops " ++ (decimal (most_operations c g) ++ codes "\n"))))))
 
 abbrev pub layout_text : Geometry → List ℕ
-layout_text g = sizes_text g ++ (places_text g ++ (operations_text grains.Call g ++ operations_text grains.Unit g))
+layout_text g = sizes_text g ++ (parts_text g ++ (operations_text grains.Call g ++ operations_text grains.Unit g))

@@ -9,7 +9,7 @@ use Rattle.mc_flash.specs.Flash.{Content, is_blank, sectors_of, slot_text}
 use Rattle.mc_flash.specs.Geometry.{Geometry}
 use Rattle.mc_flash.specs.declared.op.Slot.{Slot}
 use Rattle.mc_flash.specs.declared.op.Slot.TheVariants.{Primary, Secondary}
-use Rattle.mc_output.specs.Text.{AppendsFront}
+use Rattle.mc_output.specs.Text.{AppendsPrefix}
 use Rattle.mc_trace.specs.declared.error.TraceError.{TraceError}
 use Rattle.mc_trace.specs.declared.error.TraceError.TheVariants as errors
 
@@ -39,7 +39,7 @@ sector_word g start bytes =
     if is_blank bytes then codes "-"
     else word_in (first_like g start.primary bytes 0 g.primary) (first_like g start.secondary bytes 0 g.secondary)
 
--- A word for each of n sectors from i on, each behind a space.
+-- A word for each of n sectors from i on, each after a space.
 abbrev pub sector_words : Geometry → Content → List ℕ → ℕ → ℕ → List ℕ
 sector_words g start slot i zero = []
 sector_words g start slot i (suc n) = codes " " ++ (sector_word g start (sector_of g slot i) ++ sector_words g start slot (i + 1) n)
@@ -54,16 +54,16 @@ picture g start s = line_of g start s.primary Primary ++ line_of g start s.secon
 
 -- What a picture of a flash leaves of a writer.
 
--- The picture of the flash at the last cut is made; else the schedule can't occur from that place on, or an allocation failed.
+-- The picture of the flash at the last cut is made; else the schedule can't occur from that cut on, or an allocation failed.
 abbrev pub PicturesAs : {A : Type 0} → PowerOn → List ℕ → (A → List ℕ) → Result A TraceError → Type 0
 PicturesAs x cuts view (Ok made) = (u : Content) × (after x cuts ≡ Some u) × (view made ≡ picture x.geometry x.content u)
-PicturesAs x cuts view (Err (errors.CannotOccur place)) = CannotOccurAt x cuts place
+PicturesAs x cuts view (Err (errors.CannotOccur index)) = CannotOccurAt x cuts index
 PicturesAs x cuts view (Err errors.Memory) = ⊤
 PicturesAs x cuts view (Err errors.Write) = ⊥
 
 -- It is out, or a beginning of it where a write failed; else nothing is written.
 abbrev pub Pictures : {A : Type 0} → PowerOn → List ℕ → Option (List ℕ) → Option (List ℕ) → Result A TraceError → Type 0
 Pictures x cuts old new (Ok _) = (u : Content) × (after x cuts ≡ Some u) × Appends old new (picture x.geometry x.content u)
-Pictures x cuts old new (Err errors.Write) = (u : Content) × (after x cuts ≡ Some u) × AppendsFront old new (picture x.geometry x.content u)
-Pictures x cuts old new (Err (errors.CannotOccur place)) = CannotOccurAt x cuts place × Keeps old new
+Pictures x cuts old new (Err errors.Write) = (u : Content) × (after x cuts ≡ Some u) × AppendsPrefix old new (picture x.geometry x.content u)
+Pictures x cuts old new (Err (errors.CannotOccur index)) = CannotOccurAt x cuts index × Keeps old new
 Pictures x cuts old new (Err errors.Memory) = Keeps old new

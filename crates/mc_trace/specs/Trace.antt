@@ -1,11 +1,11 @@
--- Operations as they are told: this project's own texts.
+-- Operations as they are printed: this project's own texts.
 use Rattle.std.specs.Prelude.{List, None, Option, Some, [], codes, decimal, if◌then◌else◌, nat_le, slice_get, take, ℕ, ⊤, ◌++◌, ◌+◌, ◌-◌, ◌/◌, ◌∷◌, ◌≡◌}
 use Rattle.hex.specs.Hex.{encode_lower}
 use Rattle.mc_boot.specs.Outcome.{Report, outcome_of, outcome_text}
 use Rattle.mc_boot.specs.Plan.{PowerOn, plan, power_on}
-use Rattle.mc_explore.specs.inner.Once.{at_cut}
+use Rattle.mc_explore.specs.inner.OneRound.{at_cut}
 use Rattle.mc_explore.specs.Schedules.{CannotOccurAt}
-use Rattle.mc_explore.specs.declared.replaying.ReplayError.{ReplayError}
+use Rattle.mc_explore.specs.declared.replays.ReplayError.{ReplayError}
 use Rattle.mc_flash.specs.Flash.{Content, apply, size_of, slot_text}
 use Rattle.mc_flash.specs.Geometry.{Geometry, trailer_bytes}
 use Rattle.mc_flash.specs.declared.op.Op.{Op}
@@ -20,7 +20,7 @@ use Rattle.mc_trace.specs.declared.error.TraceError.TheVariants as errors
 use Rattle.mc_trailer.specs.declared.places.Field.TheVariants as fields
 use Rattle.mc_flash.specs.declared.op.Op.TheVariants as ops
 use Rattle.mc_trace.specs.declared.operation.Part.TheVariants as parts
-use Rattle.mc_explore.specs.declared.replaying.ReplayError.TheVariants as replays
+use Rattle.mc_explore.specs.declared.replays.ReplayError.TheVariants as replays
 
 -- So many bytes before the end of the primary stands a status entry, or data before the first of them; a secondary has no entries.
 abbrev before_fields : Geometry → Slot → ℕ → Part
@@ -38,9 +38,9 @@ part_before_end g slot left =
     else if nat_le left 48 then parts.Field fields.SwapSize
     else before_fields g slot left
 
--- What stands at a place of a slot.
+-- What stands at an offset of a slot.
 abbrev pub part_at : Geometry → Slot → ℕ → Part
-part_at g slot place = part_before_end g slot (size_of g slot - place)
+part_at g slot start = part_before_end g slot (size_of g slot - start)
 
 abbrev pub part_text : Part → List ℕ
 part_text (parts.Field fields.Magic) = codes "magic"
@@ -51,40 +51,40 @@ part_text (parts.Field fields.SwapSize) = codes "swap-size"
 part_text (parts.Entry entry) = codes "entry " ++ decimal entry
 part_text parts.Data = codes "data"
 
--- An erase has its slot and its sector; a write its slot, its place, what stands there and its bytes in hexadecimal digits; a copy the
--- places from which and to which it goes, and how many bytes.
+-- An erase has its slot and its sector; a write its slot, its offset, what stands there and its bytes in hexadecimal digits; a copy
+-- the offsets from which and to which it goes, and how many bytes.
 abbrev pub erase_text : Slot → ℕ → List ℕ
 erase_text slot sector = codes "erase " ++ (slot_text slot ++ (codes " " ++ decimal sector))
 
 abbrev pub write_text : Slot → ℕ → Part → List ℕ → List ℕ
-write_text slot place part bytes = codes "write " ++ (slot_text slot ++ (codes " " ++ (decimal place ++ (codes " " ++ (part_text part ++ (codes " " ++ encode_lower bytes))))))
+write_text slot start part bytes = codes "write " ++ (slot_text slot ++ (codes " " ++ (decimal start ++ (codes " " ++ (part_text part ++ (codes " " ++ encode_lower bytes))))))
 
 abbrev pub source_text : Slot → ℕ → List ℕ
-source_text from place = codes "copy " ++ (slot_text from ++ (codes " " ++ (decimal place ++ codes " to ")))
+source_text from start = codes "copy " ++ (slot_text from ++ (codes " " ++ (decimal start ++ codes " to ")))
 
 abbrev pub target_text : Slot → ℕ → ℕ → List ℕ
 target_text to offset len = slot_text to ++ (codes " " ++ (decimal offset ++ (codes " length " ++ decimal len)))
 
 abbrev pub operation_text : Geometry → Op → List ℕ
 operation_text g (ops.Erase slot sector) = erase_text slot sector
-operation_text g (ops.Program slot place bytes) = write_text slot place (part_at g slot place) bytes
-operation_text g (ops.Copy from place to offset len) = source_text from place ++ target_text to offset len
+operation_text g (ops.Program slot start bytes) = write_text slot start (part_at g slot start) bytes
+operation_text g (ops.Copy from start to offset len) = source_text from start ++ target_text to offset len
 
 -- With its number in its boot.
 abbrev pub numbered_text : Geometry → ℕ → Op → List ℕ
 numbered_text g number op = decimal number ++ (codes " " ++ operation_text g op)
 
--- A schedule of power cuts, told boot by boot: this project's own text.
+-- A schedule of power cuts, traced boot by boot: this project's own text.
 
 -- An operation that can be applied has its line, and what comes after it. One that can't is refused, and nothing comes after it.
-abbrev pub told_first : Geometry → ℕ → Op → (Content → List ℕ) → Option Content → List ℕ
-told_first g number op behind (Some t) = (numbered_text g number op ++ 10 ∷ []) ++ behind t
-told_first g number op behind None = (numbered_text g number op ++ codes " refused") ++ 10 ∷ []
+abbrev pub first_operation_lines : Geometry → ℕ → Op → (Content → List ℕ) → Option Content → List ℕ
+first_operation_lines g number op beyond (Some t) = (numbered_text g number op ++ 10 ∷ []) ++ beyond t
+first_operation_lines g number op beyond None = (numbered_text g number op ++ codes " refused") ++ 10 ∷ []
 
 -- The lines of operations that are made one after another, from this number on.
-abbrev pub told : Geometry → ℕ → List Op → Content → List ℕ
-told g number [] s = []
-told g number (op ∷ ops) s = told_first g number op (λ t. told g (number + 1) ops t) (apply g op s)
+abbrev pub operation_lines : Geometry → ℕ → List Op → Content → List ℕ
+operation_lines g number [] s = []
+operation_lines g number (op ∷ ops) s = first_operation_lines g number op (λ t. operation_lines g (number + 1) ops t) (apply g op s)
 
 -- Up to a number, where there is one.
 abbrev pub up_to : Option ℕ → ℕ → List Op → List Op
@@ -104,11 +104,11 @@ cut_line g cut (Some op) = (codes "cut before " ++ numbered_text g cut op) ++ 10
 abbrev pub cut_text : Rules → Geometry → ℕ → Content → ℕ → List ℕ
 cut_text r g boot s cut =
     let p = plan (power_on r g s) in
-    head_line boot p.kind ++ (told g 0 (take cut p.list) s ++ cut_line g cut (slice_get p.list cut))
+    head_line boot p.kind ++ (operation_lines g 0 (take cut p.list) s ++ cut_line g cut (slice_get p.list cut))
 
 -- The last boot: all operations of its plan.
 abbrev pub last_text : Rules → Geometry → ℕ → Content → List ℕ
-last_text r g boot s = let p = plan (power_on r g s) in head_line boot p.kind ++ told g 0 p.list s
+last_text r g boot s = let p = plan (power_on r g s) in head_line boot p.kind ++ operation_lines g 0 p.list s
 
 abbrev pub outcome_lines : Option Report → List ℕ
 outcome_lines None = []
@@ -122,15 +122,15 @@ boots_text r g boot s (cut ∷ cuts) = cut_text r g boot s cut ++ boots_text r g
 abbrev pub trace_text : PowerOn → List ℕ → List ℕ
 trace_text start cuts = boots_text start.rules start.geometry 0 start.content cuts
 
--- What is refused of a schedule that is to be told.
+-- What is refused of a schedule that is to be traced.
 
 -- What a replay refuses.
 abbrev pub of_replay : ReplayError → TraceError
-of_replay (replays.CannotOccur place) = errors.CannotOccur place
+of_replay (replays.CannotOccur index) = errors.CannotOccur index
 of_replay replays.Memory = errors.Memory
 
 -- The first cut that can't occur, and then nothing is written; unless memory or a write failed.
 abbrev pub RefusesTrace : {W : Type 0} → PowerOn → List ℕ → W → W → TraceError → Type 0
-RefusesTrace start cuts old new (errors.CannotOccur place) = CannotOccurAt start cuts place × (new ≡ old)
+RefusesTrace start cuts old new (errors.CannotOccur index) = CannotOccurAt start cuts index × (new ≡ old)
 RefusesTrace start cuts old new errors.Memory = ⊤
 RefusesTrace start cuts old new errors.Write = ⊤

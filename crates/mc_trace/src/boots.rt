@@ -1,17 +1,14 @@
-//! One boot, told operation by operation.
+//! One boot, traced operation by operation.
 ghost use Rattle.std.specs.Prelude.{◌≡◌, ◌+◌, ◌<◌, ◌≤◌, ◌++◌, ◌⊎◌, [], length, IfErr, IfSome, OnOk, OnErr, Some};
 ghost use Rattle.std.specs.Io.KnownBytes.{Appends};
-ghost use Rattle.mc_output.specs.Text.{AppendsFront};
+ghost use Rattle.mc_output.specs.Text.{AppendsPrefix};
 ghost use Rattle.mc_flash.specs.Usage.{Allows};
-ghost use Rattle.mc_boot.specs.Boot.{left_of};
-ghost use Rattle.mc_explore.specs.inner.Once.{most_of};
-ghost use Rattle.mc_boot.specs.Boot.{progress, to_come, IsBootOf};
+ghost use Rattle.mc_boot.specs.Boot.{left_of, progress, to_come, IsBootOf};
+ghost use Rattle.mc_explore.specs.inner.OneRound.{most_of, at_cut};
 ghost use Rattle.mc_boot.specs.Plan.{powered};
 ghost use Rattle.mc_boot.specs.Outcome.{ops_of};
-ghost use Rattle.mc_explore.specs.inner.Once.{at_cut};
-ghost use Rattle.mc_trace.specs.inner.Boots.{CountsUpTo, GoesUpTo, Tells};
-ghost use Rattle.mc_trace.specs.Trace.{numbered_text};
-ghost use Rattle.mc_trace.specs.Trace.{told, up_to, head_line, cut_line, cut_text, last_text};
+ghost use Rattle.mc_trace.specs.inner.Boots.{CountsUpTo, GoesUpTo, WritesText};
+ghost use Rattle.mc_trace.specs.Trace.{numbered_text, operation_lines, up_to, head_line, cut_line, cut_text, last_text};
 
 use crate::error::TraceError;
 use crate::operation::Numbered;
@@ -34,24 +31,24 @@ fn head_line(boot: u32, kind: SwapType) -> Line
     line
 }
 
-// An operation, and what is said behind it.
-fn told_line(told: &Numbered<'_>, end: &str) -> Line
+// An operation, and what is said after it.
+fn line_with(numbered: &Numbered<'_>, end: &str) -> Line
     requires { length end.now ≤ 9 }
-    ensures { let o = told.now in result ≡ numbered_text o.layout.now o.number o.op ++ end.now }
+    ensures { let o = numbered.now in result ≡ numbered_text o.layout.now o.number o.op ++ end.now }
 {
     let mut line = Line::new();
-    told.put_into(&mut line);
+    numbered.put_into(&mut line);
     line.put(end);
     line
 }
 
 // The operation before which the power is cut.
-fn cut_line(told: &Numbered<'_>) -> Line
-    ensures { let o = told.now in result ≡ cut_line o.layout.now o.number (Some o.op) }
+fn cut_line(numbered: &Numbered<'_>) -> Line
+    ensures { let o = numbered.now in result ≡ cut_line o.layout.now o.number (Some o.op) }
 {
     let mut line = Line::new();
     line.put("cut before ");
-    told.put_into(&mut line);
+    numbered.put_into(&mut line);
     line.put("\n");
     line
 }
@@ -66,9 +63,9 @@ fn write_operations<F: Flash, W: Write>(
     requires layout { IsBootOf (F.seen flash.old).geometry boot.old }
     requires before { IfSome until (λ n. (progress boot.old).count ≤ n) }
     requires room { let f = F.seen flash.old in Allows (left_of f.geometry (progress boot.old)) f }
-    ensures told { let p = progress boot.old in Tells result
+    ensures written { let p = progress boot.old in WritesText result
         (W.contents writer.old) (W.contents writer.new)
-        (told (F.seen flash.old).geometry p.count (up_to until p.count p.to_come)
+        (operation_lines (F.seen flash.old).geometry p.count (up_to until p.count p.to_come)
         (F.seen flash.old).content) }
     ensures goes { GoesUpTo until boot.old (F.seen flash.old) boot.new (F.seen flash.new) }
     ensures end { OnOk result ((to_come boot.new ≡ [])
@@ -82,21 +79,21 @@ fn write_operations<F: Flash, W: Write>(
         let Some(op) = boot.peek() else {
             return Ok(());
         };
-        let told = Numbered {
+        let numbered = Numbered {
             layout: &layout,
             number: boot.count(),
             op,
         };
         match boot.step(flash) {
-            Ok(()) => write_line(writer, &told_line(&told, "\n"))?,
-            Err(FlashError::NotErased) => write_line(writer, &told_line(&told, " refused\n"))?,
+            Ok(()) => write_line(writer, &line_with(&numbered, "\n"))?,
+            Err(FlashError::NotErased) => write_line(writer, &line_with(&numbered, " refused\n"))?,
             Err(FlashError::Memory) => return Err(TraceError::Memory),
         }
     }
     Ok(())
 }
 
-/// Tells a boot that is cut before its operation of that number.
+/// Traces a boot that is cut before its operation of that number.
 ///
 /// # Errors
 ///
@@ -113,8 +110,8 @@ pub fn write_cut_boot<F: Flash, W: Write>(
     ensures whole { let f = F.seen flash.old in OnOk result
         (Appends (W.contents writer.old) (W.contents writer.new)
         (cut_text rules f.geometry boot f.content cut)) }
-    ensures front { let f = F.seen flash.old in OnErr result
-        (AppendsFront (W.contents writer.old) (W.contents writer.new)
+    ensures prefix { let f = F.seen flash.old in OnErr result
+        (AppendsPrefix (W.contents writer.old) (W.contents writer.new)
         (cut_text rules f.geometry boot f.content cut)) }
     ensures left { let x = powered rules (F.seen flash.old) in OnOk result
         ((F.seen flash.new).content ≡ at_cut x cut) }
@@ -128,17 +125,17 @@ pub fn write_cut_boot<F: Flash, W: Write>(
     write_line(writer, &head_line(boot, machine.kind()))?;
     write_operations(flash, &mut machine, Some(cut), writer)?;
     if let Some(op) = machine.peek() {
-        let told = Numbered {
+        let numbered = Numbered {
             layout: &layout,
             number: cut,
             op,
         };
-        write_line(writer, &cut_line(&told))?;
+        write_line(writer, &cut_line(&numbered))?;
     }
     Ok(())
 }
 
-/// Tells a boot that is not cut.
+/// Traces a boot that is not cut.
 ///
 /// # Errors
 ///
@@ -153,8 +150,8 @@ pub fn write_last_boot<F: Flash, W: Write>(
     ensures whole { let f = F.seen flash.old in OnOk result
         (Appends (W.contents writer.old) (W.contents writer.new)
         (last_text rules f.geometry boot f.content)) }
-    ensures front { let f = F.seen flash.old in OnErr result
-        (AppendsFront (W.contents writer.old) (W.contents writer.new)
+    ensures prefix { let f = F.seen flash.old in OnErr result
+        (AppendsPrefix (W.contents writer.old) (W.contents writer.new)
         (last_text rules f.geometry boot f.content)) }
     ensures counts { let f = F.seen flash.old in
         CountsUpTo (most_of rules f.geometry) f result (F.seen flash.new) }

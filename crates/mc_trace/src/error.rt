@@ -1,4 +1,4 @@
-//! Why a schedule is not told.
+//! Why a schedule is not traced.
 ghost use Rattle.std.specs.Prelude.{◌≡◌};
 ghost use Rattle.mc_trace.specs.declared.error.TraceError.TheVariants.{Memory, Write};
 
@@ -8,10 +8,10 @@ use mc_output::WriteFailed;
 use std::alloc::AllocError;
 use thiserror::Error;
 
-/// Why a schedule is not told.
+/// Why a schedule is not traced.
 #[derive(Clone, Copy, Debug, PartialEq, Eq, Error)]
 pub enum TraceError {
-    /// The cut at that place, counted from 0, is the first that can't occur. Nothing is written.
+    /// The cut of that number, counted from 0, is the first that can't occur. Nothing is written.
     #[error("E53 CannotOccur at {0}")]
     CannotOccur(usize),
     /// An allocation failed.
@@ -37,7 +37,7 @@ impl From<ReplayError> for TraceError {
 
     fn from(error: ReplayError) -> Self {
         match error {
-            ReplayError::CannotOccur(place) => TraceError::CannotOccur(place),
+            ReplayError::CannotOccur(index) => TraceError::CannotOccur(index),
             ReplayError::Memory => TraceError::Memory,
         }
     }

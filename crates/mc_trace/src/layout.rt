@@ -1,9 +1,9 @@
 //! A layout in numbers: what the trailers take, how large an image may be, where each field stands, and how long a boot is.
 ghost use Rattle.std.specs.Prelude.{◌≡◌, ◌<◌, ◌≤◌, ◌+◌, ◌*◌, ◌++◌, length, IfErr, OnOk, OnErr};
 ghost use Rattle.std.specs.Io.KnownBytes.{Appends};
-ghost use Rattle.mc_output.specs.Text.{AppendsFront};
+ghost use Rattle.mc_output.specs.Text.{AppendsPrefix};
 ghost use Rattle.mc_flash.specs.declared.flash.Grain.TheVariants.{Call, Unit};
-ghost use Rattle.mc_trace.specs.LayoutText.{sizes_text, place_of_field, place_of_entry, place_line, fields_text, places_text, operations_text, layout_text};
+ghost use Rattle.mc_trace.specs.LayoutText.{sizes_text, line_of_field, line_of_entry, part_line, fields_text, parts_text, operations_text, layout_text};
 
 use crate::error::TraceError;
 use crate::operation::Part;
@@ -32,17 +32,17 @@ fn sizes_line(layout: &Layout) -> Line
 
 /// The first byte of a part of a slot.
 #[derive(Clone, Copy)]
-pub struct Place {
+pub struct PartLine {
     pub slot: Slot,
     pub at: u32,
     pub part: Part,
 }
 
 // Where a field of a slot stands.
-fn place_of_field(layout: &Layout, slot: Slot, field: Field) -> Place
-    ensures { result ≡ place_of_field layout.now slot field }
+fn line_of_field(layout: &Layout, slot: Slot, field: Field) -> PartLine
+    ensures { result ≡ line_of_field layout.now slot field }
 {
-    Place {
+    PartLine {
         slot,
         at: place(layout, slot, field),
         part: Part::Field(field),
@@ -50,22 +50,22 @@ fn place_of_field(layout: &Layout, slot: Slot, field: Field) -> Place
 }
 
 // Where a status entry stands.
-fn place_of_entry(layout: &Layout, entry: u32) -> Place
+fn line_of_entry(layout: &Layout, entry: u32) -> PartLine
     requires { entry < 3 * layout.now.max_sectors }
-    ensures { result ≡ place_of_entry layout.now entry }
+    ensures { result ≡ line_of_entry layout.now entry }
 {
-    Place {
+    PartLine {
         slot: Slot::Primary,
         at: entry_place(layout, entry),
         part: Part::Entry(entry),
     }
 }
 
-impl Place {
+impl PartLine {
     // Adds its line, with the line feed: at most 38 bytes.
     fn put_into(self, line: &mut Line)
         requires { length line.old + 38 ≤ MOST_LINE }
-        ensures text { line.new ≡ line.old ++ place_line self }
+        ensures text { line.new ≡ line.old ++ part_line self }
         ensures length { length line.new ≤ length line.old + 38 }
     {
         line.put(self.slot.name());
@@ -83,22 +83,22 @@ fn put_fields(line: &mut Line, layout: &Layout, slot: Slot)
     ensures text { line.new ≡ line.old ++ fields_text layout.now slot }
     ensures length { length line.new ≤ length line.old + 190 }
 {
-    place_of_field(layout, slot, Field::SwapSize).put_into(line);
-    place_of_field(layout, slot, Field::SwapInfo).put_into(line);
-    place_of_field(layout, slot, Field::CopyDone).put_into(line);
-    place_of_field(layout, slot, Field::ImageOk).put_into(line);
-    place_of_field(layout, slot, Field::Magic).put_into(line);
+    line_of_field(layout, slot, Field::SwapSize).put_into(line);
+    line_of_field(layout, slot, Field::SwapInfo).put_into(line);
+    line_of_field(layout, slot, Field::CopyDone).put_into(line);
+    line_of_field(layout, slot, Field::ImageOk).put_into(line);
+    line_of_field(layout, slot, Field::Magic).put_into(line);
 }
 
 // The status entries and the fields.
-#[tactic(auto, unfolding(crate::specs::LayoutText::places_text))]
-fn places_line(layout: &Layout) -> Line
-    ensures { result ≡ places_text layout.now }
+#[tactic(auto, unfolding(crate::specs::LayoutText::parts_text))]
+fn parts_line(layout: &Layout) -> Line
+    ensures { result ≡ parts_text layout.now }
 {
     let last = 3 * layout.max_sectors() - 1;
     let mut line = Line::new();
-    place_of_entry(layout, 0).put_into(&mut line);
-    place_of_entry(layout, last).put_into(&mut line);
+    line_of_entry(layout, 0).put_into(&mut line);
+    line_of_entry(layout, last).put_into(&mut line);
     put_fields(&mut line, layout, Slot::Primary);
     put_fields(&mut line, layout, Slot::Secondary);
     line
@@ -142,12 +142,12 @@ fn operations_line(layout: &Layout) -> Line
 pub fn write_layout<W: Write>(layout: &Layout, writer: &mut W) -> Result<(), TraceError>
     ensures whole { OnOk result (Appends (W.contents writer.old) (W.contents writer.new)
         (layout_text layout.now)) }
-    ensures front { OnErr result (AppendsFront (W.contents writer.old) (W.contents writer.new)
+    ensures prefix { OnErr result (AppendsPrefix (W.contents writer.old) (W.contents writer.new)
         (layout_text layout.now)) }
     ensures err { IfErr result (λ e. e ≡ TraceError.Write) }
 {
     write_line(writer, &sizes_line(layout))?;
-    write_line(writer, &places_line(layout))?;
+    write_line(writer, &parts_line(layout))?;
     write_line(writer, &operations_line(layout))?;
     Ok(())
 }

@@ -1,4 +1,4 @@
-//! What power cuts do to a boot, told operation by operation; what lies in each sector and slot then; and a layout in numbers.
+//! What power cuts do to a boot, traced operation by operation; what lies in each sector and slot then; and a layout in numbers.
 #![tactic(auto)]
 
 mod boots;

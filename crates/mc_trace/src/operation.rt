@@ -7,7 +7,7 @@ use mc_flash::{Layout, Op, Slot};
 use mc_output::{Line, MOST_LINE};
 use mc_trailer::Field;
 
-/// What stands at a place of a slot.
+/// What stands at an offset of a slot.
 #[derive(Clone, Copy)]
 pub enum Part {
     Field(Field),
@@ -17,11 +17,11 @@ pub enum Part {
     Data,
 }
 
-/// What stands at a place of a slot.
-pub fn part_at(layout: &Layout, slot: Slot, place: u32) -> Part
-    ensures { result ≡ part_at layout.now slot place }
+/// What stands at an offset of a slot.
+pub fn part_at(layout: &Layout, slot: Slot, start: u32) -> Part
+    ensures { result ≡ part_at layout.now slot start }
 {
-    let left = layout.size(slot).saturating_sub(place);
+    let left = layout.size(slot).saturating_sub(start);
     let trailer = layout.trailer_bytes();
     match left {
         0..=16 => Part::Field(Field::Magic),
@@ -71,16 +71,16 @@ fn put_erase(line: &mut Line, slot: Slot, sector: u32)
 }
 
 // Adds a write to a line: at most 76 bytes.
-fn put_write(line: &mut Line, slot: Slot, place: u32, part: Part, bytes: &[u8])
+fn put_write(line: &mut Line, slot: Slot, start: u32, part: Part, bytes: &[u8])
     requires room { length line.old + 76 ≤ MOST_LINE }
-    requires few { length bytes.now ≤ 16 }
-    ensures text { line.new ≡ line.old ++ write_text slot place part bytes.now }
+    requires at_most { length bytes.now ≤ 16 }
+    ensures text { line.new ≡ line.old ++ write_text slot start part bytes.now }
     ensures length { length line.new ≤ length line.old + 76 }
 {
     line.put("write ");
     line.put(slot.name());
     line.put(" ");
-    line.put_number(place);
+    line.put_number(start);
     line.put(" ");
     part.put_into(line);
     line.put(" ");
@@ -88,15 +88,15 @@ fn put_write(line: &mut Line, slot: Slot, place: u32, part: Part, bytes: &[u8])
 }
 
 // Adds from where a copy goes to a line: at most 29 bytes.
-fn put_source(line: &mut Line, from: Slot, place: u32)
+fn put_source(line: &mut Line, from: Slot, start: u32)
     requires { length line.old + 29 ≤ MOST_LINE }
-    ensures text { line.new ≡ line.old ++ source_text from place }
+    ensures text { line.new ≡ line.old ++ source_text from start }
     ensures length { length line.new ≤ length line.old + 29 }
 {
     line.put("copy ");
     line.put(from.name());
     line.put(" ");
-    line.put_number(place);
+    line.put_number(start);
     line.put(" to ");
 }
 
@@ -133,12 +133,12 @@ impl Numbered<'_> {
         line.put(" ");
         match self.op {
             Op::Erase(slot, sector) => put_erase(line, slot, sector),
-            Op::Program(slot, place, bytes) => {
-                let part = part_at(self.layout, slot, place);
-                put_write(line, slot, place, part, bytes.bytes());
+            Op::Program(slot, start, bytes) => {
+                let part = part_at(self.layout, slot, start);
+                put_write(line, slot, start, part, bytes.bytes());
             }
-            Op::Copy(from, place, to, offset, len) => {
-                put_source(line, from, place);
+            Op::Copy(from, start, to, offset, len) => {
+                put_source(line, from, start);
                 put_target(line, to, offset, len);
             }
         }

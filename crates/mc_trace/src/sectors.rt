@@ -2,8 +2,7 @@
 ghost use Rattle.std.specs.Prelude.{◌≡◌, ◌<◌, ◌++◌, length, IfOk, OnOk, string_bytes};
 ghost use Rattle.mc_flash.specs.Flash.{sectors_of, size_of};
 ghost use Rattle.mc_start.specs.Start.{begun};
-ghost use Rattle.mc_trace.specs.Sectors.{Pictures, PicturesAs};
-ghost use Rattle.mc_trace.specs.Sectors.{first_like, line_of, sector_of, sector_word};
+ghost use Rattle.mc_trace.specs.Sectors.{Pictures, PicturesAs, first_like, line_of, sector_of, sector_word};
 
 use crate::error::TraceError;
 use mc_explore::{ReplayError, Schedule, Start, flash_at_cut};
@@ -89,7 +88,7 @@ fn picture_of<F: Flash>(
 {
     let flash = match flash_at_cut::<F>(alloc, start, schedule) {
         Ok(flash) => flash,
-        Err(ReplayError::CannotOccur(place)) => return Err(TraceError::CannotOccur(place)),
+        Err(ReplayError::CannotOccur(index)) => return Err(TraceError::CannotOccur(index)),
         Err(ReplayError::Memory) => return Err(TraceError::Memory),
     };
     let mut text = String::new(alloc);
@@ -116,8 +115,8 @@ fn picture_of<F: Flash>(
 ///
 /// # Errors
 ///
-/// `CannotOccur` with the place of the first cut that can't occur; `Memory`. Nothing is written then. `Write`, where a write
-/// fails or takes no bytes: a beginning of the picture is out.
+/// `CannotOccur` with the number of the first cut that can't occur; `Memory`. Nothing is written then. `Write`, where a
+/// write fails or takes no bytes: a beginning of the picture is out.
 pub fn write_sectors<F: Flash, W: Write>(
     alloc: Global,
     start: &Start,

@@ -1,7 +1,7 @@
 //! A flash as bytes.
 ghost use Rattle.std.specs.Prelude.{◌≡◌, IfErr, OnErr, OnOk};
 ghost use Rattle.std.specs.Io.KnownBytes.{Appends};
-ghost use Rattle.mc_output.specs.Text.{AppendsFront};
+ghost use Rattle.mc_output.specs.Text.{AppendsPrefix};
 ghost use Rattle.mc_trace.specs.Sectors.{slots_bytes};
 
 use crate::error::TraceError;
@@ -17,7 +17,7 @@ use std::io::Write;
 pub fn write_slots<F: Flash, W: Write>(flash: &F, writer: &mut W) -> Result<(), TraceError>
     ensures whole { OnOk result (Appends (W.contents writer.old) (W.contents writer.new)
         (slots_bytes (F.seen flash.now).content)) }
-    ensures front { OnErr result (AppendsFront (W.contents writer.old) (W.contents writer.new)
+    ensures prefix { OnErr result (AppendsPrefix (W.contents writer.old) (W.contents writer.new)
         (slots_bytes (F.seen flash.now).content)) }
     ensures err { IfErr result (λ e. e ≡ TraceError.Write) }
 {

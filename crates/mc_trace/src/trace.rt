@@ -1,11 +1,10 @@
-//! A schedule of power cuts, told boot by boot.
+//! A schedule of power cuts, traced boot by boot.
 ghost use Rattle.std.specs.Prelude.{◌≡◌, true, IfErr, IsErrOf, OnOk, OnErr};
 ghost use Rattle.std.specs.Io.KnownBytes.{Appends};
-ghost use Rattle.mc_output.specs.Text.{AppendsFront};
+ghost use Rattle.mc_output.specs.Text.{AppendsPrefix};
 ghost use Rattle.mc_explore.specs.Schedules.{CanOccur};
 ghost use Rattle.mc_start.specs.Start.{begun};
-ghost use Rattle.mc_trace.specs.Trace.{trace_text, outcome_lines, boots_text};
-ghost use Rattle.mc_trace.specs.Trace.{RefusesTrace};
+ghost use Rattle.mc_trace.specs.Trace.{trace_text, outcome_lines, boots_text, RefusesTrace};
 
 use crate::boots::{write_cut_boot, write_last_boot};
 use crate::error::TraceError;
@@ -21,17 +20,17 @@ use std::io::Write;
 ///
 /// # Errors
 ///
-/// `CannotOccur` with the place of the first cut that can't occur: nothing is written then. `Memory`, `Write`: a beginning of the
-/// text is out.
+/// `CannotOccur` with the number of the first cut that can't occur: nothing is written then. `Memory`, `Write`: a beginning of
+/// the text is out.
 pub fn write_trace<F: Flash + Drop, W: Write>(
     alloc: Global,
     start: &Start,
     schedule: &Schedule,
     writer: &mut W,
 ) -> Result<(), TraceError>
-    ensures told { OnOk result (Appends (W.contents writer.old) (W.contents writer.new)
+    ensures written { OnOk result (Appends (W.contents writer.old) (W.contents writer.new)
         (trace_text (begun start.now) schedule.now)) }
-    ensures front { OnErr result (AppendsFront (W.contents writer.old) (W.contents writer.new)
+    ensures prefix { OnErr result (AppendsPrefix (W.contents writer.old) (W.contents writer.new)
         (trace_text (begun start.now) schedule.now)) }
     ensures refused { IfErr result (RefusesTrace (begun start.now) schedule.now writer.old
         writer.new) }

@@ -29,7 +29,7 @@ fn none_written<F: Flash>(flash: &F, first: u32) -> bool
 
 // How many entries are left when those are passed over from the end that are blank, eight at a time.
 fn without_blank_end<F: Flash>(flash: &F) -> u32
-    ensures few { result ≤ 3 * (F.seen flash.now).geometry.max_sectors }
+    ensures at_most { result ≤ 3 * (F.seen flash.now).geometry.max_sectors }
     ensures none { (e : ℕ) → result ≤ e → e < 3 * (F.seen flash.now).geometry.max_sectors
         → is_written (F.seen flash.now).geometry (F.seen flash.now).content e ≡ false }
 {

@@ -2,14 +2,14 @@
 #![tactic(auto)]
 
 mod entries;
-mod law;
+mod laws;
 mod places;
 mod tables;
 mod text;
 mod trailer;
 
 pub use entries::highest_entry;
-pub use law::{fields_read_back, highest_after_a_write, magic_of_a_trailer, one_row};
+pub use laws::{fields_read_back, highest_after_a_write, magic_of_a_trailer, one_row};
 pub use places::{Field, entry_place, place};
 pub use tables::{Profile, Rules, SwapType, resumes, swap_type};
 pub use trailer::{Flag, MAGIC, Magic, Trailer};

@@ -41,7 +41,7 @@ pub struct Rules {
 }
 
 impl Rules {
-    /// Whole calls and the first profile: the rules where no others are told.
+    /// Whole calls and the first profile: the rules where no others are given.
     pub const PLAIN: Rules = Rules {
         grain: Grain::Call,
         profile: Profile::One,

@@ -12,7 +12,7 @@ impl Magic {
     /// Its name in one word.
     pub fn name(self) -> &'static str
         ensures text { result.now ≡ magic_text self }
-        ensures few { length result.now ≤ 5 }
+        ensures at_most { length result.now ≤ 5 }
     {
         match self {
             Magic::Good => "good",
@@ -34,7 +34,7 @@ impl Flag {
     /// Its name in one word.
     pub fn name(self) -> &'static str
         ensures text { result.now ≡ flag_text self }
-        ensures few { length result.now ≤ 5 }
+        ensures at_most { length result.now ≤ 5 }
     {
         match self {
             Flag::Set => "set",
@@ -56,7 +56,7 @@ impl SwapType {
     /// Its name in one word.
     pub fn name(self) -> &'static str
         ensures text { result.now ≡ type_text self }
-        ensures few { length result.now ≤ 6 }
+        ensures at_most { length result.now ≤ 6 }
     {
         match self {
             SwapType::None => "none",
@@ -93,7 +93,7 @@ impl Profile {
     /// Its name: a digit.
     pub fn name(self) -> &'static str
         ensures text { result.now ≡ profile_text self }
-        ensures few { length result.now ≤ 1 }
+        ensures at_most { length result.now ≤ 1 }
     {
         match self {
             Profile::One => "1",

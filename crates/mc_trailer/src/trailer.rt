@@ -1,8 +1,7 @@
 //! The fields of a trailer as they are read.
 ghost use Rattle.std.specs.Prelude.{◌≡◌, ℕ, ◌+◌, ◌≤◌, ◌<◌, length};
 ghost use Rattle.mc_flash.specs.Flash.{byte};
-ghost use Rattle.mc_trailer.specs.Trailer.{before_end, place};
-ghost use Rattle.mc_trailer.specs.Trailer.{magic_of, flag_of, bytes_at, trailer_of};
+ghost use Rattle.mc_trailer.specs.Trailer.{before_end, place, magic_of, flag_of, bytes_at, trailer_of};
 
 use crate::places::{Field, place};
 use byteorder::{ByteOrder, LittleEndian};

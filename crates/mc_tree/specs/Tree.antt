@@ -29,7 +29,7 @@ labelled t label s (number ∷ path) = label s number ∷ labelled t label (t.ch
 
 -- The order of paths, and which of them comes next.
 
--- A proper front of a list comes before it, else the first element that differs decides.
+-- A proper prefix of a list comes before it, else the first element that differs decides.
 abbrev pub PrecedesIn : {X : Type 0} → (X → X → Type 0) → List X → List X → Type 0
 PrecedesIn Less [] [] = ⊥
 PrecedesIn Less [] (y ∷ ys) = Unit {0}
@@ -83,7 +83,7 @@ IsOver = IsOverIn Precedes
 -- `Before` is the order of these, and `IsRow` says which rows there are.
 
 module _ {K R : Type 0} (Before : K → K → Type 0) (key : R → K) where
-  -- Each row comes before all that stand behind it.
+  -- Each row comes before all that stand after it.
   abbrev pub Ascends : List R → Type 0
   Ascends rows = AllPairs (λ x y. Before (key x) (key y)) rows
 
@@ -107,7 +107,7 @@ module _ {K R : Type 0} (Before : K → K → Type 0) (key : R → K) (no_key : 
     pub rest : IsRest Before key IsRow position all
     pub first : page ≡ take limit all
 
-  -- The rows of the pages of a chain, joined. The first page begins at the position, and each further one behind the last row of
+  -- The rows of the pages of a chain, joined. The first page begins at the position, and each further one after the last row of
   -- the page before it. A page that is not full ends the chain.
   abbrev pub Chain : Position K → List ℕ → Bool → List R → Type 0
   Chain position [] ended rows = (rows ≡ []) × (ended ≡ false)
@@ -116,40 +116,40 @@ module _ {K R : Type 0} (Before : K → K → Type 0) (key : R → K) (no_key : 
       × (((length page ≡ limit) × Chain (After (last_key key no_key page)) limits ended more)
       ⊎ ((length page < limit) × (limits ≡ []) × (ended ≡ true) × (more ≡ [])))
 
--- Pages join up: the rows of a chain are a front of the rows to come where it began, and all of them where it ended.
+-- Pages join up: the rows of a chain are a prefix of the rows to come where it began, and all of them where it ended.
 pub record JoinUp {R : Type 0} (whole rows : List R) (ended : Bool) : Type 0 where
-  pub front : (n : ℕ) × (rows ≡ take n whole)
+  pub prefix : (n : ℕ) × (rows ≡ take n whole)
   pub all : ended ≡ true → rows ≡ whole
 
 -- The tree of two rounds over a tree.
 
--- A node of the first round; or one of the second, with the node of the first behind which its round began.
-pub data Place (N : Type 0) : Type 0 where
-  first : (s : N) → Place N
-  second : (began s : N) → Place N
+-- A node of the first round; or one of the second, with the node of the first after which its round began.
+pub data RoundNode (N : Type 0) : Type 0 where
+  first : (s : N) → RoundNode N
+  second : (began s : N) → RoundNode N
 
 module _ {N : Type 0} (t : Tree N) (next : N → N) where
-  -- The children of a node of the first round are those of its round, and then those of the node that `next` tells, where the
-  -- second round behind it begins. Those of a node of the second round are of the second round.
-  abbrev pub twice_width : Place N → ℕ
-  twice_width (first s) = t.width s + t.width (next s)
-  twice_width (second began s) = t.width s
+  -- The children of a node of the first round are those of its round, and then those of the node that `next` gives, where the
+  -- second round after it begins. Those of a node of the second round are of the second round.
+  abbrev pub two_rounds_width : RoundNode N → ℕ
+  two_rounds_width (first s) = t.width s + t.width (next s)
+  two_rounds_width (second began s) = t.width s
 
-  abbrev pub twice_child : Place N → ℕ → Place N
-  twice_child (first s) i =
+  abbrev pub two_rounds_child : RoundNode N → ℕ → RoundNode N
+  two_rounds_child (first s) i =
       if nat_lt i (t.width s) then first (t.child s i) else second s (t.child (next s) (i - t.width s))
-  twice_child (second began s) i = second began (t.child s i)
+  two_rounds_child (second began s) i = second began (t.child s i)
 
-  abbrev pub twice : Tree (Place N)
-  twice = record { width = twice_width; child = twice_child }
+  abbrev pub two_rounds : Tree (RoundNode N)
+  two_rounds = record { width = two_rounds_width; child = two_rounds_child }
 
   -- A child by its round and its number there.
-  abbrev pub label : Place N → ℕ → ℕ × ℕ
+  abbrev pub label : RoundNode N → ℕ → ℕ × ℕ
   label (first s) i = if nat_lt i (t.width s) then (1, i) else (2, i - t.width s)
   label (second began s) i = (2, i)
 
-  abbrev pub labels : Place N → List ℕ → List (ℕ × ℕ)
-  labels = labelled twice label
+  abbrev pub labels : RoundNode N → List ℕ → List (ℕ × ℕ)
+  labels = labelled two_rounds label
 
   -- The path that goes along one path in the first round, and along another in the second.
   abbrev pub in_both : N → List ℕ → List ℕ → List ℕ

@@ -2,8 +2,8 @@
 //! crates above cite of it stands in specs/; it has no code but the law of the order and the order as a test.
 #![tactic(auto)]
 
-mod law;
+mod laws;
 mod order;
 
-pub use law::paths_are_ordered;
+pub use laws::paths_are_ordered;
 pub use order::precedes;

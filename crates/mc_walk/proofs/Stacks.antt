@@ -1,6 +1,5 @@
 -- Frames taken off, and frames over their checkpoints.
-use Rattle.std.proofs.Common.{Err, IfOk, List, None, Ok, OnOk, Option, Result, Some, [], ap, append_assoc, arith, length, length-append, option_to_list, refl, slice_get, subst, suc, sym, take}
-use Rattle.std.proofs.Common.{zero, ℕ, ◌*◌, ◌++◌, ◌+◌, ◌-◌, ◌<◌, ◌^◌, ◌∙◌, ◌∷◌, ◌≡◌}
+use Rattle.std.proofs.Common.{Err, IfOk, List, None, Ok, OnOk, Option, Result, Some, [], ap, append_assoc, arith, length, length-append, option_to_list, refl, slice_get, subst, suc, sym, take, zero, ℕ, ◌*◌, ◌++◌, ◌+◌, ◌-◌, ◌<◌, ◌^◌, ◌∙◌, ◌∷◌, ◌≡◌}
 use Rattle.std.proofs.lemmas.List.{append-nil, get_or_at, map-append, take_at}
 use Rattle.std.proofs.lemmas.Option.{same_Some, slice_get_within}
 use Rattle.std.specs.Prelude.{slice_index_or}
@@ -8,13 +7,13 @@ use Rattle.mc_flash.specs.Flash.{Content}
 use Rattle.mc_flash.specs.Usage.{Checkpoint, Counts, LeaveRoom, Seen, Stays, checkpoint_at, checkpoint_of, marked, no_checkpoint, went_back}
 use Rattle.mc_tree.specs.Tree.{Allowed, landed}
 use Rattle.mc_tree.specs.facts.Order.{AllLast, landed-push}
-use Rattle.mc_walk.specs.Kind.{IsAt, IsChild, Kind, TellsChild}
+use Rattle.mc_walk.specs.TreeModel.{IsAt, IsChild, TreeModel, IsChildSummary}
 use Rattle.mc_walk.specs.declared.frame.Frame.{Frame}
 use Rattle.mc_walk.specs.inner.Stack.{AreFrames, AreOff, AreSpent, Comes, IsFrame, IsLastOpen, IsLeft, IsOpen, IsSpent, Stacked, Stands, most_at, node_of, path_of}
 
 -- Frames that are taken off one after another.
 
--- The last of a list stands behind the others.
+-- The last of a list stands after the others.
 pub last_of : {X : Type 0} (xs : List X) (n : ℕ) (x : X) → length xs ≡ n + 1 → slice_get xs n ≡ Some x → (before : List X) × (xs ≡ before ++ x ∷ [])
 last_of [] n x len e = absurd cc
 last_of (y ∷ []) zero x len e = ([], ap (λ z. z ∷ []) (same_Some y x e))
@@ -28,10 +27,10 @@ last_at (y ∷ ys) x = last_at ys x
 
 last_same : {X : Type 0} (all xs : List X) (x f : X) → all ≡ xs ++ x ∷ [] → slice_get all (length all - 1) ≡ Some f → x ≡ f
 last_same all xs x f split last =
-    let place : length all - 1 ≡ length xs = omega (arith, ap length split, length-append xs (x ∷ [])) in
-    same_Some x f (sym (last_at xs x) ∙ ap (λ z. slice_get z (length xs)) (sym split) ∙ ap (slice_get all) (sym place) ∙ last)
+    let index_is : length all - 1 ≡ length xs = omega (arith, ap length split, length-append xs (x ∷ [])) in
+    same_Some x f (sym (last_at xs x) ∙ ap (λ z. slice_get z (length xs)) (sym split) ∙ ap (slice_get all) (sym index_is) ∙ last)
 
-module _ {N A T : Type 0} (k : Kind N A T) where
+module _ {N A T : Type 0} (k : TreeModel N A T) where
   pub none_off : (fs : List (Frame A T)) → AreOff k fs fs
   none_off fs = record { more = []; spent = tt; split = sym (append-nil fs) }
 
@@ -71,7 +70,7 @@ pub no_path : {A T : Type 0} (fs : List (Frame A T)) → path_of fs ≡ [] → f
 no_path [] e = refl
 no_path (f ∷ fs) e = absurd cc
 
-module _ {N A T : Type 0} (k : Kind N A T) where
+module _ {N A T : Type 0} (k : TreeModel N A T) where
   -- There are as many frames as checkpoints.
   pub length-frames : (n : N) (levels : ℕ) (checkpoints : List Checkpoint) (fs : List (Frame A T)) → AreFrames k n levels checkpoints fs → length checkpoints ≡ length fs
   length-frames n levels [] [] a = refl
@@ -89,7 +88,7 @@ module _ {N A T : Type 0} (k : Kind N A T) where
   frames_last n levels [] [] a s = tt
   frames_last n levels [] (f ∷ fs) a s = absurd a
   frames_last n levels (s ∷ ss) [] a e = absurd a
-  frames_last n levels (s ∷ ss) (f ∷ fs) a e = (e.0 n a.0.told_is, frames_last (k.tree.child n f.number) (levels + 1) ss fs a.1 e.1)
+  frames_last n levels (s ∷ ss) (f ∷ fs) a e = (e.0 n a.0.summary_is, frames_last (k.tree.child n f.number) (levels + 1) ss fs a.1 e.1)
 
   frames-push : (n : N) (levels : ℕ) (checkpoints : List Checkpoint) (fs : List (Frame A T)) (checkpoint : Checkpoint) (f : Frame A T) → AreFrames k n levels checkpoints fs
       → IsFrame k (landed k.tree n (path_of fs)) (levels + length fs) checkpoint f → AreFrames k n levels (checkpoints ++ checkpoint ∷ []) (fs ++ f ∷ [])
@@ -169,22 +168,22 @@ module _ {N A T : Type 0} (k : Kind N A T) where
       let saved : count * k.most.saved ≡ length fs * k.most.saved + k.most.saved = ap (λ z. z * k.most.saved) e ∙ one_more (length fs) k.most.saved in
       record { entries = omega (arith, more.entries, h.room.entries, entries); saved = omega (arith, more.saved, h.room.saved, saved) }
 
-  -- And its node is told.
-  pub entered : (origin : Content) (seen new : Seen) (fs : List (Frame A T)) (f : Frame A T) (told : T) → Comes k origin seen fs f → Stays (marked seen) new
-      → k.IsTold (k.tree.child (node_of k origin fs) f.number) told → Stands k origin new (fs ++ f ∷ []) told
-  entered origin seen new fs f told c s t =
+  -- And its node has a summary.
+  pub entered : (origin : Content) (seen new : Seen) (fs : List (Frame A T)) (f : Frame A T) (summary : T) → Comes k origin seen fs f → Stays (marked seen) new
+      → k.IsSummary (k.tree.child (node_of k origin fs) f.number) summary → Stands k origin new (fs ++ f ∷ []) summary
+  entered origin seen new fs f summary c s t =
       let node = node-push origin fs f in
       let steps : length (fs ++ f ∷ []) ≡ length fs + 1 = omega (arith, length-append fs (f ∷ [])) in
-      let few = frame_counts (length (fs ++ f ∷ [])) (checkpoint_of seen) (node_of k origin fs) fs f steps c.frame in
+      let at_most = frame_counts (length (fs ++ f ∷ [])) (checkpoint_of seen) (node_of k origin fs) fs f steps c.frame in
       let owed : k.owed (node_of k origin (fs ++ f ∷ [])) ≡ k.owed (k.tree.child (node_of k origin fs) f.number) = ap k.owed node in
       record {
         stacked = subst (λ ms. Stacked k origin ms (fs ++ f ∷ [])) (sym s.checkpoints) (stacked-push origin seen.checkpoints fs (checkpoint_of seen) f c.stacked c.frame);
         content_is = s.content ∙ c.frame.content_is ∙ ap k.content (sym node);
         layout_is = s.geometry ∙ c.layout_is;
-        told_is = subst (λ n. k.IsTold n told) (sym node) t;
+        summary_is = subst (λ n. k.IsSummary n summary) (sym node) t;
         counts = record {
-          entries = omega (arith, ap (λ c. c.entries) s.counts, ap (λ (c : Counts). c.entries) owed, few.entries);
-          saved = omega (arith, ap (λ c. c.saved) s.counts, ap (λ (c : Counts). c.saved) owed, few.saved);
+          entries = omega (arith, ap (λ c. c.entries) s.counts, ap (λ (c : Counts). c.entries) owed, at_most.entries);
+          saved = omega (arith, ap (λ c. c.saved) s.counts, ap (λ (c : Counts). c.saved) owed, at_most.saved);
         };
       }
 
@@ -198,16 +197,16 @@ module _ {N A T : Type 0} (k : Kind N A T) where
   }
 
   pub child_here : (origin : Content) (seen mid : Seen) (fs : List (Frame A T)) (f : Frame A T) → Comes k origin seen fs f → mid ≡ marked seen → IsChild k f.at f.parent mid
-  child_here origin seen mid fs f c m = (node_of k origin fs, f.number, at_child origin seen mid fs f c m, c.frame.some, c.frame.told_is)
+  child_here origin seen mid fs f c m = (node_of k origin fs, f.number, at_child origin seen mid fs f c m, c.frame.some, c.frame.summary_is)
 
-  -- The same, by the answer of what tells.
-  pub entered_told : {E : Type 0} (origin : Content) (seen mid new : Seen) (fs all : List (Frame A T)) (f : Frame A T) (r : Result T E) → Comes k origin seen fs f
-      → mid ≡ marked seen → all ≡ fs ++ f ∷ [] → IfOk r (TellsChild k f.at f.parent mid) → OnOk r (Stays mid new) → IfOk r (λ told. Stands k origin new all told)
-  entered_told origin seen mid new fs all f (Ok told) c m a t s =
+  -- The same, by the result of the call.
+  pub entered_summary : {E : Type 0} (origin : Content) (seen mid new : Seen) (fs all : List (Frame A T)) (f : Frame A T) (r : Result T E) → Comes k origin seen fs f
+      → mid ≡ marked seen → all ≡ fs ++ f ∷ [] → IfOk r (IsChildSummary k f.at f.parent mid) → OnOk r (Stays mid new) → IfOk r (λ summary. Stands k origin new all summary)
+  entered_summary origin seen mid new fs all f (Ok summary) c m a t s =
       let s' : Stays (marked seen) new = subst (λ z. Stays z new) m s in
-      let told_is = t (node_of k origin fs) f.number (at_child origin seen mid fs f c m) c.frame.some c.frame.told_is in
-      subst (λ z. Stands k origin new z told) (sym a) (entered origin seen new fs f told c s' told_is)
-  entered_told origin seen mid new fs all f (Err e) c m a t s = tt
+      let summary_is = t (node_of k origin fs) f.number (at_child origin seen mid fs f c m) c.frame.some c.frame.summary_is in
+      subst (λ z. Stands k origin new z summary) (sym a) (entered origin seen new fs f summary c s' summary_is)
+  entered_summary origin seen mid new fs all f (Err e) c m a t s = tt
 
   -- Frames are taken off, and the flash is back at the checkpoint of the last of them.
   pub popped : (origin : Content) (seen : Seen) (all fs : List (Frame A T)) (f : Frame A T) (more : List (Frame A T)) → Stacked k origin seen.checkpoints all

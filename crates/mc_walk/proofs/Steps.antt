@@ -1,6 +1,5 @@
 -- A walk on its way to a further node.
-use Rattle.std.proofs.Common.{◌≡◌, ℕ, ◌+◌, ◌*◌, ◌<◌, ◌≤◌, true, false, List, [], ◌∷◌, ◌++◌, length, Option, Some, None, Result, Ok, Err, OnOk, IfSome, is_some, slice_index_or, slice_set, ◌-◌}
-use Rattle.std.proofs.Common.{length-append, refl, sym, ap, subst, ◌∙◌, arith}
+use Rattle.std.proofs.Common.{◌≡◌, ℕ, ◌+◌, ◌*◌, ◌<◌, ◌≤◌, true, false, List, [], ◌∷◌, ◌++◌, length, Option, Some, None, Result, Ok, Err, OnOk, IfSome, is_some, slice_index_or, slice_set, ◌-◌, length-append, refl, sym, ap, subst, ◌∙◌, arith}
 use Rattle.std.proofs.Math.Nat.{mul-le-mul_right}
 use Rattle.std.proofs.lemmas.List.{map-append, length-map, get_or_at, set_at}
 use Rattle.mc_tree.specs.Tree.{Allowed}
@@ -9,7 +8,7 @@ use Rattle.mc_flash.specs.Flash.{Content}
 use Rattle.mc_flash.specs.Usage.{Counts, Limits, Checkpoint, Seen, Keeps, no_checkpoint, checkpoint_of, went_back, marked, Spent, Spends, Stays, HasRoom, LeaveRoom, plus, room_of}
 use Rattle.mc_flash.specs.facts.Spends.{ran_out_later, spent_back, spent_both, spent_marked, spent_more}
 use Rattle.mc_flash.specs.declared.flash.FlashError.{FlashError}
-use Rattle.mc_walk.specs.Kind.{Kind, owed_there, telling, IsAt, IsNode, IsParent, HasNext, GoesOn, CanReach, Reaches}
+use Rattle.mc_walk.specs.TreeModel.{TreeModel, owed_there, summary_cost, IsAt, IsNode, IsParent, HasNext, GoesOn, CanReach, Reaches}
 use Rattle.mc_walk.specs.inner.Stack.{path_of, most_at, AreSpent, IsLastOpen, AreFrames, Stacked, node_of, Stands, Comes, CanGoOn, IsLeft, IsOneOn, IsRoomy}
 use Rattle.mc_walk.specs.Walks.{walked, origin_of, IsFresh, Begins, IsThere, IsGoing, IsLastStep, IsPath, GoesDown, Climbs}
 use Rattle.mc_walk.specs.declared.frame.Frame.{Frame}
@@ -24,7 +23,7 @@ pub spends_marked : {X E : Type 0} (n : ℕ) (old mid new : Seen) (r : Result X 
 spends_marked n old mid new (Ok x) m s = spent_more (0 + n) n old new (omega arith) (spent_both 0 n old mid new (subst (Spent 0 old) (sym m) (spent_marked old)) s)
 spends_marked n old mid new (Err e) m s = ran_out_later 0 old mid new (subst (Spent 0 old) (sym m) (spent_marked old)) s
 
-module _ {N A T : Type 0} (k : Kind N A T) where
+module _ {N A T : Type 0} (k : TreeModel N A T) where
   pub roomy_stays : (bound : ℕ) (old new : Seen) → new.usage.limits ≡ old.usage.limits → IsRoomy k bound old → IsRoomy k bound new
   roomy_stays bound old new e r = record {
     entries = omega (arith, r.entries, ap (λ (l : Limits). l.entries) e);
@@ -52,53 +51,53 @@ module _ {N A T : Type 0} (k : Kind N A T) where
 
   pub enter_room : (bound : ℕ) (origin : Content) (seen : Seen) (fs : List (Frame A T)) (f : Frame A T) → Comes k origin seen fs f → IsRoomy k bound seen → length fs < bound
       → HasRoom (owed_there k f.at) (marked seen)
-  enter_room bound origin seen fs f c r few =
+  enter_room bound origin seen fs f c r at_most =
       let n = length-stack k origin seen.checkpoints fs c.stacked in
       record {
-        allows = child_room bound (length fs) seen.usage.counts (k.left f.at) seen r few c.frame.room;
-        mark = omega (arith, n, few, r.checkpoints, length-append seen.checkpoints (checkpoint_of seen ∷ []));
+        allows = child_room bound (length fs) seen.usage.counts (k.left f.at) seen r at_most c.frame.room;
+        mark = omega (arith, n, at_most, r.checkpoints, length-append seen.checkpoints (checkpoint_of seen ∷ []));
       }
 
   pub mark_room : (bound : ℕ) (origin : Content) (seen : Seen) (fs : List (Frame A T)) (f : Frame A T) → Comes k origin seen fs f → IsRoomy k bound seen → length fs < bound
       → length seen.checkpoints < seen.usage.limits.checkpoints
-  mark_room bound origin seen fs f c r few = omega (arith, length-stack k origin seen.checkpoints fs c.stacked, few, r.checkpoints)
+  mark_room bound origin seen fs f c r at_most = omega (arith, length-stack k origin seen.checkpoints fs c.stacked, at_most, r.checkpoints)
 
-  -- A walk that stands is told where.
-  pub standing : (bound : ℕ) (seen : Seen) (fs : List (Frame A T)) (told : Option T) → is_some told ≡ true → IfSome told (IsGoing k bound seen fs) → (t : T) × IsGoing k bound seen fs t
+  -- A walk that stands is where its summary says.
+  pub standing : (bound : ℕ) (seen : Seen) (fs : List (Frame A T)) (summary : Option T) → is_some summary ≡ true → IfSome summary (IsGoing k bound seen fs) → (t : T) × IsGoing k bound seen fs t
   standing bound seen fs None stands going = absurd cc
   standing bound seen fs (Some t) stands going = (t, going)
 
   -- It stands at one of its paths.
-  pub on_path : {B : Type 0} (b : B) (bound : ℕ) (seen : Seen) (fs : List (Frame A T)) (stood : Option T) (told : T) → IsGoing k bound seen fs told
+  pub on_path : {B : Type 0} (b : B) (bound : ℕ) (seen : Seen) (fs : List (Frame A T)) (stood : Option T) (summary : T) → IsGoing k bound seen fs summary
       → IsPath k (walked b bound seen fs stood) (path_of fs)
-  on_path b bound seen fs stood told going =
+  on_path b bound seen fs stood summary going =
       let st = going.stands.stacked in
-      (omega (arith, going.few, length-map fs (λ (f : Frame A T). f.number)), frames_allowed k (k.root (origin_of seen)) 0 st.above fs st.frames)
+      (omega (arith, going.at_most, length-map fs (λ (f : Frame A T). f.number)), frames_allowed k (k.root (origin_of seen)) 0 st.above fs st.frames)
 
-  -- A walk is told of its root.
-  pub begun : {B : Type 0} (b : B) (bound : ℕ) (old new : Seen) (fs : List (Frame A T)) (stood : Option T) (told : T) → IsFresh k (walked b bound old fs stood) → Stays old new
-      → k.IsTold (k.root old.content) told → new.usage.limits ≡ old.usage.limits
-      → IsGoing k bound new fs told × Begins k (walked b bound old fs stood) told (walked b bound new fs (Some told))
-  begun b bound old new fs stood told fresh stays told_is limits =
+  -- A walk has the summary of its root.
+  pub begun : {B : Type 0} (b : B) (bound : ℕ) (old new : Seen) (fs : List (Frame A T)) (stood : Option T) (summary : T) → IsFresh k (walked b bound old fs stood) → Stays old new
+      → k.IsSummary (k.root old.content) summary → new.usage.limits ≡ old.usage.limits
+      → IsGoing k bound new fs summary × Begins k (walked b bound old fs stood) summary (walked b bound new fs (Some summary))
+  begun b bound old new fs stood summary fresh stays summary_is limits =
       let none : [] ≡ fs = sym (no_path fs fresh.path) in
       let checkpoints : new.checkpoints ≡ checkpoint_of old ∷ [] = stays.checkpoints ∙ fresh.checkpoints_are in
       let origin : origin_of new ≡ old.content = ap (λ (ms : List Checkpoint). (slice_index_or ms 0 no_checkpoint).content) checkpoints in
       let here : origin_of old ≡ old.content = ap (λ (ms : List Checkpoint). (slice_index_or ms 0 no_checkpoint).content) fresh.checkpoints_are in
-      let stands : Stands k (origin_of new) new [] told = record {
+      let stands : Stands k (origin_of new) new [] summary = record {
         stacked = record { first = checkpoint_of old; above = []; checkpoints_are = checkpoints; origin_is = sym origin; frames = tt };
         content_is = stays.content ∙ sym (k.root_is old.content) ∙ ap (λ c. k.content (k.root c)) (sym origin);
         layout_is = stays.geometry ∙ fresh.layout_is;
-        told_is = subst (λ c. k.IsTold (k.root c) told) (sym origin) told_is;
+        summary_is = subst (λ c. k.IsSummary (k.root c) summary) (sym origin) summary_is;
         counts = record {
           entries = omega (arith, (k.all_is (k.root (origin_of new))).entries, ap (λ c. c.entries) (stays.counts ∙ fresh.counts));
           saved = omega (arith, (k.all_is (k.root (origin_of new))).saved, ap (λ c. c.saved) (stays.counts ∙ fresh.counts));
         };
       } in (
-        subst (λ xs. IsGoing k bound new xs told) none (record { stands = stands; few = omega arith; roomy = roomy_stays bound old new limits fresh.roomy }),
+        subst (λ xs. IsGoing k bound new xs summary) none (record { stands = stands; at_most = omega arith; roomy = roomy_stays bound old new limits fresh.roomy }),
         record {
           path = fresh.path;
-          told_is = subst (λ c. k.IsTold (k.root c) told) (sym here) told_is;
-          same = record { branches = refl; bound = refl; origin = origin ∙ sym here };
+          summary_is = subst (λ c. k.IsSummary (k.root c) summary) (sym here) summary_is;
+          same = record { flash_tree = refl; bound = refl; origin = origin ∙ sym here };
           stands = refl;
         },
       )
@@ -107,36 +106,36 @@ module _ {N A T : Type 0} (k : Kind N A T) where
   pub record Back (bound : ℕ) (old seen : Seen) (all fs : List (Frame A T)) (f : Frame A T) : Type 0 where
     pub comes : Comes k (origin_of old) seen fs f
     pub in_range : length fs + 1 < length old.checkpoints
-    pub few : length fs < bound
+    pub at_most : length fs < bound
     pub roomy : IsRoomy k bound seen
     pub spent : Spent 0 old seen
     pub more : f.number + 1 < k.tree.width (node_of k (origin_of old) fs)
     pub has_next : HasNext k f.at seen
 
-  went_up_to : (bound : ℕ) (old : Seen) (all fs : List (Frame A T)) (f : Frame A T) (told : T) → IsGoing k bound old all told → IsLastOpen k f all fs
+  went_up_to : (bound : ℕ) (old : Seen) (all fs : List (Frame A T)) (f : Frame A T) (summary : T) → IsGoing k bound old all summary → IsLastOpen k f all fs
       → Back bound old (went_back (length fs + 1) old) all fs f
-  went_up_to bound old all fs f told going last =
+  went_up_to bound old all fs f summary going last =
       let seen : Seen = went_back (length fs + 1) old in
       let p = popped k (origin_of old) old all fs f last.more going.stands.stacked going.stands.layout_is last.split in
       let spent = spent_back (length fs + 1) old in
       let roomy = roomy_stays bound old seen spent.limits going.roomy in
-      let few : length fs < bound = omega (arith, going.few, ap length last.split, length-append fs (f ∷ last.more)) in
+      let at_most : length fs < bound = omega (arith, going.at_most, ap length last.split, length-append fs (f ∷ last.more)) in
       let here : IsAt k (node_of k (origin_of old) fs) f.number f.at seen = record { on_is = p.0.frame.on_is; content_is = p.0.frame.content_is; layout_is = p.0.layout_is } in
-      let room = steps_room bound (length fs) seen.usage.counts (k.left f.at) seen roomy (omega (arith, few)) p.0.frame.room in
-      let more : f.number + 1 < k.tree.width (node_of k (origin_of old) fs) = last.open_is (node_of k (origin_of old) fs) p.0.frame.told_is in
+      let room = steps_room bound (length fs) seen.usage.counts (k.left f.at) seen roomy (omega (arith, at_most)) p.0.frame.room in
+      let more : f.number + 1 < k.tree.width (node_of k (origin_of old) fs) = last.open_is (node_of k (origin_of old) fs) p.0.frame.summary_is in
       record {
         comes = p.0;
         in_range = p.1;
-        few = few;
+        at_most = at_most;
         roomy = roomy;
         spent = spent;
         more = more;
         has_next = (node_of k (origin_of old) fs, f.number, here, more, room);
       }
 
-  pub went_up : (bound : ℕ) (old seen : Seen) (all fs : List (Frame A T)) (f : Frame A T) (told : T) → IsGoing k bound old all told → IsLastOpen k f all fs
+  pub went_up : (bound : ℕ) (old seen : Seen) (all fs : List (Frame A T)) (f : Frame A T) (summary : T) → IsGoing k bound old all summary → IsLastOpen k f all fs
       → seen ≡ went_back (length fs + 1) old → Back bound old seen all fs f
-  went_up bound old seen all fs f told going last e = subst (λ z. Back bound old z all fs f) (sym e) (went_up_to bound old all fs f told going last)
+  went_up bound old seen all fs f summary going last e = subst (λ z. Back bound old z all fs f) (sym e) (went_up_to bound old all fs f summary going last)
 
   -- It goes on to the next child.
   pub went_on : (origin : Content) (seen new : Seen) (fs : List (Frame A T)) (f : Frame A T) (at : A) → Comes k origin seen fs f → f.number + 1 < k.tree.width (node_of k origin fs)
@@ -151,7 +150,7 @@ module _ {N A T : Type 0} (k : Kind N A T) where
           some = lt;
           on_is = here.on_is;
           content_is = here.content_is;
-          told_is = c.frame.told_is;
+          summary_is = c.frame.summary_is;
           room = record { entries = omega (arith, goes.1.entries, c.frame.room.entries); saved = omega (arith, goes.1.saved, c.frame.room.saved) };
         };
       }
@@ -159,7 +158,7 @@ module _ {N A T : Type 0} (k : Kind N A T) where
   -- A child is on its way, at that cost.
   pub record Ready (bound cost : ℕ) (old mid : Seen) (fs : List (Frame A T)) (f : Frame A T) : Type 0 where
     pub comes : Comes k (origin_of old) mid fs f
-    pub few : length fs < bound
+    pub at_most : length fs < bound
     pub roomy : IsRoomy k bound old
     pub spent : Spent cost old mid
 
@@ -175,21 +174,21 @@ module _ {N A T : Type 0} (k : Kind N A T) where
         went_on (origin_of seen) seen mid c.before f at (subst (Comes k (origin_of seen) seen c.before) (sym f_is) c.comes) more keeps goes
 
     pub mark_on : length mid.checkpoints < mid.usage.limits.checkpoints
-    mark_on = mark_room c.bound (origin_of seen) mid c.before next_on comes_on (roomy_stays c.bound seen mid spent.limits c.roomy) c.few
+    mark_on = mark_room c.bound (origin_of seen) mid c.before next_on comes_on (roomy_stays c.bound seen mid spent.limits c.roomy) c.at_most
 
     pub room_on : HasRoom (owed_there k at) (marked mid)
-    room_on = enter_room c.bound (origin_of seen) mid c.before next_on comes_on (roomy_stays c.bound seen mid spent.limits c.roomy) c.few
+    room_on = enter_room c.bound (origin_of seen) mid c.before next_on comes_on (roomy_stays c.bound seen mid spent.limits c.roomy) c.at_most
 
   -- The last frame, and what is put in its place.
   last_now : (all before : List (Frame A T)) (f now : Frame A T) (n : ℕ) → n ≡ length all - 1 → now ≡ slice_index_or all n now → all ≡ before ++ f ∷ [] → now ≡ f
   last_now all before f now n is value split =
-      let place : length before ≡ n = omega (arith, is, ap length split, length-append before (f ∷ [])) in
-      value ∙ ap (λ z. slice_index_or z n now) split ∙ get_or_at before f [] now n place
+      let index_is : length before ≡ n = omega (arith, is, ap length split, length-append before (f ∷ [])) in
+      value ∙ ap (λ z. slice_index_or z n now) split ∙ get_or_at before f [] now n index_is
 
   last_set : (all before : List (Frame A T)) (f next : Frame A T) (n : ℕ) → n ≡ length all - 1 → all ≡ before ++ f ∷ [] → slice_set all n next ≡ before ++ next ∷ []
   last_set all before f next n is split =
-      let place : length before ≡ n = omega (arith, is, ap length split, length-append before (f ∷ [])) in
-      ap (λ z. slice_set z n next) split ∙ set_at before f [] next n place
+      let index_is : length before ≡ n = omega (arith, is, ap length split, length-append before (f ∷ [])) in
+      ap (λ z. slice_set z n next) split ∙ set_at before f [] next n index_is
 
   pub one_on : (all : List (Frame A T)) (now next : Frame A T) (n : ℕ) → n ≡ length all - 1 → now ≡ slice_index_or all n now → next.number ≡ now.number + 1
       → IsOneOn all (slice_set all n next)
@@ -204,30 +203,30 @@ module _ {N A T : Type 0} (k : Kind N A T) where
       → now ≡ slice_index_or all n now → now ≡ c.frame
   last_is origin seen all c now n is value = last_now all c.before c.frame now n is value c.frames_are
 
-  here_node : (old : Seen) (fs : List (Frame A T)) (told : T) → Stands k (origin_of old) old fs told → IsNode k (node_of k (origin_of old) fs) told old
-  here_node old fs told s = record { told_is = s.told_is; content_is = s.content_is; layout_is = s.layout_is }
+  here_node : (old : Seen) (fs : List (Frame A T)) (summary : T) → Stands k (origin_of old) old fs summary → IsNode k (node_of k (origin_of old) fs) summary old
+  here_node old fs summary s = record { summary_is = s.summary_is; content_is = s.content_is; layout_is = s.layout_is }
 
-  -- It is told of the node where the walk stands, which has a child of that number.
-  module _ (number bound steps : ℕ) (old : Seen) (fs : List (Frame A T)) (stood : Option T) (going : IfSome stood (IsGoing k bound old fs)) (e : steps ≡ length fs) (told : T)
-      (p : IsParent k number bound steps stood (Some told)) where
-    below_parent : IsGoing k bound old fs told
+  -- It is the summary of the node where the walk stands, which has a child of that number.
+  module _ (number bound steps : ℕ) (old : Seen) (fs : List (Frame A T)) (stood : Option T) (going : IfSome stood (IsGoing k bound old fs)) (e : steps ≡ length fs) (summary : T)
+      (p : IsParent k number bound steps stood (Some summary)) where
+    below_parent : IsGoing k bound old fs summary
     below_parent = subst (λ z. IfSome z (IsGoing k bound old fs)) p.0 going
 
-    pub can_reach : CanReach k number told old
+    pub can_reach : CanReach k number summary old
     can_reach =
         let go = below_parent in
         let s = go.stands in
         let n : N = node_of k (origin_of old) fs in
-        (n, here_node old fs told s, p.2 n s.told_is, steps_room bound (length fs) old.usage.counts (k.owed n) old go.roomy go.few s.counts)
+        (n, here_node old fs summary s, p.2 n s.summary_is, steps_room bound (length fs) old.usage.counts (k.owed n) old go.roomy go.at_most s.counts)
 
-    pub ready_down : (cost : ℕ) (mid : Seen) (at : A) → Keeps old mid → Reaches k {E = FlashError} number told old (Ok at) mid → Spent cost old mid
-        → Ready bound cost old mid fs (record { at = at; number = number; parent = told })
+    pub ready_down : (cost : ℕ) (mid : Seen) (at : A) → Keeps old mid → Reaches k {E = FlashError} number summary old (Ok at) mid → Spent cost old mid
+        → Ready bound cost old mid fs (record { at = at; number = number; parent = summary })
     ready_down cost mid at keeps reaches spent =
         let go = below_parent in
         let s = go.stands in
         let n : N = node_of k (origin_of old) fs in
-        let below : number < k.tree.width n = p.2 n s.told_is in
-        let (here, left) = reaches n (here_node old fs told s) below in
+        let below : number < k.tree.width n = p.2 n s.summary_is in
+        let (here, left) = reaches n (here_node old fs summary s) below in
         let next : LeaveRoom mid.usage.counts (k.left at) (most_at k (length fs)) = record {
           entries = omega (arith, left.entries, s.counts.entries);
           saved = omega (arith, left.saved, s.counts.saved);
@@ -240,11 +239,11 @@ module _ {N A T : Type 0} (k : Kind N A T) where
               some = below;
               on_is = here.on_is;
               content_is = here.content_is;
-              told_is = s.told_is;
+              summary_is = s.summary_is;
               room = next;
             };
           };
-          few = omega (arith, p.1, e);
+          at_most = omega (arith, p.1, e);
           roomy = go.roomy;
           spent = spent;
         }
@@ -254,37 +253,37 @@ module _ {N A T : Type 0} (k : Kind N A T) where
     ready_here = subst (λ z. Comes k z mid fs f) (sym (first_is_origin k (origin_of old) mid fs r.comes.stacked)) r.comes
 
     pub ready_room : HasRoom (owed_there k f.at) (marked mid)
-    ready_room = enter_room bound (origin_of old) mid fs f r.comes (roomy_stays bound old mid r.spent.limits r.roomy) r.few
+    ready_room = enter_room bound (origin_of old) mid fs f r.comes (roomy_stays bound old mid r.spent.limits r.roomy) r.at_most
 
     pub ready_mark : length mid.checkpoints < mid.usage.limits.checkpoints
-    ready_mark = mark_room bound (origin_of old) mid fs f r.comes (roomy_stays bound old mid r.spent.limits r.roomy) r.few
+    ready_mark = mark_room bound (origin_of old) mid fs f r.comes (roomy_stays bound old mid r.spent.limits r.roomy) r.at_most
 
-  -- A walk that stands is where it was told.
-  pub is_there : {B : Type 0} (b : B) (bound : ℕ) (seen : Seen) (fs : List (Frame A T)) (told : T) → IsGoing k bound seen fs told
-      → IsThere k (walked b bound seen fs (Some told)) told
-  is_there b bound seen fs told going =
+  -- A walk that stands is where its summary says.
+  pub is_there : {B : Type 0} (b : B) (bound : ℕ) (seen : Seen) (fs : List (Frame A T)) (summary : T) → IsGoing k bound seen fs summary
+      → IsThere k (walked b bound seen fs (Some summary)) summary
+  is_there b bound seen fs summary going =
       let s = going.stands in
       record {
-        told_is = s.told_is;
+        summary_is = s.summary_is;
         content_is = s.content_is;
         layout_is = s.layout_is;
         room = record {
-          allows = steps_room bound (length fs) seen.usage.counts (k.owed (node_of k (origin_of seen) fs)) seen going.roomy going.few s.counts;
-          mark = omega (arith, going.few, going.roomy.checkpoints, length-stack k (origin_of seen) seen.checkpoints fs s.stacked);
+          allows = steps_room bound (length fs) seen.usage.counts (k.owed (node_of k (origin_of seen) fs)) seen going.roomy going.at_most s.counts;
+          mark = omega (arith, going.at_most, going.roomy.checkpoints, length-stack k (origin_of seen) seen.checkpoints fs s.stacked);
         };
         counts = rw (length-map fs (λ (f : Frame A T). f.number)) s.counts;
       }
 
-  pub told_there : {B : Type 0} (b : B) (bound : ℕ) (seen : Seen) (fs : List (Frame A T)) (stood : Option T) (told : T) → stood ≡ Some told → IfSome stood (IsGoing k bound seen fs)
-      → IsThere k (walked b bound seen fs stood) told
-  told_there b bound seen fs stood told is going =
-      let here : IsGoing k bound seen fs told = subst (λ o. IfSome o (IsGoing k bound seen fs)) is going in
-      subst (λ o. IsThere k (walked b bound seen fs o) told) (sym is) (is_there b bound seen fs told here)
+  pub summary_there : {B : Type 0} (b : B) (bound : ℕ) (seen : Seen) (fs : List (Frame A T)) (stood : Option T) (summary : T) → stood ≡ Some summary → IfSome stood (IsGoing k bound seen fs)
+      → IsThere k (walked b bound seen fs stood) summary
+  summary_there b bound seen fs stood summary is going =
+      let here : IsGoing k bound seen fs summary = subst (λ o. IfSome o (IsGoing k bound seen fs)) is going in
+      subst (λ o. IsThere k (walked b bound seen fs o) summary) (sym is) (is_there b bound seen fs summary here)
 
   -- And its last frame is that of its last step.
-  pub last_there : {B : Type 0} (b : B) (bound : ℕ) (seen : Seen) (all fs : List (Frame A T)) (f : Frame A T) (stood : Option T) (told : T) → IsGoing k bound seen all told
+  pub last_there : {B : Type 0} (b : B) (bound : ℕ) (seen : Seen) (all fs : List (Frame A T)) (f : Frame A T) (stood : Option T) (summary : T) → IsGoing k bound seen all summary
       → all ≡ fs ++ f ∷ [] → IsLastStep k (walked b bound seen all stood) f
-  last_there b bound seen all fs f stood told going split =
+  last_there b bound seen all fs f stood summary going split =
       let s = going.stands in
       let frame = (among k (k.root (origin_of seen)) 0 s.stacked.above fs f [] (subst (AreFrames k (k.root (origin_of seen)) 0 s.stacked.above) split s.stacked.frames)).frame in
       record {
@@ -296,47 +295,47 @@ module _ {N A T : Type 0} (k : Kind N A T) where
           layout_is = s.layout_is;
         };
         some = frame.some;
-        parent_is = frame.told_is;
+        parent_is = frame.summary_is;
       }
 
   -- It has arrived.
-  pub record Arrives (bound cost : ℕ) (old new : Seen) (all : List (Frame A T)) (told : T) : Type 0 where
-    pub going : IsGoing k bound new all told
+  pub record Arrives (bound cost : ℕ) (old new : Seen) (all : List (Frame A T)) (summary : T) : Type 0 where
+    pub going : IsGoing k bound new all summary
     pub origin : origin_of new ≡ origin_of old
-    pub spent : Spent (cost + telling k) old new
+    pub spent : Spent (cost + summary_cost k) old new
 
-  pub arrives : (bound cost : ℕ) (old mid new : Seen) (fs all : List (Frame A T)) (f : Frame A T) (told : T) → Ready bound cost old mid fs f → Stands k (origin_of mid) new all told
-      → all ≡ fs ++ f ∷ [] → Spent (telling k) mid new → Arrives bound cost old new all told
-  arrives bound cost old mid new fs all f told r s a spent =
+  pub arrives : (bound cost : ℕ) (old mid new : Seen) (fs all : List (Frame A T)) (f : Frame A T) (summary : T) → Ready bound cost old mid fs f → Stands k (origin_of mid) new all summary
+      → all ≡ fs ++ f ∷ [] → Spent (summary_cost k) mid new → Arrives bound cost old new all summary
+  arrives bound cost old mid new fs all f summary r s a spent =
       let here = first_is_origin k (origin_of mid) new all s.stacked in
       record {
         going = record {
-          stands = subst (λ z. Stands k z new all told) (sym here) s;
-          few = omega (arith, ap length a, length-append fs (f ∷ []), r.few);
+          stands = subst (λ z. Stands k z new all summary) (sym here) s;
+          at_most = omega (arith, ap length a, length-append fs (f ∷ []), r.at_most);
           roomy = roomy_stays bound old new (spent.limits ∙ r.spent.limits) r.roomy;
         };
         origin = here ∙ first_is_origin k (origin_of old) mid fs r.comes.stacked;
-        spent = spent_both cost (telling k) old mid new r.spent spent;
+        spent = spent_both cost (summary_cost k) old mid new r.spent spent;
       }
 
   -- It stood, and the last frame that is open is left.
   pub record Leaves (bound : ℕ) (old : Seen) (all left : List (Frame A T)) : Type 0 where
-    pub told : T
-    pub going : IsGoing k bound old all told
+    pub summary : T
+    pub going : IsGoing k bound old all summary
     pub is : IsLeft k all left
 
   module _ (bound : ℕ) (old seen : Seen) (all left : List (Frame A T)) (l : Leaves bound old all left) (e : seen ≡ went_back (length left) old) where
     is : IsLeft k all left
     is = l.is
 
-    last_place : length left ≡ length is.before + 1
-    last_place = ap length is.frames_are ∙ length-append is.before (is.frame ∷ [])
+    last_index : length left ≡ length is.before + 1
+    last_index = ap length is.frames_are ∙ length-append is.before (is.frame ∷ [])
 
     back_at : Back bound old seen all is.before is.frame
-    back_at = went_up bound old seen all is.before is.frame l.told l.going is.last (e ∙ ap (λ n. went_back n old) last_place)
+    back_at = went_up bound old seen all is.before is.frame l.summary l.going is.last (e ∙ ap (λ n. went_back n old) last_index)
 
     pub mark_there : length left < length old.checkpoints
-    mark_there = omega (arith, last_place, back_at.in_range)
+    mark_there = omega (arith, last_index, back_at.in_range)
 
     pub can_go_on : CanGoOn k (origin_of seen) seen left
     can_go_on =
@@ -351,43 +350,43 @@ module _ {N A T : Type 0} (k : Kind N A T) where
           small = is.small;
           has_next = b.has_next;
           bound = bound;
-          few = b.few;
+          at_most = b.at_most;
           roomy = b.roomy;
         })
 
-    pub arrives_on : (new : Seen) (next : List (Frame A T)) (told : T) → Stands k (origin_of seen) new next told → IsOneOn left next → Spent (k.step + telling k) seen new
-        → Arrives bound ((0 + 1) * k.step) old new next told
-    arrives_on new next told s one spent =
+    pub arrives_on : (new : Seen) (next : List (Frame A T)) (summary : T) → Stands k (origin_of seen) new next summary → IsOneOn left next → Spent (k.step + summary_cost k) seen new
+        → Arrives bound ((0 + 1) * k.step) old new next summary
+    arrives_on new next summary s one spent =
         let b = back_at in
         let o = one is.before is.frame is.frames_are in
         let here = first_is_origin k (origin_of seen) new next s.stacked in
-        let most : 0 + (k.step + telling k) ≤ (0 + 1) * k.step + telling k = omega arith in
+        let most : 0 + (k.step + summary_cost k) ≤ (0 + 1) * k.step + summary_cost k = omega arith in
         record {
           going = record {
-            stands = subst (λ z. Stands k z new next told) (sym here) s;
-            few = omega (arith, ap length o.1, length-append is.before (o.0 ∷ []), b.few);
+            stands = subst (λ z. Stands k z new next summary) (sym here) s;
+            at_most = omega (arith, ap length o.1, length-append is.before (o.0 ∷ []), b.at_most);
             roomy = roomy_stays bound seen new spent.limits b.roomy;
           };
           origin = here ∙ first_is_origin k (origin_of old) seen is.before b.comes.stacked;
-          spent = spent_more (0 + (k.step + telling k)) _ old new most (spent_both 0 (k.step + telling k) old seen new b.spent spent);
+          spent = spent_more (0 + (k.step + summary_cost k)) _ old new most (spent_both 0 (k.step + summary_cost k) old seen new b.spent spent);
         }
 
-  pub gone_down : {B : Type 0} (b : B) (bound cost number : ℕ) (old new : Seen) (fs all : List (Frame A T)) (f : Frame A T) (told : T) (stood : Option T)
-      → Arrives bound cost old new all told → f.number ≡ number → all ≡ fs ++ f ∷ [] → GoesDown k number (walked b bound old fs stood) true (walked b bound new all (Some told))
-  gone_down b bound cost number old new fs all f told stood a e n =
+  pub gone_down : {B : Type 0} (b : B) (bound cost number : ℕ) (old new : Seen) (fs all : List (Frame A T)) (f : Frame A T) (summary : T) (stood : Option T)
+      → Arrives bound cost old new all summary → f.number ≡ number → all ≡ fs ++ f ∷ [] → GoesDown k number (walked b bound old fs stood) true (walked b bound new all (Some summary))
+  gone_down b bound cost number old new fs all f summary stood a e n =
       let path : path_of all ≡ path_of fs ++ number ∷ [] = ap path_of n ∙ path-push fs f ∙ ap (λ z. path_of fs ++ z ∷ []) e in
       let st = a.going.stands.stacked in
       let allowed = subst (λ z. Allowed k.tree (k.root z) (path_of all)) a.origin (frames_allowed k (k.root (origin_of new)) 0 st.above all st.frames) in
-      (path, (omega (arith, a.going.few, length-map all (λ (h : Frame A T). h.number)), allowed), record { branches = refl; bound = refl; origin = a.origin }, refl)
+      (path, (omega (arith, a.going.at_most, length-map all (λ (h : Frame A T). h.number)), allowed), record { flash_tree = refl; bound = refl; origin = a.origin }, refl)
 
-  -- It is told of none, and stays.
+  -- It is the summary of none, and stays.
   pub no_child : {B : Type 0} (b : B) (number bound steps : ℕ) (old : Seen) (fs : List (Frame A T)) (stood : Option T) → IfSome stood (IsGoing k bound old fs) → steps ≡ length fs
       → is_some stood ≡ true → IsParent k number bound steps stood None → GoesDown k number (walked b bound old fs stood) false (walked b bound old fs stood)
   no_child b number bound steps old fs None going e stands p = absurd cc
-  no_child b number bound steps old fs (Some told) going e stands p = (
+  no_child b number bound steps old fs (Some summary) going e stands p = (
     λ m.
-        let few : steps < bound = omega (arith, m.0, e, length-append (path_of fs) (number ∷ []), length-map fs (λ (f : Frame A T). f.number)) in
-        omega (arith, p told refl few (node_of k (origin_of old) fs) going.stands.told_is, allowed-last k.tree (k.root (origin_of old)) (path_of fs) number m.1),
+        let at_most : steps < bound = omega (arith, m.0, e, length-append (path_of fs) (number ∷ []), length-map fs (λ (f : Frame A T). f.number)) in
+        omega (arith, p summary refl at_most (node_of k (origin_of old) fs) going.stands.summary_is, allowed-last k.tree (k.root (origin_of old)) (path_of fs) number m.1),
     refl,
   )
 
@@ -401,16 +400,16 @@ module _ {N A T : Type 0} (k : Kind N A T) where
       let allowed = frames_allowed k (k.root origin) 0 st.above all st.frames in
       let spent = frames_last k (k.tree.child (node_of k origin fs) f.number) ((0 + length fs) + 1) r.after last.more r.rest last.spent in
       let beyond = next_beyond k.tree (k.root origin) (path_of fs) f.number (path_of last.more) (subst (Allowed k.tree (k.root origin)) path allowed) spent
-      (last.open_is (node_of k origin fs) r.frame.told_is) in
+      (last.open_is (node_of k origin fs) r.frame.summary_is) in
       subst (λ z. IsNextBeyond k.tree (k.root origin) z (path_of (fs ++ g ∷ []))) (sym path)
       (subst (IsNextBeyond k.tree (k.root origin) (path_of fs ++ f.number ∷ path_of last.more)) (sym new) beyond)
 
-  pub climbed : {B : Type 0} (b : B) (bound : ℕ) (old new : Seen) (all fs next : List (Frame A T)) (f g : Frame A T) (stood : Option T) (told : T) → Stacked k (origin_of old) old.checkpoints all
+  pub climbed : {B : Type 0} (b : B) (bound : ℕ) (old new : Seen) (all fs next : List (Frame A T)) (f g : Frame A T) (stood : Option T) (summary : T) → Stacked k (origin_of old) old.checkpoints all
       → IsLastOpen k f all fs → g.number ≡ f.number + 1 → next ≡ fs ++ g ∷ [] → origin_of new ≡ origin_of old
-      → Climbs k (walked b bound old all stood) true (walked b bound new next (Some told))
-  climbed b bound old new all fs next f g stood told st last e n s = (
+      → Climbs k (walked b bound old all stood) true (walked b bound new next (Some summary))
+  climbed b bound old new all fs next f g stood summary st last e n s = (
     subst (λ z. IsNextBeyond k.tree (k.root (origin_of old)) (path_of all) (path_of z)) (sym n) (climbed_to (origin_of old) old.checkpoints all fs f g st last e),
-    record { branches = refl; bound = refl; origin = s },
+    record { flash_tree = refl; bound = refl; origin = s },
     refl,
   )
 
@@ -418,6 +417,6 @@ module _ {N A T : Type 0} (k : Kind N A T) where
       → Climbs k (walked b bound old all stood) false (walked {A = A} {T = T} b bound old fs None)
   none_on b bound old all fs stood st spent = (
     none_beyond k.tree (k.root (origin_of old)) (path_of all) (frames_last k (k.root (origin_of old)) 0 st.above all st.frames spent),
-    record { branches = refl; bound = refl; origin = refl },
+    record { flash_tree = refl; bound = refl; origin = refl },
     refl,
   )

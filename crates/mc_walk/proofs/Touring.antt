@@ -2,11 +2,11 @@
 use Rattle.std.proofs.Common.{◌≡◌, ◌⊎◌, inl, inr, ℕ, List, [], Bool, true, false, refl, sym, subst, arith}
 use Rattle.mc_tree.specs.Tree.{Position, AtStart, IsNext, IsOver}
 use Rattle.mc_tree.specs.facts.Order.{next_after_last, none_after_last, none_before_root}
-use Rattle.mc_walk.specs.Kind.{Kind}
-use Rattle.mc_walk.specs.Walks.{Toured, IsBehindLast, StandsAt, StandsBehind, Visits, Walked, Begins, Climbs, IsPath, root_of}
+use Rattle.mc_walk.specs.TreeModel.{TreeModel}
+use Rattle.mc_walk.specs.Walks.{Toured, IsBeyondLast, StandsAt, StandsBeyond, Visits, Walked, Begins, Climbs, IsPath, root_of}
 use Rattle.mc_walk.specs.declared.tour.Phase.TheVariants.{Fresh, Going, Done}
 
-module _ {N A T B : Type 0} (k : Kind N A T) (old : Toured B) (told : T) (new : Walked B) (begins : Begins k old.walk told new) where
+module _ {N A T B : Type 0} (k : TreeModel N A T) (old : Toured B) (summary : T) (new : Walked B) (begins : Begins k old.walk summary new) where
   root_first : IsNext (IsPath k old.walk) AtStart []
   root_first = record {
     listed = (omega arith, tt);
@@ -25,16 +25,16 @@ module _ {N A T B : Type 0} (k : Kind N A T) (old : Toured B) (told : T) (new : 
   pub visits_first : (position : Position (List ℕ)) → old.phase ≡ Fresh → StandsAt k old position → Visits k old position true (record { walk = new; phase = Going })
   visits_first position fresh at = (visits_root position fresh at, begins.same, refl, begins.stands)
 
--- A tour leaves a node behind its last child.
-module _ {N A T B : Type 0} (k : Kind N A T) (old : Toured B) (new : Walked B) (position : Position (List ℕ)) (going : old.phase ≡ Going) (at : StandsBehind k old position) where
-  behind : IsBehindLast k old.walk position
-  behind = rw going at at
+-- A tour leaves a node after its last child.
+module _ {N A T B : Type 0} (k : TreeModel N A T) (old : Toured B) (new : Walked B) (position : Position (List ℕ)) (going : old.phase ≡ Going) (at : StandsBeyond k old position) where
+  beyond : IsBeyondLast k old.walk position
+  beyond = rw going at at
 
   pub left_on : (went : Bool) → went ≡ true → Climbs k old.walk went new → Visits k old position true (record { walk = new; phase = Going })
   left_on false is c = absurd cc
   left_on true is c = (
-    subst (λ p. IsNext (IsPath k old.walk) p new.path) (sym behind.position_is)
-        (next_after_last k.tree (root_of k old.walk) old.walk.bound old.walk.path behind.number behind.deep new.path behind.last c.0),
+    subst (λ p. IsNext (IsPath k old.walk) p new.path) (sym beyond.position_is)
+        (next_after_last k.tree (root_of k old.walk) old.walk.bound old.walk.path beyond.number beyond.deep new.path beyond.last c.0),
     c.1,
     refl,
     c.2,
@@ -43,14 +43,14 @@ module _ {N A T B : Type 0} (k : Kind N A T) (old : Toured B) (new : Walked B) (
   pub left_over : (went : Bool) → went ≡ false → Climbs k old.walk went new → Visits k old position false (record { walk = new; phase = Done })
   left_over true is c = absurd cc
   left_over false is c = (
-    subst (IsOver (IsPath k old.walk)) (sym behind.position_is) (none_after_last k.tree (root_of k old.walk) old.walk.bound old.walk.path behind.number behind.deep behind.last c.0),
+    subst (IsOver (IsPath k old.walk)) (sym beyond.position_is) (none_after_last k.tree (root_of k old.walk) old.walk.bound old.walk.path beyond.number beyond.deep beyond.last c.0),
     c.2,
     c.1,
     refl,
   )
 
 -- Where it visited no node yet, or there is no further one, it stays.
-pub stays_behind : {N A T B : Type 0} (k : Kind N A T) (old : Toured B) (position : Position (List ℕ)) → (old.phase ≡ Fresh) ⊎ (old.phase ≡ Done) → StandsBehind k old position
+pub stays_beyond : {N A T B : Type 0} (k : TreeModel N A T) (old : Toured B) (position : Position (List ℕ)) → (old.phase ≡ Fresh) ⊎ (old.phase ≡ Done) → StandsBeyond k old position
     → Visits k old position false old
-stays_behind k old position (inl e) at = absurd (rw e at at)
-stays_behind k old position (inr e) at = (rw e at at, refl, record { branches = refl; bound = refl; origin = refl }, e)
+stays_beyond k old position (inl e) at = absurd (rw e at at)
+stays_beyond k old position (inr e) at = (rw e at at, refl, record { flash_tree = refl; bound = refl; origin = refl }, e)

@@ -4,7 +4,7 @@ use Rattle.mc_flash.specs.Flash.{Content}
 use Rattle.mc_flash.specs.Usage.{HasRoom, LeaveRoom, RanOut, Seen, Spent, checkpoint_at, checkpoint_of, no_counts}
 use Rattle.mc_tree.specs.Tree.{After, AtStart, IsMember, IsNext, IsOver, Lost, Position, landed}
 use Rattle.mc_tree.specs.facts.Order.{IsNextBeyond, NoneBeyond}
-use Rattle.mc_walk.specs.Kind.{IsAt, Kind, telling}
+use Rattle.mc_walk.specs.TreeModel.{IsAt, TreeModel, summary_cost}
 use Rattle.mc_walk.specs.declared.frame.Frame.{Frame}
 use Rattle.mc_walk.specs.declared.tour.Phase.{Phase}
 use Rattle.mc_walk.specs.declared.tour.Phase.TheVariants.{Broken, Done, Fresh, Going}
@@ -13,9 +13,9 @@ use Rattle.mc_walk.specs.inner.Stack.{IsRoomy, Stands, most_at, path_of}
 use Rattle.mc_walk.specs.declared.tour.TourError.TheVariants as errors
 
 -- A walk: its kind of tree, the most steps of a path, the flash, the path, and whether the flash stands at its end, of which
--- something is told.
+-- something is given.
 pub record Walked (B : Type 0) : Type 0 where
-  pub branches : B
+  pub flash_tree : B
   pub bound : ℕ
   pub seen : Seen
   pub path : List ℕ
@@ -23,7 +23,7 @@ pub record Walked (B : Type 0) : Type 0 where
 
 -- The walk with these fields.
 abbrev pub walked : {A T B : Type 0} → B → ℕ → Seen → List (Frame A T) → Option T → Walked B
-walked branches bound seen fs told = record { branches = branches; bound = bound; seen = seen; path = path_of fs; stands = is_some told }
+walked flash_tree bound seen fs summary = record { flash_tree = flash_tree; bound = bound; seen = seen; path = path_of fs; stands = is_some summary }
 
 -- The content with which it began: the first that is marked.
 abbrev pub origin_of : Seen → Content
@@ -31,11 +31,11 @@ origin_of seen = (checkpoint_at seen 0).content
 
 -- The same walk, elsewhere.
 pub record IsSame {B : Type 0} (old new : Walked B) : Type 0 where
-  pub branches : new.branches ≡ old.branches
+  pub flash_tree : new.flash_tree ≡ old.flash_tree
   pub bound : new.bound ≡ old.bound
   pub origin : origin_of new.seen ≡ origin_of old.seen
 
-module _ {N A T B : Type 0} (k : Kind N A T) where
+module _ {N A T B : Type 0} (k : TreeModel N A T) where
   abbrev pub root_of : Walked B → N
   root_of w = k.root (origin_of w.seen)
 
@@ -43,10 +43,10 @@ module _ {N A T B : Type 0} (k : Kind N A T) where
   abbrev pub node_at : Walked B → N
   node_at w = landed k.tree (root_of w) w.path
 
-  -- The flash stands at that node, of which that is told, and has room to tell of it once more. No more is counted than a path so
-  -- long makes, and that.
-  pub record IsThere (w : Walked B) (told : T) : Type 0 where
-    pub told_is : k.IsTold (node_at w) told
+  -- The flash stands at that node, with that summary, and has room to find its summary once more. No more is counted than a path
+  -- so long makes, and that.
+  pub record IsThere (w : Walked B) (summary : T) : Type 0 where
+    pub summary_is : k.IsSummary (node_at w) summary
     pub content_is : w.seen.content ≡ k.content (node_at w)
     pub layout_is : w.seen.geometry ≡ k.geometry
     pub room : HasRoom (k.owed (node_at w)) w.seen
@@ -58,16 +58,16 @@ module _ {N A T B : Type 0} (k : Kind N A T) where
     pub path_is : w.path ≡ before ++ f.number ∷ []
     pub at_is : IsAt k (landed k.tree (root_of w) before) f.number f.at w.seen
     pub some : f.number < k.tree.width (landed k.tree (root_of w) before)
-    pub parent_is : k.IsTold (landed k.tree (root_of w) before) f.parent
+    pub parent_is : k.IsSummary (landed k.tree (root_of w) before) f.parent
 
   -- The paths that it can take.
   abbrev pub IsPath : Walked B → List ℕ → Type 0
   IsPath w = IsMember k.tree (root_of w) w.bound
 
-  -- From its root it goes nowhere, and that is told of the root.
-  pub record Begins (old : Walked B) (told : T) (new : Walked B) : Type 0 where
+  -- From its root it goes nowhere, and that is the summary of the root.
+  pub record Begins (old : Walked B) (summary : T) (new : Walked B) : Type 0 where
     pub path : new.path ≡ []
-    pub told_is : k.IsTold (root_of old) told
+    pub summary_is : k.IsSummary (root_of old) summary
     pub same : IsSame old new
     pub stands : new.stands ≡ true
 
@@ -86,11 +86,11 @@ module _ {N A T B : Type 0} (k : Kind N A T) where
   Advances old true new = IsNext (IsPath old) (After old.path) new.path × IsSame old new × (new.stands ≡ true)
   Advances old false new = IsOver (IsPath old) (After old.path) × IsSame old new × (new.seen ≡ old.seen)
 
-  -- From its path it went on along a front of another, at whose end there is no such child, or the bound is reached.
+  -- From its path it went on along a prefix of another, at whose end there is no such child, or the bound is reached.
   pub record StopsOn (path : List ℕ) (old new : Walked B) : Type 0 where
     pub steps : ℕ
     pub inside : steps < length path
-    pub front : new.path ≡ old.path ++ take steps path
+    pub prefix : new.path ≡ old.path ++ take steps path
     pub member : IsPath old new.path
     pub no_child : IsPath old (old.path ++ take (steps + 1) path) → ⊥
     pub same : IsSame old new
@@ -101,25 +101,25 @@ module _ {N A T B : Type 0} (k : Kind N A T) where
   Follows path old true new = (new.path ≡ old.path ++ path) × IsPath old new.path × IsSame old new × (new.stands ≡ true)
   Follows path old false new = StopsOn path old new
 
-module _ {N A T : Type 0} (k : Kind N A T) where
-  -- The most operations to go to a child, and to tell of it; and along a path.
+module _ {N A T : Type 0} (k : TreeModel N A T) where
+  -- The most operations to go to a child, and to find its summary; and along a path.
   abbrev pub child_cost : ℕ → ℕ
-  child_cost number = (number + 1) * k.step + telling k
+  child_cost number = (number + 1) * k.step + summary_cost k
 
   abbrev pub path_cost : List ℕ → ℕ
   path_cost [] = 0
   path_cost (number ∷ path) = child_cost number + path_cost path
 
   -- What holds of a walk that stands at the end of its path.
-  pub record IsGoing (bound : ℕ) (seen : Seen) (fs : List (Frame A T)) (told : T) : Type 0 where
-    pub stands : Stands k (origin_of seen) seen fs told
-    pub few : length fs ≤ bound
+  pub record IsGoing (bound : ℕ) (seen : Seen) (fs : List (Frame A T)) (summary : T) : Type 0 where
+    pub stands : Stands k (origin_of seen) seen fs summary
+    pub at_most : length fs ≤ bound
     pub roomy : IsRoomy k bound seen
 
   -- What holds of a walk's fields.
-  pub record IsSound (bound capacity : ℕ) (seen : Seen) (fs : List (Frame A T)) (told : Option T) : Type 0 where
+  pub record IsSound (bound capacity : ℕ) (seen : Seen) (fs : List (Frame A T)) (summary : Option T) : Type 0 where
     pub reserved : bound ≤ capacity
-    pub going : IfSome told (IsGoing bound seen fs)
+    pub going : IfSome summary (IsGoing bound seen fs)
 
   -- A flash with no checkpoints, of that layout, on which nothing was done.
   pub record IsClear (bound : ℕ) (seen : Seen) : Type 0 where
@@ -128,7 +128,7 @@ module _ {N A T : Type 0} (k : Kind N A T) where
     pub layout_is : seen.geometry ≡ k.geometry
     pub roomy : IsRoomy k bound seen
 
-  -- A walk at its root, of which nothing is told yet.
+  -- A walk at its root, of which nothing is known yet.
   pub record IsFresh {B : Type 0} (walk : Walked B) : Type 0 where
     pub path : walk.path ≡ []
     pub checkpoints_are : walk.seen.checkpoints ≡ checkpoint_of walk.seen ∷ []
@@ -137,8 +137,8 @@ module _ {N A T : Type 0} (k : Kind N A T) where
     pub roomy : IsRoomy k walk.bound walk.seen
 
 -- A walk of those branches and that bound, from what the flash contains.
-pub record IsOf {B : Type 0} (branches : B) (bound : ℕ) (seen : Seen) (walk : Walked B) : Type 0 where
-  pub branches_are : walk.branches ≡ branches
+pub record IsOf {B : Type 0} (flash_tree : B) (bound : ℕ) (seen : Seen) (walk : Walked B) : Type 0 where
+  pub flash_tree_is : walk.flash_tree ≡ flash_tree
   pub bound_is : walk.bound ≡ bound
   pub origin : origin_of walk.seen ≡ seen.content
 
@@ -156,7 +156,7 @@ position_of Going last = After last
 position_of Done last = After last
 position_of Broken last = Lost
 
-module _ {N A T B : Type 0} (k : Kind N A T) where
+module _ {N A T B : Type 0} (k : TreeModel N A T) where
   -- What holds of a tour.
   abbrev pub IsInOrder : Phase → Walked B → Type 0
   IsInOrder Fresh walk = IsFresh k walk
@@ -182,25 +182,25 @@ module _ {N A T B : Type 0} (k : Kind N A T) where
   Visits old position false new =
       IsOver (IsPath k old.walk) position × (new.walk.seen ≡ old.walk.seen) × IsSame old.walk new.walk × (new.phase ≡ Done)
 
-  -- The position is behind the last child of the node at which it stands, and no path goes on from there.
-  pub record IsBehindLast (walk : Walked B) (position : Position (List ℕ)) : Type 0 where
+  -- The position is after the last child of the node at which it stands, and no path goes on from there.
+  pub record IsBeyondLast (walk : Walked B) (position : Position (List ℕ)) : Type 0 where
     pub number : ℕ
     pub position_is : position ≡ After (walk.path ++ number ∷ [])
     pub last : k.tree.width (node_at k walk) ≤ number + 1
     pub deep : length walk.path + 1 ≡ walk.bound
 
   -- So it is; or no node is past the position; or it has failed.
-  abbrev pub StandsBehind : Toured B → Position (List ℕ) → Type 0
-  StandsBehind tour position = by tour.phase
+  abbrev pub StandsBeyond : Toured B → Position (List ℕ) → Type 0
+  StandsBeyond tour position = by tour.phase
     where
       by : Phase → Type 0
       by Fresh = ⊥
-      by Going = IsBehindLast tour.walk position
+      by Going = IsBeyondLast tour.walk position
       by Done = IsOver (IsPath k tour.walk) position
       by Broken = position ≡ Lost
 
-  -- It takes no more than to go to a child and to tell of it, and fails only where memory fails the flash. From then on it has
-  -- failed, and stays as it is.
+  -- It takes no more than to go to a child and to find its summary, and fails only where memory fails the flash. From then on
+  -- it has failed, and stays as it is.
   abbrev pub Costs : {X : Type 0} → Toured B → Result X TourError → Toured B → Type 0
   Costs old (Ok _) new = (old.phase ≢ Broken) × Spent (child_cost k 0) old.walk.seen new.walk.seen
   Costs old (Err errors.Memory) new = (old.phase ≢ Broken) × RanOut old.walk.seen new.walk.seen × (new.phase ≡ Broken)

@@ -1,10 +1,9 @@
 //! The nodes of a tree, one after another.
 ghost use Rattle.std.specs.Prelude.{◌≡◌, ℕ, List, true, IfOk};
 ghost use Rattle.mc_tree.specs.Tree.{Position};
-ghost use Rattle.mc_walk.specs.Walks.{Toured, StandsAt, StandsBehind, Visits, Costs};
-ghost use Rattle.mc_walk.specs.Walks.{IsFresh};
+ghost use Rattle.mc_walk.specs.Walks.{Toured, StandsAt, StandsBeyond, Visits, Costs, IsFresh};
 
-use crate::{Branches, Walk};
+use crate::{FlashTree, Walk};
 use mc_flash::{Flash, FlashError};
 use std::marker::Model;
 
@@ -42,25 +41,25 @@ impl From<FlashError> for TourError {
 
 /// Visits the nodes of a tree in the order of their paths, over one flash.
 #[derive(Drop)]
-pub struct Tour<F: Flash, B: Branches> {
+pub struct Tour<F: Flash, B: FlashTree> {
     walk: Walk<F, B>,
     phase: Phase,
 }
 
-impl<F: Flash, B: Branches> Model for Tour<F, B> {
+impl<F: Flash, B: FlashTree> Model for Tour<F, B> {
     ghost use Rattle.mc_walk.specs.Walks.{Toured, IsInOrder};
 
     ghost Value = { Toured B };
 
     ghost view = { λ t. record { walk = t.walk; phase = t.phase } };
 
-    ghost invariant = { λ t. IsInOrder (B.kind t.walk.branches) t.phase t.walk };
+    ghost invariant = { λ t. IsInOrder (B.model t.walk.flash_tree) t.phase t.walk };
 }
 
-impl<F: Flash, B: Branches> Tour<F, B> {
+impl<F: Flash, B: FlashTree> Tour<F, B> {
     /// A tour that begins at the root.
     pub fn fresh(walk: Walk<F, B>) -> Tour<F, B>
-        requires { IsFresh (B.kind walk.branches) walk }
+        requires { IsFresh (B.model walk.flash_tree) walk }
         ensures { result ≡ record { walk = walk; phase = Phase.Fresh } }
     {
         Tour {
@@ -69,8 +68,8 @@ impl<F: Flash, B: Branches> Tour<F, B> {
         }
     }
 
-    /// A tour that goes on behind the node at which a walk stands.
-    pub fn behind(walk: Walk<F, B>) -> Tour<F, B>
+    /// A tour that goes on after the node at which a walk stands.
+    pub fn after(walk: Walk<F, B>) -> Tour<F, B>
         requires { walk.stands ≡ true }
         ensures { result ≡ record { walk = walk; phase = Phase.Going } }
     {
@@ -80,16 +79,16 @@ impl<F: Flash, B: Branches> Tour<F, B> {
         }
     }
 
-    /// Goes on to the next node, if there is one, and tells whether there is.
+    /// Goes on to the next node, if there is one, and returns whether there is.
     ///
     /// # Errors
     ///
     /// `Memory` where the flash was refused memory; from then on always `Failed`.
     pub fn visit(&mut self, known: &B::Known) -> Result<bool, TourError>
         ensures visits { IfOk result (λ went. (position : Position (List ℕ))
-            → StandsAt (B.kind self.old.walk.branches) self.old position
-            → Visits (B.kind self.old.walk.branches) self.old position went self.new) }
-        ensures costs { Costs (B.kind self.old.walk.branches) self.old result self.new }
+            → StandsAt (B.model self.old.walk.flash_tree) self.old position
+            → Visits (B.model self.old.walk.flash_tree) self.old position went self.new) }
+        ensures costs { Costs (B.model self.old.walk.flash_tree) self.old result self.new }
     {
         match self.phase {
             Phase::Broken => Err(TourError::Failed),
@@ -112,17 +111,17 @@ impl<F: Flash, B: Branches> Tour<F, B> {
         }
     }
 
-    /// Goes on to the next node behind all children of the one at which it stands, where those have none, if there is one, and tells
-    /// whether there is.
+    /// Goes on to the next node after all children of the one at which it stands, where those have none, if there is one, and
+    /// returns whether there is.
     ///
     /// # Errors
     ///
     /// `Memory` where the flash was refused memory; from then on always `Failed`.
     pub fn leave(&mut self, known: &B::Known) -> Result<bool, TourError>
         ensures visits { IfOk result (λ went. (position : Position (List ℕ))
-            → StandsBehind (B.kind self.old.walk.branches) self.old position
-            → Visits (B.kind self.old.walk.branches) self.old position went self.new) }
-        ensures costs { Costs (B.kind self.old.walk.branches) self.old result self.new }
+            → StandsBeyond (B.model self.old.walk.flash_tree) self.old position
+            → Visits (B.model self.old.walk.flash_tree) self.old position went self.new) }
+        ensures costs { Costs (B.model self.old.walk.flash_tree) self.old result self.new }
     {
         match self.phase {
             Phase::Going => {},
@@ -146,7 +145,7 @@ impl<F: Flash, B: Branches> Tour<F, B> {
     }
 
     /// Makes it one that failed.
-    pub fn give_up(&mut self)
+    pub fn mark_failed(&mut self)
         ensures { self.new ≡ record { walk = self.old.walk; phase = Phase.Broken } }
     {
         self.phase = Phase::Broken;

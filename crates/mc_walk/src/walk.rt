@@ -3,13 +3,13 @@ ghost use Rattle.std.specs.Prelude.{◌≡◌, ◌≤◌, [], None, is_some, IfO
 ghost use Rattle.std.specs.List.{slice_get};
 ghost use Rattle.mc_tree.specs.Tree.{labelled};
 ghost use Rattle.mc_flash.specs.Usage.{Spends, Spent};
-ghost use Rattle.mc_walk.specs.Kind.{telling};
+ghost use Rattle.mc_walk.specs.TreeModel.{summary_cost};
 ghost use Rattle.mc_walk.specs.Walks.{IsClear, IsFresh, IsOf, Begins, GoesDown, Climbs, Advances, Follows, IsThere, IsLastStep, root_of, child_cost, path_cost};
 
-use crate::Branches;
-use crate::enter::{enter, go_on};
+use crate::FlashTree;
+use crate::child_steps::{go_to_child, parent};
+use crate::enter::{enter, next_sibling};
 use crate::frame::{Frame, leave_spent};
-use crate::reach::{parent, reach};
 use arrayvec::ArrayVec;
 use mc_flash::{Flash, FlashError};
 use std::alloc::Global;
@@ -18,16 +18,16 @@ use std::marker::Model;
 /// A walk depth first through a tree, over one flash. It takes its own memory at the start, and none later but through the
 /// flash.
 #[derive(Drop)]
-pub struct Walk<F: Flash, B: Branches> {
-    branches: B,
+pub struct Walk<F: Flash, B: FlashTree> {
+    flash_tree: B,
     bound: usize,
     flash: F,
-    frames: Vec<Frame<B::At, B::Told>>,
-    // What is told of the node at the end of the path; none before the first, while it moves, and after an error.
-    told: Option<B::Told>,
+    frames: Vec<Frame<B::Child, B::Summary>>,
+    // The summary of the node at the end of the path; none before the first, while it moves, and after an error.
+    summary: Option<B::Summary>,
 }
 
-impl<F: Flash, B: Branches> Model for Walk<F, B> {
+impl<F: Flash, B: FlashTree> Model for Walk<F, B> {
     ghost use Rattle.mc_walk.specs.Walks.{Walked};
 
     ghost Value = { Walked B };
@@ -35,13 +35,13 @@ impl<F: Flash, B: Branches> Model for Walk<F, B> {
     ghost use Rattle.std.specs.Vec.{vec_capacity};
     ghost use Rattle.mc_walk.specs.Walks.{walked, IsSound};
 
-    ghost view = { λ w. walked w.branches w.bound (F.seen w.flash) w.frames.items w.told };
+    ghost view = { λ w. walked w.flash_tree w.bound (F.seen w.flash) w.frames.items w.summary };
 
-    ghost invariant = { λ w. IsSound (B.kind w.branches) w.bound (vec_capacity w.frames)
-        (F.seen w.flash) w.frames.items w.told };
+    ghost invariant = { λ w. IsSound (B.model w.flash_tree) w.bound (vec_capacity w.frames)
+        (F.seen w.flash) w.frames.items w.summary };
 }
 
-impl<F: Flash, B: Branches> Walk<F, B> {
+impl<F: Flash, B: FlashTree> Walk<F, B> {
     /// Marks the root, which is what the flash contains.
     ///
     /// # Errors
@@ -49,53 +49,54 @@ impl<F: Flash, B: Branches> Walk<F, B> {
     /// `Memory` where an allocation failed.
     pub fn start(
         alloc: Global,
-        branches: B,
+        flash_tree: B,
         bound: usize,
         mut flash: F,
     ) -> Result<Walk<F, B>, FlashError>
-        requires { IsClear (B.kind branches) bound (F.seen flash) }
-        ensures of { IfOk result (IsOf branches bound (F.seen flash)) }
-        ensures fresh { IfOk result (IsFresh (B.kind branches)) }
+        requires { IsClear (B.model flash_tree) bound (F.seen flash) }
+        ensures of { IfOk result (IsOf flash_tree bound (F.seen flash)) }
+        ensures fresh { IfOk result (IsFresh (B.model flash_tree)) }
         ensures spent { IfOk result (λ walk. Spent 0 (F.seen flash) walk.seen) }
         ensures err { IfErr result (λ e. e ≡ FlashError.Memory) }
     {
         let frames = Vec::with_capacity(alloc, bound)?;
         flash.mark()?;
         Ok(Walk {
-            branches,
+            flash_tree,
             bound,
             flash,
             frames,
-            told: None,
+            summary: None,
         })
     }
 
-    /// Tells of the root.
+    /// Finds the summary of the root.
     ///
     /// # Errors
     ///
     /// `Memory` where the flash was refused memory.
-    pub fn begin(&mut self, known: &B::Known) -> Result<B::Told, FlashError>
-        requires { IsFresh (B.kind self.old.branches) self.old }
-        ensures begins { IfOk result (λ told. Begins (B.kind self.old.branches) self.old told
+    pub fn begin(&mut self, known: &B::Known) -> Result<B::Summary, FlashError>
+        requires { IsFresh (B.model self.old.flash_tree) self.old }
+        ensures begins { IfOk result (λ summary. Begins (B.model self.old.flash_tree) self.old
+            summary
             self.new) }
-        ensures spends { Spends (telling (B.kind self.old.branches)) self.old.seen result
+        ensures spends { Spends (summary_cost (B.model self.old.flash_tree)) self.old.seen result
             self.new.seen }
         ensures err { IfErr result (λ e. e ≡ FlashError.Memory) }
     {
-        self.told = None;
-        let told = self.branches.root(&mut self.flash, known)?;
-        self.told = Some(told);
-        Ok(told)
+        self.summary = None;
+        let summary = self.flash_tree.root(&mut self.flash, known)?;
+        self.summary = Some(summary);
+        Ok(summary)
     }
 
-    /// What is told of the node at whose place it stands.
-    pub fn told(&self) -> &B::Told
+    /// The summary of the node at which it stands.
+    pub fn summary(&self) -> &B::Summary
         requires { self.now.stands ≡ true }
-        ensures { IsThere (B.kind self.now.branches) self.now result.now }
+        ensures { IsThere (B.model self.now.flash_tree) self.now result.now }
     {
-        match &self.told {
-            Some(told) => told,
+        match &self.summary {
+            Some(summary) => summary,
             None => unreachable!(),
         }
     }
@@ -107,10 +108,10 @@ impl<F: Flash, B: Branches> Walk<F, B> {
         self.bound
     }
 
-    /// The last step of its path, if it has one: the child where the flash stands, and what is told of its parent.
-    pub fn last_step(&self) -> Option<&Frame<B::At, B::Told>>
+    /// The last step of its path, if it has one: the child where the flash stands, and the summary of its parent.
+    pub fn last_step(&self) -> Option<&Frame<B::Child, B::Summary>>
         requires { self.now.stands ≡ true }
-        ensures step { IfSome result (λ frame. IsLastStep (B.kind self.now.branches) self.now
+        ensures step { IfSome result (λ frame. IsLastStep (B.model self.now.flash_tree) self.now
             frame.now) }
         ensures none { result ≡ None → self.now.path ≡ [] }
     {
@@ -134,12 +135,12 @@ impl<F: Flash, B: Branches> Walk<F, B> {
     /// The name of the child at that step of the path, counted from 0, if it has such a step.
     pub fn label(&self, step: usize) -> Option<B::Label>
         requires { self.now.stands ≡ true }
-        ensures { result ≡ slice_get (labelled (B.kind self.now.branches).tree
-            (B.label_of self.now.branches) (root_of (B.kind self.now.branches) self.now)
+        ensures { result ≡ slice_get (labelled (B.model self.now.flash_tree).tree
+            (B.label_of self.now.flash_tree) (root_of (B.model self.now.flash_tree) self.now)
             self.now.path) step }
     {
         let frame = self.frames.get(step)?;
-        Some(self.branches.label(&frame.at))
+        Some(self.flash_tree.label(&frame.at))
     }
 
     /// The flash as it is.
@@ -164,26 +165,34 @@ impl<F: Flash, B: Branches> Walk<F, B> {
     #[inline]
     pub fn go_down(&mut self, number: u32, known: &B::Known) -> Result<bool, FlashError>
         requires { self.old.stands ≡ true }
-        ensures step { IfOk result (λ went. GoesDown (B.kind self.old.branches) number self.old went
+        ensures step { IfOk result (λ went. GoesDown (B.model self.old.flash_tree) number
+            self.old went
             self.new) }
-        ensures spends { Spends (child_cost (B.kind self.old.branches) number) self.old.seen result
+        ensures spends { Spends (child_cost (B.model self.old.flash_tree) number) self.old.seen
+            result
             self.new.seen }
         ensures err { IfErr result (λ e. e ≡ FlashError.Memory) }
     {
-        let Some(parent) = parent(self.branches, self.bound, &self.frames, self.told, number) else {
+        let Some(parent) = parent(
+            self.flash_tree,
+            self.bound,
+            &self.frames,
+            self.summary,
+            number,
+        ) else {
             return Ok(false);
         };
-        self.told = None;
-        let at = reach(self.branches, &mut self.flash, &parent, number)?;
+        self.summary = None;
+        let at = go_to_child(self.flash_tree, &mut self.flash, &parent, number)?;
         let frame = Frame { at, number, parent };
-        let told = enter(
-            self.branches,
+        let summary = enter(
+            self.flash_tree,
             &mut self.flash,
             &mut self.frames,
             frame,
             known,
         )?;
-        self.told = Some(told);
+        self.summary = Some(summary);
         Ok(true)
     }
 
@@ -196,20 +205,20 @@ impl<F: Flash, B: Branches> Walk<F, B> {
     #[inline]
     pub fn climb(&mut self, known: &B::Known) -> Result<bool, FlashError>
         requires { self.old.stands ≡ true }
-        ensures step { IfOk result (λ went. Climbs (B.kind self.old.branches) self.old went
+        ensures step { IfOk result (λ went. Climbs (B.model self.old.flash_tree) self.old went
             self.new) }
-        ensures spends { Spends (child_cost (B.kind self.old.branches) 0) self.old.seen result
+        ensures spends { Spends (child_cost (B.model self.old.flash_tree) 0) self.old.seen result
             self.new.seen }
         ensures err { IfErr result (λ e. e ≡ FlashError.Memory) }
     {
-        self.told = None;
-        if !leave_spent(self.branches, &mut self.frames) {
+        self.summary = None;
+        if !leave_spent(self.flash_tree, &mut self.frames) {
             return Ok(false);
         }
-        // The checkpoint of the last frame stands behind that of the root and those of the frames below it.
+        // The checkpoint of the last frame stands after that of the root and those of the frames below it.
         self.flash.back_to(self.frames.len());
-        let told = go_on(self.branches, &mut self.flash, &mut self.frames, known)?;
-        self.told = Some(told);
+        let summary = next_sibling(self.flash_tree, &mut self.flash, &mut self.frames, known)?;
+        self.summary = Some(summary);
         Ok(true)
     }
 
@@ -220,13 +229,13 @@ impl<F: Flash, B: Branches> Walk<F, B> {
     /// `Memory` where the flash was refused memory; then the walk stands nowhere.
     pub fn advance(&mut self, known: &B::Known) -> Result<bool, FlashError>
         requires { self.old.stands ≡ true }
-        ensures step { IfOk result (λ went. Advances (B.kind self.old.branches) self.old went
+        ensures step { IfOk result (λ went. Advances (B.model self.old.flash_tree) self.old went
             self.new) }
-        ensures spends { Spends (child_cost (B.kind self.old.branches) 0) self.old.seen result
+        ensures spends { Spends (child_cost (B.model self.old.flash_tree) 0) self.old.seen result
             self.new.seen }
         ensures err { IfErr result (λ e. e ≡ FlashError.Memory) }
     {
-        // A field that is read tells what holds of all of them.
+        // Reading a field gives the prover what holds of all of them.
         let _bound = self.bound;
         if self.go_down(0, known)? {
             return Ok(true);
@@ -242,13 +251,14 @@ impl<F: Flash, B: Branches> Walk<F, B> {
     /// `Memory` where the flash was refused memory; then the walk stands nowhere.
     pub fn follow(&mut self, path: &[u32], known: &B::Known) -> Result<bool, FlashError>
         requires { self.old.stands ≡ true }
-        ensures step { IfOk result (λ went. Follows (B.kind self.old.branches) path.now self.old
+        ensures step { IfOk result (λ went. Follows (B.model self.old.flash_tree) path.now self.old
             went self.new) }
-        ensures spends { Spends (path_cost (B.kind self.old.branches) path.now) self.old.seen result
+        ensures spends { Spends (path_cost (B.model self.old.flash_tree) path.now) self.old.seen
+            result
             self.new.seen }
         ensures err { IfErr result (λ e. e ≡ FlashError.Memory) }
     {
-        // A field that is read tells what holds of all of them.
+        // Reading a field gives the prover what holds of all of them.
         let _bound = self.bound;
         for number in path {
             if !self.go_down(*number, known)? {

@@ -1,6 +1,5 @@
 -- How much a boot does at most: how many operations, and how many bytes their erases save.
-use Rattle.std.specs.Prelude.{◌≡◌, ◌⊎◌, ℕ, zero, suc, ◌+◌, ◌-◌, ◌*◌, ◌/◌, ◌≤◌, ◌==◌, ◌||◌, not, nat_lt, Bool, true, false, if◌then◌else◌, List, [], ◌∷◌, ◌++◌, length, take, drop, map, flat_map}
-use Rattle.std.specs.Prelude.{Option, Some, None, refl}
+use Rattle.std.specs.Prelude.{◌≡◌, ◌⊎◌, ℕ, zero, suc, ◌+◌, ◌-◌, ◌*◌, ◌/◌, ◌≤◌, ◌==◌, ◌||◌, not, nat_lt, Bool, true, false, if◌then◌else◌, List, [], ◌∷◌, ◌++◌, length, take, drop, map, flat_map, Option, Some, None, refl}
 use Rattle.std.specs.Int.{div_ceil}
 use Rattle.std.specs.List.{range_with_len}
 use Rattle.std.proofs.Common.{arith, sym, ap, subst, length-append, inl, inr}
@@ -8,10 +7,9 @@ use Rattle.std.proofs.Math.Nat.{mul-le-mul_right}
 use Rattle.std.proofs.lemmas.Bool.Decides.{nat_tests}
 use Rattle.std.proofs.lemmas.List.{length-drop}
 use Rattle.std.proofs.lemmas.List.FromFn.{length-range_with_len}
-use Rattle.mc_flash.specs.Geometry.{Geometry, IsLayout, trailer_sectors, greatest_sectors}
+use Rattle.mc_flash.specs.Geometry.{Geometry, IsLayout, trailer_sectors, greatest_sectors, in_pieces}
 use Rattle.mc_flash.specs.Flash.{Content, apply}
 use Rattle.mc_flash.specs.Usage.{saves, most_operations, most_saved}
-use Rattle.mc_flash.specs.Geometry.{in_pieces}
 use Rattle.mc_flash.specs.facts.Pieces.{pieces_layout}
 use Rattle.mc_flash.specs.declared.flash.Grain.{Grain}
 use Rattle.mc_flash.specs.declared.flash.Grain.TheVariants as grains
@@ -29,11 +27,8 @@ use Rattle.mc_trailer.specs.declared.tables.SwapType.{SwapType}
 use Rattle.mc_trailer.specs.declared.tables.SwapType.TheVariants as kinds
 use Rattle.mc_boot.specs.declared.image.Images.{Images}
 use Rattle.mc_boot.specs.declared.transfer.Transfer.{Transfer}
-use Rattle.mc_boot.specs.Plan.{images_of, transfers, moved_up, brought_in, taken_out, copy_of, entry_of, steps}
-use Rattle.mc_boot.specs.Plan.{trailer_erase, trailer_erases, piece, write, write_count, image_ok_write, info_write, marking, is_test, is_revert, preparation_writes, opening_writes}
-use Rattle.mc_boot.specs.Plan.{closing, from_transfer, resumed_list, swap_list, new_list, Plan, nothing, first_left, new_swap, new_plan, resumed_from, resumed_swap, resumed_plan, plan_with, plan}
+use Rattle.mc_boot.specs.Plan.{images_of, transfers, moved_up, brought_in, taken_out, copy_of, entry_of, steps, trailer_erase, trailer_erases, piece, write, write_count, image_ok_write, info_write, marking, is_test, is_revert, preparation_writes, opening_writes, closing, from_transfer, resumed_list, swap_list, new_list, Plan, nothing, first_left, new_swap, new_plan, resumed_from, resumed_swap, resumed_plan, plan_with, plan, PowerOn}
 use Rattle.mc_boot.specs.Outcome.{first_then, happening, ops_of}
-use Rattle.mc_boot.specs.Plan.{PowerOn}
 use Rattle.mc_boot.specs.Boot.{IsBounded, all_saves}
 
 -- ---- lists
@@ -43,28 +38,28 @@ all_saves-append g [] ys = omega arith
 all_saves-append g (x ∷ xs) ys = omega (arith, all_saves-append g xs ys)
 
 none : (g : Geometry) (n m : ℕ) → IsBounded g [] n m
-none g n m = record { few = omega arith; saves = omega arith }
+none g n m = record { at_most = omega arith; saves = omega arith }
 
 one : (g : Geometry) (op : Op) (m : ℕ) → saves g op ≤ m → IsBounded g (op ∷ []) 1 m
-one g op m little = record { few = omega arith; saves = omega (arith, little) }
+one g op m little = record { at_most = omega arith; saves = omega (arith, little) }
 
 join : (g : Geometry) (xs ys : List Op) (a b c d : ℕ) → IsBounded g xs a b → IsBounded g ys c d → IsBounded g (xs ++ ys) (a + c) (b + d)
 join g xs ys a b c d p q = record {
-  few = omega (arith, length-append xs ys, p.few, q.few);
+  at_most = omega (arith, length-append xs ys, p.at_most, q.at_most);
   saves = omega (arith, all_saves-append g xs ys, p.saves, q.saves);
 }
 
 first : (g : Geometry) (op : Op) (ops : List Op) (c d : ℕ) → saves g op ≤ 0 → IsBounded g ops c d → IsBounded g (op ∷ ops) (1 + c) d
-first g op ops c d nothing_saved p = record { few = omega (arith, p.few); saves = omega (arith, nothing_saved, p.saves) }
+first g op ops c d nothing_saved p = record { at_most = omega (arith, p.at_most); saves = omega (arith, nothing_saved, p.saves) }
 
 wider : (g : Geometry) (ops : List Op) (a b c d : ℕ) → a ≤ c → b ≤ d → IsBounded g ops a b → IsBounded g ops c d
-wider g ops a b c d p q h = record { few = omega (arith, h.few, p); saves = omega (arith, h.saves, q) }
+wider g ops a b c d p q h = record { at_most = omega (arith, h.at_most, p); saves = omega (arith, h.saves, q) }
 
 mapped : (g : Geometry) (f : ℕ → Op) (k : ℕ) → ((i : ℕ) → saves g (f i) ≤ k) → (xs : List ℕ) → IsBounded g (map f xs) (length xs) (length xs * k)
 mapped g f k little [] = none g 0 (0 * k)
 mapped g f k little (x ∷ xs) =
     let rest = mapped g f k little xs in
-    record { few = omega (arith, rest.few); saves = omega (arith, little x, rest.saves) }
+    record { at_most = omega (arith, rest.at_most); saves = omega (arith, little x, rest.saves) }
 
 pieces : {A : Type 0} (g : Geometry) (f : A → List Op) (w k : ℕ) → ((x : A) → IsBounded g (f x) w k) → (xs : List A) → IsBounded g (flat_map f xs) (length xs * w) (length xs * k)
 pieces g f w k each [] = none g (0 * w) (0 * k)
@@ -72,7 +67,7 @@ pieces g f w k each (x ∷ xs) =
     let here = each x in
     let rest = pieces g f w k each xs in
     record {
-      few = omega (arith, length-append (f x) (flat_map f xs), here.few, rest.few);
+      at_most = omega (arith, length-append (f x) (flat_map f xs), here.at_most, rest.at_most);
       saves = omega (arith, all_saves-append g (f x) (flat_map f xs), here.saves, rest.saves);
     }
 
@@ -90,11 +85,11 @@ erases g l slot =
 
 -- the write of a field
 field_write : (g : Geometry) (c : Grain) (l : Geometry) (slot : Slot) (f : Field) (new : List ℕ) → IsBounded g (write c l slot f new) (write_count c l (length new)) 0
-field_write g grains.Call l slot f new = record { few = omega arith; saves = omega arith }
+field_write g grains.Call l slot f new = record { at_most = omega arith; saves = omega arith }
 field_write g grains.Unit l slot f new =
     let n : length (range_with_len 0 (length new / l.unit)) ≡ length new / l.unit = length-range_with_len 0 (length new / l.unit) in
     let all = mapped g (piece l slot (place l slot f) new) 0 (λ i. omega arith) (range_with_len 0 (length new / l.unit)) in
-    record { few = omega (arith, all.few, n); saves = omega (arith, all.saves) }
+    record { at_most = omega (arith, all.at_most, n); saves = omega (arith, all.saves) }
 
 -- The operations of the write of a size and a magic.
 abbrev marking_count : Grain → Geometry → ℕ
@@ -139,8 +134,8 @@ closing_count true = 2
 closing_count false = 1
 
 closed : (g l : Geometry) (image_ok : Bool) → IsBounded g (closing l image_ok) (closing_count image_ok) 0
-closed g l true = record { few = omega arith; saves = omega arith }
-closed g l false = record { few = omega arith; saves = omega arith }
+closed g l true = record { at_most = omega arith; saves = omega arith }
+closed g l false = record { at_most = omega arith; saves = omega arith }
 
 -- a transfer
 stepped : (g l : Geometry) (t : Transfer) → IsBounded g (steps l t) (l.sector / l.chunk + 2) g.sector
@@ -148,7 +143,7 @@ stepped g l t =
     let n : length (range_with_len 0 (l.sector / l.chunk)) ≡ l.sector / l.chunk = length-range_with_len 0 (l.sector / l.chunk) in
     let copies = mapped g (copy_of l t) 0 (λ i. omega arith) (range_with_len 0 (l.sector / l.chunk)) in
     record {
-      few = omega (arith, length-append (map (copy_of l t) (range_with_len 0 (l.sector / l.chunk))) (entry_of l t ∷ []), copies.few, n);
+      at_most = omega (arith, length-append (map (copy_of l t) (range_with_len 0 (l.sector / l.chunk))) (entry_of l t ∷ []), copies.at_most, n);
       saves = omega (arith, all_saves-append g (map (copy_of l t) (range_with_len 0 (l.sector / l.chunk))) (entry_of l t ∷ []), copies.saves);
     }
 
@@ -191,12 +186,12 @@ resumed g l n start erased image_ok =
     (3 * n * g.sector + 0) (erases g l Secondary) rest in
     let short = wider g (from_transfer l n start image_ok) (3 * n * (l.sector / l.chunk + 2) + closing_count image_ok) (3 * n * g.sector + 0)
     (trailer_sectors l + (3 * n * (l.sector / l.chunk + 2) + closing_count image_ok)) (trailer_sectors l * g.sector + (3 * n * g.sector + 0))
-    (behind (trailer_sectors l) (3 * n * (l.sector / l.chunk + 2) + closing_count image_ok)) (behind (trailer_sectors l * g.sector) (3 * n * g.sector + 0)) rest in
+    (beyond (trailer_sectors l) (3 * n * (l.sector / l.chunk + 2) + closing_count image_ok)) (beyond (trailer_sectors l * g.sector) (3 * n * g.sector + 0)) rest in
     chosen g erased (trailer_erases l Secondary ++ from_transfer l n start image_ok) (from_transfer l n start image_ok)
     (trailer_sectors l + (3 * n * (l.sector / l.chunk + 2) + closing_count image_ok)) (trailer_sectors l * g.sector + (3 * n * g.sector + 0)) all short
   where
-    behind : (a b : ℕ) → b ≤ a + b
-    behind a b = omega arith
+    beyond : (a b : ℕ) → b ≤ a + b
+    beyond a b = omega arith
 
 -- The operations of a swap from its start: t sectors of a trailer, m operations of a marking, and z of the transfers.
 abbrev swap_count : (t m z : ℕ) → ℕ
@@ -238,10 +233,10 @@ IsBoot c g ops = IsBounded g ops (most_operations c g) (most_saved g)
 
 -- more sectors are more of each
 more_sectors : (n most w : ℕ) → n ≤ most → 3 * n * w ≤ 3 * most * w
-more_sectors n most w few = mul-le-mul_right w (omega (arith, few))
+more_sectors n most w at_most = mul-le-mul_right w (omega (arith, at_most))
 
 three_sections : (t s n most : ℕ) → n ≤ most → 3 * (t * s) + 3 * n * s ≤ (3 * t + 3 * most) * s
-three_sections t s n most few = let more = more_sectors n most s few in spread t s (3 * n * s) (3 * most * s) most refl more
+three_sections t s n most at_most = let more = more_sectors n most s at_most in spread t s (3 * n * s) (3 * most * s) most refl more
   where
     spread : (t s x y most : ℕ) → y ≡ 3 * most * s → x ≤ y → 3 * (t * s) + x ≤ (3 * t + 3 * most) * s
     spread t s x y most is h = let e : (3 * t + 3 * most) * s ≡ 3 * (t * s) + 3 * most * s = omega arith in omega (arith, is, h, e)
@@ -257,55 +252,56 @@ two_magics u is = elim is [
 
 begun_few : (c : Grain) (g : Geometry) (n : ℕ) → IsLayout g → n ≤ greatest_sectors g
     → (let l : Geometry = in_pieces c g in trailer_sectors l + (1 + marking_count c l + swap_count (trailer_sectors l) (marking_count c l) (3 * n * (l.sector / l.chunk + 2)))) ≤ most_operations c g
-begun_few grains.Call g n ok few = total (trailer_sectors g) (3 * n * (g.sector / g.chunk + 2)) (3 * greatest_sectors g * (g.sector / g.chunk + 2))
-    (more_sectors n (greatest_sectors g) (g.sector / g.chunk + 2) few)
+begun_few grains.Call g n ok at_most = total (trailer_sectors g) (3 * n * (g.sector / g.chunk + 2)) (3 * greatest_sectors g * (g.sector / g.chunk + 2))
+    (more_sectors n (greatest_sectors g) (g.sector / g.chunk + 2) at_most)
   where
     total : (t z y : ℕ) → z ≤ y → t + (1 + 2 + swap_count t 2 z) ≤ 3 * t + 9 + y
     total t z y h = omega (arith, h)
-begun_few grains.Unit g n ok few = total (trailer_sectors g) (div_ceil 4 g.unit) (16 / g.unit) (32 / g.unit) (3 * n * (g.sector / g.unit + 2)) (3 * greatest_sectors g * (g.sector / g.unit + 2))
-    (two_magics g.unit ok.unit) (more_sectors n (greatest_sectors g) (g.sector / g.unit + 2) few)
+begun_few grains.Unit g n ok at_most = total (trailer_sectors g) (div_ceil 4 g.unit) (16 / g.unit) (32 / g.unit) (3 * n * (g.sector / g.unit + 2)) (3 * greatest_sectors g * (g.sector / g.unit + 2))
+    (two_magics g.unit ok.unit) (more_sectors n (greatest_sectors g) (g.sector / g.unit + 2) at_most)
   where
     total : (t d m k z y : ℕ) → 2 * m ≤ k → z ≤ y → t + (1 + (d + m) + swap_count t (d + m) z) ≤ 3 * t + 5 + 2 * d + k + y
     total t d m k z y a h = omega (arith, a, h)
 
 begun_saves : (c : Grain) (g : Geometry) (n : ℕ) → n ≤ greatest_sectors g → 3 * (trailer_sectors (in_pieces c g) * g.sector) + 3 * n * g.sector ≤ most_saved g
-begun_saves grains.Call g n few = three_sections (trailer_sectors g) g.sector n (greatest_sectors g) few
-begun_saves grains.Unit g n few = three_sections (trailer_sectors g) g.sector n (greatest_sectors g) few
+begun_saves grains.Call g n at_most = three_sections (trailer_sectors g) g.sector n (greatest_sectors g) at_most
+begun_saves grains.Unit g n at_most = three_sections (trailer_sectors g) g.sector n (greatest_sectors g) at_most
 
 resumed_few : (c : Grain) (g : Geometry) (n : ℕ) (image_ok : Bool) → n ≤ greatest_sectors g
     → (let l : Geometry = in_pieces c g in trailer_sectors l + (3 * n * (l.sector / l.chunk + 2) + closing_count image_ok)) ≤ most_operations c g
-resumed_few grains.Call g n image_ok few = total (trailer_sectors g) (3 * n * (g.sector / g.chunk + 2)) (3 * greatest_sectors g * (g.sector / g.chunk + 2)) image_ok
-    (more_sectors n (greatest_sectors g) (g.sector / g.chunk + 2) few)
+resumed_few grains.Call g n image_ok at_most = total (trailer_sectors g) (3 * n * (g.sector / g.chunk + 2)) (3 * greatest_sectors g * (g.sector / g.chunk + 2)) image_ok
+    (more_sectors n (greatest_sectors g) (g.sector / g.chunk + 2) at_most)
   where
     total : (t z y : ℕ) (b : Bool) → z ≤ y → t + (z + closing_count b) ≤ 3 * t + 9 + y
     total t z y true h = omega (arith, h)
     total t z y false h = omega (arith, h)
-resumed_few grains.Unit g n image_ok few = total (trailer_sectors g) (2 * div_ceil 4 g.unit) (32 / g.unit) (3 * n * (g.sector / g.unit + 2)) (3 * greatest_sectors g * (g.sector / g.unit + 2)) image_ok
-    (more_sectors n (greatest_sectors g) (g.sector / g.unit + 2) few)
+resumed_few grains.Unit g n image_ok at_most = total (trailer_sectors g) (2 * div_ceil 4 g.unit) (32 / g.unit) (3 * n * (g.sector / g.unit + 2)) (3 * greatest_sectors g * (g.sector / g.unit
+    + 2)) image_ok
+    (more_sectors n (greatest_sectors g) (g.sector / g.unit + 2) at_most)
   where
     total : (t d k z y : ℕ) (b : Bool) → z ≤ y → t + (z + closing_count b) ≤ 3 * t + 5 + d + k + y
     total t d k z y true h = omega (arith, h)
     total t d k z y false h = omega (arith, h)
 
 resumed_saves : (c : Grain) (g : Geometry) (n : ℕ) → n ≤ greatest_sectors g → trailer_sectors (in_pieces c g) * g.sector + (3 * n * g.sector + 0) ≤ most_saved g
-resumed_saves c g n few = less (trailer_sectors (in_pieces c g) * g.sector) (3 * n * g.sector) (most_saved g) (begun_saves c g n few)
+resumed_saves c g n at_most = less (trailer_sectors (in_pieces c g) * g.sector) (3 * n * g.sector) (most_saved g) (begun_saves c g n at_most)
   where
     less : (a b m : ℕ) → 3 * a + b ≤ m → a + (b + 0) ≤ m
     less a b m h = omega (arith, h)
 
 new_list_bounded : (c : Grain) (g : Geometry) (kind : SwapType) (size n : ℕ) → IsLayout g → n ≤ greatest_sectors g → IsBoot c g (new_list c (in_pieces c g) kind size n)
-new_list_bounded c g kind size n ok few =
+new_list_bounded c g kind size n ok at_most =
     let l : Geometry = in_pieces c g in
     wider g (new_list c l kind size n) (trailer_sectors l + (1 + marking_count c l + swap_count (trailer_sectors l) (marking_count c l) (3 * n * (l.sector / l.chunk + 2))))
     (3 * (trailer_sectors l * g.sector) + 3 * n * g.sector) (most_operations c g) (most_saved g)
-    (begun_few c g n ok few) (begun_saves c g n few) (begun g c l kind size n (pieces_layout c g ok))
+    (begun_few c g n ok at_most) (begun_saves c g n at_most) (begun g c l kind size n (pieces_layout c g ok))
 
 resumed_list_bounded : (c : Grain) (g : Geometry) (n start : ℕ) (erased image_ok : Bool) → n ≤ greatest_sectors g → IsBoot c g (resumed_list (in_pieces c g) n start erased image_ok)
-resumed_list_bounded c g n start erased image_ok few =
+resumed_list_bounded c g n start erased image_ok at_most =
     let l : Geometry = in_pieces c g in
     wider g (resumed_list l n start erased image_ok) (trailer_sectors l + (3 * n * (l.sector / l.chunk + 2) + closing_count image_ok)) (trailer_sectors l * g.sector + (3 * n * g.sector + 0))
     (most_operations c g) (most_saved g)
-    (resumed_few c g n image_ok few) (resumed_saves c g n few) (resumed g l n start erased image_ok)
+    (resumed_few c g n image_ok at_most) (resumed_saves c g n at_most) (resumed g l n start erased image_ok)
 
 chosen_plan : (c : Grain) (g : Geometry) (b : Bool) (p q : Plan) → (b ≡ true → IsBoot c g p.list) → (b ≡ false → IsBoot c g q.list) → IsBoot c g (if b then p else q).list
 chosen_plan c g true p q when_true when_false = when_true refl
@@ -335,8 +331,8 @@ new_plan_bounded c g images kinds.Panic ok = idle_plan c g kinds.Panic
 
 resumed_from_bounded : (c : Grain) (g : Geometry) (image_ok : Flag) (highest : Option ℕ) (kind : SwapType) (n : ℕ) (start : Option ℕ) → n ≤ greatest_sectors g
     → IsBoot c g (resumed_from c g image_ok highest kind n start).list
-resumed_from_bounded c g image_ok highest kind n None few = idle_plan c g kinds.Panic
-resumed_from_bounded c g image_ok highest kind n (Some start) few = resumed_list_bounded c g n start _ _ few
+resumed_from_bounded c g image_ok highest kind n None at_most = idle_plan c g kinds.Panic
+resumed_from_bounded c g image_ok highest kind n (Some start) at_most = resumed_list_bounded c g n start _ _ at_most
 
 resumed_swap_bounded : (c : Grain) (g : Geometry) (image_ok : Flag) (highest : Option ℕ) (kind : SwapType) (n : ℕ) → IsBoot c g (resumed_swap c g image_ok highest kind n).list
 resumed_swap_bounded c g image_ok highest kind n =
@@ -370,15 +366,15 @@ plan_bounded x ok =
 
 -- A plan has few operations, and saves few bytes.
 pub plan_few : (x : PowerOn) → IsLayout x.geometry → length (plan x).list ≤ most_operations x.rules.grain x.geometry
-plan_few x ok = (plan_bounded x ok).few
+plan_few x ok = (plan_bounded x ok).at_most
 
 pub plan_saves : (x : PowerOn) → IsLayout x.geometry → all_saves x.geometry (plan x).list ≤ most_saved x.geometry
 plan_saves x ok = (plan_bounded x ok).saves
 
 -- ---- what happens
 
-front_bounded : (g : Geometry) (k n m : ℕ) (ops : List Op) → IsBounded g ops n m → IsBounded g (take k ops) n m
-front_bounded g k n m ops h = let f = shorter k ops in record { few = omega (arith, f.0, h.few); saves = omega (arith, f.1, h.saves) }
+prefix_bounded : (g : Geometry) (k n m : ℕ) (ops : List Op) → IsBounded g ops n m → IsBounded g (take k ops) n m
+prefix_bounded g k n m ops h = let f = shorter k ops in record { at_most = omega (arith, f.0, h.at_most); saves = omega (arith, f.1, h.saves) }
   where
     shorter : (k : ℕ) (ops : List Op) → (length (take k ops) ≤ length ops) × (all_saves g (take k ops) ≤ all_saves g ops)
     shorter zero [] = (omega arith, omega arith)
@@ -389,27 +385,27 @@ front_bounded g k n m ops h = let f = shorter k ops in record { few = omega (ari
 first_less : (g : Geometry) (op : Op) (ops : List Op) (rest : Content → List Op) → ((t : Content) → (length (rest t) ≤ length ops) × (all_saves g (rest t) ≤ all_saves g ops)) → (o : Option Content)
     → (length (first_then op rest o) ≤ length (op ∷ ops)) × (all_saves g (first_then op rest o) ≤ all_saves g (op ∷ ops))
 first_less g op ops rest less None = (omega arith, omega arith)
-first_less g op ops rest less (Some t) = let behind = less t in (omega (arith, behind.0), omega (arith, behind.1))
+first_less g op ops rest less (Some t) = let beyond = less t in (omega (arith, beyond.0), omega (arith, beyond.1))
 
 happens_less : (g : Geometry) (ops : List Op) (s : Content) → (length (happening g ops s) ≤ length ops) × (all_saves g (happening g ops s) ≤ all_saves g ops)
 happens_less g [] s = (omega arith, omega arith)
 happens_less g (op ∷ ops) s = first_less g op ops (λ t. happening g ops t) (λ t. happens_less g ops t) (apply g op s)
 
--- So does each front of what happens.
+-- So does each prefix of what happens.
 ops_bounded : (x : PowerOn) (k : ℕ) → IsLayout x.geometry → IsBoot x.rules.grain x.geometry (take k (ops_of x))
 unfolding ops_of
 ops_bounded x k ok =
     let whole = plan_bounded x ok in
     let less = happens_less x.geometry (plan x).list x.content in
-    front_bounded x.geometry k (most_operations x.rules.grain x.geometry) (most_saved x.geometry) (happening x.geometry (plan x).list x.content)
+    prefix_bounded x.geometry k (most_operations x.rules.grain x.geometry) (most_saved x.geometry) (happening x.geometry (plan x).list x.content)
     (wider x.geometry (happening x.geometry (plan x).list x.content) (length (happening x.geometry (plan x).list x.content)) (all_saves x.geometry (happening x.geometry (plan x).list x.content))
     (most_operations x.rules.grain x.geometry) (most_saved x.geometry)
-    (below (length (happening x.geometry (plan x).list x.content)) (length (plan x).list) (most_operations x.rules.grain x.geometry) less.0 whole.few)
+    (below (length (happening x.geometry (plan x).list x.content)) (length (plan x).list) (most_operations x.rules.grain x.geometry) less.0 whole.at_most)
     (below (all_saves x.geometry (happening x.geometry (plan x).list x.content)) (all_saves x.geometry (plan x).list) (most_saved x.geometry) less.1 whole.saves)
-    (record { few = omega arith; saves = omega arith }))
+    (record { at_most = omega arith; saves = omega arith }))
   where
     below : (a b c : ℕ) → a ≤ b → b ≤ c → a ≤ c
     below a b c p q = omega (arith, p, q)
 
 pub ops_few : (x : PowerOn) (k : ℕ) → IsLayout x.geometry → length (take k (ops_of x)) ≤ most_operations x.rules.grain x.geometry
-ops_few x k ok = (ops_bounded x k ok).few
+ops_few x k ok = (ops_bounded x k ok).at_most

@@ -1,6 +1,5 @@
 -- What follows from where a boot is on its way. Proved here, so that the crates above can cite it.
-use Rattle.std.specs.Prelude.{◌≡◌, ℕ, zero, suc, ◌+◌, ◌<◌, ◌≤◌, nat_lt, Bool, true, false, if◌then◌else◌, List, [], ◌∷◌, ◌++◌, length, take, drop, Option, Some, None, option_and_then, option_map}
-use Rattle.std.specs.Prelude.{Result, Ok, Err, refl}
+use Rattle.std.specs.Prelude.{◌≡◌, ℕ, zero, suc, ◌+◌, ◌<◌, ◌≤◌, nat_lt, Bool, true, false, if◌then◌else◌, List, [], ◌∷◌, ◌++◌, length, take, drop, Option, Some, None, option_and_then, option_map, Result, Ok, Err, refl}
 use Rattle.std.proofs.Common.{arith, inl, inr, sym, ap, subst, ◌∙◌}
 use Rattle.std.proofs.lemmas.Bool.Decides.{nat_tests}
 use Rattle.std.proofs.lemmas.List.{length-take-le, length-drop, take_at, append-nil}
@@ -19,21 +18,21 @@ use Rattle.mc_flash.specs.facts.Done.{did, undefined}
 
 first_happens : (g : Geometry) (op : Op) (ops left : List Op) (s t : Content) (k : ℕ) → ((x : Content) → applied g (take k ops) x ≡ Some t → happening g ops x ≡ take k ops ++ left)
     → (o : Option Content) → option_and_then (λ u. applied g (take k ops) u) o ≡ Some t → first_then op (λ u. happening g ops u) o ≡ op ∷ (take k ops ++ left)
-first_happens g op ops left s t k behind None e = absurd cc
-first_happens g op ops left s t k behind (Some x) e = ap (λ (xs : List Op). op ∷ xs) (behind x e)
+first_happens g op ops left s t k beyond None e = absurd cc
+first_happens g op ops left s t k beyond (Some x) e = ap (λ (xs : List Op). op ∷ xs) (beyond x e)
 
--- What can be applied happens, and then what can be applied behind it.
-pub happening_front : (g : Geometry) (ops : List Op) (k : ℕ) (s t : Content) → applied g (take k ops) s ≡ Some t → happening g ops s ≡ take k ops ++ happening g (drop k ops) t
-happening_front g [] zero s t is = refl
-happening_front g [] (suc k) s t is = refl
-happening_front g (op ∷ ops) zero s t is = let same : s ≡ t = cc in ap (happening g (op ∷ ops)) same
-happening_front g (op ∷ ops) (suc k) s t is =
-    first_happens g op ops (happening g (drop k ops) t) s t k (λ x e. happening_front g ops k x t e) (apply g op s) is
+-- What can be applied happens, and then what can be applied after it.
+pub happening_prefix : (g : Geometry) (ops : List Op) (k : ℕ) (s t : Content) → applied g (take k ops) s ≡ Some t → happening g ops s ≡ take k ops ++ happening g (drop k ops) t
+happening_prefix g [] zero s t is = refl
+happening_prefix g [] (suc k) s t is = refl
+happening_prefix g (op ∷ ops) zero s t is = let same : s ≡ t = cc in ap (happening g (op ∷ ops)) same
+happening_prefix g (op ∷ ops) (suc k) s t is =
+    first_happens g op ops (happening g (drop k ops) t) s t k (λ x e. happening_prefix g ops k x t e) (apply g op s) is
 
 first_applied : (g : Geometry) (ops more : List Op) (t u : Content) → ((x : Content) → applied g ops x ≡ Some t → applied g more x ≡ Some u)
     → (o : Option Content) → option_and_then (λ x. applied g ops x) o ≡ Some t → option_and_then (λ x. applied g more x) o ≡ Some u
-first_applied g ops more t u behind None e = absurd cc
-first_applied g ops more t u behind (Some x) e = behind x e
+first_applied g ops more t u beyond None e = absurd cc
+first_applied g ops more t u beyond (Some x) e = beyond x e
 
 -- One more operation is applied.
 pub applied_next : (g : Geometry) (ops rest : List Op) (op : Op) (k : ℕ) (s t u : Content) → applied g (take k ops) s ≡ Some t → drop k ops ≡ op ∷ rest → apply g op t ≡ Some u
@@ -47,7 +46,7 @@ applied_next g (first ∷ ops) rest op zero s t u is next given =
 applied_next g (first ∷ ops) rest op (suc k) s t u is next given =
     first_applied g (take k ops) (take (suc k) ops) t u (λ x e. applied_next g ops rest op k x t u e next given) (apply g first s) is
 
--- What is left behind one more.
+-- What is left after one more.
 pub drop_next : {A : Type 0} (xs rest : List A) (x : A) (k : ℕ) → drop k xs ≡ x ∷ rest → drop (suc k) xs ≡ rest
 drop_next [] rest x zero is = absurd cc
 drop_next [] rest x (suc k) is = absurd cc
@@ -141,7 +140,7 @@ come_steps r s p q old new result come steps = go p.to_come refl result steps
             let Q : Content → Type 0 = λ x. HasCome (power_on r old.geometry s) p x in
             subst P (sym a) (subst Q (sym (ap (λ (x : Seen). x.content) lost.1)) come)
 
--- Behind what happened nothing more can happen, at the end.
+-- After what happened nothing more can happen, at the end.
 ends : (x : PowerOn) (p : Progress) (t : Content) → HasCome x p t → p.to_come ≡ []
     → (happening x.geometry (drop p.count (plan x).list) t ≡ []) × (nat_lt p.count (length (plan x).list) ≡ p.faulted)
 ends x p t come end = by_fault p.faulted refl
@@ -154,10 +153,10 @@ ends x p t come end = by_fault p.faulted refl
         (ap (λ (ops : List Op). happening x.geometry ops t) left, grind (arith, nat_tests))
 
 -- What happens of the plan begins with what happened so far, and at the end that is all of it.
-pub come_front : (x : PowerOn) (p : Progress) (t : Content) → HasCome x p t
+pub come_prefix : (x : PowerOn) (p : Progress) (t : Content) → HasCome x p t
     → ops_of x ≡ take p.count (plan x).list ++ happening x.geometry (drop p.count (plan x).list) t
 unfolding ops_of
-come_front x p t come = happening_front x.geometry (plan x).list p.count x.content t come.happened
+come_prefix x p t come = happening_prefix x.geometry (plan x).list p.count x.content t come.happened
 
 pub come_count : (x : PowerOn) (p : Progress) (t : Content) → HasCome x p t → length (take p.count (plan x).list) ≡ p.count
 come_count x p t come = length-take-le p.count (plan x).list come.within
@@ -166,13 +165,13 @@ come_count x p t come = length-take-le p.count (plan x).list come.within
 pub come_at : (x : PowerOn) (p : Progress) (t : Content) → HasCome x p t → at x p.count ≡ Some t
 unfolding at
 come_at x p t come =
-    ap (λ (ops : List Op). applied x.geometry (take p.count ops) x.content) (come_front x p t come)
+    ap (λ (ops : List Op). applied x.geometry (take p.count ops) x.content) (come_prefix x p t come)
     ∙ ap (λ (ops : List Op). applied x.geometry ops x.content) (take_at (take p.count (plan x).list) (happening x.geometry (drop p.count (plan x).list) t) p.count (come_count x p t come))
     ∙ come.happened
 
 pub come_ops : (x : PowerOn) (p : Progress) (t : Content) → HasCome x p t → p.to_come ≡ [] → length (ops_of x) ≡ p.count
 come_ops x p t come end =
-    ap (λ (ops : List Op). length ops) (come_front x p t come ∙ ap (λ (ops : List Op). take p.count (plan x).list ++ ops) (ends x p t come end).0 ∙ append-nil
+    ap (λ (ops : List Op). length ops) (come_prefix x p t come ∙ ap (λ (ops : List Op). take p.count (plan x).list ++ ops) (ends x p t come end).0 ∙ append-nil
     (take p.count (plan x).list))
     ∙ come_count x p t come
 
@@ -184,7 +183,7 @@ pub come_left : (x : PowerOn) (p : Progress) (t : Content) → HasCome x p t →
 unfolding left_by
 come_left x p t come end = ap (at x) (come_ops x p t come end) ∙ come_at x p t come
 
--- What is told at the end is the outcome of the uncut boot.
+-- What is reported at the end is the outcome of the uncut boot.
 pub come_outcome : (x : PowerOn) (p : Progress) (t : Content) → HasCome x p t → p.to_come ≡ [] → outcome_of x ≡ Some (report p.rules x.geometry p.kind p.count p.faulted t)
 unfolding outcome_of
 come_outcome from p t come end =
@@ -198,29 +197,29 @@ come_outcome from p t come end =
 
 happens_on : (g : Geometry) (op : Op) (ops : List Op) (s : Content) → ((t : Content) → (z : Content) × (applied g (happening g ops t) t ≡ Some z))
     → (o : Option Content) → apply g op s ≡ o → (z : Content) × (applied g (first_then op (λ t. happening g ops t) o) s ≡ Some z)
-happens_on g op ops s behind None is = (s, refl)
-happens_on g op ops s behind (Some t) is = let on = behind t in (on.0, rw is on.1)
+happens_on g op ops s beyond None is = (s, refl)
+happens_on g op ops s beyond (Some t) is = let on = beyond t in (on.0, rw is on.1)
 
 -- What happens of a list can be applied.
 pub happens_applied : (g : Geometry) (ops : List Op) (s : Content) → (z : Content) × (applied g (happening g ops s) s ≡ Some z)
 happens_applied g [] s = (s, refl)
 happens_applied g (op ∷ ops) s = happens_on g op ops s (λ t. happens_applied g ops t) (apply g op s) refl
 
-front_on : (g : Geometry) (ops : List Op) (c : ℕ) (z : Content) → ((x : Content) → applied g ops x ≡ Some z → (t : Content) × (applied g (take c ops) x ≡ Some t))
+prefix_on : (g : Geometry) (ops : List Op) (c : ℕ) (z : Content) → ((x : Content) → applied g ops x ≡ Some z → (t : Content) × (applied g (take c ops) x ≡ Some t))
     → (o : Option Content) → option_and_then (λ x. applied g ops x) o ≡ Some z → (t : Content) × (option_and_then (λ x. applied g (take c ops) x) o ≡ Some t)
-front_on g ops c z behind None is = absurd cc
-front_on g ops c z behind (Some x) is = behind x is
+prefix_on g ops c z beyond None is = absurd cc
+prefix_on g ops c z beyond (Some x) is = beyond x is
 
--- And so can a front of what can be applied.
-pub front_applied : (g : Geometry) (ops : List Op) (c : ℕ) (s z : Content) → applied g ops s ≡ Some z → (t : Content) × (applied g (take c ops) s ≡ Some t)
-front_applied g [] zero s z is = (s, refl)
-front_applied g [] (suc c) s z is = (s, refl)
-front_applied g (op ∷ ops) zero s z is = (s, refl)
-front_applied g (op ∷ ops) (suc c) s z is = front_on g ops c z (λ x e. front_applied g ops c x z e) (apply g op s) is
+-- And so can a prefix of what can be applied.
+pub prefix_applied : (g : Geometry) (ops : List Op) (c : ℕ) (s z : Content) → applied g ops s ≡ Some z → (t : Content) × (applied g (take c ops) s ≡ Some t)
+prefix_applied g [] zero s z is = (s, refl)
+prefix_applied g [] (suc c) s z is = (s, refl)
+prefix_applied g (op ∷ ops) zero s z is = (s, refl)
+prefix_applied g (op ∷ ops) (suc c) s z is = prefix_on g ops c z (λ x e. prefix_applied g ops c x z e) (apply g op s) is
 
 pub at_defined : (x : PowerOn) (c : ℕ) → (t : Content) × (at x c ≡ Some t)
 unfolding at ops_of
-at_defined x c = let whole = happens_applied x.geometry (plan x).list x.content in front_applied x.geometry (happening x.geometry (plan x).list x.content) c x.content whole.0 whole.1
+at_defined x c = let whole = happens_applied x.geometry (plan x).list x.content in prefix_applied x.geometry (happening x.geometry (plan x).list x.content) c x.content whole.0 whole.1
 
 pub left_defined : (x : PowerOn) → (z : Content) × (left_by x ≡ Some z)
 unfolding left_by

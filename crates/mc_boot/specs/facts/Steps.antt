@@ -110,7 +110,7 @@ module _ (p q : Progress) (old new : Seen) where
       at (op ∷ rest) is (Err errors.NotErased) fine d = none_spent (ap (λ (x : Progress). x.to_come) d.0) d.1.1
       at (op ∷ rest) is (Err errors.Memory) fine d = absurd (fine refl)
 
-  -- With room for all that is to come memory is wanted only where it fails a flash that does not count.
+  -- With room for all that is to come an allocation failed only where it fails a flash that does not count.
   pub step_ran_out : (result : Result (Unit {0}) FlashError) → result ≡ Err errors.Memory → Steps p old result q new
       → LeaveRoom old.usage.counts (left_of old.geometry p) (room_of old.usage.limits) → RanOut old new
   step_ran_out result wanted steps room = at p.to_come refl result wanted steps

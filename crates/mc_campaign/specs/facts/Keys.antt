@@ -9,19 +9,19 @@ use Rattle.mc_flash.specs.declared.flash.Grain.{Grain}
 use Rattle.mc_flash.specs.declared.flash.Grain.TheVariants as grains
 use Rattle.mc_start.specs.facts.Room.{limits_are}
 use Rattle.mc_walk.specs.Walks.{IsClear}
-use Rattle.mc_explore.specs.inner.Once.{begins}
+use Rattle.mc_explore.specs.inner.OneRound.{begins}
 use Rattle.mc_explore.specs.inner.Exploring.{AreKeys, LoadsFor}
-use Rattle.mc_campaign.specs.inner.Twice.{cuts_along, rounds, twice_kind}
+use Rattle.mc_campaign.specs.inner.TwoRounds.{cuts_along, rounds, two_rounds_model}
 use Rattle.mc_campaign.specs.Rows.{most_for_row, campaigns}
-use Rattle.mc_campaign.specs.declared.rounds.Twice.{Twice}
+use Rattle.mc_campaign.specs.declared.rounds.TwoRounds.{TwoRounds}
 use Rattle.mc_campaign.specs.facts.Paths.{listed_along, path_of, same_order}
 
-module _ (t : Twice) (c : Content) where
-  pub are_campaigns : AreKeys campaigns (rounds t.once.rules t.once.layout t.confirms) (first c) (begins t.once c) t.confirms
-      (λ path. cuts_along t.once.rules t.once.layout t.confirms c path)
+module _ (t : TwoRounds) (c : Content) where
+  pub are_campaigns : AreKeys campaigns (rounds t.one_round.rules t.one_round.layout t.confirms) (first c) (begins t.one_round c) t.confirms
+      (λ path. cuts_along t.one_round.rules t.one_round.layout t.confirms c path)
   are_campaigns =
-      let r = t.once.rules in
-      let g = t.once.layout in
+      let r = t.one_round.rules in
+      let g = t.one_round.layout in
       record {
         listed = λ bound path m. (listed_along r g t.confirms c bound path m).0;
         path_of = λ bound k m. let p = path_of r g t.confirms c bound k m in (p.0, p.1.member, p.1.cuts_are);
@@ -29,8 +29,8 @@ module _ (t : Twice) (c : Content) where
         none = refl;
       }
 
-  pub campaign_costs : (twice_kind t.once.rules t.once.layout t.confirms).step + (twice_kind t.once.rules t.once.layout t.confirms).all.entries
-      ≤ most_for_row (begins t.once c).rules (begins t.once c).geometry
+  pub campaign_costs : (two_rounds_model t.one_round.rules t.one_round.layout t.confirms).step + (two_rounds_model t.one_round.rules t.one_round.layout t.confirms).all.entries
+      ≤ most_for_row (begins t.one_round c).rules (begins t.one_round c).geometry
   campaign_costs = omega arith
 
 pub three_more : (1 ≤ 3) × (3 ≤ 16)
@@ -42,11 +42,11 @@ some_operations grains.Call g = omega arith
 some_operations grains.Unit g = omega arith
 
 -- A flash that was loaded for three boots more than there are cuts serves for a walk.
-pub campaigns_clear : (t : Twice) (counted : Bool) (c : Content) (bound : ℕ) (f : Seen) → LoadsFor counted (begins t.once c) (bound + 3) f
-    → IsClear (twice_kind t.once.rules t.once.layout t.confirms) bound f
+pub campaigns_clear : (t : TwoRounds) (counted : Bool) (c : Content) (bound : ℕ) (f : Seen) → LoadsFor counted (begins t.one_round c) (bound + 3) f
+    → IsClear (two_rounds_model t.one_round.rules t.one_round.layout t.confirms) bound f
 campaigns_clear t counted c bound f l =
-    let g = t.once.layout in
-    let grain = t.once.rules.grain in
+    let g = t.one_round.layout in
+    let grain = t.one_round.rules.grain in
     let limits = limits_are grain g (bound + 3) f.usage.limits l.room in
     let some = some_operations grain g in
     let entries : (bound + 3) * most_operations grain g ≡ bound * most_operations grain g + 3 * most_operations grain g = three bound (most_operations grain g) in

@@ -9,14 +9,14 @@ use Rattle.mc_flash.specs.Flash.{Content}
 use Rattle.mc_boot.specs.Restart.{confirmed_if}
 use Rattle.mc_boot.specs.Outcome.{Report, outcome_of, left_by}
 use Rattle.mc_boot.specs.facts.Run.{outcome_defined}
-use Rattle.mc_explore.specs.inner.Once.{boots}
+use Rattle.mc_explore.specs.inner.OneRound.{boots}
 use Rattle.mc_explore.specs.Pages.{IsLawful}
 use Rattle.mc_explore.specs.Schedules.{IsReplayed}
 use Rattle.mc_explore.specs.Subject.{are_lawful, rows_of}
 use Rattle.mc_boot.specs.Plan.{PowerOn, again}
-use Rattle.mc_campaign.specs.inner.Twice.{cuts_along, rounds, second_start}
+use Rattle.mc_campaign.specs.inner.TwoRounds.{cuts_along, rounds, second_start}
 use Rattle.mc_campaign.specs.Campaigns.{CanOccur, Precedes, in_round, AreReplayed}
-use Rattle.mc_campaign.specs.Rows.{IsRest, IsRow, campaigns, State, Told, HasOutcomes}
+use Rattle.mc_campaign.specs.Rows.{IsRest, IsRow, campaigns, State, ShownRow, HasOutcomes}
 use Rattle.mc_campaign.specs.facts.Paths.{are_replayed, listed_along, path_of, same_order, some_same}
 
 -- ---- a campaign has one row
@@ -31,15 +31,15 @@ module _ (x : PowerOn) (cuts : List ℕ) (o p : Report) (y z : Content) (a : IsR
   same_left : y ≡ z
   same_left = some_same y z (sym a.left ∙ ap (λ s. left_by (again x s)) same_cut ∙ b.left)
 
-told_of : List (ℕ × ℕ) → Report → Report → Told
-told_of c one two = record { campaign = c; first = one; second = two }
+summary_of : List (ℕ × ℕ) → Report → Report → ShownRow
+summary_of c one two = record { campaign = c; first = one; second = two }
 
-told_is : (c d : List (ℕ × ℕ)) (o p x y : Report) → c ≡ d → o ≡ p → x ≡ y → told_of c o x ≡ told_of d p y
-told_is c d o p x y a b e = cc
+summary_is : (c d : List (ℕ × ℕ)) (o p x y : Report) → c ≡ d → o ≡ p → x ≡ y → summary_of c o x ≡ summary_of d p y
+summary_is c d o p x y a b e = cc
 
 module _ (start : PowerOn) (confirms : Bool) where
-  same_row : (x y : Told) → HasOutcomes start confirms x → HasOutcomes start confirms y → x.campaign ≡ y.campaign → x ≡ y
-  unfolding told_of
+  same_row : (x y : ShownRow) → HasOutcomes start confirms x → HasOutcomes start confirms y → x.campaign ≡ y.campaign → x ≡ y
+  unfolding summary_of
   same_row x y (end, a) outcomes e =
       let c = x.campaign in
       let moved = subst (λ d. (z : Content) × AreReplayed start confirms d y.first y.second z) (sym e) outcomes in
@@ -48,7 +48,7 @@ module _ (start : PowerOn) (confirms : Bool) where
       let middle = same_left start (in_round 1 c) x.first y.first a.middle b.middle a.first b.first in
       let second = subst (λ m. IsReplayed (again start (confirmed_if confirms start.geometry m)) (in_round 2 c) y.second moved.0) (sym middle) b.second in
       let two = same_outcome (again start (confirmed_if confirms start.geometry a.middle)) (in_round 2 c) x.second y.second end moved.0 a.second second in
-      told_is x.campaign y.campaign x.first y.first x.second y.second e one two
+      summary_is x.campaign y.campaign x.first y.first x.second y.second e one two
 
   first_end : List (ℕ × ℕ) → Content
   first_end c = landed (boots start.rules start.geometry) start.content (in_round 1 c)
@@ -57,7 +57,7 @@ module _ (start : PowerOn) (confirms : Bool) where
   second_end c = landed (boots start.rules start.geometry) (second_start start.rules start.geometry confirms (first_end c)) (in_round 2 c)
 
   -- The row of a campaign.
-  row_of : List (ℕ × ℕ) → Told
+  row_of : List (ℕ × ℕ) → ShownRow
   row_of c = record {
     campaign = c;
     first = (outcome_defined (again start (first_end c))).0;
@@ -91,7 +91,7 @@ module _ (start : PowerOn) (confirms : Bool) where
             (p.0, p.1.member, same_row row (row_of (along p.0)) is.outcome (has_outcomes (along p.0) m.1) (sym p.1.cuts_are));
       }
 
-pub some_rest : (state : State) → (rows : List Told) × IsRest state rows
+pub some_rest : (state : State) → (rows : List ShownRow) × IsRest state rows
 some_rest state =
     existence.some_rest Precedes pairs_in_order (λ row. row.campaign) (IsRow state.start state.choice state.bound) (rounds state.start.rules state.start.geometry state.choice)
     (first state.start.content) state.bound _ (are_rows state.start state.choice state.bound) state.position

@@ -10,12 +10,12 @@ use Rattle.mc_trailer.specs.declared.tables.Rules.{Rules}
 use Rattle.mc_boot.specs.Restart.{confirmed_if}
 use Rattle.mc_boot.specs.Outcome.{Report, outcome_of, after, left_by}
 use Rattle.mc_boot.specs.facts.Run.{left_defined}
-use Rattle.mc_explore.specs.inner.Once.{boots, content_or}
+use Rattle.mc_explore.specs.inner.OneRound.{boots, content_or}
 use Rattle.mc_explore.specs.facts.Occurring.{allowed_after, allowed_occurs, occurs_allowed}
 use Rattle.mc_explore.specs.Schedules.{IsReplayed}
 use Rattle.mc_explore.specs.Schedules as schedules
 use Rattle.mc_campaign.specs.Campaigns.{AreReplayed, CanOccur, IsMember, Precedes, in_round}
-use Rattle.mc_campaign.specs.inner.Twice.{IsPathOf, cuts_along, rounds, second_start}
+use Rattle.mc_campaign.specs.inner.TwoRounds.{IsPathOf, cuts_along, rounds, second_start}
 use Rattle.mc_campaign.specs.facts.Cuts.{all_first, all_second, by_rounds, ordered, pairs_length}
 use Rattle.mc_boot.specs.Plan.{power_on}
 
@@ -30,19 +30,19 @@ module _ (r : Rules) (g : Geometry) (confirms : Bool) where
 
   module _ (s : Content) where
     -- A campaign whose cuts are allowed in each round can occur.
-    both_occur : (front later : List ℕ) → Allowed (boots r g) s front → Allowed (boots r g) (second_start r g confirms (landed (boots r g) s front)) later
-        → CanOccur (power_on r g s) confirms (pairs front later)
-    both_occur front later a b =
-        let cut : Content = landed (boots r g) s front in
+    both_occur : (prefix later : List ℕ) → Allowed (boots r g) s prefix → Allowed (boots r g) (second_start r g confirms (landed (boots r g) s prefix)) later
+        → CanOccur (power_on r g s) confirms (pairs prefix later)
+    both_occur prefix later a b =
+        let cut : Content = landed (boots r g) s prefix in
         let left = left_defined (power_on r g cut) in
         let x = power_on r g (confirmed_if confirms g left.0) in
         record {
-          in_order = ordered front later;
+          in_order = ordered prefix later;
           cut = cut;
-          first = ap (after (power_on r g s)) (all_first front later) ∙ allowed_after (power_on r g s) front a;
+          first = ap (after (power_on r g s)) (all_first prefix later) ∙ allowed_after (power_on r g s) prefix a;
           left = left.0;
           left_is = left.1;
-          second = subst (schedules.CanOccur x) (sym (all_second front later)) (allowed_occurs x later (subst (λ y. Allowed (boots r g) y later) (begins cut left.0 left.1) b));
+          second = subst (schedules.CanOccur x) (sym (all_second prefix later)) (allowed_occurs x later (subst (λ y. Allowed (boots r g) y later) (begins cut left.0 left.1) b));
         }
 
     -- And the other way round.
@@ -80,10 +80,10 @@ module _ (r : Rules) (g : Geometry) (confirms : Bool) where
         let a = first_allowed c m.1 in
         let path : List ℕ = in_both (boots r g) (second_start r g confirms) s one two in
         let whole = by_rounds c m.1.in_order in
-        let few : length path ≤ bound = omega (arith, m.0, both_length (boots r g) (second_start r g confirms) s one two, pairs_length one two, ap (λ l. length l) whole) in (
+        let at_most : length path ≤ bound = omega (arith, m.0, both_length (boots r g) (second_start r g confirms) s one two, pairs_length one two, ap (λ l. length l) whole) in (
           path,
           record {
-            member = (few, both_allowed (boots r g) (second_start r g confirms) s one two a (second_allowed c m.1));
+            member = (at_most, both_allowed (boots r g) (second_start r g confirms) s one two a (second_allowed c m.1));
             cuts_are = both_labels (boots r g) (second_start r g confirms) s one two a ∙ whole;
           },
         )
@@ -98,9 +98,9 @@ module _ (r : Rules) (g : Geometry) (confirms : Bool) where
         let is : cuts ≡ pairs b.path b.later = ap (cuts_along r g confirms s) b.is ∙ both_labels (boots r g) (second_start r g confirms) s b.path b.later b.path_allowed in
         let one : in_round 1 cuts ≡ b.path = ap (in_round 1) is ∙ all_first b.path b.later in
         let two : in_round 2 cuts ≡ b.later = ap (in_round 2) is ∙ all_second b.path b.later in
-        let few : length cuts ≤ bound =
+        let at_most : length cuts ≤ bound =
         omega (arith, m.0, ap (λ l. length l) is, ap (λ l. length l) b.is, both_length (boots r g) (second_start r g confirms) s b.path b.later, pairs_length b.path b.later) in (
-          (few, subst (CanOccur (power_on r g s) confirms) (sym is) (both_occur b.path b.later b.path_allowed b.later_allowed)),
+          (at_most, subst (CanOccur (power_on r g s) confirms) (sym is) (both_occur b.path b.later b.path_allowed b.later_allowed)),
           b.is ∙ ap (λ l. in_both (boots r g) (second_start r g confirms) s l b.later) (sym one) ∙ ap (in_both (boots r g) (second_start r g confirms) s (in_round 1 cuts)) (sym two),
         )
 

@@ -7,12 +7,12 @@ abbrev pub blanks_after : ℕ → List (ℕ × ℕ)
 blanks_after n = replicate (16 - n) (0, 0)
 
 pub len_again : (room : List (ℕ × ℕ)) (len : ℕ) → length room ≡ 16 → len ≤ 16 → length (take len room) ≡ len
-len_again room len whole few = length-take-le len room (omega arith)
+len_again room len whole at_most = length-take-le len room (omega arith)
 
 -- The room of the cuts that it begins with.
 pub room_again : (room : List (ℕ × ℕ)) (len : ℕ) → length room ≡ 16 → len ≤ 16 → drop len room ≡ blanks_after len
     → take len room ++ blanks_after (length (take len room)) ≡ room
-room_again room len whole few rest =
-    ap (λ n. take len room ++ blanks_after n) (len_again room len whole few)
+room_again room len whole at_most rest =
+    ap (λ n. take len room ++ blanks_after n) (len_again room len whole at_most)
     ∙ ap (λ (z : List (ℕ × ℕ)). take len room ++ z) (sym rest)
     ∙ take-append-drop len room

@@ -2,32 +2,32 @@
 use Rattle.std.specs.Prelude.{Bool, List, Option, Some, false, true, ℕ, ◌<◌, ◌↔◌, ◌≡◌}
 use Rattle.mc_boot.specs.Plan.{PowerOn}
 use Rattle.mc_campaign.specs.Campaigns.{IsMember}
-use Rattle.mc_campaign.specs.declared.rounds.Twice.{Twice}
-use Rattle.mc_campaign.specs.inner.Twice.{IsPathOf, rounds, second_start, twice_kind}
-use Rattle.mc_explore.specs.inner.Once.{begins, boots}
+use Rattle.mc_campaign.specs.declared.rounds.TwoRounds.{TwoRounds}
+use Rattle.mc_campaign.specs.inner.TwoRounds.{IsPathOf, rounds, second_start, two_rounds_model}
+use Rattle.mc_explore.specs.inner.OneRound.{begins, boots}
 use Rattle.mc_flash.specs.Flash.{Content}
 use Rattle.mc_flash.specs.Geometry.{Geometry}
 use Rattle.mc_trailer.specs.declared.tables.Rules.{Rules}
-use Rattle.mc_tree.specs.Tree.{Place, label}
+use Rattle.mc_tree.specs.Tree.{RoundNode, label}
 use Rattle.mc_walk.specs.Walks.{IsPath, IsSame, Walked, origin_of}
 
 -- The start of a walk.
-abbrev pub begun_of : Walked Twice → PowerOn
-begun_of w = begins w.branches.once (origin_of w.seen)
+abbrev pub begun_of : Walked TwoRounds → PowerOn
+begun_of w = begins w.flash_tree.one_round (origin_of w.seen)
 
 -- The kind of tree that a walk goes through, and the paths of a walk.
-abbrev pub IsPathIn : Walked Twice → List ℕ → Type 0
-IsPathIn w = IsPath (twice_kind w.branches.once.rules w.branches.once.layout w.branches.confirms) w
+abbrev pub IsPathIn : Walked TwoRounds → List ℕ → Type 0
+IsPathIn w = IsPath (two_rounds_model w.flash_tree.one_round.rules w.flash_tree.one_round.layout w.flash_tree.confirms) w
 
--- Of the children of a place that number is the one at the cut; without a number there is none.
-abbrev pub HasChildOf : Rules → Geometry → Bool → Place Content → ℕ × ℕ → Option ℕ → Type 0
+-- Of the children of a node that number is the one at the cut; without a number there is none.
+abbrev pub HasChildOf : Rules → Geometry → Bool → RoundNode Content → ℕ × ℕ → Option ℕ → Type 0
 HasChildOf r g confirms p cut number =
     (i : ℕ) → i < (rounds r g confirms).width p → label (boots r g) (second_start r g confirms) p i ≡ cut ↔ number ≡ Some i
 
 -- From its root a walk went along the path of a campaign; or that is none of those to go through.
-abbrev pub FollowsCampaign : Walked Twice → List (ℕ × ℕ) → Bool → Walked Twice → Type 0
+abbrev pub FollowsCampaign : Walked TwoRounds → List (ℕ × ℕ) → Bool → Walked TwoRounds → Type 0
 FollowsCampaign old c true new =
-    IsPathOf (begun_of old) old.branches.confirms old.bound new.path c
+    IsPathOf (begun_of old) old.flash_tree.confirms old.bound new.path c
     × IsSame old new × (new.stands ≡ true)
 FollowsCampaign old c false new =
-    IsMember (begun_of old) old.branches.confirms old.bound c → ⊥
+    IsMember (begun_of old) old.flash_tree.confirms old.bound c → ⊥

@@ -96,7 +96,7 @@ pub struct Word {
 pub enum Takes {
     /// No value: an option that is given or not.
     Nothing,
-    /// No value: the word itself is told, by its place.
+    /// No value: the word itself is the value, by its position.
     Itself,
     /// A value, by what help calls it.
     Value(&'static str),
@@ -114,7 +114,7 @@ const FLAG: Word = Word {
     help: "",
 };
 
-/// What is told by its place.
+/// What is given by its position.
 const PLACE: Word = Word {
     takes: Takes::Itself,
     ..FLAG
@@ -145,7 +145,7 @@ static IMAGE: [Word; 1] = [Word {
     ..PLACE
 }];
 
-/// What tells an image.
+/// What gives an image.
 static CREATION: [Word; 6] = [
     Word {
         name: "INFILE",
@@ -318,7 +318,7 @@ const OUT: Word = Word {
 
 static OUTPUT: [Word; 1] = [OUT];
 
-/// What `replay` is told of cuts.
+/// What `replay` is given of cuts.
 static REPLAY: [Word; 3] = [
     Word {
         name: "schedule",
@@ -374,7 +374,7 @@ const CUTS: Word = Word {
     ..FLAG
 };
 
-/// What tells an exploration of schedules: the most cuts, a page, and which of the rows.
+/// What gives an exploration of schedules: the most cuts, a page, and which of the rows.
 static EXPLORATION: [Word; 6] = [
     CUTS,
     LIMIT,
@@ -441,10 +441,10 @@ static VERDICT: [Word; 4] = [
     },
 ];
 
-/// What tells a census.
+/// What gives a census.
 static CENSUS: [Word; 1] = [CUTS];
 
-/// What tells an exploration of campaigns.
+/// What gives an exploration of campaigns.
 static CAMPAIGN: [Word; 7] = [
     Word {
         name: "cuts",
@@ -502,7 +502,7 @@ static LIFE: [Word; 3] = [
     },
 ];
 
-/// What `explain` is told.
+/// What `explain` is given.
 static REFUSAL: [Word; 1] = [Word {
     name: "NUMBER",
     required: true,

@@ -1,10 +1,10 @@
 //! `census`: what all schedules of power cuts come to, without listing them.
 ghost use Rattle.std.specs.Prelude.{◌≡◌, ◌≤◌, List, IfOk, true};
 ghost use Rattle.mc_explore.specs.Census.{census_of};
-ghost use Rattle.mc_explore.specs.Rows.{Told, report_of, subject};
+ghost use Rattle.mc_explore.specs.Rows.{ShownRow, report_of, subject};
 ghost use Rattle.mc_explore.specs.declared.expectation.Expectation.{Expectation as Expected};
 ghost use Rattle.clap.specs.Matches.{found_of};
-ghost use Rattle.mc_command.specs.Sessions.{TellsCensus, AreRightsIf};
+ghost use Rattle.mc_command.specs.Sessions.{GivesCensus, AreRightsIf};
 ghost use Rattle.mc_command.specs.Verdicts.{AreCounted, IsVerdict};
 ghost use Rattle.mc_start.specs.Start.{begun};
 
@@ -13,7 +13,7 @@ use crate::refusal::Refusal;
 use crate::source::read_start;
 use crate::verdict::{Asked, right_if_asked, write_lines};
 use clap::ArgMatches;
-use mc_explore::{Census, Expectation, Once, Rights, Start, take_census, take_rights};
+use mc_explore::{Census, Expectation, OneRound, Rights, Start, take_census, take_rights};
 use mc_flash::JournalFlash;
 use std::alloc::Global;
 use std::io::Write;
@@ -62,7 +62,7 @@ fn read_census<F: Files>(
     alloc: Global,
     arguments: &ArgMatches<'_>,
 ) -> Result<Counts, Refusal>
-    ensures { IfOk result (TellsCensus (found_of arguments.now)) }
+    ensures { IfOk result (GivesCensus (found_of arguments.now)) }
 {
     let options = match flash_options(arguments) {
         Ok(options) => options,
@@ -98,7 +98,7 @@ pub fn run<F: Files, O: Write>(
     let counts = read_census(files, alloc, arguments)?;
     let census = counts.census;
     write!(out, "{census}").map_err(|_| Refusal::Write)?;
-    write_lines::<Once, O>(&counts.rights, out)?;
+    write_lines::<OneRound, O>(&counts.rights, out)?;
     judge(&counts)
 }
 
@@ -108,11 +108,11 @@ pub fn run<F: Files, O: Write>(
 ///
 /// The first of `NotAllBoot` and `NotAllRight` that was asked for and does not hold.
 fn judge(counts: &Counts) -> Result<(), Refusal>
-    ensures { (e : Expected) (rows : List Told) → counts.now.census ≡ census_of rows
+    ensures { (e : Expected) (rows : List ShownRow) → counts.now.census ≡ census_of rows
         → AreCounted subject e rows counts.now.rights
         → IsVerdict report_of counts.now.asked e rows counts.now.rights true result }
 {
     let boots = counts.census.all_boot();
-    let right = right_if_asked::<Once>(&counts.rights);
+    let right = right_if_asked::<OneRound>(&counts.rights);
     counts.asked.verdict(boots, right, true)
 }

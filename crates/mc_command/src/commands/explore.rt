@@ -1,18 +1,17 @@
 //! `explore`, `campaign` and `survey`: every schedule of power cuts, or every campaign of two rounds, with what the boots after them
 //! do, and how many do what.
-ghost use Rattle.std.specs.Prelude.{◌≡◌, ◌++◌, ◌≤◌, Err, IfOk, is_none};
+ghost use Rattle.std.specs.Prelude.{◌≡◌, ◌++◌, ◌≤◌, Err, IfOk, is_none, option_map};
 ghost use Rattle.std.specs.Io.KnownBytes.{Appends};
 ghost use Rattle.clap.specs.Matches.{found_of};
 ghost use Rattle.mc_explore.specs.Pages.{Page};
 ghost use Rattle.mc_explore.specs.Survey.{tally_by, tally_text};
 ghost use Rattle.mc_explore.specs.declared.expectation.Expectation.{Expectation as Expected};
-ghost use Rattle.mc_command.specs.Sessions.{Explores, PrintsUntil, TalliesAsked, TalliesUntil, TellsExploration, back_from, ends_of};
+ghost use Rattle.mc_command.specs.Sessions.{Explores, PrintsUntil, TalliesAsked, TalliesUntil, GivesExploration, back_from, ends_of};
 ghost use Rattle.mc_command.specs.Verdicts.{AreCounted, IsVerdict, lines_of};
 ghost use Rattle.mc_boot.specs.Plan.{identity_of};
-ghost use Rattle.std.specs.Prelude.{option_map};
 
 use super::{finish, in_blocks};
-use crate::explored::Explored;
+use crate::explorable::Explorable;
 use crate::options::{ExploreOptions, RangeOptions, Source, explore_options, flash_options};
 use crate::refusal::Refusal;
 use crate::source::read_start;
@@ -28,7 +27,7 @@ use std::alloc::Global;
 use std::io::Write;
 use std::rt::Files;
 
-/// An exploration that the words ask for: where it starts, and the rows that are wanted of it.
+/// An exploration that the options ask for: where it starts, and the rows that are wanted of it.
 #[derive(Drop)]
 struct Exploration<C: Copy, U: Copy, K: Copy> {
     start: Start,
@@ -41,7 +40,7 @@ struct Exploration<C: Copy, U: Copy, K: Copy> {
 }
 
 /// Whether both images of a source are to lie at the end where they would without the swap.
-fn is_taken_back<X: Explored>(source: &Source<'_>, choice: X::Choice) -> bool
+fn is_taken_back<X: Explorable>(source: &Source<'_>, choice: X::Choice) -> bool
     ensures { result ≡ back_from X.is_taken_back source.now choice }
 {
     match source {
@@ -61,17 +60,17 @@ fn ends(back: bool, named: Option<(ImageId, ImageId)>) -> Option<(ImageId, Image
     }
 }
 
-/// Reads the words, and the start that they tell. The words are checked before a file is touched.
+/// Reads the options, and the start that they give. The words are checked before a file is touched.
 ///
 /// # Errors
 ///
 /// `Source`, `Layout`, the numbers, `CursorOptions`, `Cursor`, `Schedule` and `Campaign` of the words; what `read_start` refuses.
-fn read<X: Explored, F: Files>(
+fn read<X: Explorable, F: Files>(
     files: &F,
     alloc: Global,
     arguments: &ArgMatches<'_>,
 ) -> Result<Exploration<X::Choice, X::Cursor, X::Key>, Refusal>
-    ensures told { IfOk result (TellsExploration X.subject X.IsChoice X.is_taken_back
+    ensures given { IfOk result (GivesExploration X.subject X.IsChoice X.is_taken_back
         (found_of arguments.now)) }
     ensures range { IfOk result (λ e. (e.extent.cuts ≤ 16) × (1 ≤ e.extent.limit)) }
 {
@@ -91,12 +90,12 @@ fn read<X: Explored, F: Files>(
     })
 }
 
-/// Makes an explorer at the first row, or after the one that the words name.
+/// Makes an explorer at the first row, or after the one that the options name.
 ///
 /// # Errors
 ///
 /// `Explore` where the cursor or the key does not serve here, or an allocation failed.
-fn explorer<'a, X: Explored>(
+fn explorer<'a, X: Explorable>(
     exploration: &'a Exploration<X::Choice, X::Cursor, X::Key>,
     alloc: Global,
 ) -> Result<TreeExplorer<'a, JournalFlash, X>, Refusal>
@@ -119,7 +118,7 @@ fn explorer<'a, X: Explored>(
 /// # Errors
 ///
 /// Those of `explorer`, and `Explore` where memory failed, or the output cannot be written.
-fn print<X: Explored, O: Write + Drop>(
+fn print<X: Explorable, O: Write + Drop>(
     exploration: &Exploration<X::Choice, X::Cursor, X::Key>,
     alloc: Global,
     out: O,
@@ -147,7 +146,7 @@ fn print<X: Explored, O: Write + Drop>(
 /// # Errors
 ///
 /// Those of `explorer`, and `Explore` where memory failed.
-fn tally<X: Explored>(
+fn tally<X: Explorable>(
     exploration: &Exploration<X::Choice, X::Cursor, X::Key>,
     alloc: Global,
     expectation: &Expectation,
@@ -167,7 +166,7 @@ fn tally<X: Explored>(
 /// # Errors
 ///
 /// `Expectation`; those of `tally`.
-fn counts<X: Explored>(
+fn counts<X: Explorable>(
     exploration: &Exploration<X::Choice, X::Cursor, X::Key>,
     alloc: Global,
     asked: &Asked,
@@ -188,14 +187,14 @@ fn counts<X: Explored>(
 }
 
 /// Prints a page of rows: one for each schedule, or campaign, of at most so many cuts that can occur, in their order, from the first
-/// or after the one that the words name, up to one that they name. Where something is asked of the rows, they are counted once more,
+/// or after the one that the options name, up to one that the options name. Where something is asked of the rows, they are counted once more,
 /// and how many are right follows, and the first that is not.
 ///
 /// # Errors
 ///
 /// What refuses the words or their files; `Expectation`; `Explore` where memory failed, or the output cannot be written. What is asked
 /// of the rows is refused as of a survey, once the page is out.
-pub fn run<X: Explored, F: Files, O: Write>(
+pub fn run<X: Explorable, F: Files, O: Write>(
     files: &F,
     alloc: Global,
     arguments: &ArgMatches<'_>,
@@ -222,7 +221,7 @@ pub fn run<X: Explored, F: Files, O: Write>(
 /// What refuses the words or their files; `Expectation`; `Explore` where memory failed or the output cannot be written.
 /// With `--all-boot` also `NotAllBoot` where a row does not end in a boot, with `--all-right` `NotAllRight` where one is not right,
 /// and with either `NotWhole` where the page would go on; the output is written then.
-pub fn survey<X: Explored, F: Files, O: Write>(
+pub fn survey<X: Explorable, F: Files, O: Write>(
     files: &F,
     alloc: Global,
     arguments: &ArgMatches<'_>,
@@ -241,7 +240,7 @@ pub fn survey<X: Explored, F: Files, O: Write>(
 /// # Errors
 ///
 /// The first of `NotAllBoot`, `NotAllRight` and `NotWhole` that was asked for and does not hold.
-fn judge<X: Explored>(
+fn judge<X: Explorable>(
     tally: &TallyOf<X::Cursor>,
     rights: &Option<RightsOf<X::Key>>,
     asked: &Asked,

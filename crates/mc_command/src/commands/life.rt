@@ -1,4 +1,4 @@
-//! `life`: what happens to a device, told event by event.
+//! `life`: what happens to a device, replayed event by event.
 use super::replay::write_file;
 use crate::options::{layout_options, rules_options};
 use crate::refusal::Refusal;
@@ -7,7 +7,7 @@ use clap::ArgMatches;
 use mc_explore::{Kind, Start};
 use mc_flash::{Layout, Slot, SnapFlash};
 use mc_imgtool::ToolError;
-use mc_life::{Device, File, Script, find, tell, write_wear};
+use mc_life::{Device, File, Script, find, replay_life, write_wear};
 use std::alloc::Global;
 use std::fs;
 use std::io::{Read, Write};
@@ -30,7 +30,7 @@ fn delivered(alloc: Global, layout: &Layout, image: &[u8]) -> Result<Start, Refu
     Ok(Start::from_flash(alloc, layout, &bytes)?)
 }
 
-/// The start that the words tell. They are checked before a file is touched.
+/// The start that the options give. They are checked before a file is touched.
 ///
 /// # Errors
 ///
@@ -116,8 +116,8 @@ fn read_script<F: Files, R: Read>(
     Ok(Script::read(alloc, &mut file)?)
 }
 
-/// Tells what happens to a device by a script, a line for each event. With `--wear` it ends with two lines of what was erased, and
-/// where `--out` names a file, the flash at the end is written to it.
+/// Replays what happens to a device by a script, a line for each event. With `--wear` it ends with two lines of what was erased,
+/// and where `--out` names a file, the flash at the end is written to it.
 ///
 /// # Errors
 ///
@@ -133,7 +133,7 @@ pub fn run<F: Files, R: Read, O: Write>(
     let start = read_device(files, alloc, arguments)?;
     let script = read_script(files, alloc, arguments, input)?;
     let shelf = read_shelf(files, alloc, &script)?;
-    let device: Device<SnapFlash> = tell(alloc, &start, &script, &shelf, out)?;
+    let device: Device<SnapFlash> = replay_life(alloc, &start, &script, &shelf, out)?;
     if arguments.get_flag("wear") {
         write_wear(device.wear(), out).map_err(|_| Refusal::Write)?;
     }

@@ -23,8 +23,8 @@ pub fn boot<F: Files, O: Write>(
     arguments: &ArgMatches<'_>,
     out: &mut O,
 ) -> Result<(), Refusal> {
-    let told = schedule_from(files, alloc, arguments, "-")?;
-    tell(files, alloc, arguments, &told, out)
+    let given = schedule_from(files, alloc, arguments, "-")?;
+    print_replay(files, alloc, arguments, &given, out)
 }
 
 /// Replays a schedule from a source, and prints the outcome. Where `--at-cut` names a file, the flash as it was when the last cut
@@ -40,11 +40,11 @@ pub fn run<F: Files, O: Write>(
     arguments: &ArgMatches<'_>,
     out: &mut O,
 ) -> Result<(), Refusal> {
-    let told = read_schedule(files, alloc, arguments)?;
+    let given = read_schedule(files, alloc, arguments)?;
     if let Some(path) = arguments.get_str("at-cut") {
-        write_cut(files, alloc, path, &told)?;
+        write_cut(files, alloc, path, &given)?;
     }
-    tell(files, alloc, arguments, &told, out)
+    print_replay(files, alloc, arguments, &given, out)
 }
 
 // Writes the flash as it was when the last cut of a schedule fell.
@@ -52,21 +52,21 @@ fn write_cut<F: Files>(
     files: &F,
     alloc: Global,
     path: &str,
-    told: &Scheduled,
+    given: &Scheduled,
 ) -> Result<(), Refusal> {
-    let flash: JournalFlash = flash_at_cut(alloc, &told.start, &told.schedule)?;
+    let flash: JournalFlash = flash_at_cut(alloc, &given.start, &given.schedule)?;
     write_file(files, path, &flash)
 }
 
 // Prints the outcome of a schedule, after the flash that is left was written where `--out` names a file.
-fn tell<F: Files, O: Write>(
+fn print_replay<F: Files, O: Write>(
     files: &F,
     alloc: Global,
     arguments: &ArgMatches<'_>,
-    told: &Scheduled,
+    given: &Scheduled,
     out: &mut O,
 ) -> Result<(), Refusal> {
-    let (outcome, flash) = replay::<JournalFlash>(alloc, &told.start, &told.schedule)?;
+    let (outcome, flash) = replay::<JournalFlash>(alloc, &given.start, &given.schedule)?;
     if let Some(path) = arguments.get_str("out") {
         write_file(files, path, &flash)?;
     }

@@ -3,7 +3,7 @@ ghost use Rattle.std.specs.Prelude.{◌≡◌, IfOk, codes};
 ghost use Rattle.clap.specs.Matches.{found_of};
 ghost use Rattle.mc_campaign.specs.Texts.{campaign_text};
 ghost use Rattle.mc_command.specs.Arguments.{IsFlag};
-ghost use Rattle.mc_command.specs.Sessions.{TellsStart};
+ghost use Rattle.mc_command.specs.Sessions.{GivesStart};
 
 use crate::commands::replay::write_file;
 use crate::options::{flash_options, required};
@@ -12,7 +12,7 @@ use crate::source::read_start;
 use clap::ArgMatches;
 use mc_boot::Outcome;
 use mc_campaign::{Campaign, Round, replay_campaign, start_of_second};
-use mc_explore::{Start, flash_at_cut};
+use mc_explore::{Schedule, Start, flash_at_cut};
 use mc_flash::JournalFlash;
 use mc_trace::{write_sectors, write_trace};
 use std::alloc::Global;
@@ -27,7 +27,7 @@ struct Campaigned {
     confirms: bool,
 }
 
-/// The start of a source, and the campaign that the words tell. The words are checked before a file is touched.
+/// The start of a source, and the campaign that the options give. The words are checked before a file is touched.
 ///
 /// # Errors
 ///
@@ -37,7 +37,7 @@ fn read<F: Files>(
     alloc: Global,
     arguments: &ArgMatches<'_>,
 ) -> Result<Campaigned, Refusal>
-    ensures start { IfOk result (λ c. TellsStart (found_of arguments.now) c.start) }
+    ensures start { IfOk result (λ c. GivesStart (found_of arguments.now) c.start) }
     ensures confirms { IfOk result (λ c. IsFlag (found_of arguments.now) (codes "confirm")
         c.confirms) }
 {
@@ -60,7 +60,7 @@ impl Campaigned {
     ///
     /// `Replay` where a cut of the first round can't occur, or for want of memory.
     fn second(&self, alloc: Global) -> Result<Start, Refusal> {
-        let cuts = self.campaign.places(Round::First);
+        let cuts = self.campaign.schedule(Round::First);
         Ok(start_of_second::<JournalFlash>(alloc, &self.start, &cuts, self.confirms)?)
     }
 
@@ -80,8 +80,8 @@ impl Campaigned {
     /// `Replay` where a cut can't occur, or for want of memory; `Open`; `Write`.
     fn write_cut<F: Files>(&self, files: &F, alloc: Global, path: &str) -> Result<(), Refusal> {
         let (firsts, seconds) = (
-            self.campaign.places(Round::First),
-            self.campaign.places(Round::Second),
+            self.campaign.schedule(Round::First),
+            self.campaign.schedule(Round::Second),
         );
         let flash: JournalFlash = if seconds.cuts().is_empty() {
             flash_at_cut(alloc, &self.start, &firsts)?
@@ -116,54 +116,56 @@ pub fn replay<F: Files, O: Write>(
     write!(out, "round 1\n{first}round 2\n{second}").map_err(|_| Refusal::Write)
 }
 
-/// Prints the operations of the boots of both rounds, each round under a line of its own, with its outcome.
+/// What is printed of a round.
+#[derive(Clone, Copy)]
+pub enum RoundText {
+    /// The operations of its boots, and its outcome.
+    Operations,
+    /// What lies in each sector when its last cut falls, by what lay there at its start.
+    Sectors,
+}
+
+/// Prints that of the round from a start whose cuts those are.
+///
+/// # Errors
+///
+/// `Trace` where a cut can't occur, for want of memory, or where the output fails.
+fn write_round<O: Write>(
+    alloc: Global,
+    start: &Start,
+    cuts: &Schedule,
+    text: RoundText,
+    out: &mut O,
+) -> Result<(), Refusal> {
+    match text {
+        RoundText::Operations => write_trace::<JournalFlash, O>(alloc, start, cuts, out)?,
+        RoundText::Sectors => write_sectors::<JournalFlash, O>(alloc, start, cuts, out)?,
+    }
+    Ok(())
+}
+
+/// Prints that of both rounds, each under a line of its own.
 ///
 /// # Errors
 ///
 /// Those of `read`; `Replay` where a cut can't occur, which is found before anything is printed; `Trace` for want of memory, or where
 /// the output fails.
-pub fn trace<F: Files, O: Write>(
+pub fn print<F: Files, O: Write>(
     files: &F,
     alloc: Global,
     arguments: &ArgMatches<'_>,
+    text: RoundText,
     out: &mut O,
 ) -> Result<(), Refusal> {
     let campaigned = read(files, alloc, arguments)?;
     let _outcomes = campaigned.replay(alloc)?;
     let second = campaigned.second(alloc)?;
     let (firsts, seconds) = (
-        campaigned.campaign.places(Round::First),
-        campaigned.campaign.places(Round::Second),
+        campaigned.campaign.schedule(Round::First),
+        campaigned.campaign.schedule(Round::Second),
     );
-    write!(out, "round 1\n").map_err(|_| Refusal::Write)?;
-    write_trace::<JournalFlash, O>(alloc, &campaigned.start, &firsts, out)?;
-    write!(out, "round 2\n").map_err(|_| Refusal::Write)?;
-    write_trace::<JournalFlash, O>(alloc, &second, &seconds, out)?;
-    Ok(())
-}
-
-/// Prints what lies in each sector when the last cut of each round falls, each round under a line of its own, by what lay there at its
-/// start.
-///
-/// # Errors
-///
-/// Those of `trace`.
-pub fn sectors<F: Files, O: Write>(
-    files: &F,
-    alloc: Global,
-    arguments: &ArgMatches<'_>,
-    out: &mut O,
-) -> Result<(), Refusal> {
-    let campaigned = read(files, alloc, arguments)?;
-    let _outcomes = campaigned.replay(alloc)?;
-    let second = campaigned.second(alloc)?;
-    let (firsts, seconds) = (
-        campaigned.campaign.places(Round::First),
-        campaigned.campaign.places(Round::Second),
-    );
-    write!(out, "round 1\n").map_err(|_| Refusal::Write)?;
-    write_sectors::<JournalFlash, O>(alloc, &campaigned.start, &firsts, out)?;
-    write!(out, "round 2\n").map_err(|_| Refusal::Write)?;
-    write_sectors::<JournalFlash, O>(alloc, &second, &seconds, out)?;
-    Ok(())
+    out.write_all(b"round 1\n").map_err(|_| Refusal::Write)?;
+    write_round(alloc, &campaigned.start, &firsts, text, out)?;
+    out.write_all(b"round 2\n").map_err(|_| Refusal::Write)?;
+    write_round(alloc, &second, &seconds, text, out)
 }

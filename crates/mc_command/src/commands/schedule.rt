@@ -1,9 +1,9 @@
-//! A schedule of power cuts and the start that it begins at, as words tell them.
+//! A schedule of power cuts and the start that it begins at, as options give them.
 ghost use Rattle.std.specs.Prelude.{◌≡◌, Some, IfOk, codes};
 ghost use Rattle.clap.specs.Matches.{found_of};
 ghost use Rattle.mc_start.specs.Start.{schedule_text};
-ghost use Rattle.mc_command.specs.Arguments.{MayTellSchedule};
-ghost use Rattle.mc_command.specs.Sessions.{TellsStart};
+ghost use Rattle.mc_command.specs.Arguments.{MayGiveSchedule};
+ghost use Rattle.mc_command.specs.Sessions.{GivesStart};
 
 use crate::options::{flash_options, required};
 use crate::refusal::Refusal;
@@ -20,18 +20,18 @@ pub struct Scheduled {
     pub schedule: Schedule,
 }
 
-/// The start of a source, and the schedule that the words tell. The words are checked before a file is touched.
+/// The start of a source, and the schedule that the options give. The words are checked before a file is touched.
 ///
 /// # Errors
 ///
-/// `Argument` where no schedule is told; what `schedule_from` refuses.
+/// `Argument` where no schedule is given; what `schedule_from` refuses.
 pub fn read_schedule<F: Files>(
     files: &F,
     alloc: Global,
     arguments: &ArgMatches<'_>,
 ) -> Result<Scheduled, Refusal>
-    ensures start { IfOk result (λ t. TellsStart (found_of arguments.now) t.start) }
-    ensures schedule { IfOk result (λ t. MayTellSchedule (found_of arguments.now)
+    ensures start { IfOk result (λ t. GivesStart (found_of arguments.now) t.start) }
+    ensures schedule { IfOk result (λ t. MayGiveSchedule (found_of arguments.now)
         (codes "schedule") (Some t.schedule)) }
 {
     schedule_from(files, alloc, arguments, required(arguments, "schedule")?)
@@ -48,7 +48,7 @@ pub fn schedule_from<F: Files>(
     arguments: &ArgMatches<'_>,
     schedule: &str,
 ) -> Result<Scheduled, Refusal>
-    ensures start { IfOk result (λ t. TellsStart (found_of arguments.now) t.start) }
+    ensures start { IfOk result (λ t. GivesStart (found_of arguments.now) t.start) }
     ensures schedule { IfOk result (λ t. schedule.now ≡ schedule_text t.schedule) }
 {
     let options = match flash_options(arguments) {

@@ -19,8 +19,8 @@ pub fn run<F: Files, O: Write>(
     arguments: &ArgMatches<'_>,
     out: &mut O,
 ) -> Result<(), Refusal> {
-    let told = read_schedule(files, alloc, arguments)?;
-    write_trace::<JournalFlash, O>(alloc, &told.start, &told.schedule, out)?;
+    let given = read_schedule(files, alloc, arguments)?;
+    write_trace::<JournalFlash, O>(alloc, &given.start, &given.schedule, out)?;
     Ok(())
 }
 
@@ -35,7 +35,7 @@ pub fn sectors<F: Files, O: Write>(
     arguments: &ArgMatches<'_>,
     out: &mut O,
 ) -> Result<(), Refusal> {
-    let told = read_schedule(files, alloc, arguments)?;
-    write_sectors::<JournalFlash, O>(alloc, &told.start, &told.schedule, out)?;
+    let given = read_schedule(files, alloc, arguments)?;
+    write_sectors::<JournalFlash, O>(alloc, &given.start, &given.schedule, out)?;
     Ok(())
 }

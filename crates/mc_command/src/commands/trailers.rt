@@ -10,7 +10,7 @@ use std::alloc::Global;
 use std::io::Write;
 use std::rt::Files;
 
-/// The start of the source that the words tell. The words are checked before a file is touched.
+/// The start of the source that the options give. The words are checked before a file is touched.
 ///
 /// # Errors
 ///

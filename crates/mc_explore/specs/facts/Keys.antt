@@ -5,13 +5,13 @@ use Rattle.mc_flash.specs.Flash.{Content}
 use Rattle.mc_flash.specs.Usage.{Seen, Usage, most_operations, most_saved}
 use Rattle.mc_start.specs.facts.Room.{limits_are}
 use Rattle.mc_walk.specs.Walks.{IsClear}
-use Rattle.mc_explore.specs.inner.Once.{boots, begins, once}
+use Rattle.mc_explore.specs.inner.OneRound.{boots, begins, one_round}
 use Rattle.mc_explore.specs.Rows.{most_for_row, subject}
-use Rattle.mc_explore.specs.declared.once.Once.{Once}
+use Rattle.mc_explore.specs.declared.one_round.OneRound.{OneRound}
 use Rattle.mc_explore.specs.facts.Occurring.{member_of, path_of}
 use Rattle.mc_explore.specs.inner.Exploring.{AreKeys, LoadsFor}
 
-pub are_schedules : (o : Once) (c : Content) → AreKeys subject (boots o.rules o.layout) c (begins o c) tt (λ path. path)
+pub are_schedules : (o : OneRound) (c : Content) → AreKeys subject (boots o.rules o.layout) c (begins o c) tt (λ path. path)
 are_schedules o c = record {
   listed = member_of (begins o c);
   path_of = λ bound k m. (k, path_of (begins o c) bound k m, refl);
@@ -19,14 +19,14 @@ are_schedules o c = record {
   none = refl;
 }
 
-pub schedule_costs : (o : Once) (c : Content) → (once o.rules o.layout).step + (once o.rules o.layout).all.entries ≤ most_for_row (begins o c).rules (begins o c).geometry
+pub schedule_costs : (o : OneRound) (c : Content) → (one_round o.rules o.layout).step + (one_round o.rules o.layout).all.entries ≤ most_for_row (begins o c).rules (begins o c).geometry
 schedule_costs o c = omega arith
 
 pub one_more : (1 ≤ 1) × (1 ≤ 16)
 one_more = (omega arith, omega arith)
 
 -- A flash that was loaded for one boot more than there are cuts serves for a walk.
-pub schedules_clear : (o : Once) (counted : Bool) (c : Content) (bound : ℕ) (f : Seen) → LoadsFor counted (begins o c) (bound + 1) f → IsClear (once o.rules o.layout) bound f
+pub schedules_clear : (o : OneRound) (counted : Bool) (c : Content) (bound : ℕ) (f : Seen) → LoadsFor counted (begins o c) (bound + 1) f → IsClear (one_round o.rules o.layout) bound f
 schedules_clear o counted c bound f l =
     let g = o.layout in
     let n = most_operations o.rules.grain g in

@@ -7,9 +7,9 @@ use Rattle.mc_tree.specs.Tree.{landed, Allowed, Precedes}
 use Rattle.mc_tree.specs.facts.Existence as existence
 use Rattle.mc_tree.specs.facts.Existence.{AreRows, all_from, all_rest}
 use Rattle.mc_tree.specs.facts.Order.{paths_in_order}
-use Rattle.mc_explore.specs.inner.Once.{boots}
+use Rattle.mc_explore.specs.inner.OneRound.{boots}
 use Rattle.mc_explore.specs.Pages.{IsLawful}
-use Rattle.mc_explore.specs.Rows.{IsRow, IsRest, schedules, subject, State, Told, HasOutcome, at_start, outcome_after}
+use Rattle.mc_explore.specs.Rows.{IsRow, IsRest, schedules, subject, State, ShownRow, HasOutcome, at_start, outcome_after}
 use Rattle.mc_explore.specs.Subject.{are_lawful}
 use Rattle.mc_boot.specs.Plan.{PowerOn, again}
 use Rattle.mc_explore.specs.facts.Occurring.{allowed_after, member_of, path_of}
@@ -17,32 +17,32 @@ use Rattle.mc_explore.specs.facts.Occurring.{allowed_after, member_of, path_of}
 one_outcome : (a b : List ℕ) (x y : Report) (o : List ℕ → Option Report) → a ≡ b → o a ≡ Some x → o b ≡ Some y → x ≡ y
 one_outcome a b x y o e p q = let f : o a ≡ o b = ap o e in cc
 
-told_of : List ℕ → Report → Told
-told_of l report = record { schedule = l; outcome = report }
+summary_of : List ℕ → Report → ShownRow
+summary_of l report = record { schedule = l; outcome = report }
 
-told_is : (a b : List ℕ) (x y : Report) → a ≡ b → x ≡ y → told_of a x ≡ told_of b y
-told_is a b x y e f = cc
+summary_is : (a b : List ℕ) (x y : Report) → a ≡ b → x ≡ y → summary_of a x ≡ summary_of b y
+summary_is a b x y e f = cc
 
 module _ (start : PowerOn) where
   -- A schedule has one outcome.
-  same_row : (x y : Told) → HasOutcome start x → HasOutcome start y → x.schedule ≡ y.schedule → x ≡ y
-  unfolding told_of
+  same_row : (x y : ShownRow) → HasOutcome start x → HasOutcome start y → x.schedule ≡ y.schedule → x ≡ y
+  unfolding summary_of
   same_row x y p q e =
-      told_is x.schedule y.schedule x.outcome y.outcome e (one_outcome x.schedule y.schedule x.outcome y.outcome (outcome_after start) e p q)
+      summary_is x.schedule y.schedule x.outcome y.outcome e (one_outcome x.schedule y.schedule x.outcome y.outcome (outcome_after start) e p q)
 
   -- The row of a schedule.
-  unfoldable pub row_at : List ℕ → Told
+  unfoldable pub row_at : List ℕ → ShownRow
   row_at l = record { schedule = l; outcome = (outcome_defined (again start (landed (boots start.rules start.geometry) start.content l))).0 }
 
-  pub lands_told : (l : List ℕ) → Allowed (boots start.rules start.geometry) start.content l
+  pub lands_summary : (l : List ℕ) → Allowed (boots start.rules start.geometry) start.content l
       → outcome_after start l ≡ outcome_of (again start (landed (boots start.rules start.geometry) start.content l))
   unfolding outcome_after
-  lands_told l a =
+  lands_summary l a =
       ap (λ (o : Option Content). option_and_then (λ u. outcome_of (again start u)) o) (allowed_after start l a)
 
   has_outcome : (l : List ℕ) → Allowed (boots start.rules start.geometry) start.content l → HasOutcome start (row_at l)
   unfolding row_at
-  has_outcome l a = lands_told l a ∙ (outcome_defined (again start (landed (boots start.rules start.geometry) start.content l))).1
+  has_outcome l a = lands_summary l a ∙ (outcome_defined (again start (landed (boots start.rules start.geometry) start.content l))).1
 
   are_rows : (bound : ℕ) → AreRows Precedes paths_in_order (λ row. row.schedule) (IsRow start bound) (boots start.rules start.geometry) start.content bound row_at
   unfolding row_at
@@ -59,7 +59,7 @@ pub all_rows : (start : PowerOn) (bound : ℕ) → IsRest (at_start start bound)
 all_rows start bound =
     all_rest Precedes paths_in_order (λ row. row.schedule) (IsRow start bound) (boots start.rules start.geometry) start.content bound (row_at start) (are_rows start bound)
 
-pub some_rest : (state : State) → (rows : List Told) × IsRest state rows
+pub some_rest : (state : State) → (rows : List ShownRow) × IsRest state rows
 some_rest state =
     existence.some_rest Precedes paths_in_order (λ row. row.schedule) (IsRow state.start state.bound) (boots state.start.rules state.start.geometry) state.start.content state.bound
     (row_at state.start) (are_rows state.start state.bound) state.position

@@ -8,7 +8,7 @@ use Rattle.mc_tree.specs.facts.OneList as lists_facts
 use Rattle.mc_explore.specs.Pages.{Listing, IsLawful, IsRest, IsFirst, FindsRow, state_past}
 
 module _ {S K R C : Type 0} (l : Listing S K R C) (laws : IsLawful l) where
-  -- Behind a row that was given the others are to come.
+  -- After a row that was given the others are to come.
   pub rest_moved : (state : S) (k : K) (rows : List R) → lists.IsRest l.Before l.key (l.IsRow state) (After k) rows → IsRest l (l.moved_to state k) rows
   rest_moved state k rows r =
       let P : R → Position K → Type 0 = λ row p. IsPastIn l.Before p (l.key row) in
@@ -36,8 +36,8 @@ module _ {S K R C : Type 0} (l : Listing S K R C) (laws : IsLawful l) where
     pub rest_tail : (row : R) (rows : List R) → IsRest l state (row ∷ rows) → IsRest l (l.moved_to state (l.key row)) rows
     rest_tail row rows r = rest_moved state (l.key row) rows (lists_facts.rest_tail l.Before laws.order l.key (l.IsRow state) (l.position state) row rows r)
 
-    -- Each comes before those that stand behind it.
-    pub in_order : (front between rest : List R) (first later : R) → IsRest l state (front ++ first ∷ (between ++ later ∷ rest)) → l.Before (l.key first) (l.key later)
+    -- Each comes before those that stand after it.
+    pub in_order : (prefix between rest : List R) (first later : R) → IsRest l state (prefix ++ first ∷ (between ++ later ∷ rest)) → l.Before (l.key first) (l.key later)
     in_order = lists_facts.in_order l.Before laws.order l.key (l.IsRow state) (l.position state)
 
     -- The rows of pages that are continued one after another.
@@ -45,7 +45,7 @@ module _ {S K R C : Type 0} (l : Listing S K R C) (laws : IsLawful l) where
         → Chain l.Before l.key l.no_key (l.IsRow state) (l.position state) limits ended rows → JoinUp whole rows ended
     pages_join limits = joined.pages_join l.Before laws.order l.key l.no_key (l.IsRow state) limits (l.position state)
 
-  -- After a full page one is behind its last row.
+  -- After a full page one is after its last row.
   pub past_page : (limit : ℕ) (state : S) (rows : List R) → 0 < limit → length (take limit rows) ≡ limit
       → state_past l state limit rows ≡ l.moved_to state (last_key l.key l.no_key (take limit rows))
   unfolding state_past

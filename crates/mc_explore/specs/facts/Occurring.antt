@@ -10,7 +10,7 @@ use Rattle.mc_boot.specs.facts.Run.{at_defined, come_begun, come_at}
 use Rattle.mc_explore.specs.Schedules.{CanOccur, IsMember}
 use Rattle.mc_tree.specs.Tree.{landed, Allowed}
 use Rattle.mc_tree.specs.Tree as tree
-use Rattle.mc_explore.specs.inner.Once.{content_or, at_cut, boots}
+use Rattle.mc_explore.specs.inner.OneRound.{content_or, at_cut, boots}
 
 some_of : (s : Content) (o : Option Content) (t : Content) → o ≡ Some t → o ≡ Some (content_or s o)
 some_of s o t e = e ∙ ap (λ (z : Option Content). Some (content_or s z)) (sym e)
@@ -40,10 +40,10 @@ allowed_occurs x l a = ap (λ (o : Option Content). is_some o) (allowed_after x 
 first_allowed : (x : PowerOn) (c : ℕ) (cs : List ℕ) (b : Bool) → nat_lt c (length (ops_of x)) ≡ b
     → ((t : Content) → CanOccur (again x t) cs → Allowed (boots x.rules x.geometry) t cs)
     → is_some (option_and_then (λ t. after (again x t) cs) (if b then at x c else None)) ≡ true → (c < length (ops_of x)) × Allowed (boots x.rules x.geometry) (at_cut x c) cs
-first_allowed x c cs false e behind some = absurd cc
-first_allowed x c cs true e behind some = (
+first_allowed x c cs false e beyond some = absurd cc
+first_allowed x c cs true e beyond some = (
   grind (arith, nat_tests),
-  behind (at_cut x c) (ap (λ (o : Option Content). is_some (option_and_then (λ t. after (again x t) cs) o)) (sym (at_is x c)) ∙ some),
+  beyond (at_cut x c) (ap (λ (o : Option Content). is_some (option_and_then (λ t. after (again x t) cs) o)) (sym (at_is x c)) ∙ some),
 )
 
 -- And only there can they occur.

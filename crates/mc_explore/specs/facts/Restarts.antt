@@ -1,4 +1,4 @@
--- What the restart law says of the boot after the cuts is what is told of it.
+-- What the restart law says of the boot after the cuts is its outcome.
 use Rattle.std.specs.Prelude.{◌≡◌, ℕ, nat_lt, Bool, false, if◌then◌else◌, List, [], ◌∷◌, length, Some, None, option_map, option_and_then, refl}
 use Rattle.std.proofs.Common.{arith, sym, ap, subst, ◌∙◌}
 use Rattle.std.proofs.lemmas.Bool.Decides.{nat_tests}
@@ -14,13 +14,13 @@ use Rattle.mc_boot.specs.Restart.{EndsIn, IsSwapped, named, other}
 use Rattle.mc_boot.specs.declared.kind.Kind.{Kind}
 use Rattle.mc_boot.specs.declared.kind.Kind.TheVariants as starts
 use Rattle.mc_explore.specs.Schedules.{IsSwapOutcome}
-use Rattle.mc_explore.specs.facts.Telling.{outcome_ops}
+use Rattle.mc_explore.specs.facts.Summaries.{outcome_ops}
 
 -- Where the boot from u leaves z, the outcome's slots and next type are those of z.
-pub told_slots : (x : PowerOn) (z : Content) (o : Report) → outcome_of x ≡ Some o → left_by x ≡ Some z
+pub summary_slots : (x : PowerOn) (z : Content) (o : Report) → outcome_of x ≡ Some o → left_by x ≡ Some z
     → (o.primary ≡ id_of z.primary) × (o.secondary ≡ id_of z.secondary) × (o.next ≡ (plan (again x z)).kind)
 unfolding outcome_of report
-told_slots from z o is left =
+summary_slots from z o is left =
     let same : Some (report from.rules from.geometry (plan from).kind (length (ops_of from)) (is_faulted from) z) ≡ Some o =
     ap (option_map (λ x. report from.rules from.geometry (plan from).kind (length (ops_of from)) (is_faulted from) x)) (sym left) ∙ is in
     (cc, cc, cc)
@@ -41,24 +41,24 @@ uncut x u (cut ∷ cuts) none is =
 
 module _ (r : Rules) (g : Geometry) (kind : Kind) (a b : List ℕ) (s : Content) where
   -- The result and the slots of the last boot are those that the law names.
-  pub told_end : (u z : Content) (o : Report) → outcome_of (power_on r g u) ≡ Some o → EndsIn (power_on r g s) kind a b u z
+  pub summary_end : (u z : Content) (o : Report) → outcome_of (power_on r g u) ≡ Some o → EndsIn (power_on r g s) kind a b u z
       → (o.result ≡ results.Boot) × (o.primary ≡ id_of (named kind a b)) × (o.secondary ≡ id_of (other kind a b))
-  told_end u z o is ends =
-      let slots = told_slots (power_on r g u) z o is ends.end in
+  summary_end u z o is ends =
+      let slots = summary_slots (power_on r g u) z o is ends.end in
       let result : Some o.result ≡ Some results.Boot = ap (option_map (λ (x : Report). x.result)) (sym is) ∙ ends.result in
       (cc, slots.0 ∙ ends.primary.id, slots.1 ∙ ends.secondary.id)
 
   idle_start : (u z : Content) → IsSwapped (power_on r g s) kind u z → kind ≡ starts.None → length (ops_of (power_on r g u)) ≡ 0
   idle_start u z swapped none = idle_ops (power_on r g u) (subst (λ k. IsSwapped (power_on r g s) k u z) none swapped)
 
-  -- What the law says of the boot after the cuts, and of the first one, is what is told of them.
+  -- What the law says of the boot after the cuts, and of the first one, is their outcomes.
   pub swap_outcome : (u y z : Content) (cuts : List ℕ) (o : Report) → outcome_of (power_on r g u) ≡ Some o → after (power_on r g s) cuts ≡ Some u
       → EndsIn (power_on r g s) kind a b s y → EndsIn (power_on r g s) kind a b u z → IsSwapOutcome kind a b cuts o
   swap_outcome u y z cuts o is occurs first ends =
-      let told = told_end u z o is ends in
+      let summary = summary_end u z o is ends in
       record {
-        result = told.0;
-        primary = told.1;
-        secondary = told.2;
+        result = summary.0;
+        primary = summary.1;
+        secondary = summary.2;
         idle = λ none. (outcome_ops (power_on r g u) o is ∙ idle_start u z ends.swapped none, uncut (power_on r g s) u cuts (idle_start s y first.swapped none) occurs);
       }

@@ -5,7 +5,7 @@ use Rattle.std.proofs.lemmas.Bool.{cases_lt}
 use Rattle.std.proofs.lemmas.Bool.Decides.{nat_tests}
 use Rattle.std.proofs.lemmas.List.Elements.{All-head}
 use Rattle.std.specs.Io.KnownBytes.{Appends}
-use Rattle.mc_output.specs.Text.{AppendsFront}
+use Rattle.mc_output.specs.Text.{AppendsPrefix}
 use Rattle.mc_explore.specs.Pages.{Listing, IsRest, Page, IsBefore, AreBefore, rows_taken, TakesPage, ShownIsOut, ShownBegan, PageIsOut, PageBegan, page_at, page_text, state_past}
 
 module _ {S K R C : Type 0} (l : Listing S K R C) where
@@ -19,16 +19,16 @@ module _ {S K R C : Type 0} (l : Listing S K R C) where
   -- Past the last row nothing is taken.
   past_over : (state : S) (n : ℕ) (rows : List R) → length rows ≤ n → state_past l state n rows ≡ state_past l state (length rows) rows
   unfolding state_past
-  past_over state zero [] few = refl
-  past_over state zero (row ∷ rows) few = absurd (omega (arith, few))
-  past_over state (suc n) [] few = refl
-  past_over state (suc n) (row ∷ rows) few = past_over (l.moved_to state (l.key row)) n rows (omega (arith, few))
+  past_over state zero [] at_most = refl
+  past_over state zero (row ∷ rows) at_most = absurd (omega (arith, at_most))
+  past_over state (suc n) [] at_most = refl
+  past_over state (suc n) (row ∷ rows) at_most = past_over (l.moved_to state (l.key row)) n rows (omega (arith, at_most))
 
   drop_over : (n : ℕ) (rows : List R) → length rows ≤ n → drop n rows ≡ []
-  drop_over zero [] few = refl
-  drop_over zero (row ∷ rows) few = absurd (omega (arith, few))
-  drop_over (suc n) [] few = refl
-  drop_over (suc n) (row ∷ rows) few = drop_over n rows (omega (arith, few))
+  drop_over zero [] at_most = refl
+  drop_over zero (row ∷ rows) at_most = absurd (omega (arith, at_most))
+  drop_over (suc n) [] at_most = refl
+  drop_over (suc n) (row ∷ rows) at_most = drop_over n rows (omega (arith, at_most))
 
   taken_all : (state : S) (limit : ℕ) (rows : List R) → (state_past l state (rows_taken l limit rows) rows ≡ state_past l state limit rows) × (drop (rows_taken l limit rows) rows ≡ drop limit rows)
   taken_all state limit rows = elim (cases_lt (length rows) limit) [
@@ -76,4 +76,4 @@ module _ {S K R C : Type 0} (l : Listing S K R C) where
   pub whole_began : (old : S) (limit : ℕ) (before after : Option (List ℕ)) → ShownBegan l None old limit before after → PageBegan l old limit before after
   whole_began old limit before after s =
       let all = all_shown s.of.rows s.of.shown s.of.are in
-      record { rows = s.of.rows; rest = s.of.rest; out = subst (λ z. AppendsFront before after (page_text l (page_at l old limit z))) (sym all) s.out }
+      record { rows = s.of.rows; rest = s.of.rest; out = subst (λ z. AppendsPrefix before after (page_text l (page_at l old limit z))) (sym all) s.out }

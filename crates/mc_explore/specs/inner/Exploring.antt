@@ -1,4 +1,5 @@
--- The exploration of a subject: its keys as paths, a walk loaded for a start and along a key, rows told without the flash, and how it is all seen.
+-- The exploration of a subject: its keys as paths, a walk loaded for a start and along a key, rows found without the flash, and how it is
+-- all seen.
 use Rattle.std.specs.Prelude.{Bool, Err, IfSome, List, None, Ok, Option, Result, Some, [], false, length, suc, true, zero, ℕ, ◌++◌, ◌+◌, ◌^◌, ◌↔◌, ◌∷◌, ◌≡◌, ◌≢◌, ◌≤◌}
 use Rattle.mc_boot.specs.Plan.{PowerOn}
 use Rattle.mc_explore.specs.Subject.{Explored, IsRowAt, State, Subject}
@@ -7,8 +8,8 @@ use Rattle.mc_flash.specs.Flash.{Content}
 use Rattle.mc_flash.specs.Geometry.{IsLayout}
 use Rattle.mc_flash.specs.Usage.{Loads, RanOut, Seen, Spent}
 use Rattle.mc_tree.specs.Tree.{After, IsNext, IsOver, Position, Precedes, Tree, landed}
-use Rattle.mc_walk.specs.Kind.{Kind}
-use Rattle.mc_walk.specs.Walks.{IsFresh, IsPath, IsSame, StandsAt, StandsBehind, Toured, Walked, child_cost, origin_of, position_of, root_of}
+use Rattle.mc_walk.specs.TreeModel.{TreeModel}
+use Rattle.mc_walk.specs.Walks.{IsFresh, IsPath, IsSame, StandsAt, StandsBeyond, Toured, Walked, child_cost, origin_of, position_of, root_of}
 use Rattle.mc_walk.specs.declared.tour.Phase.{Phase}
 use Rattle.mc_walk.specs.declared.tour.Phase.TheVariants.{Broken, Done, Fresh, Going}
 use Rattle.mc_walk.specs.declared.tour.TourError.{TourError}
@@ -29,7 +30,7 @@ module _ {C K R U N : Type 0} (x : Subject C K R U) (t : Tree N) (root : N) (sta
 -- What an explorer's fields stand for, and what holds of them.
 
 abbrev pub begun_of : {B : Type 0} → (B → Content → PowerOn) → Walked B → PowerOn
-begun_of begins w = begins w.branches (origin_of w.seen)
+begun_of begins w = begins w.flash_tree (origin_of w.seen)
 
 -- Rows that are given one after another: the walk, how it stands, and the path of the last row.
 pub record Rowed (B : Type 0) : Type 0 where
@@ -45,7 +46,7 @@ module _ {B C K : Type 0} (begins : B → Content → PowerOn) (choice : B → C
   abbrev pub state_of : Walked B → Position K → State C K
   state_of w position = record {
     start = begun_of begins w;
-    choice = choice w.branches;
+    choice = choice w.flash_tree;
     bound = w.bound;
     position = position;
     failed = w.seen.usage.failed;
@@ -60,25 +61,25 @@ module _ {B C K : Type 0} (begins : B → Content → PowerOn) (choice : B → C
   }
 
 module _ {B C : Type 0} (begins : B → Content → PowerOn) (choice : B → C) where
-  -- The walk is one from that start with so many cuts, and the flash counts where its kind does.
+  -- The walk is one from that start with so many cuts, and the flash counts where its model does.
   pub record IsOurs (counted : Bool) (start : PowerOn) (chosen : C) (bound : ℕ) (w : Walked B) : Type 0 where
     pub start_is : begun_of begins w ≡ start
-    pub choice_is : choice w.branches ≡ chosen
+    pub choice_is : choice w.flash_tree ≡ chosen
     pub bound_is : w.bound ≡ bound
-    pub few : bound ≤ 16
+    pub at_most : bound ≤ 16
     pub counted_is : w.seen.usage.limits.counted ≡ counted
 
-module _ {B K N A T : Type 0} (kind : B → Kind N A T) (key_of : B → Content → List ℕ → K) where
+module _ {B K N A T : Type 0} (model : B → TreeModel N A T) (key_of : B → Content → List ℕ → K) where
   -- The path of the last row is that of its key.
-  pub record IsBehind (rows : Rowed B) (last : K) : Type 0 where
-    pub listed : IsPath (kind rows.walk.branches) rows.walk rows.last
-    pub key_is : key_of rows.walk.branches (origin_of rows.walk.seen) rows.last ≡ last
+  pub record IsBeyond (rows : Rowed B) (last : K) : Type 0 where
+    pub listed : IsPath (model rows.walk.flash_tree) rows.walk rows.last
+    pub key_is : key_of rows.walk.flash_tree (origin_of rows.walk.seen) rows.last ≡ last
 
-module _ {B C K N A T : Type 0} (kind : B → Kind N A T) (begins : B → Content → PowerOn) (choice : B → C) (key_of : B → Content → List ℕ → K) where
+module _ {B C K N A T : Type 0} (model : B → TreeModel N A T) (begins : B → Content → PowerOn) (choice : B → C) (key_of : B → Content → List ℕ → K) where
   -- What holds of an explorer's fields until it fails.
   abbrev pub IsSound : Bool → PowerOn → C → ℕ → Rowed B → K → Type 0
   IsSound counted start chosen bound rows last =
-      rows.phase ≢ Broken → IsOurs begins choice counted start chosen bound rows.walk × IsBehind kind key_of rows last
+      rows.phase ≢ Broken → IsOurs begins choice counted start chosen bound rows.walk × IsBeyond model key_of rows last
 
 -- A flash that was just loaded for a start, and a walk on it.
 
@@ -86,29 +87,29 @@ module _ {B C K N A T : Type 0} (kind : B → Kind N A T) (begins : B → Conten
 abbrev pub LoadsFor : Bool → PowerOn → ℕ → Seen → Type 0
 LoadsFor counted x boots f = Loads counted x.geometry x.content.primary x.content.secondary x.rules.grain boots f
 
-module _ {B C N A T : Type 0} (kind : B → Kind N A T) (begins : B → Content → PowerOn) (choice : B → C) where
+module _ {B C N A T : Type 0} (model : B → TreeModel N A T) (begins : B → Content → PowerOn) (choice : B → C) where
   -- A walk that was just loaded for a start.
   pub record IsLoaded (counted : Bool) (start : PowerOn) (chosen : C) (bound : ℕ) (w : Walked B) : Type 0 where
     pub start_is : begun_of begins w ≡ start
-    pub choice_is : choice w.branches ≡ chosen
+    pub choice_is : choice w.flash_tree ≡ chosen
     pub bound_is : w.bound ≡ bound
-    pub fresh : IsFresh (kind w.branches) w
+    pub fresh : IsFresh (model w.flash_tree) w
     pub counted_is : w.seen.usage.limits.counted ≡ counted
     pub idle : w.seen.usage.applied ≡ 0
-    pub calm : w.seen.usage.failed ≡ false
+    pub no_allocation_failed : w.seen.usage.failed ≡ false
     pub valid : IsLayout start.geometry
 
 -- A walk goes along the path of a key.
 
 -- From its root it went along the path of a key; or that is none of those to go through.
-abbrev pub FollowsKey : {B C K R U N A T : Type 0} → Subject C K R U → (B → Kind N A T) → (B → Content → PowerOn) → (B → C) → (B → Content → List ℕ → K)
+abbrev pub FollowsKey : {B C K R U N A T : Type 0} → Subject C K R U → (B → TreeModel N A T) → (B → Content → PowerOn) → (B → C) → (B → Content → List ℕ → K)
     → Walked B → K → Bool → Walked B → Type 0
-FollowsKey x kind begins choice key_of old k true new =
-    IsPath (kind old.branches) old new.path × (key_of old.branches (origin_of old.seen) new.path ≡ k) × IsSame old new × (new.stands ≡ true)
-FollowsKey x kind begins choice key_of old k false new = x.IsListed (begun_of begins old) (choice old.branches) old.bound k → ⊥
+FollowsKey x model begins choice key_of old k true new =
+    IsPath (model old.flash_tree) old new.path × (key_of old.flash_tree (origin_of old.seen) new.path ≡ k) × IsSame old new × (new.stands ≡ true)
+FollowsKey x model begins choice key_of old k false new = x.IsListed (begun_of begins old) (choice old.flash_tree) old.bound k → ⊥
 
 -- The limits of a flash stay, and it was refused no memory.
-pub record IsCalm (old new : Seen) : Type 0 where
+pub record NoAllocationFailed (old new : Seen) : Type 0 where
   pub limits : new.usage.limits ≡ old.usage.limits
   pub failed : new.usage.failed ≡ old.usage.failed
 
@@ -116,9 +117,9 @@ pub record IsCalm (old new : Seen) : Type 0 where
 abbrev pub IsCheapFor : {B C K R U : Type 0} → Subject C K R U → (B → Content → PowerOn) → Walked B → ℕ → Type 0
 IsCheapFor x begins old applied = x.IsCheap (begun_of begins old).rules (begun_of begins old).geometry old.bound applied
 
--- Rows that are told without the flash, behind the last one that it told.
+-- Rows that are found without the flash, after the last one that it gave.
 
--- The path of the last row, where so many of the rows behind a path were told ahead.
+-- The path of the last row, where so many of the rows after a path were found ahead.
 abbrev pub with_last : List ℕ → ℕ → List ℕ
 with_last path zero = path
 with_last path (suc n) = path ++ n ∷ []
@@ -131,59 +132,60 @@ last_of path (Some x) = with_last path x.next
 abbrev pub IsSpent : {E : Type 0} → RowsAhead E → Type 0
 IsSpent x = x.count ≤ x.next
 
--- The children of the node at the end of a path are told ahead, and no path goes on behind them.
-pub record AreBehind {B N A T H E : Type 0} (kind : B → Kind N A T) (is_ahead : B → Content → H → List ℕ → E → ℕ → Type 0) (w : Walked B) (kept : H) (path : List ℕ) (x : RowsAhead E) : Type 0 where
+-- The children of the node at the end of a path are found ahead, and no path goes on after them.
+pub record AreBeyond {B N A T H E : Type 0} (model : B → TreeModel N A T) (is_ahead : B → Content → H → List ℕ → E → ℕ → Type 0) (w : Walked B) (kept : H) (path : List ℕ) (x : RowsAhead E)
+    : Type 0 where
   pub deep : length path + 1 ≡ w.bound
-  pub listed : IsPath (kind w.branches) w path
-  pub are : is_ahead w.branches (origin_of w.seen) kept path x.ahead x.count
-  pub count_is : x.count ≡ (kind w.branches).tree.width (landed (kind w.branches).tree (root_of (kind w.branches) w) path)
+  pub listed : IsPath (model w.flash_tree) w path
+  pub are : is_ahead w.flash_tree (origin_of w.seen) kept path x.ahead x.count
+  pub count_is : x.count ≡ (model w.flash_tree).tree.width (landed (model w.flash_tree).tree (root_of (model w.flash_tree) w) path)
   pub some : 1 ≤ x.count
   pub small : x.count ≤ 2 ^ 31
 
 -- How the rows of an exploration are seen, and the row that comes next.
 
-module _ {B C K R U N A T : Type 0} (x : Subject C K R U) (kind : B → Kind N A T) (begins : B → Content → PowerOn) (choice : B → C) (key_of : B → Content → List ℕ → K) where
+module _ {B C K R U N A T : Type 0} (x : Subject C K R U) (model : B → TreeModel N A T) (begins : B → Content → PowerOn) (choice : B → C) (key_of : B → Content → List ℕ → K) where
   -- The row of the next path, with its outcomes; or there is none, and the flash stays.
   abbrev pub FindsRow : Rowed B → Option R → Rowed B → Type 0
   FindsRow old (Some row) new =
-      IsNext (IsPath (kind old.walk.branches) old.walk) (position_in old) new.last
-      × IsRowAt x begins choice key_of old.walk.branches (origin_of old.walk.seen) new.last row × IsSame old.walk new.walk × (new.phase ≡ Going)
+      IsNext (IsPath (model old.walk.flash_tree) old.walk) (position_in old) new.last
+      × IsRowAt x begins choice key_of old.walk.flash_tree (origin_of old.walk.seen) new.last row × IsSame old.walk new.walk × (new.phase ≡ Going)
   FindsRow old None new =
-      IsOver (IsPath (kind old.walk.branches) old.walk) (position_in old) × (new.walk.seen ≡ old.walk.seen) × IsSame old.walk new.walk
+      IsOver (IsPath (model old.walk.flash_tree) old.walk) (position_in old) × (new.walk.seen ≡ old.walk.seen) × IsSame old.walk new.walk
       × (new.phase ≡ Done) × (new.last ≡ old.last)
 
-module _ {B N A T : Type 0} (kind : B → Kind N A T) where
-  -- It takes no more than to go to a child and to tell of it, and fails only where memory fails the flash. From then on it has failed,
-  -- and stays as it is.
+module _ {B N A T : Type 0} (model : B → TreeModel N A T) where
+  -- It takes no more than to go to a child and to find its summary, and fails only where memory fails the flash. From then on it
+  -- has failed, and stays as it is.
   abbrev pub CostsRow : {X : Type 0} → Rowed B → Result X TourError → Rowed B → Type 0
-  CostsRow old (Ok _) new = (old.phase ≢ Broken) × Spent (child_cost (kind old.walk.branches) 0) old.walk.seen new.walk.seen
+  CostsRow old (Ok _) new = (old.phase ≢ Broken) × Spent (child_cost (model old.walk.flash_tree) 0) old.walk.seen new.walk.seen
   CostsRow old (Err errors.Memory) new = (old.phase ≢ Broken) × RanOut old.walk.seen new.walk.seen × (new.phase ≡ Broken)
   CostsRow old (Err errors.Failed) new = (old.phase ≡ Broken) × (new ≡ old)
 
-  -- A tour stands at a position, or at one behind the last child of its node.
+  -- A tour stands at a position, or at one after the last child of its node.
   abbrev pub StandsFor : Bool → Toured B → Position (List ℕ) → Type 0
-  StandsFor true t = StandsBehind (kind t.walk.branches) t
-  StandsFor false t = StandsAt (kind t.walk.branches) t
+  StandsFor true t = StandsBeyond (model t.walk.flash_tree) t
+  StandsFor false t = StandsAt (model t.walk.flash_tree) t
 
-module _ {B N A T H E : Type 0} (kind : B → Kind N A T) (holds : B → Content → H → Type 0) (is_ahead : B → Content → H → List ℕ → E → ℕ → Type 0) where
-  -- How a tour stands with the last row, whose path is that one, or that with a number of those ahead behind it.
+module _ {B N A T H E : Type 0} (model : B → TreeModel N A T) (holds : B → Content → H → Type 0) (is_ahead : B → Content → H → List ℕ → E → ℕ → Type 0) where
+  -- How a tour stands with the last row, whose path is that one, or that with a number of those ahead after it.
   abbrev pub IsAtPhase : Walked B → H → List ℕ → Option (RowsAhead E) → Phase → Type 0
   IsAtPhase walk kept path ahead Fresh = ahead ≡ None
-  IsAtPhase walk kept path ahead Going = (path ≡ walk.path) × IfSome ahead (AreBehind kind is_ahead walk kept path)
-  IsAtPhase walk kept path ahead Done = IsOver (IsPath (kind walk.branches) walk) (After (last_of path ahead)) × IfSome ahead IsSpent
+  IsAtPhase walk kept path ahead Going = (path ≡ walk.path) × IfSome ahead (AreBeyond model is_ahead walk kept path)
+  IsAtPhase walk kept path ahead Done = IsOver (IsPath (model walk.flash_tree) walk) (After (last_of path ahead)) × IfSome ahead IsSpent
   IsAtPhase walk kept path ahead Broken = Unit {0}
 
   -- What holds of the fields of rows.
   pub record IsInStep (t : Toured B) (kept : H) (path : List ℕ) (ahead : Option (RowsAhead E)) : Type 0 where
-    pub few : t.walk.bound ≤ 16
-    pub holds_there : holds t.walk.branches (origin_of t.walk.seen) kept
+    pub at_most : t.walk.bound ≤ 16
+    pub holds_there : holds t.walk.flash_tree (origin_of t.walk.seen) kept
     pub stands : IsAtPhase t.walk kept path ahead t.phase
 
   pub record IsRowing (t : Toured B) (kept : H) (path : List ℕ) (ahead : Option (RowsAhead E)) : Type 0 where
     pub spent : t.phase ≡ Broken → IfSome ahead IsSpent
     pub sound : t.phase ≢ Broken → IsInStep t kept path ahead
 
-  -- The rows ahead of a walk that has just come to that path, and none of them is told.
+  -- The rows ahead of a walk that has just come to that path, and none of them was given.
   pub record AreFresh (w : Walked B) (kept : H) (path : List ℕ) (x : RowsAhead E) : Type 0 where
-    pub behind : AreBehind kind is_ahead w kept path x
+    pub beyond : AreBeyond model is_ahead w kept path x
     pub fresh : x.next ≡ 0

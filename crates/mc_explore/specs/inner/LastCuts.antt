@@ -1,16 +1,16 @@
--- The schedules of the most cuts: the outcomes behind their last cuts are found among those at the cuts of another boot.
+-- The schedules of the most cuts: the outcomes after their last cuts are found among those at the cuts of another boot.
 use Rattle.std.specs.Prelude.{List, Some, [], length, slice_get, ℕ, ◌++◌, ◌^◌, ◌∷◌, ◌≡◌, ◌≤◌}
 use Rattle.mc_boot.specs.Outcome.{ops_of, outcome_of, shown}
 use Rattle.mc_boot.specs.Plan.{PowerOn, again}
-use Rattle.mc_boot.specs.Rejoin.{IsRejoined}
+use Rattle.mc_boot.specs.SharedTail.{IsSharedTail}
 use Rattle.mc_boot.specs.declared.outcome.Outcome.{Outcome}
-use Rattle.mc_boot.specs.declared.rejoining.Rejoin.{Rejoin}
-use Rattle.mc_explore.specs.inner.Once.{at_cut, boots}
+use Rattle.mc_boot.specs.declared.shared_tail.SharedTail.{SharedTail}
+use Rattle.mc_explore.specs.inner.OneRound.{at_cut, boots}
 use Rattle.mc_flash.specs.Flash.{Content}
 use Rattle.mc_tree.specs.Tree.{landed}
 
 module _ (from : PowerOn) where
-  -- The flash behind a schedule.
+  -- The flash after a schedule.
   abbrev pub flash_at : List ℕ → Content
   flash_at = landed (boots from.rules from.geometry) from.content
 
@@ -19,12 +19,12 @@ module _ (from : PowerOn) where
   AreAtCuts of outcomes =
       (i : ℕ) (o : Outcome) → slice_get outcomes i ≡ Some o → outcome_of (again from (at_cut (again from (flash_at of)) i)) ≡ Some (shown o)
 
-  -- The last cuts behind a path, so many, of a boot that goes on with the one behind the path without its last cut; all outcomes of
+  -- The last cuts after a path, so many, of a boot that goes on with the one after the path without its last cut; all outcomes of
   -- that one are there.
-  pub record AreLastCuts (of path : List ℕ) (outcomes : List Outcome) (rejoin : Rejoin) (count : ℕ) : Type 0 where
+  pub record AreLastCuts (of path : List ℕ) (outcomes : List Outcome) (shared_tail : SharedTail) (count : ℕ) : Type 0 where
     pub number : ℕ
     pub path_is : path ≡ of ++ number ∷ []
-    pub rejoined : IsRejoined (again from (flash_at of)) (flash_at path) rejoin
+    pub with_shared_tail : IsSharedTail (again from (flash_at of)) (flash_at path) shared_tail
     pub count_is : count ≡ length (ops_of (again from (flash_at path)))
     pub whole : length outcomes ≡ length (ops_of (again from (flash_at of)))
     pub some : 1 ≤ count

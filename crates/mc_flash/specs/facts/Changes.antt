@@ -5,8 +5,7 @@ use Rattle.std.proofs.lemmas.Grind.{common_steps}
 use Rattle.std.proofs.lemmas.List.{get_or-append_right, get_or-drop, get_or-take, get_or_append_left, length-replicate, length-take-le}
 use Rattle.std.proofs.lemmas.List.Edits.{get_or-between, length-between}
 use Rattle.std.specs.List.{between}
-use Rattle.std.specs.Prelude.{Bool, List, None, Option, Some, [], drop, false, length, refl, replicate, slice_index, suc, take, true, zero, ℕ, ◌&&◌, ◌*◌, ◌++◌, ◌+◌, ◌-◌, ◌<◌, ◌==◌, ◌∷◌, ◌≡◌, ◌≢◌}
-use Rattle.std.specs.Prelude.{◌≤◌}
+use Rattle.std.specs.Prelude.{Bool, List, None, Option, Some, [], drop, false, length, refl, replicate, slice_index, suc, take, true, zero, ℕ, ◌&&◌, ◌*◌, ◌++◌, ◌+◌, ◌-◌, ◌<◌, ◌==◌, ◌∷◌, ◌≡◌, ◌≢◌, ◌≤◌}
 use Rattle.mc_flash.specs.Flash.{Content, IsSized, apply, byte, bytes_of, in_slot, is_blank, programmed, put, size_of, with_bytes}
 use Rattle.mc_flash.specs.Geometry.{Geometry}
 use Rattle.mc_flash.specs.declared.op.Slot.{Slot}
@@ -18,20 +17,20 @@ length-put xs new at fits = grind (arith, common_steps)
 
 pub put_inside : (xs new : List ℕ) (at i : ℕ) → at + length new ≤ length xs → i < length new → slice_index (put xs at new) (at + i) ≡ slice_index new i
 put_inside xs new at i fits within =
-    let front : length (take at xs) ≡ at = length-take-le at xs (omega (arith, fits)) in
-    get_or-append_right (take at xs) (new ++ drop (at + length new) xs) at (at + i) 0 front (omega arith)
+    let prefix : length (take at xs) ≡ at = length-take-le at xs (omega (arith, fits)) in
+    get_or-append_right (take at xs) (new ++ drop (at + length new) xs) at (at + i) 0 prefix (omega arith)
     ∙ ap (λ k. slice_index (new ++ drop (at + length new) xs) k) (omega arith)
     ∙ get_or_append_left new (drop (at + length new) xs) 0 i within
 
 pub put_before : (xs new : List ℕ) (at i : ℕ) → at + length new ≤ length xs → i < at → slice_index (put xs at new) i ≡ slice_index xs i
 put_before xs new at i fits outside =
-    let front : length (take at xs) ≡ at = length-take-le at xs (omega (arith, fits)) in
-    get_or_append_left (take at xs) (new ++ drop (at + length new) xs) 0 i (omega (arith, front)) ∙ get_or-take at xs i 0 outside
+    let prefix : length (take at xs) ≡ at = length-take-le at xs (omega (arith, fits)) in
+    get_or_append_left (take at xs) (new ++ drop (at + length new) xs) 0 i (omega (arith, prefix)) ∙ get_or-take at xs i 0 outside
 
-pub put_behind : (xs new : List ℕ) (at i : ℕ) → at + length new ≤ length xs → at + length new ≤ i → slice_index (put xs at new) i ≡ slice_index xs i
-put_behind xs new at i fits outside =
-    let front : length (take at xs) ≡ at = length-take-le at xs (omega (arith, fits)) in
-    get_or-append_right (take at xs) (new ++ drop (at + length new) xs) at i 0 front (omega (arith, outside))
+pub put_beyond : (xs new : List ℕ) (at i : ℕ) → at + length new ≤ length xs → at + length new ≤ i → slice_index (put xs at new) i ≡ slice_index xs i
+put_beyond xs new at i fits outside =
+    let prefix : length (take at xs) ≡ at = length-take-le at xs (omega (arith, fits)) in
+    get_or-append_right (take at xs) (new ++ drop (at + length new) xs) at i 0 prefix (omega (arith, outside))
     ∙ get_or-append_right new (drop (at + length new) xs) (length new) (i - at) 0 refl (omega (arith, outside))
     ∙ get_or-drop (at + length new) xs (i - at - length new) 0
     ∙ ap (λ k. slice_index xs k) (omega (arith, outside))
@@ -64,7 +63,7 @@ range_blank xs at n i fits blank short =
 pub record Changed (s t : Content) (slot : Slot) (at : ℕ) (new : List ℕ) : Type 0 where
   pub inside : (i : ℕ) → i < length new → byte t slot (at + i) ≡ slice_index new i
   pub before : (i : ℕ) → i < at → byte t slot i ≡ byte s slot i
-  pub behind : (i : ℕ) → at + length new ≤ i → byte t slot i ≡ byte s slot i
+  pub beyond : (i : ℕ) → at + length new ≤ i → byte t slot i ≡ byte s slot i
   pub other : (o : Slot) (i : ℕ) → o ≢ slot → byte t o i ≡ byte s o i
   pub sizes : (o : Slot) → length (bytes_of t o) ≡ length (bytes_of s o)
 
@@ -72,14 +71,14 @@ pub changed : (s : Content) (slot : Slot) (at : ℕ) (new : List ℕ) → at + l
 changed s Primary at new fits = record {
   inside = λ i within. put_inside s.primary new at i fits within;
   before = λ i outside. put_before s.primary new at i fits outside;
-  behind = λ i outside. put_behind s.primary new at i fits outside;
+  beyond = λ i outside. put_beyond s.primary new at i fits outside;
   other = elim [ Primary ↦ λ i no_. absurd (no_ refl) | Secondary ↦ λ i _. refl ];
   sizes = elim [ Primary ↦ length-put s.primary new at fits | Secondary ↦ refl ];
 }
 changed s Secondary at new fits = record {
   inside = λ i within. put_inside s.secondary new at i fits within;
   before = λ i outside. put_before s.secondary new at i fits outside;
-  behind = λ i outside. put_behind s.secondary new at i fits outside;
+  beyond = λ i outside. put_beyond s.secondary new at i fits outside;
   other = elim [ Primary ↦ λ i _. refl | Secondary ↦ λ i no_. absurd (no_ refl) ];
   sizes = elim [ Primary ↦ refl | Secondary ↦ length-put s.secondary new at fits ];
 }

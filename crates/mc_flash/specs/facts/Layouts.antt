@@ -81,7 +81,7 @@ data_sectors g slot = sectors_of g slot - trailer_sectors g
 abbrev pub data_end : Geometry → Slot → ℕ
 data_end g slot = data_sectors g slot * g.sector
 
--- the data sectors and the trailer lie behind one another in the slot
+-- the data sectors and the trailer lie one after another in the slot
 pub data_before_trailer : (g : Geometry) (slot : Slot) → IsLayout g → data_end g slot + trailer_bytes g ≤ size_of g slot
 data_before_trailer g slot ok = with_count (data_sectors g slot) (let leaves = trailer_leaves_one g slot ok in omega arith)
   where
@@ -109,14 +109,14 @@ sector_in_data g slot i below =
     with_end : (z : ℕ) → (i + 1) * g.sector ≤ z → i * g.sector + g.sector ≤ z
     with_end z h = omega arith
 
--- a sector that is no data sector begins behind them
-pub trailer_sector_behind_data : (g : Geometry) (slot : Slot) (i : ℕ) → data_sectors g slot ≤ i → data_end g slot ≤ i * g.sector
-trailer_sector_behind_data g slot i above = mul-le-mul_right g.sector above
+-- a sector that is no data sector begins after them
+pub trailer_sector_beyond_data : (g : Geometry) (slot : Slot) (i : ℕ) → data_sectors g slot ≤ i → data_end g slot ≤ i * g.sector
+trailer_sector_beyond_data g slot i above = mul-le-mul_right g.sector above
 
 -- the sectors of an image are data in both slots, and the primary has one more
 pub image_is_data : (g : Geometry) (slot : Slot) (n : ℕ) → n ≤ greatest_sectors g → n ≤ data_sectors g slot
-image_is_data g Primary n few = omega arith
-image_is_data g Secondary n few = omega arith
+image_is_data g Primary n at_most = omega arith
+image_is_data g Secondary n at_most = omega arith
 
 -- the two greatest numbers of sectors are one for a layout
 counted_down : (p q t m : ℕ) → 0 < min (p - 1 - t) (min (q - t) m) → count_beside t m p q ≡ pos (min (p - 1 - t) (min (q - t) m))
@@ -125,12 +125,12 @@ counted_down p q t m some = omega (arith, ints, clamps)
 pub greatest_is : (g : Geometry) → IsLayout g → greatest_count g ≡ pos (greatest_sectors g)
 greatest_is g ok = counted_down g.primary g.secondary (trailer_sectors g) g.max_sectors ok.room
 
-at_most : (a b : ℕ) (c : ℤ) → c ≡ pos b → int_le (pos a) c ≡ true → a ≤ b
-at_most a b c e h = let k : int_le (pos a) (pos b) ≡ true = ap (λ (z : ℤ). int_le (pos a) z) (sym e) ∙ h in leb-true a b k
+is_at_most : (a b : ℕ) (c : ℤ) → c ≡ pos b → int_le (pos a) c ≡ true → a ≤ b
+is_at_most a b c e h = let k : int_le (pos a) (pos b) ≡ true = ap (λ (z : ℤ). int_le (pos a) z) (sym e) ∙ h in leb-true a b k
 
 -- an image that fits has at most the greatest number of sectors, and lies before the trailer of each slot
 pub fits_few : (g : Geometry) (size : ℕ) → IsLayout g → fits g size ≡ true → div_ceil size g.sector ≤ greatest_sectors g
-fits_few g size ok h = at_most (div_ceil size g.sector) (greatest_sectors g) (greatest_count g) (greatest_is g ok) h
+fits_few g size ok h = is_at_most (div_ceil size g.sector) (greatest_sectors g) (greatest_count g) (greatest_is g ok) h
 
 pub fits_before_trailer : (g : Geometry) (slot : Slot) (size : ℕ) → IsLayout g → fits g size ≡ true → size + trailer_bytes g ≤ size_of g slot
 fits_before_trailer g slot size ok h =

@@ -4,8 +4,7 @@ use Rattle.std.proofs.Common.{arith, inl, inr, sym, ap, subst, ◌∙◌}
 use Rattle.std.proofs.lemmas.List.{get_or_at, take_at}
 use Rattle.mc_flash.specs.facts.Done.{did}
 use Rattle.mc_flash.specs.Geometry.{Geometry}
-use Rattle.mc_flash.specs.Usage.{Usage, Limits, Checkpoint, noted_by, saves, Seen, GivesUp, HasNoPlace, Keeps, Marks, done, marked, no_checkpoint, checkpoint_at, checkpoint_of, went_back}
-use Rattle.mc_flash.specs.Usage.{Spent, RanOut, Spends, Stays}
+use Rattle.mc_flash.specs.Usage.{Usage, Limits, Checkpoint, noted_by, saves, Seen, GivesUp, NoMarkFits, Keeps, Marks, done, marked, no_checkpoint, checkpoint_at, checkpoint_of, went_back, Spent, RanOut, Spends, Stays}
 use Rattle.mc_flash.specs.declared.flash.FlashError.{FlashError}
 use Rattle.mc_flash.specs.declared.flash.FlashError.TheVariants as errors
 use Rattle.mc_flash.specs.declared.op.Op.{Op}
@@ -64,13 +63,13 @@ pub spent_marked : (f : Seen) → Spent 0 f (marked f)
 spent_marked f = record { applied = omega arith; limits = refl; failed = refl }
 
 pub mark_spends : (old new : Seen) (result : Result ℕ FlashError) → length old.checkpoints < old.usage.limits.checkpoints → Marks old result new → Spends 0 old result new
-mark_spends old new (Ok place) room m = subst (Spent 0 old) (sym m.1) (spent_marked old)
-mark_spends old new (Err errors.Memory) room m = gave_up (HasNoPlace old) old new (λ full. omega (arith, room, full)) m
+mark_spends old new (Ok number) room m = subst (Spent 0 old) (sym m.1) (spent_marked old)
+mark_spends old new (Err errors.Memory) room m = gave_up (NoMarkFits old) old new (λ full. omega (arith, room, full)) m
 mark_spends old new (Err errors.NotErased) room m = absurd m
 
-pub spent_back : (place : ℕ) (f : Seen) → Spent 0 f (went_back place f)
+pub spent_back : (number : ℕ) (f : Seen) → Spent 0 f (went_back number f)
 unfolding went_back
-spent_back place f = record { applied = omega arith; limits = refl; failed = refl }
+spent_back number f = record { applied = omega arith; limits = refl; failed = refl }
 
 -- A flash that was marked and worked on, and is back at that checkpoint.
 pub stays_back : (old mid end : Seen) → mid ≡ marked old → Keeps mid end → Stays old (went_back (length old.checkpoints) end)

@@ -34,8 +34,8 @@ pub few_units : (g : Geometry) → IsLayout g → g.sector / g.unit ≤ 65536
 few_units g ok = few_parts (g.sector / g.unit) g.unit g.sector (parts_inside g.sector g.unit) (small_unit g ok).0 ok.greatest_sector
 
 pub few_pieces : (n p : ℕ) → n ≤ 1024 → p ≤ 65536 → 3 * n * (p + 2) ≤ 201332736
-few_pieces n p few small =
-    let rows : 3 * n * (p + 2) ≤ 3072 * (p + 2) = mul-le-mul_right (p + 2) (omega (arith, few)) in
+few_pieces n p at_most small =
+    let rows : 3 * n * (p + 2) ≤ 3072 * (p + 2) = mul-le-mul_right (p + 2) (omega (arith, at_most)) in
     omega (arith, rows, small)
 
 -- the writes of a size and of a magic

@@ -21,7 +21,7 @@ pub record Change : Type 0 where
   pub old : List ℕ
 
 -- The changes that entries stand for: bytes that were written were 0xff, and those of erased sectors were saved, one
--- behind the other.
+-- after the other.
 abbrev pub changes : List Entry → List ℕ → List Change
 changes [] saved = []
 changes (Written slot at len ∷ entries) saved =
@@ -47,7 +47,7 @@ abbrev pub all_saved : List Entry → ℕ
 all_saved [] = 0
 all_saved (entry ∷ rest) = saved_by entry + all_saved rest
 
--- What can be taken back: the entries, and the bytes that those of erases saved, one behind the other.
+-- What can be taken back: the entries, and the bytes that those of erases saved, one after the other.
 pub record Journal : Type 0 where
   pub entries : List Entry
   pub saved : List ℕ
@@ -102,6 +102,6 @@ Ascend low (n ∷ rest) top = (low ≤ n) × Ascend n rest top
 pub record IsSound (g : Geometry) (limits taken : Limits) (j : Journal) (checkpoints : List ℕ) : Type 0 where
   pub layout : IsLayout g
   pub room : IsWithin limits taken
-  pub few : IsWithin (room_for (length j.entries) (length j.saved) (length checkpoints)) limits
+  pub at_most : IsWithin (room_for (length j.entries) (length j.saved) (length checkpoints)) limits
   pub journal : IsJournal g j
   pub ascend : Ascend 0 checkpoints (length j.entries)

@@ -7,8 +7,8 @@ use Rattle.mc_image.specs.Image.{Begins, Image, IsGood, covered_text, digest_of,
 use Rattle.mc_image.specs.Valid.{is_good}
 
 -- An image is no longer than the bytes that begin with it.
-pub front_within : (b : List ℕ) (v : Image) → Begins b v → length (image_text v) ≤ length b
-front_within b v begins = omega (arith, ap (λ (xs : List ℕ). length xs) begins.front.1, length-append (image_text v) begins.front.0)
+pub prefix_within : (b : List ℕ) (v : Image) → Begins b v → length (image_text v) ≤ length b
+prefix_within b v begins = omega (arith, ap (λ (xs : List ℕ). length xs) begins.prefix.1, length-append (image_text v) begins.prefix.0)
 
 -- The test of a digest decides.
 pub test_good : (v : Image) → is_good v ≡ true → IsGood v

@@ -3,29 +3,29 @@ use Rattle.std.specs.Prelude.{Err, List, None, Ok, Option, Result, Some, drop, l
 use Rattle.mc_image.specs.Image.{Image, IsBytes, digest_of, image_in, image_text, payload_end, protected_end, u16_at}
 use Rattle.mc_image.specs.Valid.{header_fault, image_fault, protected_fault}
 use Rattle.mc_image.specs.declared.areas.ProtectedArea.{ProtectedArea}
-use Rattle.mc_image.specs.declared.areas.Walk.{Walk}
+use Rattle.mc_image.specs.declared.areas.EntryScan.{EntryScan}
 use Rattle.mc_image.specs.declared.error.ImageError.{ImageError}
 use Rattle.mc_image.specs.declared.header.Header.{Header}
 use Rattle.mc_image.specs.declared.judge.Judge.{Judge}
 use Rattle.mc_image.specs.declared.judge.Judged.{Judged}
 use Rattle.mc_image.specs.declared.judge.Sealed.{Sealed}
 use Rattle.mc_image.specs.declared.judge.Stage.{Stage}
-use Rattle.mc_image.specs.inner.Reading.{Follows, IsHeader, Walks, head_fault, held}
+use Rattle.mc_image.specs.inner.Reading.{Follows, IsHeader, Scans, head_fault, held}
 use Rattle.sha2.specs.Hashers.{Holds256}
 use Rattle.sha2.specs.Sha256.{sha256}
 use Rattle.sha2.specs.declared.Sha256.{Sha256}
 use Rattle.mc_image.specs.declared.judge.Stage.TheVariants as stages
 
--- what is told of a valid image
+-- what is known of a valid image
 abbrev pub judged_of : Image → Judged
 judged_of v = record { version = v.version; size = length (image_text v); digest = digest_of v }
 
--- the first fault, or what is told of the image
+-- the first fault, or what is known of the image
 abbrev pub judged_or_fault : Image → Option ImageError → Result Judged ImageError
 judged_or_fault v None = Ok (judged_of v)
 judged_or_fault v (Some e) = Err e
 
--- the answer for some bytes: the first of all faults, the wrong digest the last, or what is told of the image at their start
+-- the answer for some bytes: the first of all faults, the wrong digest the last, or what is known of the image at their start
 unfoldable pub verdict : List ℕ → Result Judged ImageError
 verdict bytes = judged_or_fault (image_in bytes) (image_fault bytes)
 
@@ -45,8 +45,8 @@ pub record IsSealed (s : Sealed) (body : List ℕ) : Type 0 where
   pub protected : protected_fault body ≡ None
   pub digest : s.digest ≡ sha256 body
 
--- behind such a body stands a part of something
-pub record IsBehind (s : Sealed) (bytes : List ℕ) (P : List ℕ → Type 0) : Type 0 where
+-- after such a body stands a part of something
+pub record IsBeyond (s : Sealed) (bytes : List ℕ) (P : List ℕ → Type 0) : Type 0 where
   pub body : List ℕ
   pub rest : List ℕ
   pub split : bytes ≡ body ++ rest
@@ -55,21 +55,21 @@ pub record IsBehind (s : Sealed) (bytes : List ℕ) (P : List ℕ → Type 0) : 
 
 -- in a protected area, of which so many bytes are left
 pub record IsProtected (h : Header) (n : ℕ) (a : ProtectedArea) (bytes : List ℕ) : Type 0 where
-  pub front : List ℕ
+  pub prefix : List ℕ
   pub rest : List ℕ
-  pub split : bytes ≡ front ++ rest
-  pub header : HasHeader h front
-  pub len : length front ≡ payload_end front
+  pub split : bytes ≡ prefix ++ rest
+  pub header : HasHeader h prefix
+  pub len : length prefix ≡ payload_end prefix
   pub left : length rest + n ≡ h.protected
   pub area : Follows a rest
 
 -- in a plain area whose head has no fault, of which so many bytes are left
-pub record IsPlain (t n : ℕ) (w : Walk) (bytes : List ℕ) : Type 0 where
+pub record IsPlain (t n : ℕ) (w : EntryScan) (bytes : List ℕ) : Type 0 where
   pub none : head_fault bytes ≡ None
   pub head : 4 ≤ length bytes
   pub total : t ≡ u16_at 2 bytes
   pub left : length bytes + n ≡ t
-  pub walk : Walks w (drop 4 bytes)
+  pub scan : Scans w (drop 4 bytes)
 
 -- what the stage says of the bytes so far, which the hasher holds as long as their digest is wanted
 abbrev pub IsInStage : Stage → Sha256 → List ℕ → Type 0
@@ -77,8 +77,8 @@ IsInStage (stages.Fields fields) hasher bytes = Holds256 hasher bytes × (length
 IsInStage (stages.Payload header left) hasher bytes =
     Holds256 hasher bytes × HasHeader header bytes × (length bytes + left ≡ payload_end bytes) × (0 < left)
 IsInStage (stages.Protected header left area) hasher bytes = Holds256 hasher bytes × (0 < left) × IsProtected header left area bytes
-IsInStage (stages.PlainHead sealed head) hasher bytes = IsBehind sealed bytes (λ rest. (length rest < 4) × (held head ≡ rest))
-IsInStage (stages.Plain sealed total left walk) hasher bytes = (0 < left) × IsBehind sealed bytes (IsPlain total left walk)
+IsInStage (stages.PlainHead sealed head) hasher bytes = IsBeyond sealed bytes (λ rest. (length rest < 4) × (held head ≡ rest))
+IsInStage (stages.Plain sealed total left scan) hasher bytes = (0 < left) × IsBeyond sealed bytes (IsPlain total left scan)
 -- the answer is known, whatever follows
 IsInStage (stages.Over answer) hasher bytes = (more : List ℕ) → IsBytes (bytes ++ more) → verdict (bytes ++ more) ≡ answer
 

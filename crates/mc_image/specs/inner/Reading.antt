@@ -4,15 +4,15 @@ use Rattle.mc_image.specs.Image.{digests, entries_in, entries_of, u16_at, u32_at
 use Rattle.mc_image.specs.Valid.{digest_fault, fault_if, ◌<+>◌}
 use Rattle.mc_image.specs.declared.areas.DigestValue.{DigestValue}
 use Rattle.mc_image.specs.declared.areas.Found.{Found}
-use Rattle.mc_image.specs.declared.areas.Place.{Place}
+use Rattle.mc_image.specs.declared.areas.EntryPart.{EntryPart}
 use Rattle.mc_image.specs.declared.areas.ProtectedArea.{ProtectedArea}
-use Rattle.mc_image.specs.declared.areas.Walk.{Walk}
+use Rattle.mc_image.specs.declared.areas.EntryScan.{EntryScan}
 use Rattle.mc_image.specs.declared.error.ImageError.{ImageError}
 use Rattle.mc_image.specs.declared.error.ImageError.TheVariants.{BadTlvLength, BadTlvMagic}
 use Rattle.mc_image.specs.declared.gather.Gather.{Gather}
 use Rattle.mc_image.specs.declared.header.Header.{Header}
 use Rattle.mc_image.specs.declared.areas.Found.TheVariants as found
-use Rattle.mc_image.specs.declared.areas.Place.TheVariants as places
+use Rattle.mc_image.specs.declared.areas.EntryPart.TheVariants as parts_of
 
 -- What the heads of an image and of its plain area say by themselves.
 
@@ -29,7 +29,7 @@ head_fault bytes =
     fault_if (nat_lt (length bytes) 4 || not (u16_at 0 bytes == 0x6907)) BadTlvMagic
     <+> fault_if (nat_lt (u16_at 2 bytes) 4) BadTlvLength
 
--- what is wrong with a plain area by the bytes behind these
+-- what is wrong with a plain area by the bytes after these
 unfoldable pub entries_fault : List ℕ → Option ImageError
 entries_fault bytes =
     fault_if (is_none (entries_of bytes)) BadTlvLength
@@ -48,38 +48,38 @@ pub record IsInValue (begun : List ℕ) (left : ℕ) : Type 0 where
   pub head : 4 ≤ length begun
   pub rest : length begun + left ≡ 4 + u16_at 2 begun
 
--- the value of the entry that is begun behind so many bytes, as far as it has come: its first 33 bytes are kept
+-- the value of the entry that is begun after so many bytes, as far as it has come: its first 33 bytes are kept
 pub record IsKept (v : DigestValue) (before : ℕ) (begun : List ℕ) : Type 0 where
   pub start : v.start ≡ before + 4
   pub bytes : held v.bytes ≡ take 33 (drop 4 begun)
 
--- the bytes of the entry that is begun behind so many bytes: its head, or all of it with no bytes or more of its value left
-abbrev pub IsAt : Place → ℕ → List ℕ → Type 0
-IsAt (places.Head head) before begun = (length begun < 4) × (held head ≡ begun)
-IsAt (places.Value left) before begun = IsInValue begun left × (u16_at 0 begun ≢ 0x10)
-IsAt (places.Digest left value) before begun = IsInValue begun left × (u16_at 0 begun ≡ 0x10) × IsKept value before begun
+-- the bytes of the entry that is begun after so many bytes: its head, or all of it with no bytes or more of its value left
+abbrev pub IsAt : EntryPart → ℕ → List ℕ → Type 0
+IsAt (parts_of.Head head) before begun = (length begun < 4) × (held head ≡ begun)
+IsAt (parts_of.Value left) before begun = IsInValue begun left × (u16_at 0 begun ≢ 0x10)
+IsAt (parts_of.Digest left value) before begun = IsInValue begun left × (u16_at 0 begun ≡ 0x10) × IsKept value before begun
 
--- a digest's entry behind so many bytes is complete
+-- a digest's entry after so many bytes is complete
 pub record IsEntered (v : DigestValue) (before : ℕ) (begun : List ℕ) : Type 0 where
   pub value : IsInValue begun 0
   pub kind : u16_at 0 begun ≡ 0x10
   pub kept : IsKept v before begun
 
 -- something of the entry is left
-abbrev pub IsOpen : Place → Type 0
-IsOpen (places.Head head) = Unit {0}
-IsOpen (places.Value left) = 0 < left
-IsOpen (places.Digest left value) = 0 < left
+abbrev pub IsOpen : EntryPart → Type 0
+IsOpen (parts_of.Head head) = Unit {0}
+IsOpen (parts_of.Value left) = 0 < left
+IsOpen (parts_of.Digest left value) = 0 < left
 
 -- the one value of the digest's type in whole entries: where it starts, and its first 33 bytes
 pub record IsOne (v : DigestValue) (whole : List ℕ) : Type 0 where
   pub value : List ℕ
   pub one : digests (entries_in whole) ≡ value ∷ []
   pub bytes : held v.bytes ≡ take 33 value
-  pub front : List ℕ
+  pub prefix : List ℕ
   pub back : List ℕ
-  pub stands : whole ≡ front ++ (value ++ back)
-  pub start : v.start ≡ length front
+  pub stands : whole ≡ prefix ++ (value ++ back)
+  pub start : v.start ≡ length prefix
 
 -- what was found in whole entries
 abbrev pub Finds : Found → List ℕ → Type 0
@@ -88,24 +88,24 @@ Finds (found.One v) whole = IsOne v whole
 Finds found.Many whole = 2 ≤ length (digests (entries_in whole))
 
 -- the bytes so far are whole entries and the entry that is begun, which may be complete
-pub record Reaches (w : Walk) (bytes : List ℕ) : Type 0 where
+pub record Reaches (w : EntryScan) (bytes : List ℕ) : Type 0 where
   pub whole : List ℕ
   pub begun : List ℕ
   pub split : bytes ≡ whole ++ begun
   pub filled : is_some (entries_of whole) ≡ true
-  pub walked : w.walked ≡ length bytes
-  pub at : IsAt w.place (length whole) begun
+  pub scanned : w.scanned ≡ length bytes
+  pub at : IsAt w.part (length whole) begun
   pub found : Finds w.found whole
 
 -- the same, and the entry that is begun is not complete
-pub record Walks (w : Walk) (bytes : List ℕ) : Type 0 where
+pub record Scans (w : EntryScan) (bytes : List ℕ) : Type 0 where
   pub reaches : Reaches w bytes
-  pub more : IsOpen w.place
+  pub more : IsOpen w.part
 
--- the bytes of an area so far are its head and the entries behind it
+-- the bytes of an area so far are its head and the entries after it
 pub record Follows (a : ProtectedArea) (bytes : List ℕ) : Type 0 where
   pub head : held a.head ≡ take 4 bytes
-  pub walk : Walks a.walk (drop 4 bytes)
+  pub scan : Scans a.scan (drop 4 bytes)
 
 -- a part of a piece is taken, one byte at least, and what held of the bytes before it holds of those with it
 pub record Goes (old new : List ℕ → Type 0) (piece rest : List ℕ) : Type 0 where

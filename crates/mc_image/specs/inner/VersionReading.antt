@@ -18,12 +18,12 @@ unfoldable pub numeral_at : List ℕ → Option (ℕ × List ℕ)
 numeral_at [] = None
 numeral_at (c ∷ cs) = if c == 48 then Some (0, cs) else if is_ascii_digit c then Some (number_from (c - 48) cs) else None
 
--- the number behind a separator, and what follows; 0 at the end of the text
+-- the number after a separator, and what follows; 0 at the end of the text
 unfoldable pub part_at : ℕ → List ℕ → Option (ℕ × List ℕ)
 part_at separator [] = Some (0, [])
 part_at separator (c ∷ cs) = if c == separator then numeral_at cs else None
 
--- the numbers behind separators, up to the end of the text
+-- the numbers after separators, up to the end of the text
 unfoldable pub parts_after : List ℕ → List ℕ → Option (List ℕ)
 parts_after [] text = if length text == 0 then Some [] else None
 parts_after (s ∷ ss) text = option_and_then (λ x. option_map (λ ns. x.0 ∷ ns) (parts_after ss x.1)) (part_at s text)

@@ -6,10 +6,10 @@ use Rattle.mc_output.proofs.write_text.Goals as goal
 pub loop-done-preserved : goal.loop-done-preserved
 loop-done-preserved g c =
     let rest = take_rest c.args.text.now c.loop-done.done in
-    let told = c.in-Ok.ensures in
-    let fits = rw rest at told.bound in
-    let more = rw rest at told.bytes in
+    let given = c.in-Ok.ensures in
+    let fits = rw rest at given.bound in
+    let more = rw rest at given.bytes in
     record {
       within = grind (arith, fits);
-      front = Appends_more _ _ _ c.args.text.now c.loop-done.done c.in-Ok.count c.loop-done.invariant.front more;
+      prefix = Appends_more _ _ _ c.args.text.now c.loop-done.done c.in-Ok.count c.loop-done.invariant.prefix more;
     }

@@ -5,10 +5,10 @@ use Rattle.mc_output.specs.Text.{joined, IsAdded}
 use Rattle.mc_output.specs.facts.Parting.{Lacks, one_part, no_part}
 
 module _ {A : Type 0} (separator : ℕ) (spell : A → List ℕ) where
-  -- The items so far, each with a separator behind it.
-  abbrev pub behind : List A → List ℕ
-  behind [] = []
-  behind (x ∷ xs) = spell x ++ (separator ∷ behind xs)
+  -- The items so far, each with a separator after it.
+  abbrev pub beyond : List A → List ℕ
+  beyond [] = []
+  beyond (x ∷ xs) = spell x ++ (separator ∷ beyond xs)
 
   abbrev points : List A → List ℕ
   points xs = flat_map (λ y. (separator ∷ []) ++ spell y) xs
@@ -17,19 +17,19 @@ module _ {A : Type 0} (separator : ℕ) (spell : A → List ℕ) where
   text_of xs = joined (separator ∷ []) spell xs
 
   -- One item more, and a separator.
-  behind_push : (l : List A) (x : A) (rest : List ℕ) → behind (l ++ x ∷ []) ++ rest ≡ behind l ++ (spell x ++ (separator ∷ rest))
-  behind_push [] x rest = append_assoc (spell x) (separator ∷ []) rest
-  behind_push (y ∷ l) x rest =
-      append_assoc (spell y) (separator ∷ behind (l ++ x ∷ [])) rest
-      ∙ ap (λ (z : List ℕ). spell y ++ (separator ∷ z)) (behind_push l x rest)
-      ∙ sym (append_assoc (spell y) (separator ∷ behind l) (spell x ++ (separator ∷ rest)))
+  beyond_push : (l : List A) (x : A) (rest : List ℕ) → beyond (l ++ x ∷ []) ++ rest ≡ beyond l ++ (spell x ++ (separator ∷ rest))
+  beyond_push [] x rest = append_assoc (spell x) (separator ∷ []) rest
+  beyond_push (y ∷ l) x rest =
+      append_assoc (spell y) (separator ∷ beyond (l ++ x ∷ [])) rest
+      ∙ ap (λ (z : List ℕ). spell y ++ (separator ∷ z)) (beyond_push l x rest)
+      ∙ sym (append_assoc (spell y) (separator ∷ beyond l) (spell x ++ (separator ∷ rest)))
 
-  points_push : (l : List A) (y x : A) → spell y ++ points (l ++ x ∷ []) ≡ behind (y ∷ l) ++ spell x
+  points_push : (l : List A) (y x : A) → spell y ++ points (l ++ x ∷ []) ≡ beyond (y ∷ l) ++ spell x
   points_push [] y x = ap (λ (z : List ℕ). spell y ++ z) (append-nil (separator ∷ spell x)) ∙ sym (append_assoc (spell y) (separator ∷ []) (spell x))
-  points_push (z ∷ l) y x = ap (λ (t : List ℕ). spell y ++ (separator ∷ t)) (points_push l z x) ∙ sym (append_assoc (spell y) (separator ∷ behind (z ∷ l)) (spell x))
+  points_push (z ∷ l) y x = ap (λ (t : List ℕ). spell y ++ (separator ∷ t)) (points_push l z x) ∙ sym (append_assoc (spell y) (separator ∷ beyond (z ∷ l)) (spell x))
 
   -- The last item ends the text.
-  whole_text : (l : List A) (x : A) → behind l ++ spell x ≡ text_of (l ++ x ∷ [])
+  whole_text : (l : List A) (x : A) → beyond l ++ spell x ≡ text_of (l ++ x ∷ [])
   whole_text [] x = sym (append-nil (spell x))
   whole_text (y ∷ l) x = sym (points_push l y x)
 
@@ -40,15 +40,15 @@ module _ {A : Type 0} (separator : ℕ) (spell : A → List ℕ) where
     pub split : m ≡ l ++ others
     pub text : rest ≡ text_of others
 
-  pub text_next : {Fits : List A → A → Type 0} (l new : List A) (text rest first after : List ℕ) → text ≡ behind l ++ rest → rest ≡ first ++ (separator ∷ after)
-      → IsAdded spell Fits l first new → text ≡ behind new ++ after
+  pub text_next : {Fits : List A → A → Type 0} (l new : List A) (text rest first after : List ℕ) → text ≡ beyond l ++ rest → rest ≡ first ++ (separator ∷ after)
+      → IsAdded spell Fits l first new → text ≡ beyond new ++ after
   text_next {Fits} l new text rest first after is parts added =
-      is ∙ ap (λ (z : List ℕ). behind l ++ z) (parts ∙ ap (λ (z : List ℕ). z ++ (separator ∷ after)) added.text_is)
-      ∙ sym (ap (λ (z : List A). behind z ++ after) added.new_is ∙ behind_push l added.item after)
+      is ∙ ap (λ (z : List ℕ). beyond l ++ z) (parts ∙ ap (λ (z : List ℕ). z ++ (separator ∷ after)) added.text_is)
+      ∙ sym (ap (λ (z : List A). beyond z ++ after) added.new_is ∙ beyond_push l added.item after)
 
-  pub text_last : {Fits : List A → A → Type 0} (l new : List A) (text rest : List ℕ) → text ≡ behind l ++ rest → IsAdded spell Fits l rest new → text ≡ text_of new
+  pub text_last : {Fits : List A → A → Type 0} (l new : List A) (text rest : List ℕ) → text ≡ beyond l ++ rest → IsAdded spell Fits l rest new → text ≡ text_of new
   text_last {Fits} l new text rest is added =
-      is ∙ ap (λ (z : List ℕ). behind l ++ z) added.text_is ∙ whole_text l added.item ∙ ap text_of (sym added.new_is)
+      is ∙ ap (λ (z : List ℕ). beyond l ++ z) added.text_is ∙ whole_text l added.item ∙ ap text_of (sym added.new_is)
 
 module _ {A : Type 0} (separator : ℕ) (spell : A → List ℕ) (Fits : List A → A → Type 0) (IsValid : List A → Type 0) where
   -- What the text of an item is, and which items go with those before them.
@@ -60,10 +60,10 @@ module _ {A : Type 0} (separator : ℕ) (spell : A → List ℕ) (Fits : List A 
     pub grows : (l : List A) (x : A) → IsValid l → Fits l x → IsValid (l ++ x ∷ [])
 
 module _ {A : Type 0} {separator : ℕ} {spell : A → List ℕ} {Fits : List A → A → Type 0} {IsValid : List A → Type 0} (s : IsSpelling separator spell Fits IsValid) where
-  -- A dash tells the list of no item, and no other.
+  -- A dash says the list of no item, and no other.
   pub dash : (l : List A) (text : List ℕ) → IsValid l → text ≡ codes "-" → text ≡ text_of separator spell l → l ≡ []
-  dash [] text ok is told = refl
-  dash (x ∷ xs) text ok is told = absurd (s.no_dash [] x (flat_map (λ y. (separator ∷ []) ++ spell y) xs) (s.fits [] x xs ok) (sym is ∙ told))
+  dash [] text ok is given = refl
+  dash (x ∷ xs) text ok is given = absurd (s.no_dash [] x (flat_map (λ y. (separator ∷ []) ++ spell y) xs) (s.fits [] x xs ok) (sym is ∙ given))
 
   pub added_valid : (old new : List A) (text : List ℕ) → IsValid old → IsAdded spell Fits old text new → IsValid new
   added_valid old new text ok added = subst IsValid (sym added.new_is) (s.grows old added.item ok added.fits)
@@ -109,7 +109,7 @@ module _ {A : Type 0} {separator : ℕ} {spell : A → List ℕ} {Fits : List A 
       by (x ∷ []) some is e = record { item = x; fits = fits_here l m [] x ok is; rest_is = e ∙ append-nil (spell x); split = is }
       by (x ∷ y ∷ ys) some is e = absurd (no_part separator rest (spell x) (text_of separator spell (y ∷ ys)) lacks e)
 
-  -- No list is told where the next item, or the last, was refused.
+  -- No list is read where the next item, or the last, was refused.
   pub not_next : (l m : List A) (rest first after : List ℕ) → IsValid m → IsLeft separator spell l m rest → rest ≡ first ++ (separator ∷ after) → Lacks separator first
       → ((x : A) → Fits l x → first ≡ spell x → ⊥) → ⊥
   not_next l m rest first after ok left parts lacks refused =
@@ -121,7 +121,7 @@ module _ {A : Type 0} {separator : ℕ} {spell : A → List ℕ} {Fits : List A 
       let last = last_item l m rest ok left lacks in
       refused last.item last.fits last.rest_is
 
-  -- After the next item the others are left, and the text goes on behind it.
+  -- After the next item the others are left, and the text goes on after it.
   pub left_next : (l m new : List A) (rest first after : List ℕ) → IsValid m → IsLeft separator spell l m rest → rest ≡ first ++ (separator ∷ after) → Lacks separator first
       → IsAdded spell Fits l first new → IsLeft separator spell new m after
   left_next l m new rest first after ok left parts lacks added =

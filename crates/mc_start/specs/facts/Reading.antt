@@ -16,9 +16,9 @@ read_back n text r small is parses = parse-decimal 32 n text r small (omega (ari
 
 -- Which is written again as that text.
 pub other_text : {E : Type 0} {n m : ℕ} {text again : List ℕ} {r : Result ℕ E} → r ≡ Ok n → r ≡ Ok m → text ≡ decimal n → again ≡ decimal m → false ≡ bytes_eq again text → ⊥
-other_text {n = n} {m = m} {text = text} {again = again} read is told written other =
+other_text {n = n} {m = m} {text = text} {again = again} read is given written other =
     let same : m ≡ n = cc in
-    let no : false ≡ true = other ∙ (bytes_eq-Decides again text).1 (written ∙ ap decimal same ∙ sym told) in
+    let no : false ≡ true = other ∙ (bytes_eq-Decides again text).1 (written ∙ ap decimal same ∙ sym given) in
     absurd cc
 
 abbrev pub points : List ℕ → List ℕ
@@ -29,7 +29,7 @@ point_no_digit c is low high = omega (arith, is, low)
 
 fits : (l : List ℕ) (c : ℕ) (n : List ℕ) → IsSchedule (l ++ c ∷ n) → FitsCut l c
 fits l c n ok = record {
-  room = omega (arith, ok.few, length-append l (c ∷ n));
+  room = omega (arith, ok.at_most, length-append l (c ∷ n));
   small = All-head (λ d. d < 2 ^ 32) c n (subst (All (λ d. d < 2 ^ 32)) (drop-append_seam l (c ∷ n)) (All-drop (λ d. d < 2 ^ 32) (length l) (l ++ c ∷ n) ok.small));
 }
 
@@ -40,7 +40,7 @@ spelling = record {
   same = λ l m n at_m at_n is. decimal_injective m n (omega (arith, at_m.small)) (omega (arith, at_n.small)) is;
   fits = fits;
   grows = λ l c ok f. record {
-    few = omega (arith, f.room, length-append l (c ∷ []));
+    at_most = omega (arith, f.room, length-append l (c ∷ []));
     small = All-push (λ d. d < 2 ^ 32) l c ok.small f.small;
   };
 }

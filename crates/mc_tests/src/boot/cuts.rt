@@ -1,4 +1,4 @@
-//! What is told of the boot after a cut, against the boot that ran.
+//! What is predicted of the boot after a cut, against the boot that ran.
 ghost use Rattle.std.specs.Prelude.{◌≡◌};
 
 use super::*;
@@ -7,8 +7,8 @@ use mc_boot::outcome_after;
 use mc_flash::{Grain, Layout};
 use std::alloc::Global;
 
-/// What is told of the boot after a cut, of which the outcome is known that is not cut. The flash is as the cut leaves it.
-fn foretold<F: Flash>(flash: &mut F, rules: Rules, whole: &Outcome, cut: u32) -> Option<Outcome>
+/// What is predicted of the boot after a cut, of which the outcome is known that is not cut. The flash is as the cut leaves it.
+fn predicted<F: Flash>(flash: &mut F, rules: Rules, whole: &Outcome, cut: u32) -> Option<Outcome>
     ensures { (F.seen flash.new).checkpoints ≡ (F.seen flash.old).checkpoints }
 {
     let mut boot = Boot::cold(flash, rules);
@@ -17,7 +17,7 @@ fn foretold<F: Flash>(flash: &mut F, rules: Rules, whole: &Outcome, cut: u32) ->
     outcome_after(&boot, whole, &next)
 }
 
-/// What is told of the boot after a cut, and what the boot does that runs then. The flash is as it was.
+/// What is predicted of the boot after a cut, and what the boot does that runs then. The flash is as it was.
 fn after_cut<F: Flash>(
     rt: &impl Abort,
     flash: &mut F,
@@ -25,16 +25,16 @@ fn after_cut<F: Flash>(
     whole: &Outcome,
     cut: u32,
 ) -> (Option<Outcome>, Outcome) {
-    let place = flash.mark().expect(rt, "a checkpoint");
-    let foretold = foretold(flash, rules, whole, cut);
-    let ran = told(flash, rules);
-    flash.back_to(place);
-    (foretold, ran)
+    let offset = flash.mark().expect(rt, "a checkpoint");
+    let predicted = predicted(flash, rules, whole, cut);
+    let ran = shown(flash, rules);
+    flash.back_to(offset);
+    (predicted, ran)
 }
 
-/// Whether so many operations are told, and made; or none are told.
-fn is_told(ops: Option<u32>, foretold: Option<Outcome>, ran: Outcome) -> bool {
-    match (ops, foretold) {
+/// Whether so many operations are predicted, and made; or none are predicted.
+fn is_shown(ops: Option<u32>, predicted: Option<Outcome>, ran: Outcome) -> bool {
+    match (ops, predicted) {
         (Some(ops), Some(outcome)) => outcome == ran && ran.ops == ops,
         (None, None) => true,
         _ => false,
@@ -42,7 +42,7 @@ fn is_told(ops: Option<u32>, foretold: Option<Outcome>, ran: Outcome) -> bool {
 }
 
 /// A word of a boot's cuts, as in `5:18`: the cut at which it ends, and how many operations the boot after each of its cuts makes,
-/// or `-` where no outcome is told.
+/// or `-` where no outcome is predicted.
 fn ends_of(rt: &impl Abort, word: &str) -> (u32, Option<u32>) {
     let (end, ops) = parts_of(rt, word, ":");
     let ops = if ops == "-" {
@@ -62,8 +62,8 @@ fn is_so<F: Flash>(
     cut: u32,
     ops: Option<u32>,
 ) -> bool {
-    let (foretold, ran) = after_cut(rt, flash, rules, whole, cut);
-    is_told(ops, foretold, ran)
+    let (predicted, ran) = after_cut(rt, flash, rules, whole, cut);
+    is_shown(ops, predicted, ran)
 }
 
 /// The first cut of a boot that is not as its words say, or the last word's end, where that is not the boot's.
@@ -87,11 +87,11 @@ fn first_amiss<F: Flash>(rt: &impl Abort, flash: &mut F, rules: Rules, words: &s
 }
 
 /// The cuts of boots that follow each other are as their words say.
-fn are_told<F: Flash>(rt: &impl Abort, flash: &mut F, rules: Rules, boots: &str) {
+fn are_shown<F: Flash>(rt: &impl Abort, flash: &mut F, rules: Rules, boots: &str) {
     for words in boots.split(" / ") {
         let amiss = first_amiss(rt, flash, rules, words);
         same_at(rt, &(rules, words), &amiss, &None);
-        let _ = told(flash, rules);
+        let _ = shown(flash, rules);
     }
 }
 
@@ -99,10 +99,10 @@ fn are_told<F: Flash>(rt: &impl Abort, flash: &mut F, rules: Rules, boots: &str)
 /// that makes no operations has no cut.
 ///
 /// Boots by calls, in both profiles. A revert that was cut between its preparation and the erase of the secondary's trailer is
-/// followed by a swap for good, after which nothing is swapped, and there is no cut. Then boots from flashes that hold no
-/// images: another type is none; where copy-done reads as unset it can't be written; then with status entries. Then a primary that
-/// begins with an image but for its last entry, of which the swap-size makes an empty one: it is too large then; the area's length
-/// stands before it, and an entry up to the swap-size behind it.
+/// followed by a swap for good, after which nothing is swapped, and there is no cut. Then boots from flashes that hold no images:
+/// another type is none; where copy-done reads as unset it can't be written; then with status entries. Then a primary that begins
+/// with an image but for its last entry, of which the swap-size makes an empty one: it is too large then; the area's length stands
+/// before it, and an entry up to the swap-size after it.
 ///
 /// Boots by units: a test and its revert in either profile, where after one half of the secondary's magic the first one swaps
 /// nothing; in both, a swap for good, and boots from flashes that hold no images.
@@ -131,10 +131,10 @@ unit-1,unit-2 BEGUN,984=02,880=01 34:69 68:35 69:1
 ";
 
 /// The boots from a flash are as told under each of some rules.
-fn are_told_under(rt: &impl Abort, alloc: Global, names: &str, start: &str, boots: &str) {
+fn are_shown_under(rt: &impl Abort, alloc: Global, names: &str, start: &str, boots: &str) {
     for name in names.split(',') {
         let mut flash = flash_of(rt, alloc, start);
-        are_told(rt, &mut flash, rules_named(name), boots);
+        are_shown(rt, &mut flash, rules_named(name), boots);
     }
 }
 
@@ -143,7 +143,7 @@ fn cuts_of_boots(rt: HostRuntime) {
     for line in CASES.lines() {
         let (names, rest) = parts_of(&rt, line, " ");
         let (start, boots) = parts_of(&rt, rest, " ");
-        are_told_under(&rt, rt.alloc(), names, start, boots);
+        are_shown_under(&rt, rt.alloc(), names, start, boots);
     }
 }
 
@@ -160,5 +160,5 @@ fn cuts_of_trailers_of_two_sectors(rt: HostRuntime) {
     let mut flash = SnapFlash::load(rt.alloc(), &layout, Grain::Call, primary, secondary, 1).expect(
         &rt, "a flash",
     );
-    are_told(&rt, &mut flash, Rules::PLAIN, TWO_SECTORS)
+    are_shown(&rt, &mut flash, Rules::PLAIN, TWO_SECTORS)
 }

@@ -1,10 +1,10 @@
-//! Whether an outcome is told of a boot, as though it came after a cut of another one.
+//! Whether an outcome is predicted for a boot, as though it came after a cut of another one.
 use super::*;
 use crate::common::{number_of, parts_of, rules_named, same_at};
 use mc_boot::outcome_after;
 use std::alloc::Global;
 
-/// Whether an outcome is told of the second flash's boot, as though it came after a cut of the first one's.
+/// Whether an outcome is predicted for the second flash's boot, as though it came after a cut of the first one's.
 fn goes_on<F: Flash>(rt: &impl Abort, first: &mut F, cut: u32, second: &F, rules: Rules) -> bool {
     let whole = whole_of(rt, first, Rules::PLAIN);
     let mut boot = Boot::cold(first, Rules::PLAIN);
@@ -50,7 +50,7 @@ const BOOTS: &str = "\
 1 BEGUN,984=02,912=01 call-1 BEGUN,984=02,880=01 false
 ";
 
-/// Whether the boot of some rules from a flash goes on with a boot that was cut, as told in `3 IMAGES`.
+/// Whether the boot of some rules from a flash goes on with a boot that was cut, as in `3 IMAGES`.
 fn joins(rt: &impl Abort, alloc: Global, cut: &str, rules: &str, found: &str) -> bool {
     let (cut, start) = parts_of(rt, cut, " ");
     let mut first = flash_of(rt, alloc, start);

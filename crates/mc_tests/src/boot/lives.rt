@@ -23,7 +23,7 @@ fn boots(rt: &impl Abort, flash: &mut SnapFlash, rules: Rules, event: &str) {
             run(flash, &mut boot, number_of(rt, cut));
         }
         None => {
-            let _ = told(flash, rules);
+            let _ = shown(flash, rules);
         }
     }
 }
@@ -35,7 +35,7 @@ fn changed(rt: &impl Abort, alloc: Global, flash: &SnapFlash, changes: &str) -> 
 }
 
 /// Lets an event happen: the power comes on, and the boot is left alone, or the power is lost before an operation of it; the image
-/// confirms itself, or changes bytes: of the secondary, behind the primary's, or of a confirmation that is torn.
+/// confirms itself, or changes bytes: of the secondary, after the primary's, or of a confirmation that is torn.
 fn live(rt: &impl Abort, alloc: Global, flash: &mut SnapFlash, rules: Rules, event: &str) {
     if event == "confirm" {
         let _ = confirm(flash).expect(rt, "a confirmation");
@@ -75,8 +75,8 @@ fn state_of(rt: &impl Abort, alloc: Global, flash: &SnapFlash, rules: Rules) -> 
 /// for good. A request where no image stands fails, until one stands there. What is downloaded while an image is on trial is taken
 /// in by the revert. Half of it takes the way back, for as long as it stands there. A request on trial: the image that never
 /// confirmed itself comes back for good. A confirmation keeps what was requested. A confirmation that is torn ends the trial, and
-/// so does nothing that is written behind it. A torn request on trial, by the first profile and by the second. A revert that is
-/// cut within the secondary's magic is forgotten by these rules, and comes back when that magic is erased.
+/// so does nothing that is written after it. A torn request on trial, by the first profile and by the second. A revert that is cut
+/// within the secondary's magic is forgotten by these rules, and comes back when that magic is erased.
 const LIVES: &str = "\
 call-1,call-2,unit-1,unit-2
 0=first
@@ -176,7 +176,7 @@ boot: A - B none
 ";
 
 /// A flash lives through some events as they are told.
-fn is_told(rt: &impl Abort, alloc: Global, start: &str, rules: Rules, events: &str) {
+fn is_shown(rt: &impl Abort, alloc: Global, start: &str, rules: Rules, events: &str) {
     let mut flash = flash_of(rt, alloc, start);
     for line in events.lines() {
         let (event, state) = parts_of(rt, line, ":");
@@ -188,18 +188,18 @@ fn is_told(rt: &impl Abort, alloc: Global, start: &str, rules: Rules, events: &s
     }
 }
 
-/// A life is as it is told, under each of its rules.
-fn are_told(rt: &impl Abort, alloc: Global, life: &str) {
+/// A life is as it is given, under each of its rules.
+fn are_shown(rt: &impl Abort, alloc: Global, life: &str) {
     let (names, rest) = parts_of(rt, life, "\n");
     let (start, events) = parts_of(rt, rest, "\n");
     for name in names.split(',') {
-        is_told(rt, alloc, start, rules_named(name), events);
+        is_shown(rt, alloc, start, rules_named(name), events);
     }
 }
 
 #[test]
 fn lives(rt: HostRuntime) {
     for life in LIVES.split("\n\n") {
-        are_told(&rt, rt.alloc(), life);
+        are_shown(&rt, rt.alloc(), life);
     }
 }

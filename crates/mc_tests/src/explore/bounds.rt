@@ -13,21 +13,21 @@ fn assert_bounds(rt: &impl Abort, flash: &JournalFlash, most: [u64; 4]) {
     assert!(rt; is_short && flash.marks() <= checkpoints && flash.applied() <= applied);
 }
 
-/// How many rows a start has, with at most two cuts, which keep their bounds from before the first to behind the last.
+/// How many rows a start has, with at most two cuts, which keep their bounds from before the first to after the last.
 fn rows_of(rt: &impl Abort, alloc: Global, start: &Start) -> u32 {
     let mut explorer = Explorer::<JournalFlash>::start(alloc, start, 2).expect(rt, "an explorer");
     assert_bounds(rt, explorer.flash(), [108, 6912, 4, 0]);
-    for place in 0u32..1000 {
+    for offset in 0u32..1000 {
         let is_last = explorer.next_row().expect(rt, "a row").is_none();
         assert_bounds(rt, explorer.flash(), [108, 6912, 4, 8436]);
         if is_last {
-            return place;
+            return offset;
         }
     }
     1000
 }
 
-/// Whether no row comes behind the last schedule of two cuts. The bounds are kept on either side of it.
+/// Whether no row comes after the last schedule of two cuts. The bounds are kept on either side of it.
 fn is_the_end(rt: &impl Abort, alloc: Global, start: &Start) -> bool {
     let cursor = Cursor::of(start, 2, &Schedule::read("17.0").expect(rt, "a text"));
     let mut explorer = Explorer::<JournalFlash>::resume(alloc, start, 2, &cursor).expect(
@@ -49,18 +49,18 @@ fn an_exploration_keeps_its_bounds(rt: HostRuntime) {
     assert!(rt; is_the_end(&rt, rt.alloc(), &start));
 }
 
-/// How many campaigns a start has, with at most one cut, which keep their bounds from before the first to behind the last.
+/// How many campaigns a start has, with at most one cut, which keep their bounds from before the first to after the last.
 fn campaigns_of(rt: &impl Abort, alloc: Global, start: &Start) -> u32 {
     let mut explorer = CampaignExplorer::<JournalFlash>::start(alloc, start, 1, false).expect(
         rt,
         "an explorer",
     );
-    for place in 0u32..1000 {
-        let applied = 112 * u64::from(place);
+    for offset in 0u32..1000 {
+        let applied = 112 * u64::from(offset);
         assert_bounds(rt, explorer.flash(), [144, 9216, 5, applied]);
         if explorer.next_row().expect(rt, "a row").is_none() {
             assert_bounds(rt, explorer.flash(), [144, 9216, 5, 4704]);
-            return place;
+            return offset;
         }
     }
     1000

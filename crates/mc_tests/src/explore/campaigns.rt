@@ -9,7 +9,7 @@ use std::process::Abort;
 
 /// The row of a campaign that is replayed from a start, or why it is not. The test ends where an allocation failed
 /// (`scripts/refuse-tests`).
-fn told_of<F: Flash + Drop>(
+fn shown_of<F: Flash + Drop>(
     rt: &impl Abort,
     alloc: Global,
     start: &Start,
@@ -33,7 +33,7 @@ fn told_of<F: Flash + Drop>(
     }
 }
 
-/// Whether the image confirms itself, a campaign, and what is told of it.
+/// Whether the image confirms itself, a campaign, and what is reported of it.
 static REPLAYS: [(bool, &str, &str); 5] = [
     (
         false,
@@ -58,12 +58,12 @@ static REPLAYS: [(bool, &str, &str); 5] = [
 fn campaigns_are_replayed_or_cannot_occur(rt: HostRuntime) {
     let start = swap(&rt, rt.alloc());
     for (confirms, text, want) in REPLAYS {
-        let told = told_of::<SnapFlash>(&rt, rt.alloc(), &start, text, confirms);
-        assert_eq!(rt; told.as_str(), want, "{text}");
+        let shown = shown_of::<SnapFlash>(&rt, rt.alloc(), &start, text, confirms);
+        assert_eq!(rt; shown.as_str(), want, "{text}");
     }
 }
 
-/// A campaign of sixteen cuts before the first operation of a round, and what is told of it.
+/// A campaign of sixteen cuts before the first operation of a round, and what is reported of it.
 static ROUNDS: &str = "1.0,1.0,1.0,1.0,1.0,1.0,1.0,1.0,2.0,2.0,2.0,2.0,2.0,2.0,2.0,2.0";
 
 static TOLD: &str =
@@ -72,8 +72,8 @@ static TOLD: &str =
 #[test]
 fn a_campaign_of_large_images_is_replayed(rt: HostRuntime) {
     let start = large(&rt, rt.alloc(), Kind::Test);
-    let told = told_of::<SnapFlash>(&rt, rt.alloc(), &start, ROUNDS, false);
-    assert_eq!(rt; told.as_str(), TOLD);
-    let told = told_of::<JournalFlash>(&rt, rt.alloc(), &start, ROUNDS, false);
-    assert_eq!(rt; told.as_str(), TOLD);
+    let shown = shown_of::<SnapFlash>(&rt, rt.alloc(), &start, ROUNDS, false);
+    assert_eq!(rt; shown.as_str(), TOLD);
+    let shown = shown_of::<JournalFlash>(&rt, rt.alloc(), &start, ROUNDS, false);
+    assert_eq!(rt; shown.as_str(), TOLD);
 }

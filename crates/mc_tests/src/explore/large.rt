@@ -91,7 +91,7 @@ fn is_swapped<F: Flash + Drop>(rt: &impl Abort, alloc: Global, start: &Start) ->
     matches!(outcome.result, BootResult::Boot) && primary && secondary
 }
 
-/// Whether the next row behind it is of the next schedule, and boots.
+/// Whether the next row after it is of the next schedule, and boots.
 fn goes_on<F: Flash + Drop>(rt: &impl Abort, alloc: Global, start: &Start) -> bool {
     let mut page = Vec::with_capacity(alloc, 512).expect(rt, "memory");
     let cursor = Cursor::of(start, 16, &Schedule::read(CUTS).expect(rt, "a text"));
@@ -104,7 +104,7 @@ fn goes_on<F: Flash + Drop>(rt: &impl Abort, alloc: Global, start: &Start) -> bo
 /// A campaign of sixteen cuts before the first operation of a round.
 static ROUNDS: &str = "1.0,1.0,1.0,1.0,1.0,1.0,1.0,1.0,2.0,2.0,2.0,2.0,2.0,2.0,2.0,2.0";
 
-/// The first row of all campaigns, and the one behind that campaign.
+/// The first row of all campaigns, and the one after that campaign.
 static ROWS: [&str; 2] = [
     "- boot test 7598 boot revert 7604 2.0.0+0/1036288 2.0.0+0/1036288 none\n",
     "1.0,1.0,1.0,1.0,1.0,1.0,1.0,1.0,2.0,2.0,2.0,2.0,2.0,2.0,2.0,2.1 boot test 7598 boot revert 7604 2.0.0+0/1036288 2.0.0+0/1036288 none\n",
@@ -165,7 +165,7 @@ fn sixteen_cuts_are_gone_through(rt: HostRuntime) {
 /// What lies where at the last of the cuts before the first operation: the sectors of an image but the first and the last are all
 /// the same.
 #[test]
-fn the_sectors_of_large_images_are_told(rt: HostRuntime) {
+fn the_sectors_of_large_images_are_shown(rt: HostRuntime) {
     let start = large(&rt, rt.alloc(), Kind::Test);
     let mut out = Vec::new(rt.alloc());
     let schedule = Schedule::read(ZEROS).expect(&rt, "a text");
@@ -205,13 +205,13 @@ const LONGEST: Outcome = Outcome {
     next: SwapType::Revert,
 };
 
-/// Sixteen of the greatest places, as a schedule and in the second round.
+/// Sixteen of the greatest cuts, as a schedule and in the second round.
 static GREATEST: [&str; 2] = [
     "4294967295.4294967295.4294967295.4294967295.4294967295.4294967295.4294967295.4294967295.4294967295.4294967295.4294967295.4294967295.4294967295.4294967295.4294967295.4294967295",
     "2.4294967295,2.4294967295,2.4294967295,2.4294967295,2.4294967295,2.4294967295,2.4294967295,2.4294967295,2.4294967295,2.4294967295,2.4294967295,2.4294967295,2.4294967295,2.4294967295,2.4294967295,2.4294967295",
 ];
 
-/// That outcome behind a schedule, and a place after those of a campaign.
+/// That outcome after a schedule, and a cut after those of a campaign.
 static ENDS: [&str; 2] = [
     " panic revert 4294967295 255.255.65535+4294967295/4294967295 255.255.65535+4294967295/4294967295 revert",
     " panic revert 4294967295 panic revert 4294967295 255.255.65535+4294967295/4294967295 255.255.65535+4294967295/4294967295 revert",
@@ -228,10 +228,10 @@ fn the_longest_rows_print(rt: HostRuntime) {
         first: LONGEST,
         second: LONGEST,
     };
-    let told = format!(in rt.alloc(); "{row}\n{campaign_row}").expect(&rt, "memory");
+    let shown = format!(in rt.alloc(); "{row}\n{campaign_row}").expect(&rt, "memory");
     let want = format!(in rt.alloc();
         "{}{}\n{}{}",
         GREATEST[0], ENDS[0], GREATEST[1], ENDS[1]
     ).expect(&rt, "memory");
-    assert_eq!(rt; told.as_str(), want.as_str());
+    assert_eq!(rt; shown.as_str(), want.as_str());
 }

@@ -1,4 +1,4 @@
-//! Pages and surveys of one exploration, one behind the other; pages that are cut off; and a census.
+//! Pages and surveys of one exploration, one after the other; pages that are cut off; and a census.
 ghost use Rattle.std.specs.Prelude.{◌≤◌};
 
 use super::common::swap;
@@ -19,7 +19,7 @@ pub fn pages_of(rt: &impl Abort, alloc: Global, start: &Start, bound: u8, limit:
     pages
 }
 
-/// The only row, and what comes behind it: the page that it fills, and one with room for more.
+/// The only row, and what comes after it: the page that it fills, and one with room for more.
 static PAGES: [(u32, &str); 2] = [
     (
         1,
@@ -44,7 +44,7 @@ fn a_page_goes_on_where_the_last_one_ends(rt: HostRuntime) {
     }
 }
 
-/// How many rows stand before the last schedule of two cuts of a start, and how many are told then; and whether they are all.
+/// How many rows stand before the last schedule of two cuts of a start, and how many are counted then; and whether they are all.
 fn rows_of(rt: &impl Abort, alloc: Global, start: &Start) -> [(u32, bool); 2] {
     let mut explorer = Explorer::<JournalFlash>::start(alloc, start, 2).expect(rt, "an explorer");
     let before = survey_until(
@@ -116,7 +116,7 @@ first-not-boot 0.17
 ";
 
 #[test]
-fn a_number_that_was_cut_off_is_told_so(rt: HostRuntime) {
+fn a_number_that_was_cut_off_is_shown_so(rt: HostRuntime) {
     let census = Census {
         schedules: u128::MAX,
         boot: u128::MAX - 1,
@@ -126,6 +126,6 @@ fn a_number_that_was_cut_off_is_told_so(rt: HostRuntime) {
         most_operations: 7,
         first_not_boot: Some(Schedule::read("0.17").expect(&rt, "a text")),
     };
-    let told = format!(in rt.alloc(); "{census}").expect(&rt, "memory");
-    assert_eq!(rt; told.as_str(), CUT_OFF);
+    let shown = format!(in rt.alloc(); "{census}").expect(&rt, "memory");
+    assert_eq!(rt; shown.as_str(), CUT_OFF);
 }

@@ -30,8 +30,8 @@ static CAMPAIGNS: &str = "\
 -,1.0 => E62 CampaignSyntax
 ";
 
-/// What is told of a text: the campaign that it says, printed again, or why it says none.
-fn told_of(alloc: Global, text: &str) -> Result<String, AllocError> {
+/// What is reported of a text: the campaign that it says, printed again, or why it says none.
+fn shown_of(alloc: Global, text: &str) -> Result<String, AllocError> {
     match Campaign::read(text) {
         Ok(campaign) => format!(in alloc; "{campaign}"),
         Err(error) => format!(in alloc; "{error}"),
@@ -42,8 +42,8 @@ fn told_of(alloc: Global, text: &str) -> Result<String, AllocError> {
 fn campaigns_are_read_back_or_refused(rt: HostRuntime) {
     for line in CAMPAIGNS.lines() {
         let (text, want) = line.split_once(" => ").expect(&rt, "a text and an end");
-        let told = told_of(rt.alloc(), text).expect(&rt, "memory");
-        assert_eq!(rt; told.as_str(), want, "{line}");
+        let shown = shown_of(rt.alloc(), text).expect(&rt, "memory");
+        assert_eq!(rt; shown.as_str(), want, "{line}");
     }
 }
 
@@ -66,8 +66,8 @@ fn texts_name_their_cuts_in_order(rt: HostRuntime) {
     let schedule = Schedule::read("9.4").expect(&rt, "a text");
     assert_eq!(rt; schedule.cuts(), [9, 4].as_slice());
     let campaign = Campaign::read("1.3,2.0,2.17").expect(&rt, "a text");
-    assert_eq!(rt; campaign.places(Round::First).cuts(), [3].as_slice());
-    assert_eq!(rt; campaign.places(Round::Second).cuts(), [0, 17].as_slice());
+    assert_eq!(rt; campaign.schedule(Round::First).cuts(), [3].as_slice());
+    assert_eq!(rt; campaign.schedule(Round::Second).cuts(), [0, 17].as_slice());
 }
 
 #[test]

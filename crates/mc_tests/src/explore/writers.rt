@@ -3,23 +3,23 @@ ghost use Rattle.std.specs.Prelude.{◌≤◌};
 
 use super::common::swap;
 use mc_campaign::CampaignExplorer;
-use mc_explore::{ExploreError, Once, RowSource, Start, TreeExplorer, write_rows};
+use mc_explore::{ExploreError, OneRound, RowSource, Start, TreeExplorer, write_rows};
 use mc_fixtures::{FAULTS, FailingWriter, Failure, Fault};
 use mc_flash::SnapFlash;
 use std::alloc::Global;
 use std::process::Abort;
 
-/// What was told of a page, of another page behind it, and then of the next row: their errors.
+/// What was reported of a page, of another page after it, and then of the next row: their errors.
 type Errors = [Option<ExploreError>; 3];
 
-/// What is told where a write of a page fails.
+/// What is reported where a write of a page fails.
 static STOPPED: Errors = [
     Some(ExploreError::Write),
     Some(ExploreError::Failed),
     Some(ExploreError::Failed),
 ];
 
-/// What is told of the pages of an exploration. The test ends where an allocation failed (`scripts/refuse-tests`).
+/// What is reported of the pages of an exploration. The test ends where an allocation failed (`scripts/refuse-tests`).
 fn errors_of<S: RowSource>(
     rt: &impl Abort,
     source: &mut S,
@@ -38,7 +38,7 @@ fn errors_of<S: RowSource>(
 /// What is explored: whether it is campaigns, the most cuts, and the most rows of a page; and the first two pages of it.
 type Explored = (bool, u8, u32, [&'static str; 2]);
 
-/// What is told of the pages of an exploration of schedules, or of campaigns without a confirmation.
+/// What is reported of the pages of an exploration of schedules, or of campaigns without a confirmation.
 fn errors(
     rt: &impl Abort,
     alloc: Global,
@@ -55,29 +55,31 @@ fn errors(
         );
         errors_of(rt, &mut explorer, &(), limit, writer)
     } else {
-        let mut explorer = TreeExplorer::<SnapFlash, Once>::start(alloc, start, bound, ()).expect(
-            rt,
-            "an explorer",
-        );
+        let mut explorer = TreeExplorer::<SnapFlash, OneRound>::start(
+            alloc,
+            start,
+            bound,
+            (),
+        ).expect(rt, "an explorer");
         errors_of(rt, &mut explorer, &None, limit, writer)
     }
 }
 
-/// Looks what is told of the pages of an exploration over a writer that fails so, and which bytes it took.
-fn assert_told(
+/// Looks what is reported of the pages of an exploration over a writer that fails so, and which bytes it took.
+fn assert_shown(
     rt: &impl Abort,
     alloc: Global,
     start: &Start,
     explored: &Explored,
     failure: Failure,
-    told: (Errors, &[u8]),
+    shown: (Errors, &[u8]),
 ) {
     let mut writer = FailingWriter {
         taken: Vec::with_capacity(alloc, 1024).expect(rt, "memory"),
         failure,
     };
     let errors = errors(rt, alloc, start, explored, &mut writer);
-    assert_eq!(rt; (errors, writer.taken.as_slice()), told, "{failure:?}");
+    assert_eq!(rt; (errors, writer.taken.as_slice()), shown, "{failure:?}");
 }
 
 /// A writer that never fails.
@@ -92,19 +94,19 @@ static NEVER: Failure = Failure {
 fn meets_failing_writes(rt: &impl Abort, alloc: Global, start: &Start, explored: &Explored) {
     let [page, next] = explored.3;
     for calls in 0..page.len() {
-        let told = (STOPPED, &page.as_bytes()[..calls]);
+        let shown = (STOPPED, &page.as_bytes()[..calls]);
         for (fault, lasts) in FAULTS {
             let failure = Failure {
                 calls,
                 fault,
                 lasts,
             };
-            assert_told(rt, alloc, start, explored, failure, told);
+            assert_shown(rt, alloc, start, explored, failure, shown);
         }
     }
     let pages = format!(in alloc; "{page}{next}").expect(rt, "memory");
-    let told = ([None; 3], pages.as_str().as_bytes());
-    assert_told(rt, alloc, start, explored, NEVER, told)
+    let shown = ([None; 3], pages.as_str().as_bytes());
+    assert_shown(rt, alloc, start, explored, NEVER, shown)
 }
 
 /// Pages of three rows, of all rows, and of the only row without a cut; pages of two campaigns, and of all that there are without a

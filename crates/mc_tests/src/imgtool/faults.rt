@@ -48,9 +48,9 @@ fn ends(rt: &impl Abort, alloc: Global, engine: Engine, reads: Failure, writes: 
         taken: Vec::with_capacity(alloc, text.len()).expect(rt, "memory"),
         failure: writes,
     };
-    let told = engine.run(rt, alloc, &mut reader, &mut writer);
+    let shown = engine.run(rt, alloc, &mut reader, &mut writer);
     let (wanted, count) = end_of(input.len(), text.len(), reads, writes);
-    let found = (told, Some(writer.taken.as_slice()));
+    let found = (shown, Some(writer.taken.as_slice()));
     same_at(rt, &(reads, writes), &found, &(wanted, text.get(..count)))
 }
 

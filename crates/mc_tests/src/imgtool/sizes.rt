@@ -1,7 +1,7 @@
 //! The engines on the largest inputs. The digests are those of an independent program.
 ghost use Rattle.std.specs.Prelude.{◌≡◌, true};
 
-use super::{Engine, WORKED, is_told};
+use super::{Engine, WORKED, is_shown};
 use crate::common::same;
 use mc_image::Version;
 use mc_imgtool::{CreateOptions, create, read_bounded};
@@ -62,11 +62,11 @@ fn created(rt: &impl Abort, alloc: Global, left: usize, options: &CreateOptions)
     out
 }
 
-/// Some bytes are so many, and end with those that these digits tell.
+/// Some bytes are so many, and end with those that these digits say.
 fn end_with(rt: &impl Abort, alloc: Global, bytes: &[u8], length: usize, digits: &str) {
     let end = hex::decode(alloc, digits).expect(rt, "digits");
-    let told = (bytes.len(), bytes.ends_with(end.as_slice()));
-    same(rt, &told, &(length, true));
+    let shown = (bytes.len(), bytes.ends_with(end.as_slice()));
+    same(rt, &shown, &(length, true));
 }
 
 /// The options of the largest slot.
@@ -103,12 +103,12 @@ static ZEROS: [(Engine, usize, &str); 3] = [
 fn zeros_are_refused(rt: HostRuntime) {
     for (engine, left, wanted) in &ZEROS {
         let mut input = Zeros { left: *left };
-        is_told(&rt, rt.alloc(), *engine, &mut input, *wanted);
+        is_shown(&rt, rt.alloc(), *engine, &mut input, *wanted);
         same(&rt, &input.left, &0);
     }
 }
 
-/// What is told of the largest image, and of so many bytes behind it.
+/// What is reported of the largest image, and of so many bytes after it.
 static LARGEST: [(Engine, usize, &str); 4] = [
     (Engine::Verify, 0, LARGEST_LINE),
     (Engine::Dumpinfo, 0, LARGEST_REPORT),
@@ -119,9 +119,9 @@ static LARGEST: [(Engine, usize, &str); 4] = [
 #[test]
 fn the_largest_image_is_judged_and_a_larger_one_refused(rt: HostRuntime) {
     let mut image = created(&rt, rt.alloc(), MOST - 72, &WORKED);
-    for (engine, behind, wanted) in &LARGEST {
-        image.resize(MOST + *behind, 0).expect(&rt, "memory");
-        is_told(&rt, rt.alloc(), *engine, &mut image.as_slice(), *wanted);
+    for (engine, beyond, wanted) in &LARGEST {
+        image.resize(MOST + *beyond, 0).expect(&rt, "memory");
+        is_shown(&rt, rt.alloc(), *engine, &mut image.as_slice(), *wanted);
     }
 }
 
@@ -143,7 +143,7 @@ const GREATEST: CreateOptions = CreateOptions {
 #[test]
 fn the_longest_line_is_written(rt: HostRuntime) {
     let image = created(&rt, rt.alloc(), MOST - 72, &GREATEST);
-    is_told(
+    is_shown(
         &rt,
         rt.alloc(),
         Engine::Verify,

@@ -12,7 +12,7 @@ use Rattle.mc_flash.specs.facts.Changes.{Changed, changed_sized, blank_range, ra
 use Rattle.mc_flash.specs.declared.op.Op.TheVariants as ops
 use Rattle.mc_flash.specs.declared.op.Slot.TheVariants.{Primary}
 use Rattle.mc_trailer.specs.Trailer.{entry_place, bytes_at, one_unit, is_written, IsWritten, IsHighest, greatest, highest_entry}
-use Rattle.mc_trailer.specs.facts.Places.{entry_behind, entry_inside, group_inside, entry_ends, entries_apart, one_unit_len}
+use Rattle.mc_trailer.specs.facts.Places.{entry_beyond, entry_inside, group_inside, entry_ends, entries_apart, one_unit_len}
 use Rattle.mc_trailer.specs.Laws.{WritesHighest}
 
 -- The greatest number below a limit that passes: it passes, and no other above it does.
@@ -69,13 +69,13 @@ group_blank g s first count e ok sized below blank from to =
     let k : ℕ = e - first in
     let is : first + k ≡ e = omega (arith, from) in
     let inside = group_inside g first count ok (omega (arith, from, to)) below in
-    let behind = entry_behind g first k ok (omega (arith, is, to, below)) in
+    let beyond = entry_beyond g first k ok (omega (arith, is, to, below)) in
     let row : (k + 1) * g.unit ≤ count * g.unit = mul-le-mul_right g.unit (omega (arith, is, to)) in
     let one : (k + 1) * g.unit ≡ k * g.unit + g.unit = omega arith in
     let fits : entry_place g first + count * g.unit ≤ length s.primary = omega (arith, inside, sized) in
     let here : is_blank (bytes_at s Primary (entry_place g (first + k)) g.unit) ≡ true =
-    blank_range s.primary (entry_place g (first + k)) g.unit (omega (arith, behind, row, one, fits)) (λ i short.
-    ap (slice_index s.primary) (at_place (entry_place g (first + k)) (entry_place g first) (k * g.unit) i behind)
+    blank_range s.primary (entry_place g (first + k)) g.unit (omega (arith, beyond, row, one, fits)) (λ i short.
+    ap (slice_index s.primary) (at_place (entry_place g (first + k)) (entry_place g first) (k * g.unit) i beyond)
     ∙ range_blank s.primary (entry_place g first) (count * g.unit) (k * g.unit + i) fits blank (omega (arith, short, row, one))) in
     ap (λ n. is_written g s n) (sym is) ∙ ap not here
   where
@@ -157,7 +157,7 @@ same_entry g s t e ok sized_s sized_t below same = ap (λ (xs : List ℕ). not (
 
 -- A write that does not touch an entry keeps it: in the primary, at another entry, and in the secondary.
 pub entry_kept : (g : Geometry) (s t : Content) (at : ℕ) (new : List ℕ) (e : ℕ) → Changed s t Primary at new → (at + length new ≤ entry_place g e) ⊎ (entry_place g e + g.unit ≤ at) → SameEntry g s t e
-entry_kept g s t at new e ch (inl behind) i within = ch.behind (entry_place g e + i) (omega (arith, behind))
+entry_kept g s t at new e ch (inl beyond) i within = ch.beyond (entry_place g e + i) (omega (arith, beyond))
 entry_kept g s t at new e ch (inr before) i within = ch.before (entry_place g e + i) (omega (arith, before, within))
 
 pub entry_kept_beside : (g : Geometry) (s t : Content) (d e value : ℕ) → IsLayout g → d < 3 * g.max_sectors → e < 3 * g.max_sectors → d ≢ e → Changed s t Primary (entry_place g d) (one_unit g value)
@@ -165,7 +165,7 @@ pub entry_kept_beside : (g : Geometry) (s t : Content) (d e value : ℕ) → IsL
 entry_kept_beside g s t d e value ok below_d below_e other ch = elim (cases_order d e) [
   | inl same ↦ absurd (other same)
   | inr (inl before) ↦ entry_kept g s t (entry_place g d) (one_unit g value) e ch (inl (omega (arith, one_unit_len g value ok, entries_apart g d e ok before below_e)))
-  | inr (inr behind) ↦ entry_kept g s t (entry_place g d) (one_unit g value) e ch (inr (entries_apart g e d ok behind below_d))
+  | inr (inr beyond) ↦ entry_kept g s t (entry_place g d) (one_unit g value) e ch (inr (entries_apart g e d ok beyond below_d))
 ]
 
 -- Where the part of the trailer before the fields is the same, so is each entry.

@@ -47,17 +47,17 @@ blank_field g s slot f each i short within = each i within ∙ sym (get_or-repli
 pub blank_byte : (g : Geometry) (s : Content) (slot : Slot) (f : Field) (i : ℕ) → FieldIs g s slot f (replicate (room f) 255) → i < room f → byte s slot (place g slot f + i) ≡ 255
 blank_byte g s slot f i is within = is i (omega (arith, within, length-replicate {A = ℕ} (room f) 255)) within ∙ get_or-replicate (room f) i 255 0 within
 
--- A field's bytes said by an equal list, and by the front of a longer one.
+-- A field's bytes said by an equal list, and by the prefix of a longer one.
 pub field_as : (g : Geometry) (s : Content) (slot : Slot) (f : Field) (xs ys : List ℕ) → xs ≡ ys → FieldIs g s slot f xs → FieldIs g s slot f ys
 field_as g s slot f xs ys same is = let P : List ℕ → Type 0 = λ l. FieldIs g s slot f l in subst P same is
 
-pub field_front : (g : Geometry) (s : Content) (slot : Slot) (f : Field) (xs rest : List ℕ) → FieldIs g s slot f (xs ++ rest) → FieldIs g s slot f xs
-field_front g s slot f xs rest is i short within = is i (omega (arith, short, length-append xs rest)) within ∙ get_or_append_left xs rest 0 i short
+pub field_prefix : (g : Geometry) (s : Content) (slot : Slot) (f : Field) (xs rest : List ℕ) → FieldIs g s slot f (xs ++ rest) → FieldIs g s slot f xs
+field_prefix g s slot f xs rest is i short within = is i (omega (arith, short, length-append xs rest)) within ∙ get_or_append_left xs rest 0 i short
 
 -- A write that does not touch a field keeps it: in the same slot, in the other, and at another field.
 pub field_kept : (g : Geometry) (s t : Content) (slot : Slot) (at : ℕ) (new : List ℕ) (f : Field) → Changed s t slot at new → (at + length new ≤ place g slot f) ⊎ (place g slot f + room f ≤ at)
     → SameField g s t slot f
-field_kept g s t slot at new f ch (inl behind) i within = ch.behind (place g slot f + i) (omega (arith, behind))
+field_kept g s t slot at new f ch (inl beyond) i within = ch.beyond (place g slot f + i) (omega (arith, beyond))
 field_kept g s t slot at new f ch (inr before) i within = ch.before (place g slot f + i) (omega (arith, before, within))
 
 pub field_kept_elsewhere : (g : Geometry) (s t : Content) (slot o : Slot) (at : ℕ) (new : List ℕ) (f : Field) → Changed s t slot at new → o ≢ slot → SameField g s t o f
@@ -67,7 +67,7 @@ pub field_kept_beside : (g : Geometry) (s t : Content) (slot : Slot) (e f : Fiel
     → SameField g s t slot f
 field_kept_beside g s t slot e f new ok ch short other = elim (fields_apart g slot e f ok other) [
   | inl before ↦ field_kept g s t slot (place g slot e) new f ch (inl (omega (arith, before, short)))
-  | inr behind ↦ field_kept g s t slot (place g slot e) new f ch (inr behind)
+  | inr beyond ↦ field_kept g s t slot (place g slot e) new f ch (inr beyond)
 ]
 
 -- The same field begins with the same bytes.
@@ -85,9 +85,9 @@ fields_same g s t slot v ok same are f = same_field_is g s t slot f (v f) (field
 pub fields_as : (g : Geometry) (s : Content) (slot : Slot) (v w : Field → List ℕ) → ((f : Field) → v f ≡ w f) → FieldsAre g s slot v → FieldsAre g s slot w
 fields_as g s slot v w same are f = field_as g s slot f (v f) (w f) (same f) (are f)
 
-pub fields_front : (g : Geometry) (s : Content) (slot : Slot) (v w : Field → List ℕ) → ((f : Field) → (rest : List ℕ) × (v f ≡ w f ++ rest)) → FieldsAre g s slot v → FieldsAre g s slot w
-fields_front g s slot v w more are f =
-    field_front g s slot f (w f) (more f).0 (field_as g s slot f (v f) (w f ++ (more f).0) (more f).1 (are f))
+pub fields_prefix : (g : Geometry) (s : Content) (slot : Slot) (v w : Field → List ℕ) → ((f : Field) → (rest : List ℕ) × (v f ≡ w f ++ rest)) → FieldsAre g s slot v → FieldsAre g s slot w
+fields_prefix g s slot v w more are f =
+    field_prefix g s slot f (w f) (more f).0 (field_as g s slot f (v f) (w f ++ (more f).0) (more f).1 (are f))
 
 -- The same but for one field.
 abbrev pub set_field : (Field → List ℕ) → Field → List ℕ → Field → List ℕ
@@ -102,8 +102,8 @@ set_other v e f new other = rw (ne_eqb (before_end e) (before_end f) differ) ref
     differ : before_end e ≡ before_end f → ⊥
     differ same = elim (same_or_apart e f) [
       | inl is ↦ other is
-      | inr (inl behind) ↦ omega (arith, same, behind, room_is e)
-      | inr (inr front) ↦ omega (arith, same, front, room_is f)
+      | inr (inl beyond) ↦ omega (arith, same, beyond, room_is e)
+      | inr (inr prefix) ↦ omega (arith, same, prefix, room_is f)
     ]
 
 -- A write of a field sets it, and keeps the others.
@@ -114,7 +114,7 @@ write_field g s t slot v f new ok short are ch e = elim (same_or_apart e f) [
       let P : Field → Type 0 = λ x. FieldIs g t slot x (set_field v f new x) in
       subst P (sym same) (field_as g t slot f new (set_field v f new f) (sym (set_same v f new)) (written_field g s t slot f new ch))
   | inr apart ↦
-      let other : e ≢ f = λ same. elim apart [ inl behind ↦ omega (arith, behind, ap before_end same, room_is e) | inr front ↦ omega (arith, front, ap before_end same, room_is f) ] in
+      let other : e ≢ f = λ same. elim apart [ inl beyond ↦ omega (arith, beyond, ap before_end same, room_is e) | inr prefix ↦ omega (arith, prefix, ap before_end same, room_is f) ] in
       field_as g t slot e (v e) (set_field v f new e) (sym (set_other v e f new other))
       (same_field_is g s t slot e (v e) (field_kept_beside g s t slot f e new ok ch short (λ same. other (sym same))) (are e))
 ]
@@ -190,7 +190,7 @@ pub reads_size : (g : Geometry) (s : Content) (slot : Slot) (size : ℕ) (rest :
     → (trailer_of g s slot).swap_size ≡ size
 unfolding trailer_of
 reads_size g s slot size rest ok sized small is =
-    ap (little_number 4) (field_bytes g s slot field.SwapSize 4 (little_bytes 4 size) ok sized refl (omega arith) (field_front g s slot field.SwapSize (little_bytes 4 size) rest is))
+    ap (little_number 4) (field_bytes g s slot field.SwapSize 4 (little_bytes 4 size) ok sized refl (omega arith) (field_prefix g s slot field.SwapSize (little_bytes 4 size) rest is))
     ∙ little_number-reads_back 4 size [] small
 
 -- Trailers of the same fields are the same.

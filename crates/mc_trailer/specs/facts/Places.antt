@@ -1,4 +1,4 @@
--- What follows for the places: the fields and the status entries lie in the slot, at whole units, behind the data sectors,
+-- What follows for the places: the fields and the status entries lie in the slot, at whole units, after the data sectors,
 -- and apart from one another. Proved here, so that the crates above can cite it.
 use Rattle.std.specs.Prelude.{◌≡◌, ◌≢◌, ◌⊎◌, ℕ, ◌+◌, ◌-◌, ◌*◌, ◌%◌, ◌<◌, ◌≤◌, ◌==◌, if◌then◌else◌, length, refl}
 use Rattle.std.proofs.Common.{arith, sym, ap, ◌∙◌, inl, inr}
@@ -56,8 +56,8 @@ same_or_apart e f =
     let n = eights f in
     elim (cases_order (before_end e) (before_end f)) [
       | inl same ↦ inl (sym (found_at e) ∙ ap field_at same ∙ found_at f)
-      | inr (inl behind) ↦ inr (inr (omega (arith, behind, m.1, m.2, n.1, room_is f)))
-      | inr (inr front) ↦ inr (inl (omega (arith, front, m.1, n.1, n.2, room_is e)))
+      | inr (inl beyond) ↦ inr (inr (omega (arith, beyond, m.1, m.2, n.1, room_is f)))
+      | inr (inr prefix) ↦ inr (inl (omega (arith, prefix, m.1, n.1, n.2, room_is e)))
     ]
 
 pub place_inside : (g : Geometry) (slot : Slot) (f : Field) → IsLayout g → place g slot f + before_end f ≡ size_of g slot
@@ -69,33 +69,33 @@ field_ends g slot f ok = omega (arith, place_inside g slot f ok, room_is f)
 pub fields_apart : (g : Geometry) (slot : Slot) (e f : Field) → IsLayout g → e ≢ f → (place g slot e + room e ≤ place g slot f) ⊎ (place g slot f + room f ≤ place g slot e)
 fields_apart g slot e f ok other = elim (same_or_apart e f) [
   | inl same ↦ absurd (other same)
-  | inr (inl behind) ↦ inl (omega (arith, behind, place_inside g slot e ok, place_inside g slot f ok))
-  | inr (inr front) ↦ inr (omega (arith, front, place_inside g slot e ok, place_inside g slot f ok))
+  | inr (inl beyond) ↦ inl (omega (arith, beyond, place_inside g slot e ok, place_inside g slot f ok))
+  | inr (inr prefix) ↦ inr (omega (arith, prefix, place_inside g slot e ok, place_inside g slot f ok))
 ]
 
 -- entry e begins e units after the first
 pub entry_inside : (g : Geometry) (e : ℕ) → IsLayout g → e < 3 * g.max_sectors → entry_place g e + (48 + 3 * g.max_sectors * g.unit) ≡ size_of g Primary + e * g.unit
 entry_inside g e ok below =
     let inside = trailer_inside g Primary ok in
-    let few : e * g.unit ≤ 3 * g.max_sectors * g.unit = mul-le-mul_right g.unit (omega arith) in
+    let at_most : e * g.unit ≤ 3 * g.max_sectors * g.unit = mul-le-mul_right g.unit (omega arith) in
     omega arith
 
 pub entry_ends : (g : Geometry) (e : ℕ) → IsLayout g → e < 3 * g.max_sectors → entry_place g e + g.unit + 48 ≤ size_of g Primary
 entry_ends g e ok below =
     let inside = entry_inside g e ok below in
-    let few : (e + 1) * g.unit ≤ 3 * g.max_sectors * g.unit = mul-le-mul_right g.unit (omega arith) in
+    let at_most : (e + 1) * g.unit ≤ 3 * g.max_sectors * g.unit = mul-le-mul_right g.unit (omega arith) in
     omega arith
 
--- So many entries from one on lie in the slot, and each is a unit behind the one before.
+-- So many entries from one on lie in the slot, and each is a unit after the one before.
 pub group_inside : (g : Geometry) (first count : ℕ) → IsLayout g → 0 < count → first + count ≤ 3 * g.max_sectors → entry_place g first + count * g.unit + 48 ≤ size_of g Primary
 group_inside g first count ok some below =
     let inside = entry_inside g first ok (omega (arith, some, below)) in
-    let few : (first + count) * g.unit ≤ 3 * g.max_sectors * g.unit = mul-le-mul_right g.unit below in
+    let at_most : (first + count) * g.unit ≤ 3 * g.max_sectors * g.unit = mul-le-mul_right g.unit below in
     let sum : (first + count) * g.unit ≡ first * g.unit + count * g.unit = omega arith in
-    omega (arith, inside, few, sum)
+    omega (arith, inside, at_most, sum)
 
-pub entry_behind : (g : Geometry) (first k : ℕ) → IsLayout g → first + k < 3 * g.max_sectors → entry_place g (first + k) ≡ entry_place g first + k * g.unit
-entry_behind g first k ok below =
+pub entry_beyond : (g : Geometry) (first k : ℕ) → IsLayout g → first + k < 3 * g.max_sectors → entry_place g (first + k) ≡ entry_place g first + k * g.unit
+entry_beyond g first k ok below =
     let sum : (first + k) * g.unit ≡ first * g.unit + k * g.unit = omega arith in
     omega (arith, entry_inside g first ok (omega (arith, below)), entry_inside g (first + k) ok below, sum)
 
@@ -107,9 +107,9 @@ entries_apart g d e ok before below =
     along : (p q size rest : ℕ) → (d + 1) * g.unit ≤ e * g.unit → p + (48 + rest) ≡ size + d * g.unit → q + (48 + rest) ≡ size + e * g.unit → p + g.unit ≤ q
     along p q size rest row at_p at_q = omega arith
 
--- Fields and entries lie behind the data sectors.
-pub field_behind_data : (g : Geometry) (slot : Slot) (f : Field) → IsLayout g → data_end g slot + 3 * g.max_sectors * g.unit ≤ place g slot f
-field_behind_data g slot f ok = from (data_end g slot) (data_before_trailer g slot ok)
+-- Fields and entries lie after the data sectors.
+pub field_beyond_data : (g : Geometry) (slot : Slot) (f : Field) → IsLayout g → data_end g slot + 3 * g.max_sectors * g.unit ≤ place g slot f
+field_beyond_data g slot f ok = from (data_end g slot) (data_before_trailer g slot ok)
   where
     from : (d : ℕ) → d + trailer_bytes g ≤ size_of g slot → d + 3 * g.max_sectors * g.unit ≤ place g slot f
     from d before = omega (arith, before, place_inside g slot f ok, most_before_end f)

@@ -5,13 +5,13 @@ use Rattle.std.proofs.lemmas.Bool.{cases_lt}
 use Rattle.std.proofs.lemmas.List.Elements.{Contains-append_cases, Contains-append_left, Contains-append_right}
 use Rattle.mc_tree.specs.Tree.{Tree, IsMember, Precedes, Position, AtStart, After, Lost, Ascends, IsRest}
 use Rattle.mc_tree.specs.facts.Order.{IsOrder, cases_of}
-use Rattle.mc_tree.specs.facts.Lists.{no_element, at_front, behind, front_or_behind, no_pairs, pairs_behind, pairs_front, more_pairs, pairs_append, in_map, map_in, pairs_mapped}
+use Rattle.mc_tree.specs.facts.Lists.{no_element, at_head, in_rest, head_or_rest, no_pairs, pairs_rest, pairs_head, more_pairs, pairs_append, in_map, map_in, pairs_mapped}
 
--- Each path comes before all that stand behind it.
+-- Each path comes before all that stand after it.
 abbrev pub PathsAscend : List (List ℕ) → Type 0
 PathsAscend = AllPairs Precedes
 
--- The paths that begin with a number below n, of those that go on behind each.
+-- The paths that begin with a number below n, of those that go on after each.
 unfoldable pub beginning : (ℕ → List (List ℕ)) → ℕ → List (List ℕ)
 beginning f zero = []
 beginning f (suc n) = beginning f n ++ map (λ l. n ∷ l) (f n)
@@ -64,13 +64,13 @@ module _ {N : Type 0} (t : Tree N) where
 
   in_all : (k : ℕ) (s : N) (m : List ℕ) → Contains (all_from k s) m → IsMember t s k m
   unfolding all_from
-  in_all zero s m i = elim (front_or_behind [] m [] i) [
+  in_all zero s m i = elim (head_or_rest [] m [] i) [
     | inl e ↦ subst (IsMember t s 0) (sym e) (omega arith, tt)
     | inr j ↦ absurd (no_element m j)
   ]
   in_all (suc k) s m i =
       let f : ℕ → List (List ℕ) = λ x. all_from k (t.child s x) in
-      elim (front_or_behind [] m (beginning f (t.width s)) i) [
+      elim (head_or_rest [] m (beginning f (t.width s)) i) [
         | inl e ↦ subst (IsMember t s (suc k)) (sym e) (omega arith, tt)
         | inr j ↦
             let q = in_beginning f (t.width s) m j in
@@ -80,12 +80,12 @@ module _ {N : Type 0} (t : Tree N) where
 
   all_in : (k : ℕ) (s : N) (m : List ℕ) → IsMember t s k m → Contains (all_from k s) m
   unfolding all_from
-  all_in zero s [] mem = at_front [] []
+  all_in zero s [] mem = at_head [] []
   all_in zero s (x ∷ xs) mem = absurd (omega (arith, mem.0))
-  all_in (suc k) s [] mem = at_front [] (beginning (λ x. all_from k (t.child s x)) (t.width s))
+  all_in (suc k) s [] mem = at_head [] (beginning (λ x. all_from k (t.child s x)) (t.width s))
   all_in (suc k) s (x ∷ xs) mem =
       let f : ℕ → List (List ℕ) = λ x. all_from k (t.child s x) in
-      behind [] (x ∷ xs) (beginning f (t.width s))
+      in_rest [] (x ∷ xs) (beginning f (t.width s))
       (beginning_in f (t.width s) x xs mem.1.0 (all_in k (t.child s x) xs (omega (arith, mem.0), mem.1.1)))
 
 module _ {K R : Type 0} (Before : K → K → Type 0) (order : IsOrder Before) (key : R → K) where
@@ -97,25 +97,25 @@ module _ {K R : Type 0} (Before : K → K → Type 0) (order : IsOrder Before) (
       × ((m : R) → Contains past m → Contains rows m × Before last (key m)) × ((m : R) → Contains rows m → Before last (key m) → Contains past m)
   past_of last [] up = ([], no_pairs RowsBefore, λ m i. absurd (no_element m i), λ m i p. i)
   past_of last (x ∷ xs) up =
-      let rest = past_of last xs (pairs_behind RowsBefore x xs up) in
+      let rest = past_of last xs (pairs_rest RowsBefore x xs up) in
       elim (cases_of Before order last (key x)) [
         | inl before ↦ (
           x ∷ rest.0,
-          more_pairs RowsBefore x rest.0 (λ m i. pairs_front RowsBefore x m xs up (rest.2 m i).0) rest.1,
-          λ m i. elim (front_or_behind x m rest.0 i) [
-            | inl e ↦ (subst (Contains (x ∷ xs)) (sym e) (at_front x xs), subst (λ y. Before last (key y)) (sym e) before)
-            | inr j ↦ (behind x m xs (rest.2 m j).0, (rest.2 m j).1)
+          more_pairs RowsBefore x rest.0 (λ m i. pairs_head RowsBefore x m xs up (rest.2 m i).0) rest.1,
+          λ m i. elim (head_or_rest x m rest.0 i) [
+            | inl e ↦ (subst (Contains (x ∷ xs)) (sym e) (at_head x xs), subst (λ y. Before last (key y)) (sym e) before)
+            | inr j ↦ (in_rest x m xs (rest.2 m j).0, (rest.2 m j).1)
           ],
-          λ m i after. elim (front_or_behind x m xs i) [
-            | inl e ↦ subst (Contains (x ∷ rest.0)) (sym e) (at_front x rest.0)
-            | inr j ↦ behind x m rest.0 (rest.3 m j after)
+          λ m i after. elim (head_or_rest x m xs i) [
+            | inl e ↦ subst (Contains (x ∷ rest.0)) (sym e) (at_head x rest.0)
+            | inr j ↦ in_rest x m rest.0 (rest.3 m j after)
           ],
         )
         | inr not ↦ (
           rest.0,
           rest.1,
-          λ m i. (behind x m xs (rest.2 m i).0, (rest.2 m i).1),
-          λ m i after. elim (front_or_behind x m xs i) [
+          λ m i. (in_rest x m xs (rest.2 m i).0, (rest.2 m i).1),
+          λ m i after. elim (head_or_rest x m xs i) [
             | inl e ↦ absurd (not (subst (λ y. Before last (key y)) e after))
             | inr j ↦ rest.3 m j after
           ],

@@ -9,25 +9,25 @@ use Rattle.mc_tree.specs.facts.OneList.{one_rest, rest_tail}
 use Rattle.mc_tree.specs.facts.Order.{IsOrder}
 
 module _ {R : Type 0} where
-  -- Behind a full page the rest of the chain is a front of the others.
+  -- After a full page the rest of the chain is a prefix of the others.
   full_page : (limit : ℕ) (whole page more rows : List R) (ended : Bool) → rows ≡ page ++ more → page ≡ take limit whole
       → JoinUp (drop limit whole) more ended → JoinUp whole rows ended
-  full_page limit whole page more rows ended joined first behind =
+  full_page limit whole page more rows ended joined first beyond =
       let with_page : List R → List R = λ xs. page ++ xs in record {
-        front = (
-          limit + behind.front.0,
-          joined ∙ ap with_page behind.front.1 ∙ ap (λ (xs : List R). xs ++ take behind.front.0 (drop limit whole)) first ∙ sym (take-add limit behind.front.0 whole),
+        prefix = (
+          limit + beyond.prefix.0,
+          joined ∙ ap with_page beyond.prefix.1 ∙ ap (λ (xs : List R). xs ++ take beyond.prefix.0 (drop limit whole)) first ∙ sym (take-add limit beyond.prefix.0 whole),
         );
-        all = λ is. joined ∙ ap with_page (behind.all is) ∙ ap (λ (xs : List R). xs ++ drop limit whole) first ∙ take-append-drop limit whole;
+        all = λ is. joined ∙ ap with_page (beyond.all is) ∙ ap (λ (xs : List R). xs ++ drop limit whole) first ∙ take-append-drop limit whole;
       }
 
   -- A page that is not full has all rows.
   short_page : (limit : ℕ) (whole page more rows : List R) (ended : Bool) → rows ≡ page ++ more → page ≡ take limit whole
       → length page < limit → more ≡ [] → JoinUp whole rows ended
   short_page limit whole page more rows ended joined first short none =
-      let few : length whole ≤ limit = omega (arith, short, length-take limit whole, ap (λ (xs : List R). length xs) first) in
-      let all : rows ≡ whole = joined ∙ ap (λ (xs : List R). page ++ xs) none ∙ append-nil page ∙ first ∙ take_all limit whole few in
-      record { front = (limit, all ∙ sym (take_all limit whole few)); all = λ _. all }
+      let at_most : length whole ≤ limit = omega (arith, short, length-take limit whole, ap (λ (xs : List R). length xs) first) in
+      let all : rows ≡ whole = joined ∙ ap (λ (xs : List R). page ++ xs) none ∙ append-nil page ∙ first ∙ take_all limit whole at_most in
+      record { prefix = (limit, all ∙ sym (take_all limit whole at_most)); all = λ _. all }
 
 -- The last of some rows is so from wherever one begins.
 pub last_same : {K R : Type 0} (key : R → K) (a b : K) (rows : List R) → 0 < length rows → last_key key a rows ≡ last_key key b rows
@@ -57,7 +57,7 @@ module _ {K R : Type 0} (Before : K → K → Type 0) (order : IsOrder Before) (
   pub pages_join : (limits : List ℕ) (position : Position K) (whole rows : List R) (ended : Bool) → All (λ n. 0 < n) limits
       → IsRest Before key IsRow position whole → Chain Before key no_key IsRow position limits ended rows → JoinUp whole rows ended
   pages_join [] position whole rows ended some rest chain =
-      record { front = (0, chain.0); all = λ is. let no : true ≡ false = sym is ∙ chain.1 in absurd cc }
+      record { prefix = (0, chain.0); all = λ is. let no : true ≡ false = sym is ∙ chain.1 in absurd cc }
   pages_join (limit ∷ limits) position whole rows ended some rest (page, more, is_page, joined, on) =
       let first : page ≡ take limit whole = is_page.first ∙ ap (take limit) (one_rest Before order key IsRow position is_page.all whole is_page.rest rest) in
       by (pages_join limits (past_page page) (drop limit whole) more ended (All-tail (λ n. 0 < n) limit limits some)) on first

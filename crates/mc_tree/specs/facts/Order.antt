@@ -97,9 +97,9 @@ before_trans x y z (inr p) (inl q) = inl (omega (arith, p.0, q))
 before_trans x y z (inr p) (inr q) = inr (p.0 ∙ q.0, omega (arith, p.1, q.1))
 
 before_total : (x y : ℕ × ℕ) → Before x y ⊎ (x ≡ y) ⊎ Before y x
-before_total (round, place) (round', place') = elim (numbers_in_order.total round round') [
+before_total (round, index) (round', index') = elim (numbers_in_order.total round round') [
   | inl p ↦ inl (inl p)
-  | inr (inl e) ↦ elim (numbers_in_order.total place place') [
+  | inr (inl e) ↦ elim (numbers_in_order.total index index') [
     | inl p ↦ inl (inr (e, p))
     | inr (inl f) ↦ inr (inl cc)
     | inr (inr p) ↦ inr (inr (inr (sym e, p)))
@@ -120,7 +120,7 @@ beyond_after (x ∷ xs) [] b = absurd b
 beyond_after (x ∷ xs) (y ∷ ys) (inl lt) = inl lt
 beyond_after (x ∷ xs) (y ∷ ys) (inr b) = inr (b.0, beyond_after xs ys b.1)
 
--- The next number at a place of a path lies beyond it, and nothing lies between.
+-- The next number at a position of a path lies beyond it, and nothing lies between.
 beyond_later : (l : List ℕ) (number : ℕ) (more : List ℕ) → Beyond (l ++ number ∷ more) (l ++ (number + 1) ∷ [])
 beyond_later [] number more = inl (omega arith)
 beyond_later (x ∷ xs) number more = inr (refl, beyond_later xs number more)
@@ -137,20 +137,20 @@ none_between_later (x ∷ xs) number (y ∷ ys) (inl lt) (inr p) = omega (arith,
 none_between_later (x ∷ xs) number (y ∷ ys) (inr b) (inl lt') = omega (arith, b.0)
 none_between_later (x ∷ xs) number (y ∷ ys) (inr b) (inr p) = none_between_later xs number ys b.1 p.1
 
-after_front : (l : List ℕ) → Precedes l (l ++ 0 ∷ [])
-after_front [] = tt
-after_front (x ∷ xs) = inr (refl, after_front xs)
+after_prefix : (l : List ℕ) → Precedes l (l ++ 0 ∷ [])
+after_prefix [] = tt
+after_prefix (x ∷ xs) = inr (refl, after_prefix xs)
 
-none_between_front : (l m : List ℕ) → Precedes l m → Precedes m (l ++ 0 ∷ []) → ⊥
-none_between_front [] [] p q = p
-none_between_front [] (y ∷ ys) p (inl lt) = omega arith
-none_between_front [] (y ∷ []) p (inr q) = q.1
-none_between_front [] (y ∷ z ∷ zs) p (inr q) = q.1
-none_between_front (x ∷ xs) [] p q = p
-none_between_front (x ∷ xs) (y ∷ ys) (inl lt) (inl lt') = omega arith
-none_between_front (x ∷ xs) (y ∷ ys) (inl lt) (inr q) = omega (arith, q.0)
-none_between_front (x ∷ xs) (y ∷ ys) (inr p) (inl lt') = omega (arith, p.0)
-none_between_front (x ∷ xs) (y ∷ ys) (inr p) (inr q) = none_between_front xs ys p.1 q.1
+none_between_prefix : (l m : List ℕ) → Precedes l m → Precedes m (l ++ 0 ∷ []) → ⊥
+none_between_prefix [] [] p q = p
+none_between_prefix [] (y ∷ ys) p (inl lt) = omega arith
+none_between_prefix [] (y ∷ []) p (inr q) = q.1
+none_between_prefix [] (y ∷ z ∷ zs) p (inr q) = q.1
+none_between_prefix (x ∷ xs) [] p q = p
+none_between_prefix (x ∷ xs) (y ∷ ys) (inl lt) (inl lt') = omega arith
+none_between_prefix (x ∷ xs) (y ∷ ys) (inl lt) (inr q) = omega (arith, q.0)
+none_between_prefix (x ∷ xs) (y ∷ ys) (inr p) (inl lt') = omega (arith, p.0)
+none_between_prefix (x ∷ xs) (y ∷ ys) (inr p) (inr q) = none_between_prefix xs ys p.1 q.1
 
 -- Before the empty path there is nothing.
 pub none_before_root : (m : List ℕ) → Precedes m [] → ⊥
@@ -172,10 +172,10 @@ module _ {N : Type 0} (t : Tree N) where
   landed-push s [] number = refl
   landed-push s (x ∷ xs) number = landed-push (t.child s x) xs number
 
-  pub allowed_front : (s : N) (l : List ℕ) (n : ℕ) → Allowed t s l → Allowed t s (take n l)
-  allowed_front s l zero a = tt
-  allowed_front s [] (suc n) a = tt
-  allowed_front s (x ∷ xs) (suc n) a = (a.0, allowed_front (t.child s x) xs n a.1)
+  pub allowed_prefix : (s : N) (l : List ℕ) (n : ℕ) → Allowed t s l → Allowed t s (take n l)
+  allowed_prefix s l zero a = tt
+  allowed_prefix s [] (suc n) a = tt
+  allowed_prefix s (x ∷ xs) (suc n) a = (a.0, allowed_prefix (t.child s x) xs n a.1)
 
   allowed_at : (s : N) (x y : ℕ) (ys : List ℕ) → x ≡ y → Allowed t (t.child s y) ys → Allowed t (t.child s x) ys
   allowed_at s x y ys e a = subst (λ z. Allowed t (t.child s z) ys) (sym e) a
@@ -186,12 +186,12 @@ module _ {N : Type 0} (t : Tree N) where
   abbrev pub HasNoChild : N → ℕ → List ℕ → Type 0
   HasNoChild s bound l = (number : ℕ) → IsMember t s bound (l ++ number ∷ []) → ⊥
 
-  -- The next path after one is that with a 0 behind it, where there is such a one.
+  -- The next path after one is that with a 0 after it, where there is such a one.
   pub next_below : (s : N) (bound : ℕ) (l : List ℕ) → IsMember t s bound (l ++ 0 ∷ []) → IsNext (IsMember t s bound) (After l) (l ++ 0 ∷ [])
   next_below s bound l h = record {
     listed = h;
-    past = after_front l;
-    none_between = λ m _ after before. none_between_front l m after before;
+    past = after_prefix l;
+    none_between = λ m _ after before. none_between_prefix l m after before;
   }
 
   -- ---- up and on
@@ -271,7 +271,7 @@ module _ {N : Type 0} (t : Tree N) where
       ]
 
   pub next_above : (s : N) (bound : ℕ) (l next : List ℕ) → length l ≤ bound → HasNoChild s bound l → IsNextBeyond s l next → IsNext (IsMember t s bound) (After l) next
-  next_above s bound l next few none n = record {
+  next_above s bound l next at_most none n = record {
     listed = (omega (arith, n.shorter), n.allowed);
     past = beyond_after l next n.beyond;
     none_between = λ m mem p q. n.none_between m mem.1 (beyond_childless s bound l m none mem p) q;
@@ -280,7 +280,7 @@ module _ {N : Type 0} (t : Tree N) where
   pub none_above : (s : N) (bound : ℕ) (l : List ℕ) → HasNoChild s bound l → NoneBeyond s l → IsOver (IsMember t s bound) (After l)
   none_above s bound l none nb = λ m mem p. nb m mem.1 (beyond_childless s bound l m none mem p)
 
-  -- ---- behind the last child of a node whose children have none
+  -- ---- after the last child of a node whose children have none
 
   beyond_more : (l m : List ℕ) (number : ℕ) → Beyond l m → Beyond (l ++ number ∷ []) m
   beyond_more [] m number b = absurd b
@@ -301,16 +301,16 @@ module _ {N : Type 0} (t : Tree N) where
     full : HasNoChild s bound (l ++ number ∷ [])
     full more m = omega (arith, deep, m.0, length-append (l ++ number ∷ []) (more ∷ []), length-append l (number ∷ []))
 
-    few : length (l ++ number ∷ []) ≤ bound
-    few = omega (arith, deep, length-append l (number ∷ []))
+    at_most : length (l ++ number ∷ []) ≤ bound
+    at_most = omega (arith, deep, length-append l (number ∷ []))
 
     -- The next child of that node.
     pub next_after : Allowed t s (l ++ number ∷ []) → number + 1 < t.width (landed t s l) → IsNext (IsMember t s bound) (After (l ++ number ∷ [])) (l ++ (number + 1) ∷ [])
-    next_after a lt = next_above s bound (l ++ number ∷ []) (l ++ (number + 1) ∷ []) few full (next_beyond s l number [] a tt lt)
+    next_after a lt = next_above s bound (l ++ number ∷ []) (l ++ (number + 1) ∷ []) at_most full (next_beyond s l number [] a tt lt)
 
-    -- Behind its last child what is beyond the node.
+    -- After its last child what is beyond the node.
     pub next_after_last : (next : List ℕ) → t.width (landed t s l) ≤ number + 1 → IsNextBeyond s l next → IsNext (IsMember t s bound) (After (l ++ number ∷ [])) next
-    next_after_last next last n = next_above s bound (l ++ number ∷ []) next few full (record {
+    next_after_last next last n = next_above s bound (l ++ number ∷ []) next at_most full (record {
       shorter = omega (arith, n.shorter, length-append l (number ∷ []));
       allowed = n.allowed;
       beyond = beyond_more l next number n.beyond;

@@ -3,7 +3,7 @@ use Rattle.std.specs.Prelude.{◌≡◌, ℕ, zero, suc, ◌+◌, ◌-◌, ◌<�
 use Rattle.std.proofs.Common.{arith, sym, ap, ◌∙◌}
 use Rattle.std.proofs.lemmas.List.{map-append}
 use Rattle.mc_tree.specs.Tree.{Tree}
-use Rattle.mc_tree.specs.inner.Weights.{Weighing, IsWeighing, IsPlaced, from, placed_below, total, weight}
+use Rattle.mc_tree.specs.inner.Weights.{Weighing, IsWeighing, IsShared, from, shared_below, total, weight}
 use Rattle.mc_tree.specs.facts.Existence.{all_from, beginning}
 
 module _ {M : Type 0} (w : Weighing M) (is : IsWeighing w) where
@@ -13,12 +13,12 @@ module _ {M : Type 0} (w : Weighing M) (is : IsWeighing w) where
       ap (w.both (one x)) (total_append one xs ys) ∙ sym (is.joined (one x) (total w one xs) (total w one ys))
 
   -- The numbers up to one, and that one.
-  pub from_more : (f : ℕ → M) (n i : ℕ) → from w f (suc n) i ≡ w.both (from w f n i) (w.behind (i + n) (f (i + n)))
+  pub from_more : (f : ℕ → M) (n i : ℕ) → from w f (suc n) i ≡ w.both (from w f n i) (w.prefixed (i + n) (f (i + n)))
   from_more f zero i =
-      let at : ℕ → M = λ x. w.behind x (f x) in
+      let at : ℕ → M = λ x. w.prefixed x (f x) in
       is.right (at i) ∙ ap at (omega arith) ∙ sym (is.left (at (i + 0)))
   from_more f (suc n) i =
-      let at : ℕ → M = λ x. w.behind x (f x) in
+      let at : ℕ → M = λ x. w.prefixed x (f x) in
       ap (w.both (at i)) (from_more f n (i + 1))
       ∙ sym (is.joined (at i) (from w f n (i + 1)) (at (i + 1 + n)))
       ∙ ap (λ x. w.both (from w f (suc n) i) (at x)) (omega arith)
@@ -29,7 +29,7 @@ module _ {M : Type 0} (w : Weighing M) (is : IsWeighing w) where
       let same : i ≡ i + 0 = omega arith in
       ap (λ k. from w f k i) (omega arith) ∙ ap (from w f m) same ∙ sym (is.left (from w f m (i + 0)))
   from_parts f (suc n) m i =
-      let at : M = w.behind i (f i) in
+      let at : M = w.prefixed i (f i) in
       let count : suc n + m ≡ suc (n + m) = omega arith in
       let last : i + 1 + n ≡ i + suc n = omega arith in
       ap (λ k. from w f k i) count
@@ -41,32 +41,32 @@ module _ {M : Type 0} (w : Weighing M) (is : IsWeighing w) where
   pub from_alike : (f h : ℕ → M) (n i : ℕ) → ((x : ℕ) → i ≤ x → x < i + n → f x ≡ h x) → from w f n i ≡ from w h n i
   from_alike f h zero i same = refl
   from_alike f h (suc n) i same =
-      ap (λ a. w.both (w.behind i a) (from w f n (i + 1))) (same i (omega arith) (omega arith))
-      ∙ ap (w.both (w.behind i (h i))) (from_alike f h n (i + 1) (λ x le lt. same x (omega (arith, le)) (omega (arith, lt))))
+      ap (λ a. w.both (w.prefixed i a) (from w f n (i + 1))) (same i (omega arith) (omega arith))
+      ∙ ap (w.both (w.prefixed i (h i))) (from_alike f h n (i + 1) (λ x le lt. same x (omega (arith, le)) (omega (arith, lt))))
 
   -- Numbers that are lowered.
-  pub from_back : (f : ℕ → M) (j n i : ℕ) → w.back j (from w f n (j + i)) ≡ from w (λ x. f (j + x)) n i
-  from_back f j zero i = is.back_none j
+  pub from_back : (f : ℕ → M) (j n i : ℕ) → w.first_lowered j (from w f n (j + i)) ≡ from w (λ x. f (j + x)) n i
+  from_back f j zero i = is.lowered_none j
   from_back f j (suc n) i =
-      is.back_both j (w.behind (j + i) (f (j + i))) (from w f n (j + i + 1))
-      ∙ ap (λ a. w.both a (w.back j (from w f n (j + i + 1)))) (is.back_behind j i (f (j + i)))
-      ∙ ap (λ x. w.both (w.behind i (f (j + i))) (w.back j (from w f n x))) (omega arith)
-      ∙ ap (w.both (w.behind i (f (j + i)))) (from_back f j n (i + 1))
+      is.lowered_both j (w.prefixed (j + i) (f (j + i))) (from w f n (j + i + 1))
+      ∙ ap (λ a. w.both a (w.first_lowered j (from w f n (j + i + 1)))) (is.lowered_prefixed j i (f (j + i)))
+      ∙ ap (λ x. w.both (w.prefixed i (f (j + i))) (w.first_lowered j (from w f n x))) (omega arith)
+      ∙ ap (w.both (w.prefixed i (f (j + i)))) (from_back f j n (i + 1))
 
   module _ {N R : Type 0} (t : Tree N) (own : N → M) (one : R → M) (row_of : N → List ℕ → R) where
-    -- A row weighs what its node does, behind the numbers of its path.
+    -- A row weighs what its node does, after the numbers of its path.
     pub record AreWeighed : Type 0 where
       pub here : (s : N) → one (row_of s []) ≡ own s
-      pub below : (s : N) (i : ℕ) (l : List ℕ) → one (row_of s (i ∷ l)) ≡ w.behind i (one (row_of (t.child s i) l))
+      pub below : (s : N) (i : ℕ) (l : List ℕ) → one (row_of s (i ∷ l)) ≡ w.prefixed i (one (row_of (t.child s i) l))
 
     module _ (are : AreWeighed) where
-      rows_behind : (s : N) (i : ℕ) (ls : List (List ℕ))
-          → total w one (map (row_of s) (map (λ l. i ∷ l) ls)) ≡ w.behind i (total w one (map (row_of (t.child s i)) ls))
-      rows_behind s i [] = sym (is.behind_none i)
-      rows_behind s i (l ∷ ls) =
+      rows_prefixed : (s : N) (i : ℕ) (ls : List (List ℕ))
+          → total w one (map (row_of s) (map (λ l. i ∷ l) ls)) ≡ w.prefixed i (total w one (map (row_of (t.child s i)) ls))
+      rows_prefixed s i [] = sym (is.prefixed_none i)
+      rows_prefixed s i (l ∷ ls) =
           ap (λ a. w.both a (total w one (map (row_of s) (map (λ l. i ∷ l) ls)))) (are.below s i l)
-          ∙ ap (w.both (w.behind i (one (row_of (t.child s i) l)))) (rows_behind s i ls)
-          ∙ sym (is.behind_both i (one (row_of (t.child s i) l)) (total w one (map (row_of (t.child s i)) ls)))
+          ∙ ap (w.both (w.prefixed i (one (row_of (t.child s i) l)))) (rows_prefixed s i ls)
+          ∙ sym (is.prefixed_both i (one (row_of (t.child s i) l)) (total w one (map (row_of (t.child s i)) ls)))
 
       rows_beginning : (s : N) (f : ℕ → List (List ℕ)) (n : ℕ)
           → total w one (map (row_of s) (beginning f n)) ≡ from w (λ i. total w one (map (row_of (t.child s i)) (f i))) n 0
@@ -77,8 +77,8 @@ module _ {M : Type 0} (w : Weighing M) (is : IsWeighing w) where
           ap (total w one) (map-append (row_of s) (beginning f n) (map (λ l. n ∷ l) (f n)))
           ∙ total_append one (map (row_of s) (beginning f n)) (map (row_of s) (map (λ l. n ∷ l) (f n)))
           ∙ ap (λ a. w.both a (total w one (map (row_of s) (map (λ l. n ∷ l) (f n))))) (rows_beginning s f n)
-          ∙ ap (w.both (from w under n 0)) (rows_behind s n (f n))
-          ∙ ap (λ x. w.both (from w under n 0) (w.behind x (under x))) (omega arith)
+          ∙ ap (w.both (from w under n 0)) (rows_prefixed s n (f n))
+          ∙ ap (λ x. w.both (from w under n 0) (w.prefixed x (under x))) (omega arith)
           ∙ sym (from_more under n 0)
 
       -- All rows weigh what the tree does.
@@ -92,23 +92,23 @@ module _ {M : Type 0} (w : Weighing M) (is : IsWeighing w) where
           ∙ from_alike (λ i. total w one (map (row_of (t.child s i)) (f i))) (λ i. weight w t own k (t.child s i)) (t.width s) 0
           (λ i le lt. rows_weigh k (t.child s i)))
 
-  module _ {N : Type 0} (t : Tree N) (own : N → M) (p u : N) (j m : ℕ) (place : ℕ → ℕ) where
+  module _ {N : Type 0} (t : Tree N) (own : N → M) (p u : N) (j m : ℕ) (index : ℕ → ℕ) where
     -- What is below the second node, by what lies below the first.
-    pub placed_weight : (k : ℕ) → IsPlaced t p u j m place
-        → weight w t own (suc k) u ≡ w.both (own u) (placed_below w (λ x. weight w t own k (t.child p x)) (t.width p) j m place)
-    placed_weight k is_placed =
+    pub shared_weight : (k : ℕ) → IsShared t p u j m index
+        → weight w t own (suc k) u ≡ w.both (own u) (shared_below w (λ x. weight w t own k (t.child p x)) (t.width p) j m index)
+    shared_weight k is_shared =
         let under : ℕ → M = λ x. weight w t own k (t.child p x) in
         let below : ℕ → M = λ i. weight w t own k (t.child u i) in
         let rest : ℕ = t.width p - (j + m) in
-        let count : t.width u ≡ m + rest = (let a = is_placed.width in let b = is_placed.few in omega (arith, a, b)) in
+        let count : t.width u ≡ m + rest = (let a = is_shared.width in let b = is_shared.at_most in omega (arith, a, b)) in
         let first : 0 + m ≡ m = omega arith in
-        let early : from w below m 0 ≡ from w (λ i. under (place i)) m 0 =
-        from_alike below (λ i. under (place i)) m 0 (λ i le lt. ap (weight w t own k) (is_placed.early i (omega (arith, lt)))) in
-        let late : from w below rest m ≡ w.back j (from w under rest (j + m)) =
-        from_alike below (λ i. under (j + i)) rest m (λ i le lt. ap (weight w t own k) (is_placed.late i le (omega (arith, lt, count)))) ∙ sym (from_back under j rest m) in
+        let early : from w below m 0 ≡ from w (λ i. under (index i)) m 0 =
+        from_alike below (λ i. under (index i)) m 0 (λ i le lt. ap (weight w t own k) (is_shared.early i (omega (arith, lt)))) in
+        let late : from w below rest m ≡ w.first_lowered j (from w under rest (j + m)) =
+        from_alike below (λ i. under (j + i)) rest m (λ i le lt. ap (weight w t own k) (is_shared.late i le (omega (arith, lt, count)))) ∙ sym (from_back under j rest m) in
         ap (w.both (own u))
         (ap (λ n. from w below n 0) count
         ∙ from_parts below m rest 0
         ∙ ap (λ x. w.both (from w below m 0) (from w below rest x)) first
         ∙ ap (λ a. w.both a (from w below rest m)) early
-        ∙ ap (w.both (from w (λ i. under (place i)) m 0)) late)
+        ∙ ap (w.both (from w (λ i. under (index i)) m 0)) late)

@@ -6,8 +6,8 @@ use Rattle.mc_tree.specs.Tree.{Tree}
 pub record Weighing (M : Type 0) : Type 0 where
   pub none : M
   pub both : M → M → M
-  pub behind : ℕ → M → M
-  pub back : ℕ → M → M
+  pub prefixed : ℕ → M → M
+  pub first_lowered : ℕ → M → M
 
 module _ {M : Type 0} (w : Weighing M) where
   -- It does not matter how they are put together.
@@ -15,16 +15,16 @@ module _ {M : Type 0} (w : Weighing M) where
     pub left : (a : M) → w.both w.none a ≡ a
     pub right : (a : M) → w.both a w.none ≡ a
     pub joined : (a b c : M) → w.both (w.both a b) c ≡ w.both a (w.both b c)
-    pub behind_none : (i : ℕ) → w.behind i w.none ≡ w.none
-    pub behind_both : (i : ℕ) (a b : M) → w.behind i (w.both a b) ≡ w.both (w.behind i a) (w.behind i b)
-    pub back_none : (j : ℕ) → w.back j w.none ≡ w.none
-    pub back_both : (j : ℕ) (a b : M) → w.back j (w.both a b) ≡ w.both (w.back j a) (w.back j b)
-    pub back_behind : (j i : ℕ) (a : M) → w.back j (w.behind (j + i) a) ≡ w.behind i a
+    pub prefixed_none : (i : ℕ) → w.prefixed i w.none ≡ w.none
+    pub prefixed_both : (i : ℕ) (a b : M) → w.prefixed i (w.both a b) ≡ w.both (w.prefixed i a) (w.prefixed i b)
+    pub lowered_none : (j : ℕ) → w.first_lowered j w.none ≡ w.none
+    pub lowered_both : (j : ℕ) (a b : M) → w.first_lowered j (w.both a b) ≡ w.both (w.first_lowered j a) (w.first_lowered j b)
+    pub lowered_prefixed : (j i : ℕ) (a : M) → w.first_lowered j (w.prefixed (j + i) a) ≡ w.prefixed i a
 
-  -- The weights of so many numbers from one on, each behind its number.
+  -- The weights of so many numbers from one on, each after its number.
   abbrev pub from : (ℕ → M) → ℕ → ℕ → M
   from f zero i = w.none
-  from f (suc n) i = w.both (w.behind i (f i)) (from f n (i + 1))
+  from f (suc n) i = w.both (w.prefixed i (f i)) (from f n (i + 1))
 
   -- The weights of a list.
   abbrev pub total : {R : Type 0} → (R → M) → List R → M
@@ -38,13 +38,13 @@ module _ {M : Type 0} (w : Weighing M) where
 
   -- What is below a node whose children from m on are the other one's from j + m on, and the ones before lie there too: by the
   -- weights of the other one's children, of which it has so many.
-  abbrev pub placed_below : (ℕ → M) → ℕ → ℕ → ℕ → (ℕ → ℕ) → M
-  placed_below under width j m place =
-      w.both (from (λ i. under (place i)) m 0) (w.back j (from under (width - (j + m)) (j + m)))
+  abbrev pub shared_below : (ℕ → M) → ℕ → ℕ → ℕ → (ℕ → ℕ) → M
+  shared_below under width j m index =
+      w.both (from (λ i. under (index i)) m 0) (w.first_lowered j (from under (width - (j + m)) (j + m)))
 
 -- The children of a node u are among those of p: from number m on those j numbers further, and each before where it is placed.
-pub record IsPlaced {N : Type 0} (t : Tree N) (p u : N) (j m : ℕ) (place : ℕ → ℕ) : Type 0 where
+pub record IsShared {N : Type 0} (t : Tree N) (p u : N) (j m : ℕ) (index : ℕ → ℕ) : Type 0 where
   pub width : t.width u + j ≡ t.width p
-  pub few : m ≤ t.width u
-  pub early : (i : ℕ) → i < m → t.child u i ≡ t.child p (place i)
+  pub at_most : m ≤ t.width u
+  pub early : (i : ℕ) → i < m → t.child u i ≡ t.child p (index i)
   pub late : (i : ℕ) → m ≤ i → i < t.width u → t.child u i ≡ t.child p (j + i)

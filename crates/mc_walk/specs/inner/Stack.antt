@@ -3,7 +3,7 @@ use Rattle.std.specs.Prelude.{Bool, List, [], false, length, map, true, ℕ, ◌
 use Rattle.mc_flash.specs.Flash.{Content}
 use Rattle.mc_flash.specs.Usage.{Checkpoint, Counts, HasRoom, LeaveRoom, Seen, checkpoint_of, marked, plus, times}
 use Rattle.mc_tree.specs.Tree.{landed}
-use Rattle.mc_walk.specs.Kind.{HasNext, Kind, owed_there}
+use Rattle.mc_walk.specs.TreeModel.{HasNext, TreeModel, owed_there}
 use Rattle.mc_walk.specs.declared.frame.Frame.{Frame}
 
 -- The path that the frames stand for.
@@ -16,14 +16,14 @@ IsOneOn {A} {T} old new =
     (before : List (Frame A T)) (f : Frame A T) → old ≡ before ++ f ∷ []
     → (g : Frame A T) × (new ≡ before ++ g ∷ []) × (g.number ≡ f.number + 1)
 
-module _ {N A T : Type 0} (k : Kind N A T) where
+module _ {N A T : Type 0} (k : TreeModel N A T) where
   -- It is the last child of its parent.
   abbrev pub IsSpent : Frame A T → Type 0
-  IsSpent f = (n : N) → k.IsTold n f.parent → k.tree.width n ≤ f.number + 1
+  IsSpent f = (n : N) → k.IsSummary n f.parent → k.tree.width n ≤ f.number + 1
 
   -- Its parent has one child more.
   abbrev pub IsOpen : Frame A T → Type 0
-  IsOpen f = (n : N) → k.IsTold n f.parent → f.number + 1 < k.tree.width n
+  IsOpen f = (n : N) → k.IsSummary n f.parent → f.number + 1 < k.tree.width n
 
   abbrev pub AreSpent : List (Frame A T) → Type 0
   AreSpent [] = Unit {0}
@@ -46,7 +46,7 @@ module _ {N A T : Type 0} (k : Kind N A T) where
   abbrev pub most_at : ℕ → Counts
   most_at steps = plus (times steps k.most) k.all
 
-  -- The last frame that is left is the last that is open; those behind it were taken off. Its number is no greatest one.
+  -- The last frame that is left is the last that is open; those after it were taken off. Its number is no greatest one.
   pub record IsLeft (old new : List (Frame A T)) : Type 0 where
     pub before : List (Frame A T)
     pub frame : Frame A T
@@ -65,7 +65,7 @@ module _ {N A T : Type 0} (k : Kind N A T) where
     pub some : f.number < k.tree.width n
     pub on_is : k.IsOn n f.number f.at
     pub content_is : checkpoint.content ≡ k.content (k.tree.child n f.number)
-    pub told_is : k.IsTold n f.parent
+    pub summary_is : k.IsSummary n f.parent
     pub room : LeaveRoom checkpoint.counts (k.left f.at) (most_at steps)
 
   -- So it is with each frame and its checkpoint, from a node down.
@@ -88,12 +88,12 @@ module _ {N A T : Type 0} (k : Kind N A T) where
   abbrev pub node_of : Content → List (Frame A T) → N
   node_of origin fs = landed k.tree (k.root origin) (path_of fs)
 
-  -- The flash stands at that node, of which that is told.
-  pub record Stands (origin : Content) (seen : Seen) (fs : List (Frame A T)) (told : T) : Type 0 where
+  -- The flash stands at that node, with that summary.
+  pub record Stands (origin : Content) (seen : Seen) (fs : List (Frame A T)) (summary : T) : Type 0 where
     pub stacked : Stacked origin seen.checkpoints fs
     pub content_is : seen.content ≡ k.content (node_of origin fs)
     pub layout_is : seen.geometry ≡ k.geometry
-    pub told_is : k.IsTold (node_of origin fs) told
+    pub summary_is : k.IsSummary (node_of origin fs) summary
     pub counts : LeaveRoom seen.usage.counts (k.owed (node_of origin fs)) (most_at (length fs))
 
   -- A child of that node is on its way, and the flash stands at it.
@@ -102,12 +102,12 @@ module _ {N A T : Type 0} (k : Kind N A T) where
     pub layout_is : seen.geometry ≡ k.geometry
     pub frame : IsFrame (node_of origin fs) (length fs) (checkpoint_of seen) f
 
-  -- So it is, and the flash can be marked there, the frame be put on, and the child be told.
+  -- So it is, and the flash can be marked there, the frame be put on, and the summary of the child be found.
   pub record Enters (origin : Content) (seen : Seen) (fs : List (Frame A T)) (capacity : ℕ) (f : Frame A T) : Type 0 where
     pub comes : Comes origin seen fs f
     pub room : HasRoom (owed_there k f.at) (marked seen)
     pub mark : length seen.checkpoints < seen.usage.limits.checkpoints
-    pub few : length fs < capacity
+    pub at_most : length fs < capacity
 
   -- There is room for what is counted and owed after so many steps; and for their checkpoints, that of the root, and one more.
   pub record IsRoomy (bound : ℕ) (seen : Seen) : Type 0 where
@@ -116,7 +116,7 @@ module _ {N A T : Type 0} (k : Kind N A T) where
     pub checkpoints : bound + 2 ≤ seen.usage.limits.checkpoints
 
   -- The flash stands at the child of the last frame, and its parent has a next one. There is room to go to that, to mark the flash
-  -- there, and to tell of it.
+  -- there, and to find its summary.
   pub record CanGoOn (origin : Content) (seen : Seen) (fs : List (Frame A T)) : Type 0 where
     pub before : List (Frame A T)
     pub frame : Frame A T
@@ -126,5 +126,5 @@ module _ {N A T : Type 0} (k : Kind N A T) where
     pub small : frame.number + 1 < 2 ^ 32
     pub has_next : HasNext k frame.at seen
     pub bound : ℕ
-    pub few : length before < bound
+    pub at_most : length before < bound
     pub roomy : IsRoomy bound seen

@@ -101,8 +101,8 @@ $ boot WORKED --flash in < 1792:0=first,1024=second,1036=b901,1056=zeros,1497=07
 result boot; type fail; ops 0; primary FIRST; secondary 2.0.0+0 513 LARGER; next fail
 ";
 
-/// A line has the kind of a start and the type of the last boot that is told; the type of the boot after a cut of the first
-/// boot, how many operations it makes, and that cut.
+/// A line has the kind of a start and the type of the last boot that is printed; the type of the boot after a cut of the
+/// first boot, how many operations it makes, and that cut.
 const CUTS: &str = "\
 test revert test 18 0
 test revert test 18 1

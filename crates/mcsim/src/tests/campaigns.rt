@@ -99,7 +99,7 @@ WORKED 1 42 43 5343c6ed65eb22492dce418d3ac0c11bbe89ee2b7d8859f87faaeef8fb459187 
 WORKED 1 43 43 d1fd508d892262e5f0cc5328f002479c97402be9bfd6b63a990693079f893022 test
 ";
 
-/// No cut, with either choice; what comes behind some campaigns, across the seam between the rounds too; the last row; and the
+/// No cut, with either choice; what comes after some campaigns, across the seam between the rounds too; the last row; and the
 /// cursors that do not serve.
 const CAMPAIGNS: &str = "\
 $ campaign WORKED --kind test IMAGES --cuts 0

@@ -1,5 +1,5 @@
 //! `create`: the images that it makes, and what it refuses; and command lines over real files.
-use super::support::{Table, all_play, same_at, told_of};
+use super::support::{Table, all_play, same_at, shown_of};
 use mc_fixtures::{GOOD_LINE, PAYLOAD, PLAIN_IMAGE};
 use std::alloc::Global;
 use std::os::unix::fs::symlink;
@@ -7,9 +7,9 @@ use std::process::Abort;
 use std::rt::Files;
 use std::{env, fs, process};
 
-/// Looks what a command line tells over the real files, with an image as standard input.
-fn tells<H: Abort + Files>(rt: &H, alloc: Global, line: &str, want: &str) {
-    let text = told_of(rt, alloc, line, &PLAIN_IMAGE);
+/// Looks what a command line prints over the real files, with an image as standard input.
+fn shows<H: Abort + Files>(rt: &H, alloc: Global, line: &str, want: &str) {
+    let text = shown_of(rt, alloc, line, &PLAIN_IMAGE);
     same_at(rt, &line, &text.as_str(), &want)
 }
 
@@ -24,18 +24,18 @@ fn remove<H: Abort + Files>(rt: &H, path: &str) {
     fs::remove_file(rt, path).expect(rt, "a file")
 }
 
-/// Looks what `create` tells of these files.
+/// Looks what `create` prints of these files.
 fn creates<H: Abort + Files>(rt: &H, alloc: Global, infile: &str, outfile: &str, want: &str) {
     let line = format!(in alloc;
         "create --version 1.2.3+4 --header-size 32 --pad-header {infile} {outfile}"
     ).expect(rt, "memory");
-    tells(rt, alloc, line.as_str(), want)
+    shows(rt, alloc, line.as_str(), want)
 }
 
 /// Looks what `verify` tells of a path.
 fn verifies<H: Abort + Files>(rt: &H, alloc: Global, path: &str, want: &str) {
     let line = format!(in alloc; "verify {path}").expect(rt, "memory");
-    tells(rt, alloc, line.as_str(), want)
+    shows(rt, alloc, line.as_str(), want)
 }
 
 /// Makes an image of the payload, verifies and removes it.

@@ -12,11 +12,11 @@ static FAULTS: [Fault; 3] = [Fault::Error, Fault::Interruption, Fault::NoBytes];
 /// A command line that makes an image of the payload.
 static CREATE: &str = "create --version 1.2.3+4 --header-size 32 --pad-header in out";
 
-/// Runs `create` over two files that fail so, and looks at what it tells and writes.
+/// Runs `create` over two files that fail so, and looks at what it prints and writes.
 fn ends(rt: &impl Abort, alloc: Global, calls: (usize, usize, Fault), text: &str, written: &[u8]) {
     let ended = ran_over(rt, alloc, CREATE, &PAYLOAD, calls);
-    let told = ended.text(rt, alloc);
-    let found = (told.as_str(), ended.written.as_slice());
+    let shown = ended.text(rt, alloc);
+    let found = (shown.as_str(), ended.written.as_slice());
     same_at(rt, &calls, &found, &(text, written))
 }
 
@@ -34,10 +34,10 @@ fn create_meets_failing_reads(rt: HostRuntime) {
 #[test]
 fn create_meets_failing_writes(rt: HostRuntime) {
     let text = "! mcsim: E25 Write\nexit 3\n";
-    for place in 0..80 {
+    for offset in 0..80 {
         for fault in FAULTS {
-            let prefix = &PLAIN_IMAGE[..place];
-            ends(&rt, rt.alloc(), (1000, place, fault), text, prefix);
+            let prefix = &PLAIN_IMAGE[..offset];
+            ends(&rt, rt.alloc(), (1000, offset, fault), text, prefix);
         }
     }
     ends(

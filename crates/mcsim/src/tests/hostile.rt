@@ -11,8 +11,8 @@ schedules ROWS
 ...
 ";
 
-/// A line has the bytes of the worked flash that are not 0xff, by their places, beside the primary's magic and a swap-size of 80;
-/// how many lines the page has, and the SHA-256 of its text; how many schedules there are; and the options.
+/// A line has the bytes of the worked flash that are not 0xff, by their offsets, beside the primary's magic and a swap-size of
+/// 80; how many lines the page has, and the SHA-256 of its text; how many schedules there are; and the options.
 const FLASHES: &str = "\
 984=02 2 ba9b78a7f0eeca7850929afce484c299275c2a77061d5b571cf22c272e568903 1 --cuts 0
 984=02 16 5c6efe2210dbc6b3425669b0df2c9d5b9f906b18224adc740c84b571ac6fb209 15 --cuts 1

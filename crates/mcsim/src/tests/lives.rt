@@ -1,5 +1,5 @@
 //! `life`: scripts at the worked layout, with what they print.
-use super::support::{contents, in_full, ran_over, same_at, tells, text_of, words_of};
+use super::support::{contents, in_full, ran_over, same_at, shows, text_of, words_of};
 use mc_command::run;
 use mc_fixtures::{FAULTS, FailingReader, FailingWriter, Failure, Fault, FaultyFiles};
 use std::alloc::Global;
@@ -8,7 +8,7 @@ use std::io::{Read, Write};
 use std::process::Abort;
 
 /// A script, what is printed of it, and what is refused.
-struct Told {
+struct LifeSession {
     line: &'static str,
     script: &'static str,
     want: &'static str,
@@ -16,8 +16,8 @@ struct Told {
 
 /// An upgrade that is cut on its way and then stopped by half a download; the trial ends with a torn confirmation. A revert that
 /// is forgotten and comes back. How often sectors are erased by a download and a swap: those of the table in docs/FORMAT.md.
-static LIVES: [Told; 3] = [
-    Told {
+static LIVES: [LifeSession; 3] = [
+    LifeSession {
         line: "life WORKED --image first",
         script: "\
 # on trial, the way back is lost
@@ -42,7 +42,7 @@ confirm
 8 confirm 2.0.0+0/80 settled none none
 ",
     },
-    Told {
+    LifeSession {
         line: "life WORKED --image first --grain unit",
         script: "boot\ndownload second\nrequest test\nboot\nboot 4\nerase 2\nboot",
         want: "\
@@ -55,7 +55,7 @@ confirm
 7 boot boot revert 115 1.0.0+0/80 settled 2.0.0+0/80 none
 ",
     },
-    Told {
+    LifeSession {
         line: "life WORKED --image first --wear",
         script: "boot\ndownload second\nrequest test\nboot\nconfirm\n",
         want: "\
@@ -71,58 +71,58 @@ wear secondary 2 0 5
 ];
 
 /// Events that can't happen. What comes before them is printed.
-static REFUSED: [Told; 11] = [
-    Told {
+static REFUSED: [LifeSession; 11] = [
+    LifeSession {
         line: "life WORKED --image first",
         script: "\n# off\nerase 0\n",
         want: "! mcsim: E79 NotRunning, event 1, line 3\nexit 1\n",
     },
-    Told {
+    LifeSession {
         line: "life WORKED --image first",
         script: "boot\nerase 3",
         want: "1 boot boot none 0 1.0.0+0/80 settled none none\n! mcsim: E81 NoSector, event 2, line 2\nexit 1\n",
     },
-    Told {
+    LifeSession {
         line: "life WORKED --image first",
         script: "boot \n",
         want: "! mcsim: E78 EventSyntax, event 1, line 1\nexit 1\n",
     },
-    Told {
+    LifeSession {
         line: "life WORKED --image first",
         script: "mark FF\n",
         want: "! mcsim: E78 EventSyntax, event 1, line 1\nexit 1\n",
     },
-    Told {
+    LifeSession {
         line: "life WORKED --image first",
         script: "boot 0\n",
         want: "! mcsim: E53 CannotOccur at 0, event 1, line 1\nexit 1\n",
     },
-    Told {
+    LifeSession {
         line: "life WORKED --image first",
         script: "boot\nmark 01\n",
         want: "1 boot boot none 0 1.0.0+0/80 settled none none\n! mcsim: E82 CannotMark, event 2, line 2\nexit 1\n",
     },
-    Told {
+    LifeSession {
         line: "life WORKED --image first",
         script: "boot\nstore second\n",
         want: "1 boot boot none 0 1.0.0+0/80 settled none none\n! mcsim: E80 NotThatLong, event 2, line 2\nexit 1\n",
     },
-    Told {
+    LifeSession {
         line: "life WORKED --image first",
         script: "boot\nrequest test\nrequest perm\n",
         want: "1 boot boot none 0 1.0.0+0/80 settled none none\n2 request test 1.0.0+0/80 settled none fail\n! mcsim: E40 NotErased, event 3, line 3\nexit 1\n",
     },
-    Told {
+    LifeSession {
         line: "life WORKED --image first",
         script: "boot\ndownload missing\n",
         want: "1 boot boot none 0 1.0.0+0/80 settled none none\n! mcsim: E71 Open, event 2, line 2\nexit 3\n",
     },
-    Told {
+    LifeSession {
         line: "life WORKED",
         script: "boot\n",
         want: "! mcsim: E83 DeviceOptions\nexit 2\n",
     },
-    Told {
+    LifeSession {
         line: "life WORKED --image first",
         script: "boot\ndownload second\nrequest perm\ncut 10\nerase 0\n",
         want: "1 boot boot none 0 1.0.0+0/80 settled none none\n2 download second 1.0.0+0/80 settled 2.0.0+0/80 none\n3 request perm 1.0.0+0/80 settled 2.0.0+0/80 perm\n4 cut 10 1.0.0+0/80 settled 2.0.0+0/80 perm\n! mcsim: E79 NotRunning, event 5, line 5\nexit 1\n",
@@ -130,20 +130,20 @@ static REFUSED: [Told; 11] = [
 ];
 
 /// Looks what each of some scripts prints.
-fn tell_all(rt: &impl Abort, alloc: Global, told: &[Told]) {
-    for one in told {
+fn show_all(rt: &impl Abort, alloc: Global, shown: &[LifeSession]) {
+    for one in shown {
         let line = in_full(rt, alloc, one.line);
-        tells(rt, alloc, line.as_str(), one.script.as_bytes(), one.want);
+        shows(rt, alloc, line.as_str(), one.script.as_bytes(), one.want);
     }
 }
 
 #[test]
-fn tells_lives_or_refuses_them(rt: HostRuntime) {
-    tell_all(&rt, rt.alloc(), &LIVES);
-    tell_all(&rt, rt.alloc(), &REFUSED)
+fn shows_lives_or_refuses_them(rt: HostRuntime) {
+    show_all(&rt, rt.alloc(), &LIVES);
+    show_all(&rt, rt.alloc(), &REFUSED)
 }
 
-/// How a life ends that reads its script here and is told there: its status, and the line of a refusal.
+/// How a life ends that reads its script here and is printed there: its status, and the line of a refusal.
 fn ends<R: Read, W: Write>(
     rt: &impl Abort,
     alloc: Global,
@@ -174,8 +174,13 @@ fn file_breaks_off(rt: &impl Abort, alloc: Global, failure: Failure) {
     let line = in_full(rt, alloc, "life WORKED --image first in");
     let calls = (failure.calls, usize::MAX, failure.fault);
     let ended = ran_over(rt, alloc, line.as_str(), SCRIPT.0.as_bytes(), calls);
-    let told = ended.text(rt, alloc);
-    same_at(rt, &failure, &told.as_str(), &"! mcsim: E24 Read\nexit 3\n")
+    let shown = ended.text(rt, alloc);
+    same_at(
+        rt,
+        &failure,
+        &shown.as_str(),
+        &"! mcsim: E24 Read\nexit 3\n",
+    )
 }
 
 /// The same from standard input.
@@ -186,8 +191,8 @@ fn input_breaks_off(rt: &impl Abort, alloc: Global, failure: Failure) {
     };
     let mut out = Vec::new(alloc);
     let (status, err) = ends(rt, alloc, "life WORKED --image first", &mut input, &mut out);
-    let told = (status, err.as_str(), out.is_empty());
-    same_at(rt, &failure, &told, &(3, "mcsim: E24 Read\n", true))
+    let shown = (status, err.as_str(), out.is_empty());
+    same_at(rt, &failure, &shown, &(3, "mcsim: E24 Read\n", true))
 }
 
 #[test]
@@ -206,7 +211,7 @@ fn a_read_that_fails_ends_it(rt: HostRuntime) {
     }
 }
 
-/// How a life of this text ends where the write behind so many fails.
+/// How a life of this text ends where the write after so many fails.
 fn end_of(want: &str, calls: usize) -> (u8, &str, Option<&[u8]>) {
     let taken = want.as_bytes().get(..calls);
     if calls < want.len() {
@@ -217,34 +222,34 @@ fn end_of(want: &str, calls: usize) -> (u8, &str, Option<&[u8]>) {
 }
 
 /// Looks whether what is out before a write fails is the beginning of the text.
-fn breaks_off(rt: &impl Abort, alloc: Global, told: &Told, failure: Failure) {
+fn breaks_off(rt: &impl Abort, alloc: Global, shown: &LifeSession, failure: Failure) {
     let mut out = FailingWriter {
         taken: Vec::new(alloc),
         failure,
     };
-    let mut script = told.script.as_bytes();
-    let (status, err) = ends(rt, alloc, told.line, &mut script, &mut out);
+    let mut script = shown.script.as_bytes();
+    let (status, err) = ends(rt, alloc, shown.line, &mut script, &mut out);
     let found = (status, err.as_str(), Some(out.taken.as_slice()));
-    same_at(rt, &failure, &found, &end_of(told.want, failure.calls))
+    same_at(rt, &failure, &found, &end_of(shown.want, failure.calls))
 }
 
 #[test]
 fn a_write_that_fails_ends_it(rt: HostRuntime) {
-    let told = &LIVES[2];
-    // Each byte has a write, and behind the last there is none.
-    for calls in 0..=told.want.len() {
+    let shown = &LIVES[2];
+    // Each byte has a write, and after the last there is none.
+    for calls in 0..=shown.want.len() {
         for (fault, lasts) in FAULTS {
             let failure = Failure {
                 calls,
                 fault,
                 lasts,
             };
-            breaks_off(&rt, rt.alloc(), told, failure);
+            breaks_off(&rt, rt.alloc(), shown, failure);
         }
     }
 }
 
-/// What is told of a life whose flash cannot be written from some byte on.
+/// What is reported of a life whose flash cannot be written from some byte on.
 static NOT_WRITTEN: &str =
     "1 boot boot none 0 1.0.0+0/80 settled none none\n! mcsim: E25 Write\nexit 3\n";
 
@@ -253,9 +258,9 @@ fn flash_breaks_off(rt: &impl Abort, alloc: Global, writes: usize, fault: Fault)
     let line = in_full(rt, alloc, "life WORKED --image first --out out in");
     let calls = (usize::MAX, writes, fault);
     let ended = ran_over(rt, alloc, line.as_str(), b"boot\n", calls);
-    let told = ended.text(rt, alloc);
+    let shown = ended.text(rt, alloc);
     let flash = contents(rt, alloc, "1792:0=first");
-    let found = (told.as_str(), Some(ended.written.as_slice()));
+    let found = (shown.as_str(), Some(ended.written.as_slice()));
     let wanted = (NOT_WRITTEN, flash.as_slice().get(..writes));
     same_at(rt, &calls, &found, &wanted)
 }
@@ -269,10 +274,10 @@ fn a_write_of_the_flash_that_fails_ends_it(rt: HostRuntime) {
     }
 }
 
-/// Looks what is told of a life with this script.
-fn is_told(rt: &impl Abort, alloc: Global, script: &[u8], want: &str) {
+/// Looks what is reported of a life with this script.
+fn is_shown(rt: &impl Abort, alloc: Global, script: &[u8], want: &str) {
     let line = in_full(rt, alloc, "life WORKED --image first");
-    tells(rt, alloc, line.as_str(), script, want);
+    shows(rt, alloc, line.as_str(), script, want);
 }
 
 /// What is no text, and what is too long.
@@ -280,7 +285,7 @@ fn is_told(rt: &impl Abort, alloc: Global, script: &[u8], want: &str) {
 fn refuses_what_is_no_script(rt: HostRuntime) {
     let alloc = rt.alloc();
     for script in [b"boot\n\xff".as_slice(), b"#\xc3\nboot\n".as_slice()] {
-        is_told(&rt, alloc, script, "! mcsim: E84 ScriptText\nexit 1\n");
+        is_shown(&rt, alloc, script, "! mcsim: E84 ScriptText\nexit 1\n");
     }
     let mut script = b"boot\n".to_vec(alloc).expect(&rt, "memory");
     for (length, want) in [
@@ -288,6 +293,6 @@ fn refuses_what_is_no_script(rt: HostRuntime) {
         ((1 << 24) + 1, "! mcsim: E23 InputTooLong\nexit 1\n"),
     ] {
         script.resize(length, b'#').expect(&rt, "memory");
-        is_told(&rt, alloc, script.as_slice(), want);
+        is_shown(&rt, alloc, script.as_slice(), want);
     }
 }

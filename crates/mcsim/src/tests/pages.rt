@@ -65,7 +65,7 @@ $ explore WORKED --flash in --cuts 16 < BEGUN,976=50000000,984=02,993=00,888=01
 - panic panic 0 none none panic; end
 ";
 
-/// Pages behind cursors and schedules.
+/// Pages after cursors and schedules.
 const CURSORS: &str = "\
 $ explore WORKED --kind test IMAGES --cuts 2 --limit 1 --cursor mc1:START:2:0.17
 1 boot test 18 2.0.0+0/80 1.0.0+0/80 revert; next mc1:START:2:1
@@ -124,7 +124,7 @@ $ explore WORKED --kind none IMAGES --cuts 0 --limit 1
 ";
 
 /// Cursors and schedules that are refused. A cursor of whole calls does not serve where the power is cut between units. Texts
-/// are checked before a file is opened, and before them that only one of the two is told.
+/// are checked before a file is opened, and before them that only one of the two is given.
 const REFUSED: &str = "\
 $ explore WORKED --kind test IMAGES --cuts 2 --cursor mc1:START:2:18
 ! mcsim: E58 CannotOccur; exit 1
@@ -170,7 +170,7 @@ $ explore WORKED --kind test IMAGES --cuts 2 --cursor mc2:call:2:START:2:-
 ! mcsim: E61 OtherRules; exit 1
 ";
 
-/// Pages that go on where those of three cuts above end, up to the end; what comes behind the first row, and before a later one; and
+/// Pages that go on where those of three cuts above end, up to the end; what comes after the first row, and before a later one; and
 /// an image of two sectors.
 const JOINED: &str = "\
 $ explore WORKED --kind test IMAGES --cuts 3 --limit 1000 --cursor mc1:START:3:4.5.13

@@ -1,7 +1,6 @@
 //! Two rounds of boots: campaigns counted, judged, replayed and traced. The counts are those of the rows of a model that shares no code
 //! with this repository.
 use super::support::{Table, all_play};
-use std::test::Fail;
 
 /// A test that is left alone is taken back, and one that confirms itself stays; under cuts between units the first profile can forget to
 /// take it back. A campaign that ends where it is not to; parts of the rows; ranges of them; and what is refused of the words.
@@ -57,6 +56,6 @@ $ sectors WORKED --kind test IMAGES --confirm
 static TABLES: [Table; 2] = [(COUNTS, &[], "-"), (REPLAYS, &[], "-")];
 
 #[test]
-fn counts_and_replays_two_rounds(rt: HostRuntime) -> Result<(), Fail> {
+fn counts_and_replays_two_rounds(rt: HostRuntime) {
     all_play(&rt, rt.alloc(), &TABLES)
 }

@@ -82,8 +82,8 @@ pub fn outcome_over<F: Files, R: Read>(
     }
 }
 
-/// What a command line tells over the real files, with these bytes as standard input.
-pub fn told_of<H: Abort + Files>(rt: &H, alloc: Global, line: &str, mut input: &[u8]) -> String {
+/// What a command line prints over the real files, with these bytes as standard input.
+pub fn shown_of<H: Abort + Files>(rt: &H, alloc: Global, line: &str, mut input: &[u8]) -> String {
     let words = words_of(rt, alloc, line);
     let ended = outcome_over(rt, alloc, rt, words.as_slice(), &mut input);
     ended.text(rt, alloc)
@@ -136,8 +136,8 @@ pub fn fits(text: &str, want: &str) -> bool {
     is_refused && text.starts_with(first) && text.contains(middle) && text.ends_with(last)
 }
 
-/// Runs a command line over files in memory, and looks at what it tells, or at how many lines that has and their digest.
-pub fn tells(rt: &impl Abort, alloc: Global, line: &str, input: &[u8], want: &str) -> Outcome {
+/// Runs a command line over files in memory, and looks at what it prints, or at how many lines that has and their digest.
+pub fn shows(rt: &impl Abort, alloc: Global, line: &str, input: &[u8], want: &str) -> Outcome {
     let ended = ran(rt, alloc, line, input);
     let mut text = ended.text(rt, alloc);
     if want.starts_with("lines ") {
@@ -147,9 +147,9 @@ pub fn tells(rt: &impl Abort, alloc: Global, line: &str, input: &[u8], want: &st
     ended
 }
 
-/// What stands for what in a session, in the order in which it is put in, with `; ` for the end of a line. The first words are
-/// of sixteen cuts: a layout of the largest sectors and its start; cuts before the first operation, as a schedule and in the first
-/// round, and eight in the first and seven in the second; the greatest places. `REPORT` is what is told of the image `counted`,
+/// What stands for what in a session, in the order in which it is put in, with `; ` for the end of a line. The first words are of
+/// sixteen cuts: a layout of the largest sectors and its start; cuts before the first operation, as a schedule and in the first
+/// round, and eight in the first and seven in the second; the greatest cuts. `REPORT` is what is reported of the image `counted`,
 /// but for what comes after it and how its digest is.
 const WORDS: &str = "\
 WIDE-START 26ad908ef00f25725e859e007381c2c9a3d4aa6b2c818a12debd12dc18c01c36
@@ -211,15 +211,15 @@ fn filled(rt: &impl Abort, alloc: Global, text: &str, names: &[&str], line: &str
     whole
 }
 
-/// The bytes of a file: a named one, or one of so many bytes `0xff` but for those at some places, as in `1792:0=first,984=02`.
-pub fn contents(rt: &impl Abort, alloc: Global, told: &str) -> Vec<u8> {
-    let Some((length, changes)) = told.split_once(':') else {
-        return owned_bytes(rt, alloc, named(told).unwrap_or_default());
+/// The bytes of a file: a named one, or one of so many bytes `0xff` but for those at some offsets, as in `1792:0=first,984=02`.
+pub fn contents(rt: &impl Abort, alloc: Global, shown: &str) -> Vec<u8> {
+    let Some((length, changes)) = shown.split_once(':') else {
+        return owned_bytes(rt, alloc, named(shown).unwrap_or_default());
     };
     let length = number_of(rt, length);
     let mut bytes = vec![in alloc; 0xffu8; length].expect(rt, "memory");
-    for told in changes.split(',') {
-        change_at(alloc, bytes.as_mut_slice(), told).expect(rt, "a change");
+    for shown in changes.split(',') {
+        change_at(alloc, bytes.as_mut_slice(), shown).expect(rt, "a change");
     }
     bytes
 }
@@ -243,7 +243,7 @@ pub fn all_play(rt: &impl Abort, alloc: Global, tables: &[Table]) {
 }
 
 /// Plays a session. A step is `$ `, a command line, perhaps ` < ` and what the file `in` and standard input hold, `out` for
-/// what the last step wrote; then what it tells, and perhaps `=> ` and what it writes to the file `out`, or how many bytes.
+/// what the last step wrote; then what it prints, and perhaps `=> ` and what it writes to the file `out`, or how many bytes.
 fn plays(rt: &impl Abort, alloc: Global, session: &str) {
     let session = in_full(rt, alloc, session);
     let mut written = Vec::new(alloc);
@@ -252,7 +252,7 @@ fn plays(rt: &impl Abort, alloc: Global, session: &str) {
     }
 }
 
-/// A step of a session: a command line, its input, what it tells and what it writes.
+/// A step of a session: a command line, its input, what it prints and what it writes.
 #[derive(Clone, Copy)]
 struct Step<'a> {
     line: &'a str,
@@ -275,19 +275,19 @@ fn step_of(text: &str) -> Option<Step<'_>> {
     })
 }
 
-/// The input that is told, after a step that wrote these bytes.
-fn input_of(rt: &impl Abort, alloc: Global, told: &str, last: &[u8]) -> Vec<u8> {
-    match told {
+/// The input that is given, after a step that wrote these bytes.
+fn input_of(rt: &impl Abort, alloc: Global, shown: &str, last: &[u8]) -> Vec<u8> {
+    match shown {
         "out" => owned_bytes(rt, alloc, last),
-        _ => contents(rt, alloc, told),
+        _ => contents(rt, alloc, shown),
     }
 }
 
-/// Looks whether these bytes are those that are told, or so many.
-fn assert_written(rt: &impl Abort, alloc: Global, written: &[u8], told: &str) {
-    match told.strip_suffix(" bytes") {
-        Some(length) => same_at(rt, &told, &written.len(), &number_of(rt, length)),
-        None => same_at(rt, &told, &written, &contents(rt, alloc, told).as_slice()),
+/// Looks whether these bytes are those that are given, or so many.
+fn assert_written(rt: &impl Abort, alloc: Global, written: &[u8], shown: &str) {
+    match shown.strip_suffix(" bytes") {
+        Some(length) => same_at(rt, &shown, &written.len(), &number_of(rt, length)),
+        None => same_at(rt, &shown, &written, &contents(rt, alloc, shown).as_slice()),
     }
 }
 
@@ -295,7 +295,7 @@ fn assert_written(rt: &impl Abort, alloc: Global, written: &[u8], told: &str) {
 fn ends(rt: &impl Abort, alloc: Global, step: &str, last: &[u8]) -> Vec<u8> {
     let step = step_of(step).expect(rt, "a command line");
     let input = input_of(rt, alloc, step.input, last);
-    let ended = tells(rt, alloc, step.line, input.as_slice(), step.want);
+    let ended = shows(rt, alloc, step.line, input.as_slice(), step.want);
     assert_written(rt, alloc, ended.written.as_slice(), step.file);
     ended.written
 }

@@ -1,5 +1,5 @@
-//! `trace` and `sectors` at the worked layout, and the flashes of starts. The operations are those that a model which shares no code
-//! with this repository tells.
+//! `trace` and `sectors` at the worked layout, and the flashes of starts. The operations are those that a model which shares no
+//! code with this repository prints.
 use super::support::{Table, all_play};
 
 /// A whole test swap, one that is cut twice, an operation that is refused, and the flash at a cut.
@@ -116,6 +116,6 @@ result none; type none; ops 0; primary none; secondary none; next none
 static TABLES: [Table; 3] = [(TRACES, &[], "-"), (UNITS, &[], "-"), (STARTS, &[], "-")];
 
 #[test]
-fn tells_operations_and_flashes(rt: HostRuntime) {
+fn shows_operations_and_flashes(rt: HostRuntime) {
     all_play(&rt, rt.alloc(), &TABLES)
 }

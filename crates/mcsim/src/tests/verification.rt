@@ -1,7 +1,7 @@
 //! `verify` and `dumpinfo`, of standard input and of files.
 use super::support::{Table, all_play};
 
-/// Images alone, and with bytes behind them: one, and those of a slot.
+/// Images alone, and with bytes after them: one, and those of a slot.
 const IMAGES: &str = "\
 $ verify < plain
 GOOD

@@ -81,7 +81,7 @@ $ explain Counts
 ! mcsim: no refusal has this number; exit 2
 ";
 
-/// What is told where no command is.
+/// What is reported where no command is.
 const NO_WORDS: &str = "! ...Usage: mcsim <COMMAND>...exit 2\n";
 
 /// What a number, or a name, of a refusal means; and a line without a command.

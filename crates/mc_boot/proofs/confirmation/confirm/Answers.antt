@@ -28,7 +28,7 @@ wrote g c =
       subst E (c.image_ok_write-write.ensures.at ∙ ap (λ (x : Geometry). image_ok_write x Primary) c.layout.ensures) c.in_ok-perform.ensures,
     )
 
--- the write for which memory was wanted
+-- the write for which an allocation failed
 pub returns-in_err-perform-clause-does : goal.returns-in_err-perform-clause-does
 returns-in_err-perform-clause-does g c =
     let old = g.F.Flash.seen c.args.flash.now in

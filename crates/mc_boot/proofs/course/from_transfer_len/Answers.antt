@@ -8,7 +8,7 @@ overflow_mul-result c =
 
 pub overflow_add-result : goal.overflow_add-result
 overflow_add-result c =
-    let small = c.closing_len-closing.ensures.few in
+    let small = c.closing_len-closing.ensures.at_most in
     rw (c.saturating_sub-left.ensures, c.transfer_len-width.ensures.len) (omega (
       arith,
       small,
@@ -20,9 +20,9 @@ returns-clause-len c =
     rw (c.saturating_sub-left.ensures, c.transfer_len-width.ensures.len, ← c.closing_len-closing.ensures.len c.args.layout.now)
     (sym (length-from_transfer c.args.layout.now c.args.sectors c.args.first c.args.image_ok))
 
-pub returns-clause-few : goal.returns-clause-few
-returns-clause-few c =
-    let small = c.closing_len-closing.ensures.few in
+pub returns-clause-at_most : goal.returns-clause-at_most
+returns-clause-at_most c =
+    let small = c.closing_len-closing.ensures.at_most in
     rw (c.saturating_sub-left.ensures, c.transfer_len-width.ensures.len) (omega (
       arith,
       small,

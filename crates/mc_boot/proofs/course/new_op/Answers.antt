@@ -2,7 +2,7 @@ use Rattle.std.proofs.Common.{◌≡◌, ◌-◌, ◌++◌, true, false, sym, �
 use Rattle.mc_flash.specs.Geometry.{trailer_sectors}
 use Rattle.mc_flash.specs.declared.op.Slot.TheVariants.{Secondary}
 use Rattle.mc_boot.specs.Plan.{swap_list, preparation_writes, is_revert}
-use Rattle.mc_boot.proofs.Courses.{get_front, get_behind, get_erase, get_after_erases}
+use Rattle.mc_boot.proofs.Courses.{get_prefix, get_beyond, get_erase, get_after_erases}
 use Rattle.mc_boot.proofs.course.new_op.Goals as goal
 
 pub returns-then-index-count-clause-at : goal.returns-then-index-count-clause-at
@@ -19,7 +19,7 @@ returns-then-written-len-clause-at c =
     rw revert (sym (get_after_erases c.args.layout.now Secondary (preparation_writes c.args.grain c.args.layout.now c.args.size ++ swap_list c.args.grain c.args.layout.now c.args.kind c.args.size
     c.args.sectors) c.args.index
     (rw c.trailer_sectors-count.ensures.value at c.if-index-count.false)
-    ∙ get_front (preparation_writes c.args.grain c.args.layout.now c.args.size) (swap_list c.args.grain c.args.layout.now c.args.kind c.args.size c.args.sectors)
+    ∙ get_prefix (preparation_writes c.args.grain c.args.layout.now c.args.size) (swap_list c.args.grain c.args.layout.now c.args.kind c.args.size c.args.sectors)
     (c.args.index - trailer_sectors c.args.layout.now) c.preparation_write.result
     (rw c.trailer_sectors-count.ensures.value at c.preparation_write.ensures.at)))
 
@@ -32,7 +32,7 @@ returns-clause-at c =
     ∙ sym (get_after_erases c.args.layout.now Secondary (preparation_writes c.args.grain c.args.layout.now c.args.size ++ swap_list c.args.grain c.args.layout.now c.args.kind c.args.size
     c.args.sectors) c.args.index
     (rw c.trailer_sectors-count.ensures.value at c.if-index-count.false)
-    ∙ get_behind (preparation_writes c.args.grain c.args.layout.now c.args.size) (swap_list c.args.grain c.args.layout.now c.args.kind c.args.size c.args.sectors)
+    ∙ get_beyond (preparation_writes c.args.grain c.args.layout.now c.args.size) (swap_list c.args.grain c.args.layout.now c.args.kind c.args.size c.args.sectors)
     (c.args.index - trailer_sectors c.args.layout.now) (c.args.index - trailer_sectors c.args.layout.now - c.preparation_len-len.result) (omega (arith, len, past))))
 
 pub returns-then-not-is_revert-clause-at : goal.returns-then-not-is_revert-clause-at

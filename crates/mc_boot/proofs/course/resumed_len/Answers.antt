@@ -5,10 +5,10 @@ use Rattle.mc_flash.specs.facts.Usage.{few_trailer_sectors}
 use Rattle.mc_boot.proofs.Courses.{length-erases}
 use Rattle.mc_boot.proofs.course.resumed_len.Goals as goal
 
-pub returns-then-erases-clause-few : goal.returns-then-erases-clause-few
-returns-then-erases-clause-few c =
-    let few = few_trailer_sectors c.args.layout.now c.trailer_sectors-count.ensures.valid in
-    rw c.trailer_sectors-count.ensures.value (omega (arith, few, c.from_transfer_len-rest.ensures.few))
+pub returns-then-erases-clause-at_most : goal.returns-then-erases-clause-at_most
+returns-then-erases-clause-at_most c =
+    let at_most = few_trailer_sectors c.args.layout.now c.trailer_sectors-count.ensures.valid in
+    rw c.trailer_sectors-count.ensures.value (omega (arith, at_most, c.from_transfer_len-rest.ensures.at_most))
 
 pub returns-then-erases-clause-len : goal.returns-then-erases-clause-len
 returns-then-erases-clause-len c =
@@ -17,5 +17,5 @@ returns-then-erases-clause-len c =
 
 pub overflow_add-result : goal.overflow_add-result
 overflow_add-result c =
-    let few = few_trailer_sectors c.args.layout.now c.trailer_sectors-count.ensures.valid in
-    rw c.trailer_sectors-count.ensures.value (omega (arith, few, c.from_transfer_len-rest.ensures.few))
+    let at_most = few_trailer_sectors c.args.layout.now c.trailer_sectors-count.ensures.valid in
+    rw c.trailer_sectors-count.ensures.value (omega (arith, at_most, c.from_transfer_len-rest.ensures.at_most))

@@ -10,16 +10,16 @@ use Rattle.mc_boot.proofs.image.slot_bytes.Goals as goal
 all : (g l : Geometry) (slot : Slot) (xs : List ℕ) (n : ℕ) → l ≡ g → n ≡ size_of l slot → length xs ≡ size_of g slot → take n xs ≡ xs
 all g l slot xs n same is len = let size : n ≡ size_of g slot = rw same at is in take_all n xs (omega (arith, size, len))
 
-few : (l : Geometry) (slot : Slot) (xs : List ℕ) (n : ℕ) → IsLayout l → n ≡ size_of l slot → length (take n xs) ≤ 2 ^ 24
-few l slot xs n ok is = let small = slot_small l slot ok in omega (arith, length-take n xs, is, small)
+at_most : (l : Geometry) (slot : Slot) (xs : List ℕ) (n : ℕ) → IsLayout l → n ≡ size_of l slot → length (take n xs) ≤ 2 ^ 24
+at_most l slot xs n ok is = let small = slot_small l slot ok in omega (arith, length-take n xs, is, small)
 
 pub returns-clause-value : goal.returns-clause-value
 returns-clause-value g c =
     all (g.F.Flash.seen c.args.flash.now).geometry c.layout.result.now c.args.slot c.read.result.now c.size-size.result c.layout.ensures c.size-size.ensures.value c.read.ensures.len
     ∙ c.read.ensures.value
 
-pub returns-clause-few : goal.returns-clause-few
-returns-clause-few g c = few c.layout.result.now c.args.slot c.read.result.now c.size-size.result c.size-size.ensures.valid c.size-size.ensures.value
+pub returns-clause-at_most : goal.returns-clause-at_most
+returns-clause-at_most g c = at_most c.layout.result.now c.args.slot c.read.result.now c.size-size.result c.size-size.ensures.valid c.size-size.ensures.value
 
 pub slice_bounds-result-end : goal.slice_bounds-result-end
 slice_bounds-result-end g c = let size = rw c.layout.ensures at c.size-size.ensures.value in omega (arith, length-take c.size-size.result c.read.result.now, size, c.read.ensures.len)

@@ -6,7 +6,7 @@ pub returns-clause-starts : goal.returns-clause-starts
 returns-clause-starts c = proof.starts_exist
 
 pub returns-clause-restart : goal.returns-clause-restart
-returns-clause-restart c = proof.restart_law (record { begins = c.one_reading.ensures.begins; same = c.same_front.ensures.id })
+returns-clause-restart c = proof.restart_law (record { begins = c.one_reading.ensures.begins; same = c.same_prefix.ensures.id })
 
 pub returns-clause-rounds : goal.returns-clause-rounds
-returns-clause-rounds c = rounds_law (record { begins = c.one_reading.ensures.begins; same = c.same_front.ensures.id })
+returns-clause-rounds c = rounds_law (record { begins = c.one_reading.ensures.begins; same = c.same_prefix.ensures.id })

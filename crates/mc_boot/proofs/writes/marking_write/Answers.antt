@@ -29,10 +29,10 @@ long : (c : goal.After-bytes) → length c.bytes.result.now ≡ max c.args.layou
 long c = rw (c.bytes.ensures.value, c.size_bytes-bytes.ensures) (length-size_bytes c.args.layout.now c.args.size)
 
 pub write_op-requires-clause-short : goal.write_op-requires-clause-short
-write_op-requires-clause-short c = (omega (arith, long c), c.bytes.ensures.few)
+write_op-requires-clause-short c = (omega (arith, long c), c.bytes.ensures.at_most)
 
 pub write_op-requires-clause-fits : goal.write_op-requires-clause-fits
-write_op-requires-clause-fits c = omega (arith, c.bytes.ensures.few)
+write_op-requires-clause-fits c = omega (arith, c.bytes.ensures.at_most)
 
 pub write_op-requires-clause-whole : goal.write_op-requires-clause-whole
 write_op-requires-clause-whole c = rw (long c) (whole_units c.args.layout.now c.unit.ensures.valid).0

@@ -12,7 +12,7 @@ pub returns-clause-joined : goal.returns-clause-joined
 returns-clause-joined c = λ limits state whole rows ended. pages_join (rows_of campaigns) campaigns_are_lawful state limits whole rows ended
 
 pub returns-clause-resumed : goal.returns-clause-resumed
-returns-clause-resumed c = λ state rows limit calm some full.
+returns-clause-resumed c = λ state rows limit no_allocation_failed some full.
     let last = last_campaign [] (take limit rows) in
-    let behind : Bool → State = λ b. record { start = state.start; choice = state.choice; bound = state.bound; position = After last; failed = b } in
-    past_page (rows_of campaigns) campaigns_are_lawful limit state rows some full ∙ ap behind calm
+    let beyond : Bool → State = λ b. record { start = state.start; choice = state.choice; bound = state.bound; position = After last; failed = b } in
+    past_page (rows_of campaigns) campaigns_are_lawful limit state rows some full ∙ ap beyond no_allocation_failed

@@ -3,7 +3,7 @@ use Rattle.mc_explore.proofs.Walks.{clear}
 use Rattle.mc_explore.proofs.loading.load_for.Goals as goal
 
 pub start-requires : goal.start-requires
-start-requires g c = clear _ _ _ _ _ c.args.once.rules _ _ (omega (arith, c.from-boots.ensures, c.from.ensures, c.requires.boots.0)) c.in_ok-flash.ensures.loads
+start-requires g c = clear _ _ _ _ _ c.args.one_round.rules _ _ (omega (arith, c.from-boots.ensures, c.from.ensures, c.requires.boots.0)) c.in_ok-flash.ensures.loads
 
 pub load-requires : goal.load-requires
 load-requires g c =

@@ -1,6 +1,6 @@
 use Rattle.std.proofs.Common.{◌≡◌, ℕ, List, [], ◌∷◌, ◌++◌, length, sym, ap, ◌∙◌, arith}
 use Rattle.std.proofs.lemmas.List.{length-append}
-use Rattle.mc_explore.specs.inner.Once.{at_cut}
+use Rattle.mc_explore.specs.inner.OneRound.{at_cut}
 use Rattle.mc_explore.specs.inner.Table.{IsLevel, weigh, weigh_fewer}
 use Rattle.mc_explore.specs.declared.census.Census.{Census}
 use Rattle.mc_explore.proofs.Counting.{entry_is, more_cut_off}
@@ -52,7 +52,7 @@ returns c = λ e r g s own positions some all.
 pub loop-position-init : goal.loop-position-init
 loop-position-init c =
     let none = ap length c.new-level.ensures.items in
-    record { many = none; none = λ i few. absurd (omega (arith, few, none)) }
+    record { many = none; none = λ i at_most. absurd (omega (arith, at_most, none)) }
 
 pub loop-position-preserved : goal.loop-position-preserved
 loop-position-preserved c =
@@ -70,6 +70,6 @@ loop-fewer-init c =
     let i = c.loop-position.invariant in
     record {
       many = none;
-      column = λ e r g s own positions some all i few. absurd (omega (arith, few, none));
+      column = λ e r g s own positions some all i at_most. absurd (omega (arith, at_most, none));
       level = λ e r g s own positions some all. (omega (arith, i.many, c.loop-position-test.false, c.loop-position.auto._position-end, all), i.none);
     }

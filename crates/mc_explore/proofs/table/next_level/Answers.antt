@@ -1,7 +1,7 @@
 use Rattle.std.proofs.Common.{◌≡◌, ℕ, suc, ◌+◌, List, [], ◌∷◌, ◌++◌, length, refl, ap, subst, arith}
 use Rattle.std.proofs.lemmas.List.{length-append}
 use Rattle.std.proofs.lemmas.Option.{slice_get_read}
-use Rattle.mc_explore.specs.inner.Once.{at_cut}
+use Rattle.mc_explore.specs.inner.OneRound.{at_cut}
 use Rattle.mc_explore.specs.inner.Table.{AreCutOff, weigh, weigh_fewer}
 use Rattle.mc_explore.specs.declared.census.Census.{Census}
 use Rattle.mc_explore.proofs.Counting.{more_cut_off}

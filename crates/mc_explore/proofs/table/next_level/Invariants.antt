@@ -4,7 +4,7 @@ use Rattle.mc_flash.specs.Flash.{Content}
 use Rattle.mc_flash.specs.Geometry.{Geometry}
 use Rattle.mc_explore.specs.declared.expectation.Expectation.{Expectation}
 use Rattle.mc_trailer.specs.declared.tables.Rules.{Rules}
-use Rattle.mc_explore.specs.inner.Once.{at_cut}
+use Rattle.mc_explore.specs.inner.OneRound.{at_cut}
 use Rattle.mc_explore.specs.inner.Table.{AreCutOff, ArePositions, AreSums, IsLevel, weigh, weigh_fewer}
 use Rattle.mc_explore.proofs.table.next_level.Given as goal
 use Rattle.mc_boot.specs.Plan.{power_on}

@@ -18,9 +18,9 @@ loop-later-preserved c =
     let pushed : c.push-in-loop-later.new.self.items ≡ old ++ one ∷ [] = c.in_ok-push-2.ensures.items in
     let sum_is : (under : ℕ → Totals) → AreCutOff under c.args.level.now → n ≡ length c.args.level.now → one ≡ cut_off (from totals under (later + 1) (n - (later + 1))) = λ under are all.
     let there = c.census_at.ensures under are (omega (arith, c.loop-later-test.true, all)) in
-    let behind = c.behind.ensures (under number) there in
+    let prefixed = c.prefixed.ensures (under number) there in
     let all_one : number + 1 + later ≡ n = omega (arith, c.loop-later-test.true) in
-    c.both-sum.ensures (totals.behind number (under number)) (from totals under later (n - later)) behind (i.sum under are all) ∙ ap cut_off (more_sums under n later number all_one) in
+    c.both-sum.ensures (totals.prefixed number (under number)) (from totals under later (n - later)) prefixed (i.sum under are all) ∙ ap cut_off (more_sums under n later number all_one) in
     record {
       many = omega (arith, ap length pushed, length-append old (one ∷ []), i.many);
       sum = sum_is;

@@ -11,5 +11,5 @@ start-requires g c =
     let many = c.args.bound + g.X.Subject.MORE in
     let loads = rw (c.layout.ensures.value, c.primary-primary.ensures.value, c.secondary-secondary.ensures.value, c.rules-grain.ensures, c.from.ensures, c.MORE.ensures) at
     c.in_ok-flash.ensures.loads in
-    let there = subst (λ (y : PowerOn). LoadsFor g.F.Flash.counted y many f) (sym c.of-branches.ensures.begins) loads in
-    rw c.from-2.ensures (g.met.X.Subject.clear c.of-branches.result g.F.Flash.counted x.content c.args.bound f there)
+    let there = subst (λ (y : PowerOn). LoadsFor g.F.Flash.counted y many f) (sym c.of-flash_tree.ensures.begins) loads in
+    rw c.from-2.ensures (g.met.X.Subject.clear c.of-flash_tree.result g.F.Flash.counted x.content c.args.bound f there)

@@ -4,7 +4,7 @@ use Rattle.mc_flash.specs.Geometry.{Geometry}
 use Rattle.mc_flash.specs.Flash.{bytes_of, with_bytes, put}
 use Rattle.mc_flash.specs.inner.Journal.{Journal, journal_with, IsInside}
 use Rattle.mc_flash.specs.declared.entry.Entry.TheVariants.{Written, Erased}
-use Rattle.mc_flash.proofs.Undo.{by_write, same_earlier, newest, same_front, saved_last, erase_undone}
+use Rattle.mc_flash.proofs.Undo.{by_write, same_earlier, newest, same_prefix, saved_last, erase_undone}
 use Rattle.mc_flash.proofs.journal.undo_to.Goals as goal
 
 pub undo-preserved-in-Written : goal.undo-preserved-in-Written
@@ -18,7 +18,7 @@ undo-preserved-in-Written c =
     let grown = by_write left j w.slot w.at w.len top.entries refl in
     record {
       above = early;
-      left = same_front c.undo.slots.layout j left.entries _ top c.args.count early ∙ i.left;
+      left = same_prefix c.undo.slots.layout j left.entries _ top c.args.count early ∙ i.left;
       journal = record {
         saved_for = omega (arith, top.saves);
         inside = subst (λ (g : Geometry). AllByRecursion (IsInside g) left.entries) (sym c.fill.ensures.layout) top.inside_before;
@@ -58,7 +58,7 @@ undo-preserved-in-Erased c =
     let back = c.put.ensures.content ∙ ap (λ z. with_bytes c.undo.slots.content e.slot (put (bytes_of c.undo.slots.content e.slot) e.at z)) last.0 in
     record {
       above = early;
-      left = same_front c.undo.slots.layout j left.entries _ top c.args.count early ∙ i.left;
+      left = same_prefix c.undo.slots.layout j left.entries _ top c.args.count early ∙ i.left;
       journal = record {
         saved_for = omega (arith, rest.0, whole, top.saves);
         inside = subst (λ (g : Geometry). AllByRecursion (IsInside g) left.entries) (sym c.put.ensures.layout) top.inside_before;

@@ -10,11 +10,11 @@ returns-then-header-eq0 c bytes is area = rw (← is.protected, c.if-header-eq0.
 pub returns-then-is_bad : goal.returns-then-is_bad
 unfolding protected_fault
 returns-then-is_bad c bytes is area =
-    let bad : true ≡ is_bad_area 0x6908 c.args.area.now = c.if-is_bad.ensures c.args.area.now (c.along.ensures [] c.new.ensures) c.requires in
+    let bad : true ≡ is_bad_area 0x6908 c.args.area.now = c.if-is_bad.ensures c.args.area.now (c.feed.ensures [] c.new.ensures) c.requires in
     rw (← is.protected, ne_eqb c.args.header.now.protected 0 c.if-header-eq0.false, ← area, ← bad) refl
 
 pub returns : goal.returns
 unfolding protected_fault
 returns c bytes is area =
-    let good : false ≡ is_bad_area 0x6908 c.args.area.now = c.if-is_bad.ensures c.args.area.now (c.along.ensures [] c.new.ensures) c.requires in
+    let good : false ≡ is_bad_area 0x6908 c.args.area.now = c.if-is_bad.ensures c.args.area.now (c.feed.ensures [] c.new.ensures) c.requires in
     rw (← is.protected, ne_eqb c.args.header.now.protected 0 c.if-header-eq0.false, ← area, ← good) refl

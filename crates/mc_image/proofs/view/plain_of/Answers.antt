@@ -2,16 +2,16 @@ use Rattle.std.proofs.Common.{◌≤◌, arith, ap, sym, ◌∙◌, take, drop, 
 use Rattle.std.proofs.lemmas.List.{take_rest}
 use Rattle.std.proofs.lemmas.Result.{err_from_is_err_and}
 use Rattle.mc_image.specs.Image.{u16_at, entries_in, digests, area_in}
-use Rattle.mc_image.proofs.Walks.{head_first, plain_short, plain_entries, plain_none, behind_error}
+use Rattle.mc_image.proofs.Scans.{head_first, plain_short, plain_entries, plain_none, beyond_error}
 use Rattle.mc_image.proofs.view.plain_of.Goals as goal
 
 pub returns-in_err-total : goal.returns-in_err-total
 returns-in_err-total c =
     let p = err_from_is_err_and c.from_residual.result c.from_residual.ensures.1 in
-    rw (p.1, p.2) (behind_error _ _ _ (head_first c.args.bytes.now _ c.in_err-total.ensures))
+    rw (p.1, p.2) (beyond_error _ _ _ (head_first c.args.bytes.now _ c.in_err-total.ensures))
 
 pub returns-then-bytes-total : goal.returns-then-bytes-total
-returns-then-bytes-total c = behind_error _ _ _ (plain_short c.args.bytes.now c.in_ok-total.ensures.0 (let t = c.in_ok-total.ensures.3 in omega (arith, t)))
+returns-then-bytes-total c = beyond_error _ _ _ (plain_short c.args.bytes.now c.in_ok-total.ensures.0 (let t = c.in_ok-total.ensures.3 in omega (arith, t)))
 
 pub returns-in_err-digest : goal.returns-in_err-digest
 unfolding area_in

@@ -2,7 +2,7 @@ use Rattle.std.proofs.Common.{◌≡◌, false, sym}
 use Rattle.std.proofs.lemmas.Result.{err_from_is_err_and}
 use Rattle.mc_imgtool.specs.Created.{created, needs_slot_size}
 use Rattle.mc_imgtool.proofs.Answering.{refused_reading, refused_making, refused_unread}
-use Rattle.mc_imgtool.proofs.Wanted.{created_wanted, created_needs, never_error, told_error, false_true}
+use Rattle.mc_imgtool.proofs.Wanted.{created_wanted, created_needs, never_error, given_error, false_true}
 use Rattle.mc_imgtool.proofs.creation.create.Goals as goal
 
 pub returns-then-needs_slot_size-clause-answer : goal.returns-then-needs_slot_size-clause-answer
@@ -28,10 +28,10 @@ returns-in_err-image-clause-never g c =
 pub returns-in_err-image-clause-slot : goal.returns-in_err-image-clause-slot
 returns-in_err-image-clause-slot g c =
     let p = err_from_is_err_and c.from_residual-in_err-image.result c.from_residual-in_err-image.ensures.1 in
-    let told : needs_slot_size c.args.options.now ≡ false = sym c.if-needs_slot_size.ensures in
-    rw (p.1, p.2) (λ is. absurd (told_error c.args.options.now _ _ told c.in_err-image.ensures.made is), λ needs. absurd (false_true told needs))
+    let given : needs_slot_size c.args.options.now ≡ false = sym c.if-needs_slot_size.ensures in
+    rw (p.1, p.2) (λ is. absurd (given_error c.args.options.now _ _ given c.in_err-image.ensures.made is), λ needs. absurd (false_true given needs))
 
 pub returns-in_err-image-clause-unread : goal.returns-in_err-image-clause-unread
 returns-in_err-image-clause-unread g c =
     let p = err_from_is_err_and c.from_residual-in_err-image.result c.from_residual-in_err-image.ensures.1 in
-    rw (p.1, p.2) (λ is. absurd (told_error c.args.options.now _ _ (sym c.if-needs_slot_size.ensures) c.in_err-image.ensures.made is))
+    rw (p.1, p.2) (λ is. absurd (given_error c.args.options.now _ _ (sym c.if-needs_slot_size.ensures) c.in_err-image.ensures.made is))

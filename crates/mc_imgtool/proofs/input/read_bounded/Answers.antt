@@ -15,8 +15,8 @@ at_ok (Err x) new more old e ok = absurd (cc)
 
 -- what was read whole is not longer
 not_longer : (known : Option (List ℕ)) (bytes : List ℕ) (limit : ℕ) → length bytes ≤ limit → IfSome known (λ xs. bytes ≡ xs) → IfSome known (λ xs. limit < length xs → ⊥)
-not_longer None bytes limit few all = tt
-not_longer (Some xs) bytes limit few all = λ long. omega (arith, ap length all)
+not_longer None bytes limit at_most all = tt
+not_longer (Some xs) bytes limit at_most all = λ long. omega (arith, ap length all)
 
 -- each refusal is one of the three
 abbrev IsRefusal : ToolError → Type 0
@@ -29,8 +29,8 @@ refused_so (Some xs) limit e is = λ long. is
 -- the bytes after a read
 longer_by : (g : Over) (c : Else-is_err g) → c.extend_from_slice.new.self.items ≡ c.loop-buffer.bytes.items ++ take c.in-Ok.count c.read.new.buf
 longer_by g c =
-    let front = take-append-le c.in-Ok.count c.read.new.buf (drop c.min-room.result c.loop-buffer.buffer) c.in-Ok.ensures.bound.0 in
-    rw front at (at_ok c.extend_from_slice.result _ _ _ c.extend_from_slice.ensures.items c.if-is_err.ensures.value)
+    let prefix = take-append-le c.in-Ok.count c.read.new.buf (drop c.min-room.result c.loop-buffer.buffer) c.in-Ok.ensures.bound.0 in
+    rw prefix at (at_ok c.extend_from_slice.result _ _ _ c.extend_from_slice.ensures.items c.if-is_err.ensures.value)
 
 pub loop-buffer-init : goal.loop-buffer-init
 loop-buffer-init g c = record {
@@ -41,10 +41,10 @@ loop-buffer-init g c = record {
 pub loop-buffer-preserved : goal.loop-buffer-preserved
 loop-buffer-preserved g c =
     let b = c.loop-buffer in
-    let told = c.in-Ok.ensures in
-    let fits = fits_with_more _ _ _ _ b.bytes.items b.buffer _ c.min-room.ensures (c.len-in-loop-buffer.ensures ∙ b.bytes.ok.0) b.invariant.within c.read.auto.buf told.bound in
+    let given = c.in-Ok.ensures in
+    let fits = fits_with_more _ _ _ _ b.bytes.items b.buffer _ c.min-room.ensures (c.len-in-loop-buffer.ensures ∙ b.bytes.ok.0) b.invariant.within c.read.auto.buf given.bound in
     let is = longer_by g c in
-    record { within = rw is fits; taken = rw is (Consumes-trans _ _ _ b.bytes.items (take c.in-Ok.count c.read.new.buf) b.invariant.taken told.bytes.0) }
+    record { within = rw is fits; taken = rw is (Consumes-trans _ _ _ b.bytes.items (take c.in-Ok.count c.read.new.buf) b.invariant.taken given.bytes.0) }
 
 pub loop-buffer-smaller : goal.loop-buffer-smaller
 loop-buffer-smaller g c =
@@ -55,9 +55,9 @@ loop-buffer-smaller g c =
 pub returns-then-is_err-clause-taken : goal.returns-then-is_err-clause-taken
 returns-then-is_err-clause-taken g c =
     let b = c.loop-buffer in
-    let told = c.in-Ok.ensures in
-    let fits = fits_with_more _ _ _ _ b.bytes.items b.buffer _ c.min-room.ensures (c.len-in-loop-buffer.ensures ∙ b.bytes.ok.0) b.invariant.within c.read.auto.buf told.bound in
-    (b.bytes.items ++ take c.in-Ok.count c.read.new.buf, Consumes-trans _ _ _ b.bytes.items _ b.invariant.taken told.bytes.0, omega (arith, fits))
+    let given = c.in-Ok.ensures in
+    let fits = fits_with_more _ _ _ _ b.bytes.items b.buffer _ c.min-room.ensures (c.len-in-loop-buffer.ensures ∙ b.bytes.ok.0) b.invariant.within c.read.auto.buf given.bound in
+    (b.bytes.items ++ take c.in-Ok.count c.read.new.buf, Consumes-trans _ _ _ b.bytes.items _ b.invariant.taken given.bytes.0, omega (arith, fits))
 
 pub returns-then-count-eq0 : goal.returns-then-count-eq0
 returns-then-count-eq0 g c =
@@ -66,13 +66,13 @@ returns-then-count-eq0 g c =
     let room = has_room _ c.len-in-loop-buffer.result c.min-room.result b.buffer c.read.new.buf below c.min-room.ensures (omega arith) c.read.auto.buf in
     let took = nothing _ _ _ b.bytes.items c.read.new.buf c.in-Ok.count b.invariant.taken c.in-Ok.ensures.bytes.0 c.if-count-eq0.true in
     let end = c.in-Ok.ensures.bytes.1 c.if-count-eq0.true room in
-    let few : length b.bytes.items ≤ c.args.limit = omega (arith, c.loop-buffer-test.true, c.len.ensures, b.bytes.ok.0) in
+    let at_most : length b.bytes.items ≤ c.args.limit = omega (arith, c.loop-buffer-test.true, c.len.ensures, b.bytes.ok.0) in
     let all = Consumes-all _ _ b.bytes.items [] b.bytes.items took end refl in
     record {
-      whole = (few, all);
+      whole = (at_most, all);
       end = end;
       refused = tt;
-      longer = not_longer _ b.bytes.items c.args.limit few all;
+      longer = not_longer _ b.bytes.items c.args.limit at_most all;
       taken = (b.bytes.items, took, omega (arith, b.invariant.within));
     }
 

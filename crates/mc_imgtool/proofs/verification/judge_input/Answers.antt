@@ -19,12 +19,12 @@ of_all (Some xs) fed P all h = subst P all h
 judged_all : (known : Option (List ℕ)) (fed : List ℕ) (answer : Result Judged ImageError) (r : Result Judged ToolError) → IfSome known (λ xs. fed ≡ xs) → length fed ≤ 2 ^ 24
     → answer ≡ verdict fed → MatchResult answer (λ x. r ≡ Ok x) (λ e. IsErrAnd r (λ f. f ≡ image_error e)) → Judges known (2 ^ 24) r
 judged_all known fed (Ok x) r all le is e =
-    let told = of_all known fed (λ xs. (length xs ≤ 2 ^ 24) × (verdict xs ≡ Ok x)) all (le, sym is) in
-    subst (λ (a : Result Judged ToolError). Judges known (2 ^ 24) a) (sym e) told
+    let given = of_all known fed (λ xs. (length xs ≤ 2 ^ 24) × (verdict xs ≡ Ok x)) all (le, sym is) in
+    subst (λ (a : Result Judged ToolError). Judges known (2 ^ 24) a) (sym e) given
 judged_all known fed (Err x) (Ok y) all le is e = absurd e
 judged_all known fed (Err x) (Err f) all le is e =
-    let told = of_all known fed (λ xs. (length xs ≤ 2 ^ 24) × (verdict xs ≡ Err x)) all (le, sym is) in
-    subst (λ (a : ToolError). Judges known (2 ^ 24) (Err a)) (sym e) told
+    let given = of_all known fed (λ xs. (length xs ≤ 2 ^ 24) × (verdict xs ≡ Err x)) all (le, sym is) in
+    subst (λ (a : ToolError). Judges known (2 ^ 24) (Err a)) (sym e) given
 
 pub loop-taken-init : goal.loop-taken-init
 loop-taken-init g c = ([], c.new-judge.ensures, refl, omega arith, Consumes-nil _)
@@ -33,9 +33,9 @@ pub loop-taken-preserved : goal.loop-taken-preserved
 loop-taken-preserved g c =
     let fed = c.loop-taken.invariant.0 in
     let piece = take c.in-Ok.count c.read.new.buf in
-    let front = take-append-le c.in-Ok.count c.read.new.buf (drop c.min-room.result c.loop-taken.buffer) c.in-Ok.ensures.bound.0 in (
+    let prefix = take-append-le c.in-Ok.count c.read.new.buf (drop c.min-room.result c.loop-taken.buffer) c.in-Ok.ensures.bound.0 in (
       fed ++ piece,
-      rw front at (c.feed.ensures fed c.loop-taken.invariant.1),
+      rw prefix at (c.feed.ensures fed c.loop-taken.invariant.1),
       omega (arith, length-append fed piece, c.loop-taken.invariant.2, c.in-Ok.ensures.bound.1),
       within 16777217 c.loop-taken.taken c.min-room.result c.in-Ok.count c.loop-taken.buffer c.read.new.buf (omega (arith, c.min-room.ensures))
           c.loop-taken.invariant.3 c.read.auto.buf c.in-Ok.ensures.bound.0,
@@ -69,8 +69,8 @@ feed-requires g c =
     let fed = c.loop-taken.invariant.0 in
     let le = within 16777217 c.loop-taken.taken c.min-room.result c.in-Ok.count c.loop-taken.buffer c.read.new.buf (omega (arith, c.min-room.ensures))
     c.loop-taken.invariant.3 c.read.auto.buf c.in-Ok.ensures.bound.0 in
-    let few = length-take c.in-Ok.count (c.read.new.buf ++ drop c.min-room.result c.loop-taken.buffer) in
-    (fed, c.loop-taken.invariant.1, omega (arith, c.loop-taken.invariant.2, few, le))
+    let at_most = length-take c.in-Ok.count (c.read.new.buf ++ drop c.min-room.result c.loop-taken.buffer) in
+    (fed, c.loop-taken.invariant.1, omega (arith, c.loop-taken.invariant.2, at_most, le))
 
 pub returns-in_default : goal.returns-in_default
 returns-in_default g c = record {

@@ -8,4 +8,4 @@ returns-in_err-judged-clause-answer g c =
     rw (p.1, p.2) (refused_judging _ _ _ c.in_err-judged.ensures.judged)
 
 pub returns-clause-answer : goal.returns-clause-answer
-returns-clause-answer g c = answered_good _ _ _ c.in_ok-judged.judged c.write_good.result c.in_ok-judged.ensures.judged c.write_good.ensures.whole c.write_good.ensures.front
+returns-clause-answer g c = answered_good _ _ _ c.in_ok-judged.judged c.write_good.result c.in_ok-judged.ensures.judged c.write_good.ensures.whole c.write_good.ensures.prefix

@@ -7,14 +7,14 @@ use Rattle.mc_flash.specs.Geometry.{Geometry}
 use Rattle.mc_flash.specs.Flash.{apply}
 use Rattle.std.specs.Option.{is_some}
 use Rattle.mc_life.specs.Device.{worn}
-use Rattle.mc_life.proofs.Booting.{decided, ended, front_is, too_late}
+use Rattle.mc_life.proofs.Booting.{decided, ended, prefix_is, too_late}
 use Rattle.mc_life.proofs.boots.cut.Goals as goal
 
 pub returns-then-count-clause-cuts : goal.returns-then-count-clause-cuts
 returns-then-count-clause-cuts g c =
     let e = c.in_ok-boot.ensures in
-    let few = c.if-count.true in
-    too_late _ _ _ e.come c.args.count (ended _ _ c.args.count (omega (arith, few, c.count.ensures)) e.end) e.below
+    let at_most = c.if-count.true in
+    too_late _ _ _ e.come c.args.count (ended _ _ c.args.count (omega (arith, at_most, c.count.ensures)) e.end) e.below
 
 pub returns-in-None-clause-cuts : goal.returns-in-None-clause-cuts
 returns-in-None-clause-cuts g c =
@@ -36,4 +36,4 @@ returns-in-Some-clause-wear g c _ =
     let e = c.in_ok-boot.ensures in
     let enough = c.if-count.false in
     let here : (progress c.in_ok-boot.boot).count ≡ c.args.count = omega (arith, enough, c.count.ensures, e.below) in
-    e.wear ∙ ap (worn c.args.wear.now) (sym (front_is _ _ _ e.come)) ∙ ap (λ (n : ℕ). worn c.args.wear.now (take n (ops_of x))) here
+    e.wear ∙ ap (worn c.args.wear.now) (sym (prefix_is _ _ _ e.come)) ∙ ap (λ (n : ℕ). worn c.args.wear.now (take n (ops_of x))) here

@@ -15,7 +15,7 @@ cuts-preserved g c =
     (get_or c.args.cuts.now c.cuts.count-index 0) b h.content) c.if-not-branch.false e.cuts in
     record {
       are = cut_more x c.args.cuts.now c.cuts.count-index c.args.wear.now c.cuts.wear f i.are (omega arith) _ refl h c.cut.new.wear cuts e.layout (e.wear c.if-not-branch.false);
-      place = ap (λ (n : ℕ). n + 1) i.place;
+      number = ap (λ (n : ℕ). n + 1) i.number;
     }
 
 pub returns-then-not-branch-clause-refused : goal.returns-then-not-branch-clause-refused
@@ -27,4 +27,4 @@ returns-then-not-branch-clause-refused g c =
     let h = g.F.Flash.seen c.cut.new.flash in
     let cuts : Cuts (powered c.args.rules f) (get_or c.args.cuts.now c.cuts.count-index 0) false h.content = subst (λ b. Cuts (powered c.args.rules f)
     (get_or c.args.cuts.now c.cuts.count-index 0) b h.content) c.if-not-branch.true e.cuts in
-    cut_fails x c.args.cuts.now c.cuts.count-index c.args.wear.now c.cuts.wear f i.are (omega arith) _ c.cuts.place refl i.place cuts
+    cut_fails x c.args.cuts.now c.cuts.count-index c.args.wear.now c.cuts.wear f i.are (omega arith) _ c.cuts.number refl i.number cuts

@@ -1,6 +1,6 @@
 use Rattle.std.proofs.Common.{arith}
 use Rattle.mc_output.specs.facts.Parting.{one_piece, parted}
-use Rattle.mc_life.proofs.Telling.{first_of, last_line}
+use Rattle.mc_life.proofs.ReplayProof.{first_of, last_line}
 use Rattle.mc_life.proofs.script.next_line.Goals as goal
 
 pub returns-in-Some-clause-lines : goal.returns-in-Some-clause-lines

@@ -7,7 +7,7 @@ use Rattle.mc_start.proofs.slots.booted.Goals as goal
 pub finish-requires : goal.finish-requires
 finish-requires g c =
     let cold = c.cold_among-boot.ensures.cold in
-    record { layout = cold.layout; room = allows _ _ _ _ _ (progress c.cold_among-boot.result) c.in_ok-flash.ensures.loads cold.few cold.saves }
+    record { layout = cold.layout; room = allows _ _ _ _ _ (progress c.cold_among-boot.result) c.in_ok-flash.ensures.loads cold.at_most cold.saves }
 
 pub returns-clause-content : goal.returns-clause-content
 returns-clause-content g c =

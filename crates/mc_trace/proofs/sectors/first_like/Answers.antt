@@ -10,7 +10,7 @@ returns-then-eq c =
     let g = c.args.layout.now in
     let n = sectors_of g c.args.slot in
     let same : bytes_eq (sector_of g c.args.bytes.now c.loop-sector.sector) c.args.wanted.now ≡ true = cc (c.sector_of.ensures, c.eq.ensures, c.if-eq.true) in
-    sym (c.loop-sector.invariant.told ∙ like_here g c.args.bytes.now c.args.wanted.now c.loop-sector.sector n (omega (arith, c.loop-sector-test.true, c.sectors-sector-end.ensures.value)) same)
+    sym (c.loop-sector.invariant.written ∙ like_here g c.args.bytes.now c.args.wanted.now c.loop-sector.sector n (omega (arith, c.loop-sector-test.true, c.sectors-sector-end.ensures.value)) same)
 
 pub loop-sector-preserved : goal.loop-sector-preserved
 loop-sector-preserved c =
@@ -18,5 +18,9 @@ loop-sector-preserved c =
     let n = sectors_of g c.args.slot in
     let other : bytes_eq (sector_of g c.args.bytes.now c.loop-sector.sector) c.args.wanted.now ≡ false = cc (c.sector_of.ensures, c.eq.ensures, c.if-eq.false) in
     record {
-      told = c.loop-sector.invariant.told ∙ like_next g c.args.bytes.now c.args.wanted.now c.loop-sector.sector n (omega (arith, c.loop-sector-test.true, c.sectors-sector-end.ensures.value)) other;
+      written = c.loop-sector.invariant.written ∙ like_next g c.args.bytes.now c.args.wanted.now c.loop-sector.sector n (omega (
+        arith,
+        c.loop-sector-test.true,
+        c.sectors-sector-end.ensures.value,
+      )) other;
     }

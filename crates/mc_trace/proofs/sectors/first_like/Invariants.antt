@@ -5,5 +5,5 @@ use Rattle.mc_trace.proofs.sectors.first_like.Given as goal
 
 abbrev pub invariant-loop-sector : goal.invariant-loop-sector
 invariant-loop-sector l = record {
-  told : first_like l.layout l.bytes l.wanted 0 (sectors_of l.layout l.slot) ≡ first_like l.layout l.bytes l.wanted l.sector (sectors_of l.layout l.slot - l.sector);
+  written : first_like l.layout l.bytes l.wanted 0 (sectors_of l.layout l.slot) ≡ first_like l.layout l.bytes l.wanted l.sector (sectors_of l.layout l.slot - l.sector);
 }

@@ -5,7 +5,7 @@ use Rattle.mc_trailer.proofs.entries.without_blank_end.Given as goal
 -- no entry from here on is written
 abbrev pub invariant-loop-first : goal.invariant-loop-first
 invariant-loop-first g l = record {
-  few : l.end ≤ 3 * (g.F.Flash.seen l.flash).geometry.max_sectors;
+  at_most : l.end ≤ 3 * (g.F.Flash.seen l.flash).geometry.max_sectors;
   none : (e : ℕ) → l.end ≤ e → e < 3 * (g.F.Flash.seen l.flash).geometry.max_sectors → is_written (g.F.Flash.seen l.flash).geometry (g.F.Flash.seen l.flash).content e ≡ false;
 }
 

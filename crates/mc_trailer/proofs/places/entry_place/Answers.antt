@@ -17,8 +17,8 @@ before g e m u em eu below = rw (em, eu) (mul-le-mul_right g.unit (omega (arith,
 fits : (n rest s : ℕ) → n ≤ 48 + rest → 48 + rest ≤ s → s < 4294967296 → Fits w32 n
 fits n rest s le inside small = omega (arith, le, inside, small)
 
-few : (g : Geometry) (m : ℕ) → m ≡ g.max_sectors → IsLayout g → Fits w32 (3 * m)
-few g m e ok = let most = ok.few_sectors in omega (arith, e, most)
+at_most : (g : Geometry) (m : ℕ) → m ≡ g.max_sectors → IsLayout g → Fits w32 (3 * m)
+at_most g m e ok = let most = ok.few_sectors in omega (arith, e, most)
 
 over : (n rest : ℕ) → n ≤ rest → n ≤ 48 + rest
 over n rest le = omega (arith, le)
@@ -27,7 +27,7 @@ left : (n rest s : ℕ) → 48 + rest ≤ s → (48 + rest) - n ≤ s
 left n rest s le = omega (arith, le)
 
 pub overflow_mul-result : goal.overflow_mul-result
-overflow_mul-result c = few _ _ c.max_sectors.ensures.value c.max_sectors.ensures.valid
+overflow_mul-result c = at_most _ _ c.max_sectors.ensures.value c.max_sectors.ensures.valid
 
 pub overflow_mul-result-2 : goal.overflow_mul-result-2
 overflow_mul-result-2 c =

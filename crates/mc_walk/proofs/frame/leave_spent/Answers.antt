@@ -15,12 +15,12 @@ loop-frame-preserved g c =
     let last = last_is g (goal.at.loop-frame-preserved g c).In-Some in
     record {
       off = popped_off _ _ _ _ c.in-Some.frame.now c.pop.result c.loop-frame.invariant.off last c.pop.ensures.items
-          (λ n told. omega (arith, c.width.ensures n told, c.saturating_sub-last.ensures, c.if-frame-last.false));
+          (λ n summary. omega (arith, c.width.ensures n summary, c.saturating_sub-last.ensures, c.if-frame-last.false));
       capacity = c.pop.ensures.capacity ∙ c.loop-frame.invariant.capacity;
     }
 
 pub returns-then-frame-last-clause-left : goal.returns-then-frame-last-clause-left
 returns-then-frame-last-clause-left g c =
     let last = last_is g (goal.at.returns-then-frame-last-clause-left g c).In-Some in
-    is_left _ _ _ c.in-Some.frame.now c.loop-frame.invariant.off last (λ n told. omega (arith, c.width.ensures n told, c.saturating_sub-last.ensures, c.if-frame-last.true))
+    is_left _ _ _ c.in-Some.frame.now c.loop-frame.invariant.off last (λ n summary. omega (arith, c.width.ensures n summary, c.saturating_sub-last.ensures, c.if-frame-last.true))
     (omega (arith, c.saturating_sub-last.ensures, c.if-frame-last.true, c.width.type_inv))

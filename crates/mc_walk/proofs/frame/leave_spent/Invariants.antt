@@ -5,7 +5,7 @@ use Rattle.mc_walk.proofs.frame.leave_spent.Given as goal
 
 abbrev pub invariant-loop-frame : goal.invariant-loop-frame
 invariant-loop-frame g l = record {
-  off : AreOff (g.B.Branches.kind l.branches) l.fn.frames.items l.frames.items;
+  off : AreOff (g.B.FlashTree.model l.flash_tree) l.fn.frames.items l.frames.items;
   capacity : vec_capacity l.frames ≡ vec_capacity l.fn.frames;
 }
 

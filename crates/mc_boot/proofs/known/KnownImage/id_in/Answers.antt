@@ -6,4 +6,4 @@ use Rattle.mc_boot.proofs.known.KnownImage.id_in.Goals as goal
 pub returns-then-begin_alike : goal.returns-then-begin_alike
 returns-then-begin_alike c =
     let valid : id_of c.args.self.now.bytes.now ≡ Some (identity_of c.args.self.now.id) = search in
-    c.same_front.ensures.id c.args.self.now.bytes.now c.args.bytes.now (identity_of c.args.self.now.id) c.bytes_stand.ensures valid (c.begin_alike.ensures c.if-begin_alike.true)
+    c.same_prefix.ensures.id c.args.self.now.bytes.now c.args.bytes.now (identity_of c.args.self.now.id) c.are_bytes.ensures valid (c.begin_alike.ensures c.if-begin_alike.true)

@@ -1,7 +1,7 @@
 use Rattle.std.proofs.Common.{ap, ◌∙◌}
 use Rattle.mc_boot.specs.Boot.{Progress}
 use Rattle.mc_boot.proofs.Images.{images_read}
-use Rattle.mc_boot.proofs.Plans.{told}
+use Rattle.mc_boot.proofs.Plans.{reported}
 use Rattle.mc_boot.proofs.outcome.Outcome.read.Goals as goal
 use Rattle.mc_boot.specs.Plan.{powered}
 
@@ -14,7 +14,7 @@ begin-requires g c =
 
 pub returns : goal.returns
 returns g c =
-    told (powered c.args.rules (g.F.Flash.seen c.args.flash.now)) c.args.kind c.kind.result c.args.ops c.args.faulted c.is_some.result c.result_of.result
+    reported (powered c.args.rules (g.F.Flash.seen c.args.flash.now)) c.args.kind c.kind.result c.args.ops c.args.faulted c.is_some.result c.result_of.result
     c.read_among-primary.result.id c.read_among-secondary.result.id
     c.result_of.ensures c.is_some.ensures
     (rw c.slot_bytes.ensures.value at c.read_among-primary.ensures.id)

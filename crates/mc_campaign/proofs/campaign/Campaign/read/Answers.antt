@@ -9,22 +9,22 @@ use Rattle.mc_campaign.proofs.Reading.{spelling}
 use Rattle.mc_campaign.proofs.campaign.Campaign.read.Goals as goal
 
 pub returns-then-eq-clause-only : goal.returns-then-eq-clause-only
-returns-then-eq-clause-only c = λ m ok told.
-    let empty = dash spelling m c.args.text.now ok ((bytes_eq-Decides c.args.text.now (codes "-")).0 (sym (c.if-eq.ensures))) told in
+returns-then-eq-clause-only c = λ m ok summary.
+    let empty = dash spelling m c.args.text.now ok ((bytes_eq-Decides c.args.text.now (codes "-")).0 (sym (c.if-eq.ensures))) summary in
     ap (λ (x : List (ℕ × ℕ)). Ok x) (c.new-campaign.ensures ∙ sym empty)
 
 pub returns-in_err-add-clause-exact : goal.returns-in_err-add-clause-exact
 returns-in_err-add-clause-exact c =
     let q = err_from_is_err_and c.from_residual.result c.from_residual.ensures.1 in
     let p = parted 44 (omega arith) c.cuts.rest.now c.split_once.result c.split_once.ensures.cases c.in-Some.first c.in-Some.after c.in-Some.is in
-    rw q.1 (λ m ok told. not_next spelling c.cuts.campaign m c.cuts.rest.now c.in-Some.first.now c.in-Some.after.now ok
-    (c.cuts.invariant.left m ok told) p.parts p.lacks c.in_err-add.ensures.refused)
+    rw q.1 (λ m ok summary. not_next spelling c.cuts.campaign m c.cuts.rest.now c.in-Some.first.now c.in-Some.after.now ok
+    (c.cuts.invariant.left m ok summary) p.parts p.lacks c.in_err-add.ensures.refused)
 
 pub returns-in_err-add-clause-only : goal.returns-in_err-add-clause-only
-returns-in_err-add-clause-only c = λ m ok told.
+returns-in_err-add-clause-only c = λ m ok summary.
     let p = parted 44 (omega arith) c.cuts.rest.now c.split_once.result c.split_once.ensures.cases c.in-Some.first c.in-Some.after c.in-Some.is in
     absurd (not_next spelling c.cuts.campaign m c.cuts.rest.now c.in-Some.first.now c.in-Some.after.now ok
-    (c.cuts.invariant.left m ok told) p.parts p.lacks c.in_err-add.ensures.refused)
+    (c.cuts.invariant.left m ok summary) p.parts p.lacks c.in_err-add.ensures.refused)
 
 pub cuts-preserved : goal.cuts-preserved
 cuts-preserved c =
@@ -34,29 +34,29 @@ cuts-preserved c =
       valid = added_valid spelling c.cuts.campaign c.add.new.self c.in-Some.first.now c.cuts.invariant.valid c.in_ok-add.ensures.added;
       text = text_next 44 cut_text c.cuts.campaign c.add.new.self c.args.text.now c.cuts.rest.now c.in-Some.first.now c.in-Some.after.now
           c.cuts.invariant.text p.parts c.in_ok-add.ensures.added;
-      left = λ m ok told. left_next spelling c.cuts.campaign m c.add.new.self c.cuts.rest.now c.in-Some.first.now c.in-Some.after.now
-          ok (c.cuts.invariant.left m ok told) p.parts p.lacks c.in_ok-add.ensures.added;
+      left = λ m ok summary. left_next spelling c.cuts.campaign m c.add.new.self c.cuts.rest.now c.in-Some.first.now c.in-Some.after.now
+          ok (c.cuts.invariant.left m ok summary) p.parts p.lacks c.in_ok-add.ensures.added;
     }
 
 pub returns-in_err-add-2-clause-exact : goal.returns-in_err-add-2-clause-exact
 returns-in_err-add-2-clause-exact c =
     let q = err_from_is_err_and c.from_residual-in_err-add-2.result c.from_residual-in_err-add-2.ensures.1 in
     let lacks = one_piece 44 (omega arith) c.cuts.rest.now c.split_once.result c.split_once.ensures.cases c.in_default.is in
-    rw q.1 (λ m ok told. not_last spelling c.cuts.campaign m c.cuts.rest.now ok (c.cuts.invariant.left m ok told) lacks c.in_err-add-2.ensures.refused)
+    rw q.1 (λ m ok summary. not_last spelling c.cuts.campaign m c.cuts.rest.now ok (c.cuts.invariant.left m ok summary) lacks c.in_err-add-2.ensures.refused)
 
 pub returns-in_err-add-2-clause-only : goal.returns-in_err-add-2-clause-only
-returns-in_err-add-2-clause-only c = λ m ok told.
+returns-in_err-add-2-clause-only c = λ m ok summary.
     let lacks = one_piece 44 (omega arith) c.cuts.rest.now c.split_once.result c.split_once.ensures.cases c.in_default.is in
-    absurd (not_last spelling c.cuts.campaign m c.cuts.rest.now ok (c.cuts.invariant.left m ok told) lacks c.in_err-add-2.ensures.refused)
+    absurd (not_last spelling c.cuts.campaign m c.cuts.rest.now ok (c.cuts.invariant.left m ok summary) lacks c.in_err-add-2.ensures.refused)
 
 pub returns-clause-exact : goal.returns-clause-exact
 returns-clause-exact c = text_last 44 cut_text c.cuts.campaign c.add-2.new.self c.args.text.now c.cuts.rest.now c.cuts.invariant.text c.in_ok-add-2.ensures.added
 
 pub returns-clause-only : goal.returns-clause-only
-returns-clause-only c = λ m ok told.
+returns-clause-only c = λ m ok summary.
     let lacks = one_piece 44 (omega arith) c.cuts.rest.now c.split_once.result c.split_once.ensures.cases c.in_default.is in
     let all = all_read spelling c.cuts.campaign m c.add-2.new.self c.cuts.rest.now ok
-    (c.cuts.invariant.left m ok told) lacks c.in_ok-add-2.ensures.added in
+    (c.cuts.invariant.left m ok summary) lacks c.in_ok-add-2.ensures.added in
     ap (λ (x : List (ℕ × ℕ)). Ok x) all
 
 pub returns-clause-valid : goal.returns-clause-valid

@@ -6,9 +6,9 @@ use Rattle.mc_command.proofs.commands.census.read_census.Goals as goal
 pub returns : goal.returns
 returns g c = record {
   start = c.in_ok-start.start;
-  start_told = record { options = c.in-Ok.options; told = c.in-Ok.ensures.told; made = c.in_ok-start.ensures };
+  start_given = record { options = c.in-Ok.options; given = c.in-Ok.ensures.given; made = c.in_ok-start.ensures };
   cuts = c.in_ok-cuts.cuts;
-  cuts_told = c.in_ok-cuts.ensures.told;
+  cuts_given = c.in_ok-cuts.ensures.given;
   comes_to = search rules;
   asked = c.in_ok-asked.ensures;
   expectation = c.in_ok-expectation.expectation;

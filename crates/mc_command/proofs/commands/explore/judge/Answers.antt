@@ -1,6 +1,6 @@
 use Rattle.std.proofs.Common.{◌≡◌, ap, ◌∙◌}
 use Rattle.std.specs.Prelude.{is_none}
-use Rattle.mc_explore.specs.declared.surveying.TallyOf.{TallyOf}
+use Rattle.mc_explore.specs.declared.tally.TallyOf.{TallyOf}
 use Rattle.mc_command.proofs.Judging.{is_verdict, none_is}
 use Rattle.mc_command.proofs.commands.explore.judge.Goals as goal
 

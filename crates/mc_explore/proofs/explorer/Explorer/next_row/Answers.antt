@@ -1,13 +1,13 @@
 use Rattle.std.proofs.Common.{Some, None, Option, option_map, sym}
 use Rattle.std.specs.Prelude.{IfOk, IfSome, Result, Ok, Err}
-use Rattle.mc_explore.specs.Rows.{subject, RowRestarts, State, told}
+use Rattle.mc_explore.specs.Rows.{subject, RowRestarts, State, shown_row}
 use Rattle.mc_explore.specs.declared.error.ExploreError.{ExploreError}
 use Rattle.mc_explore.specs.declared.row.Row.{Row}
 use Rattle.mc_explore.specs.Subject as states
 use Rattle.mc_explore.proofs.explorer.Explorer.next_row.Goals as goal
 
-by_cases : (r : Result (Option Row) ExploreError) (s : State) → IfOk r (λ found. states.Restarts subject s (option_map told found))
-    → IfOk r (λ found. IfSome found (λ row. RowRestarts s.start (told row)))
+by_cases : (r : Result (Option Row) ExploreError) (s : State) → IfOk r (λ found. states.Restarts subject s (option_map shown_row found))
+    → IfOk r (λ found. IfSome found (λ row. RowRestarts s.start (shown_row row)))
 by_cases (Ok (Some row)) s is = is
 by_cases (Ok None) s is = tt
 by_cases (Err e) s is = tt

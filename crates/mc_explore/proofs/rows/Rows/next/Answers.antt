@@ -3,22 +3,21 @@ use Rattle.mc_walk.specs.Walks.{Visits, position_of, IsPath, Walked, origin_of}
 use Rattle.mc_explore.specs.declared.ahead.RowsAhead.{RowsAhead}
 use Rattle.mc_explore.specs.inner.Exploring.{last_of, with_last, FindsRow, IsRowing, Rowed}
 use Rattle.mc_explore.specs.Subject.{IsRowAt}
-use Rattle.mc_explore.proofs.Rowing.{HasArrived, ahead_there, few_next, going_there, last_next, last_there, listed_there, next_ahead, path_next, rowing_next, rowing_over, stands_for, stands_next}
-use Rattle.mc_explore.proofs.Rowing.{some_found, step}
+use Rattle.mc_explore.proofs.Rowing.{HasArrived, ahead_there, few_next, going_there, last_next, last_there, listed_there, next_ahead, path_next, rowing_next, rowing_over, stands_for, stands_next, some_found, step}
 use Rattle.std.specs.Prelude.{option_map}
 use Rattle.mc_explore.proofs.Visiting.{row_back}
 use Rattle.mc_explore.proofs.rows.Rows.next.Given.{Over}
 use Rattle.mc_explore.proofs.rows.Rows.next.Goals as goal
-use Rattle.mc_explore.proofs.rows.Rows.next.Goals.{After-arrive-self-inside, In-Some, In_ok-go_on}
+use Rattle.mc_explore.proofs.rows.Rows.next.Goals.{After-arrive-self-inside, In-Some, In_ok-next_node}
 
 -- ---- a row ahead
 
 abbrev Inv : (g : Over) (c : In-Some g) → Type 0
-Inv g c = IsRowing g.X.Branches.kind g.X.Subject.holds g.X.Subject.is_ahead c.self.inside.tour c.self.inside.kept c.self.inside.path (Some c.in-Some.rows)
+Inv g c = IsRowing g.X.FlashTree.model g.X.Subject.holds g.X.Subject.is_ahead c.self.inside.tour c.self.inside.kept c.self.inside.path (Some c.in-Some.rows)
 
 inv : (g : Over) (c : In-Some g) → Inv g c
 inv g c =
-    subst (IsRowing g.X.Branches.kind g.X.Subject.holds g.X.Subject.is_ahead c.self.inside.tour c.self.inside.kept c.self.inside.path) c.in-Some.ensures.0 c.self.invariant
+    subst (IsRowing g.X.FlashTree.model g.X.Subject.holds g.X.Subject.is_ahead c.self.inside.tour c.self.inside.kept c.self.inside.path) c.in-Some.ensures.0 c.self.invariant
 
 pub returns-in-Some-clause-finds : goal.returns-in-Some-clause-finds
 returns-in-Some-clause-finds g c =
@@ -27,65 +26,67 @@ returns-in-Some-clause-finds g c =
     let x = c.in-Some.rows in
     let i = inv g (goal.at.returns-in-Some-clause-finds g c).In-Some in
     let lt = c.in-Some.ensures.1 in
-    let next = next_ahead g.X.Branches.kind g.X.Subject.holds g.X.Subject.is_ahead s.tour s.kept s.path x i lt in
-    let last = last_there g.X.Branches.kind g.X.Subject.holds g.X.Subject.is_ahead s.tour s.kept s.path x i lt in
-    let behind = ahead_there g.X.Branches.kind g.X.Subject.holds g.X.Subject.is_ahead s.tour s.kept s.path x i lt in
-    let holds = (step g.X.Branches.kind g.X.Subject.holds g.X.Subject.is_ahead s.tour s.kept s.path x i lt).holds_there in
-    let going = going_there g.X.Branches.kind g.X.Subject.holds g.X.Subject.is_ahead s.tour s.kept s.path x i lt in
-    let listed = subst (IsPath (g.X.Branches.kind w.branches) w) last next.listed in
-    let row = c.row_ahead-row.ensures w.branches (origin_of w.seen) holds behind.are listed.1 in
+    let next = next_ahead g.X.FlashTree.model g.X.Subject.holds g.X.Subject.is_ahead s.tour s.kept s.path x i lt in
+    let last = last_there g.X.FlashTree.model g.X.Subject.holds g.X.Subject.is_ahead s.tour s.kept s.path x i lt in
+    let beyond = ahead_there g.X.FlashTree.model g.X.Subject.holds g.X.Subject.is_ahead s.tour s.kept s.path x i lt in
+    let holds = (step g.X.FlashTree.model g.X.Subject.holds g.X.Subject.is_ahead s.tour s.kept s.path x i lt).holds_there in
+    let going = going_there g.X.FlashTree.model g.X.Subject.holds g.X.Subject.is_ahead s.tour s.kept s.path x i lt in
+    let listed = subst (IsPath (g.X.FlashTree.model w.flash_tree) w) last next.listed in
+    let row = c.row_ahead-row.ensures w.flash_tree (origin_of w.seen) holds beyond.are listed.1 in
     let new : Rowed g.row.X.Denot = record { walk = w; phase = s.tour.phase; last = with_last s.path (x.next + 1) } in
     let old : Rowed g.row.X.Denot = record { walk = w; phase = s.tour.phase; last = with_last s.path x.next } in
     let is : old ≡ c.args.self.now =
     ap (λ (o : Option (RowsAhead g.row.X-Ahead.Denot)). record { walk = w; phase = s.tour.phase; last = last_of s.path o }) (sym c.in-Some.ensures.0) ∙ c.self.view_is in
     let P : Rowed g.row.X.Denot → Option g.X.Subject.Shown → Type 0 =
-    λ z found. FindsRow g.X.Subject.subject g.X.Branches.kind g.X.Subject.begins g.X.Subject.choice g.X.Subject.key_of z found new in
+    λ z found. FindsRow g.X.Subject.subject g.X.FlashTree.model g.X.Subject.begins g.X.Subject.choice g.X.Subject.key_of z found new in
     let Q : List ℕ → g.X.Subject.Shown → Type 0 =
-    λ l r. IsRowAt g.X.Subject.subject g.X.Subject.begins g.X.Subject.choice g.X.Subject.key_of w.branches (origin_of w.seen) l r in
+    λ l r. IsRowAt g.X.Subject.subject g.X.Subject.begins g.X.Subject.choice g.X.Subject.key_of w.flash_tree (origin_of w.seen) l r in
     subst (λ z. P z (option_map g.X.Subject.shown c.row_ahead-row.result)) is
     (some_found g.X.Subject.shown (Q (s.path ++ x.next ∷ [])) (P old) c.row_ahead-row.result row
-    (λ r at. (next, subst (λ l. Q l r) (sym last) at, record { branches = refl; bound = refl; origin = refl }, going)))
+    (λ r at. (next, subst (λ l. Q l r) (sym last) at, record { flash_tree = refl; bound = refl; origin = refl }, going)))
 
 -- ---- the next node
 
-visited : (g : Over) (c : In_ok-go_on g) (went : Bool) → c.in_ok-go_on.field-0 ≡ went
-    → Visits (g.X.Branches.kind c.self.inside.tour.walk.branches) c.self.inside.tour (position_of c.self.inside.tour.phase (last_of c.self.inside.path c.self.inside.ahead)) went c.go_on.new.tour
+visited : (g : Over) (c : In_ok-next_node g) (went : Bool) → c.in_ok-next_node.field-0 ≡ went
+    → Visits (g.X.FlashTree.model c.self.inside.tour.walk.flash_tree) c.self.inside.tour (position_of c.self.inside.tour.phase (last_of c.self.inside.path c.self.inside.ahead)) went
+    c.next_node.new.tour
 visited g c went is =
     let s = c.self.inside in
     let here = position_of s.tour.phase (last_of s.path s.ahead) in
-    let at = stands_for g.X.Branches.kind g.X.Subject.holds g.X.Subject.is_ahead s.tour s.kept s.path s.ahead c.self.invariant c.in_default.ensures c.in_ok-go_on.ensures.costs.0
+    let at = stands_for g.X.FlashTree.model g.X.Subject.holds g.X.Subject.is_ahead s.tour s.kept s.path s.ahead c.self.invariant c.in_default.ensures c.in_ok-next_node.ensures.costs.0
     c.is_some.result c.is_some.ensures in
-    subst (λ b. Visits (g.X.Branches.kind s.tour.walk.branches) s.tour here b c.go_on.new.tour) is (c.in_ok-go_on.ensures.visits here at)
+    subst (λ b. Visits (g.X.FlashTree.model s.tour.walk.flash_tree) s.tour here b c.next_node.new.tour) is (c.in_ok-next_node.ensures.visits here at)
 
-stands : (g : Over) (c : In_ok-go_on g) → c.in_ok-go_on.field-0 ≡ true → c.go_on.new.tour.walk.stands ≡ true
-stands g c is = stands_next _ _ _ _ _ _ _ c.self.invariant c.in_default.ensures c.in_ok-go_on.ensures.costs.0 _ (visited g c true is)
+stands : (g : Over) (c : In_ok-next_node g) → c.in_ok-next_node.field-0 ≡ true → c.next_node.new.tour.walk.stands ≡ true
+stands g c is = stands_next _ _ _ _ _ _ _ c.self.invariant c.in_default.ensures c.in_ok-next_node.ensures.costs.0 _ (visited g c true is)
 
-listed : (g : Over) (c : In_ok-go_on g) → c.in_ok-go_on.field-0 ≡ true → IsPath (g.X.Branches.kind c.go_on.new.tour.walk.branches) c.go_on.new.tour.walk c.go_on.new.tour.walk.path
-listed g c is = listed_there _ _ _ _ _ _ _ c.self.invariant c.in_default.ensures c.in_ok-go_on.ensures.costs.0 _ (visited g c true is)
+listed : (g : Over) (c : In_ok-next_node g) → c.in_ok-next_node.field-0 ≡ true → IsPath (g.X.FlashTree.model c.next_node.new.tour.walk.flash_tree) c.next_node.new.tour.walk
+    c.next_node.new.tour.walk.path
+listed g c is = listed_there _ _ _ _ _ _ _ c.self.invariant c.in_default.ensures c.in_ok-next_node.ensures.costs.0 _ (visited g c true is)
 
 pub path-requires-clause-stands : goal.path-requires-clause-stands
-path-requires-clause-stands g c = rw c.walk-walk.ensures (stands g (goal.at.path-requires-clause-stands g c).In_ok-go_on c.if-not-branch.false)
+path-requires-clause-stands g c = rw c.walk-walk.ensures (stands g (goal.at.path-requires-clause-stands g c).In_ok-next_node c.if-not-branch.false)
 
 pub path-requires-clause-room : goal.path-requires-clause-room
 path-requires-clause-room g c =
-    let v = visited g (goal.at.path-requires-clause-room g c).In_ok-go_on true c.if-not-branch.false in
-    rw c.walk-walk.ensures (few_next _ _ _ _ _ _ _ c.self.invariant c.in_default.ensures c.in_ok-go_on.ensures.costs.0 _ v)
+    let v = visited g (goal.at.path-requires-clause-room g c).In_ok-next_node true c.if-not-branch.false in
+    rw c.walk-walk.ensures (few_next _ _ _ _ _ _ _ c.self.invariant c.in_default.ensures c.in_ok-next_node.ensures.costs.0 _ v)
 
 pub row-row-requires-clause-stands : goal.row-row-requires-clause-stands
-row-row-requires-clause-stands g c = rw c.walk-walk.ensures (stands g (goal.at.row-row-requires-clause-stands g c).In_ok-go_on c.if-not-branch.false)
+row-row-requires-clause-stands g c = rw c.walk-walk.ensures (stands g (goal.at.row-row-requires-clause-stands g c).In_ok-next_node c.if-not-branch.false)
 
 pub row-row-requires-clause-listed : goal.row-row-requires-clause-listed
-row-row-requires-clause-listed g c = rw c.walk-walk.ensures (listed g (goal.at.row-row-requires-clause-listed g c).In_ok-go_on c.if-not-branch.false)
+row-row-requires-clause-listed g c = rw c.walk-walk.ensures (listed g (goal.at.row-row-requires-clause-listed g c).In_ok-next_node c.if-not-branch.false)
 
 pub arrive-self-inside-requires-clause-stands : goal.arrive-self-inside-requires-clause-stands
 arrive-self-inside-requires-clause-stands g c =
-    rw c.walk-walk.ensures (stands g (goal.at.arrive-self-inside-requires-clause-stands g c).In_ok-go_on c.if-not-branch.false)
+    rw c.walk-walk.ensures (stands g (goal.at.arrive-self-inside-requires-clause-stands g c).In_ok-next_node c.if-not-branch.false)
 
 pub arrive-self-inside-requires-clause-listed : goal.arrive-self-inside-requires-clause-listed
 arrive-self-inside-requires-clause-listed g c =
-    rw c.walk-walk.ensures (listed g (goal.at.arrive-self-inside-requires-clause-listed g c).In_ok-go_on c.if-not-branch.false)
+    rw c.walk-walk.ensures (listed g (goal.at.arrive-self-inside-requires-clause-listed g c).In_ok-next_node c.if-not-branch.false)
 
-arrived : (g : Over) (c : After-arrive-self-inside g) → HasArrived g.X.Branches.kind g.X.Subject.holds g.X.Subject.is_ahead c.go_on.new.tour.walk c.self.inside.kept c.arrive-self-inside.new.kept
+arrived : (g : Over) (c : After-arrive-self-inside g) → HasArrived g.X.FlashTree.model g.X.Subject.holds g.X.Subject.is_ahead c.next_node.new.tour.walk c.self.inside.kept c.arrive-self-inside.new.kept
     c.of-path.result c.arrive-self-inside.result
 arrived g c = record {
   path_is = c.of-path.ensures ∙ c.as_slice.ensures.value ∙ c.path.ensures ∙ ap (λ (w : Walked g.row.X.Denot). w.path) c.walk-walk.ensures;
@@ -96,33 +97,33 @@ arrived g c = record {
 pub invariant_of-self-2 : goal.invariant_of-self-2
 invariant_of-self-2 g c =
     let a = goal.at.invariant_of-self-2 g c in
-    let v = visited g a.In_ok-go_on true c.if-not-branch.false in
-    rowing_next _ _ _ _ _ _ _ c.self.invariant c.in_default.ensures c.in_ok-go_on.ensures.costs.0 _ v _ _ _ (arrived g a.After-arrive-self-inside)
+    let v = visited g a.In_ok-next_node true c.if-not-branch.false in
+    rowing_next _ _ _ _ _ _ _ c.self.invariant c.in_default.ensures c.in_ok-next_node.ensures.costs.0 _ v _ _ _ (arrived g a.After-arrive-self-inside)
 
 pub returns-clause-finds : goal.returns-clause-finds
 returns-clause-finds g c =
     let a = goal.at.returns-clause-finds g c in
     let s = c.self.inside in
-    let new = c.go_on.new.tour.walk in
-    let v = visited g a.In_ok-go_on true c.if-not-branch.false in
+    let new = c.next_node.new.tour.walk in
+    let v = visited g a.In_ok-next_node true c.if-not-branch.false in
     let there = arrived g a.After-arrive-self-inside in
-    let next = path_next _ _ _ _ _ _ _ c.self.invariant c.in_default.ensures c.in_ok-go_on.ensures.costs.0 _ v _ _ _ there in
-    let last = last_next _ _ _ _ _ _ _ c.self.invariant c.in_default.ensures c.in_ok-go_on.ensures.costs.0 _ v _ _ _ there in
+    let next = path_next _ _ _ _ _ _ _ c.self.invariant c.in_default.ensures c.in_ok-next_node.ensures.costs.0 _ v _ _ _ there in
+    let last = last_next _ _ _ _ _ _ _ c.self.invariant c.in_default.ensures c.in_ok-next_node.ensures.costs.0 _ v _ _ _ there in
     let key = rw c.walk-walk.ensures at c.row-row.ensures.key in
     let outcome = rw c.walk-walk.ensures at c.row-row.ensures.outcome in
     let row = g.X.Subject.shown c.row-row.result in
-    let at = row_back g.X.Subject.subject g.X.Branches.kind g.X.Subject.begins g.X.Subject.choice g.X.Subject.key_of g.met.X.Subject.are_keys s.tour.walk new v.1 new.path row (key, outcome) in
-    let P : List ℕ → Type 0 = λ l. IsRowAt g.X.Subject.subject g.X.Subject.begins g.X.Subject.choice g.X.Subject.key_of s.tour.walk.branches (origin_of s.tour.walk.seen) l row in
+    let at = row_back g.X.Subject.subject g.X.FlashTree.model g.X.Subject.begins g.X.Subject.choice g.X.Subject.key_of g.met.X.Subject.are_keys s.tour.walk new v.1 new.path row (key, outcome) in
+    let P : List ℕ → Type 0 = λ l. IsRowAt g.X.Subject.subject g.X.Subject.begins g.X.Subject.choice g.X.Subject.key_of s.tour.walk.flash_tree (origin_of s.tour.walk.seen) l row in
     rw (sym c.self.view_is) (next, subst P (sym last) at, v.1, v.2)
 
 -- ---- or there is none
 
 pub invariant_of-self-then-not-branch : goal.invariant_of-self-then-not-branch
 invariant_of-self-then-not-branch g c =
-    let v = visited g (goal.at.invariant_of-self-then-not-branch g c).In_ok-go_on false c.if-not-branch.true in
-    rowing_over _ _ _ _ _ _ _ c.self.invariant c.in_default.ensures c.in_ok-go_on.ensures.costs.0 _ v
+    let v = visited g (goal.at.invariant_of-self-then-not-branch g c).In_ok-next_node false c.if-not-branch.true in
+    rowing_over _ _ _ _ _ _ _ c.self.invariant c.in_default.ensures c.in_ok-next_node.ensures.costs.0 _ v
 
 pub returns-then-not-branch-clause-finds : goal.returns-then-not-branch-clause-finds
 returns-then-not-branch-clause-finds g c =
-    let v = visited g (goal.at.returns-then-not-branch-clause-finds g c).In_ok-go_on false c.if-not-branch.true in
+    let v = visited g (goal.at.returns-then-not-branch-clause-finds g c).In_ok-next_node false c.if-not-branch.true in
     rw (sym c.self.view_is) (v.0, v.1, v.2, v.3, refl)

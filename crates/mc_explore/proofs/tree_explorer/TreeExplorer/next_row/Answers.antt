@@ -14,14 +14,14 @@ is_none (Some x) not = absurd (not x refl)
 
 -- What was found.
 found : (g : Over) (c : In_ok-found g) (row : Option g.row.X-Row.Denot) → c.in_ok-found.found ≡ row
-    → Found g.X.Subject.subject g.X.Branches.kind g.X.Subject.begins g.X.Subject.choice g.X.Subject.key_of g.met.X.Subject.are_keys g.F.Flash.counted (begun c.self.inside.start.now)
+    → Found g.X.Subject.subject g.X.FlashTree.model g.X.Subject.begins g.X.Subject.choice g.X.Subject.key_of g.met.X.Subject.are_keys g.F.Flash.counted (begun c.self.inside.start.now)
     c.self.inside.choice c.self.inside.bound c.self.inside.rows c.next.new.self c.self.inside.last (option_map g.X.Subject.shown row)
 found g c row is =
     let e = c.in_ok-found.ensures in
     record {
       works = e.costs.0;
       sound = c.self.invariant.0;
-      finds = subst (λ o. FindsRow g.X.Subject.subject g.X.Branches.kind g.X.Subject.begins g.X.Subject.choice g.X.Subject.key_of c.self.inside.rows (option_map g.X.Subject.shown o)
+      finds = subst (λ o. FindsRow g.X.Subject.subject g.X.FlashTree.model g.X.Subject.begins g.X.Subject.choice g.X.Subject.key_of c.self.inside.rows (option_map g.X.Subject.shown o)
           c.next.new.self) is e.finds;
       limits = e.costs.1.limits;
       failed = e.costs.1.failed;

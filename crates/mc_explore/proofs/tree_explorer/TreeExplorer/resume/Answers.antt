@@ -8,14 +8,15 @@ pub invariant_of-explorer : goal.invariant_of-explorer
 invariant_of-explorer g c =
     let e = c.explorer.inside in (
       c.explorer.invariant.0,
-      same_digest g.X.Branches.kind g.X.Subject.begins g.X.Subject.choice g.X.Subject.key_of g.F.Flash.counted (begun e.start.now) e.choice e.bound e.rows e.last (begun c.args.start.now) c.args.choice
+      same_digest g.X.FlashTree.model g.X.Subject.begins g.X.Subject.choice g.X.Subject.key_of g.F.Flash.counted (begun e.start.now) e.choice e.bound e.rows e.last (begun c.args.start.now)
+          c.args.choice
           c.args.bound c.fields-fields.result.key c.fields-fields.result.digest c.explorer.invariant.0
-          (ap (λ (z : Explored g.row.X-Choice.Denot g.row.X-Key.Denot). z.state) c.explorer.view_is ∙ c.in_ok-explorer.ensures.resumes.1) c.in_ok-ask.ensures.names.digest_is,
+          (ap (λ (z : Explored g.row.X-Choice.Denot g.row.X-Key.Denot). z.state) c.explorer.view_is ∙ c.in_ok-explorer.ensures.resumes.1) c.in_ok-check_cursor.ensures.names.digest_is,
     )
 
 pub returns-clause-resumes : goal.returns-clause-resumes
 returns-clause-resumes g c = (
-  rw c.fields-fields.ensures at c.in_ok-ask.ensures.names,
+  rw c.fields-fields.ensures at c.in_ok-check_cursor.ensures.names,
   rw c.fields-fields.ensures at c.in_ok-explorer.ensures.resumes.0,
   rw c.fields-fields.ensures at (ap (λ (z : Explored g.row.X-Choice.Denot g.row.X-Key.Denot). z.state) c.explorer.view_is ∙ c.in_ok-explorer.ensures.resumes.1),
 )

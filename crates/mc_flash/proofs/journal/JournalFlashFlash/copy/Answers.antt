@@ -21,7 +21,7 @@ invariant_of-self-2 c =
     sound_grown f.slots.layout (limits_of f.reserve) _ j f.checkpoints.items c.self.invariant c.put_copy.new.self.layout
     (room_for (vec_capacity c.push.new.self) (vec_capacity f.saved) (vec_capacity f.checkpoints)) j' _ _
     (by_write j j' c.args.to c.args.offset c.args.len c.in_ok-push.ensures.items refl) c.put_copy.ensures.layout
-    (record { entries = c.push.ensures.capacity; saved = omega arith; checkpoints = omega arith }) (omega (arith, f.entries.ok.0)) (omega (arith, c.self.invariant.few.saved)) can.1.inside
+    (record { entries = c.push.ensures.capacity; saved = omega arith; checkpoints = omega arith }) (omega (arith, f.entries.ok.0)) (omega (arith, c.self.invariant.at_most.saved)) can.1.inside
 
 pub returns-then-not-is_blank : goal.returns-then-not-is_blank
 returns-then-not-is_blank c =
@@ -62,7 +62,7 @@ returns c =
     c.put_copy.new.self.layout t j' c.saturating_add-self-inside.result _ _ (by_write j j' c.args.to c.args.offset c.args.len c.in_ok-push.ensures.items refl) refl
     (write_back s t c.args.to c.args.offset c.args.len new c.put_copy.ensures.content n (omega (arith, can.1.inside, target)) blank)
     (copy_done f.slots.layout s t c.args.from c.args.to c.args.at c.args.offset c.args.len (omega (arith, can.0.inside, source)) blank c.put_copy.ensures.content)
-    c.put_copy.ensures.layout c.self.invariant.ascend c.saturating_add-self-inside.ensures (omega (arith, f.entries.ok.0)) (omega (arith, c.self.invariant.few.saved))
+    c.put_copy.ensures.layout c.self.invariant.ascend c.saturating_add-self-inside.ensures (omega (arith, f.entries.ok.0)) (omega (arith, c.self.invariant.at_most.saved))
 
 pub invariant_of-self : goal.invariant_of-self
 invariant_of-self c = absurd (omega (arith, c.in_err-push.ensures.full, c.if-len-self.false, c.self.invariant.room.entries))

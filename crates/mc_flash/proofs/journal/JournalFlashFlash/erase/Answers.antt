@@ -27,7 +27,7 @@ invariant_of-self-2 c =
     (room_for (vec_capacity c.push.new.self) (vec_capacity c.extend_from_slice.new.self) (vec_capacity f.checkpoints)) j' _ _
     (by_erase j j' c.args.slot (c.args.sector * g.sector) g.sector c.sector.result.now entry c.in_ok-extend_from_slice.ensures.items c.self.invariant.journal.saved_for c.sector.ensures.len)
     c.erase.ensures.layout (record { entries = c.push.ensures.capacity; saved = c.extend_from_slice.ensures.capacity; checkpoints = omega arith }) (omega (arith, f.entries.ok.0))
-    (omega (arith, f.saved.ok.0, c.if-self-len.false, size, c.self.invariant.few.saved)) (sector_inside g c.args.slot c.args.sector below)
+    (omega (arith, f.saved.ok.0, c.if-self-len.false, size, c.self.invariant.at_most.saved)) (sector_inside g c.args.slot c.args.sector below)
 
 pub returns-then-len-self : goal.returns-then-len-self
 returns-then-len-self c =
@@ -42,7 +42,7 @@ returns-then-self-len c =
     let t : Content = with_bytes f.slots.content c.args.slot (erased f.slots.layout.sector c.args.sector (bytes_of f.slots.content c.args.slot)) in
     let size = c.sector-size.ensures.value ∙ ap (λ (x : Geometry). x.sector) c.layout.ensures in
     is_full f.slots.layout f.slots.content f.reserve (journal_with f.entries.items f.saved.items) f.checkpoints.items f.applied c.args.self.now c.self.view_is (Erase c.args.slot c.args.sector) t
-    (erase_done f.slots.layout f.slots.content t c.args.slot c.args.sector refl) (inr (omega (arith, f.saved.ok.0, c.if-self-len.true, size, c.self.invariant.few.saved)))
+    (erase_done f.slots.layout f.slots.content t c.args.slot c.args.sector refl) (inr (omega (arith, f.saved.ok.0, c.if-self-len.true, size, c.self.invariant.at_most.saved)))
 
 pub returns : goal.returns
 returns c =
@@ -63,7 +63,7 @@ returns c =
     does g s f.reserve j f.checkpoints.items f.applied c.args.self.now c.self.view_is (Erase c.args.slot c.args.sector) c.erase.new.self.layout t j' c.saturating_add-self-inside.result _ _ grown refl
     (erase_back s t c.args.slot (c.args.sector * g.sector) g.sector (replicate g.sector 255) c.erase.ensures.content (length-replicate g.sector 255) (omega (arith, fits, long)))
     (erase_done g s t c.args.slot c.args.sector c.erase.ensures.content) c.erase.ensures.layout c.self.invariant.ascend c.saturating_add-self-inside.ensures
-    (omega (arith, f.entries.ok.0)) (omega (arith, f.saved.ok.0, c.if-self-len.false, size, c.self.invariant.few.saved))
+    (omega (arith, f.entries.ok.0)) (omega (arith, f.saved.ok.0, c.if-self-len.false, size, c.self.invariant.at_most.saved))
 
 pub returns-in_err-extend_from_slice : goal.returns-in_err-extend_from_slice
 returns-in_err-extend_from_slice c =

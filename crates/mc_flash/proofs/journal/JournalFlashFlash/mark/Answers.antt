@@ -21,7 +21,7 @@ returns c =
     let j : Journal = journal_with f.entries.items f.saved.items in
     let long = length-map f.checkpoints.items (checkpoint_after j f.slots.content) in
     let after : Seen = seen_of f.slots.layout f.slots.content (limits_of f.reserve) j c.push.new.self.items f.applied in
-    subst (λ (old : Seen). Marks old (Ok c.len-place.result) after) c.self.view_is (
+    subst (λ (old : Seen). Marks old (Ok c.len-number.result) after) c.self.view_is (
       omega (arith, long, f.checkpoints.ok.0),
       marks_more f.slots.layout f.slots.content f.reserve j f.checkpoints.items f.applied c.args.self.now c.self.view_is c.push.new.self.items c.self.invariant.journal.saved_for
           (c.in_ok-push.ensures.items ∙ ap (λ z. f.checkpoints.items ++ z ∷ []) (omega (arith, f.entries.ok.0))),

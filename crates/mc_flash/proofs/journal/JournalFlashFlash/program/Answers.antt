@@ -18,7 +18,7 @@ invariant_of-self-2 c =
     sound_grown f.slots.layout (limits_of f.reserve) _ j f.checkpoints.items c.self.invariant c.put.new.self.layout
     (room_for (vec_capacity c.push.new.self) (vec_capacity f.saved) (vec_capacity f.checkpoints)) j' _ _
     (by_write j j' c.args.slot c.args.offset (length c.args.bytes.now) c.in_ok-push.ensures.items refl) c.put.ensures.layout
-    (record { entries = c.push.ensures.capacity; saved = omega arith; checkpoints = omega arith }) (omega (arith, f.entries.ok.0)) (omega (arith, c.self.invariant.few.saved)) fits
+    (record { entries = c.push.ensures.capacity; saved = omega arith; checkpoints = omega arith }) (omega (arith, f.entries.ok.0)) (omega (arith, c.self.invariant.at_most.saved)) fits
 
 pub returns-then-not-is_blank : goal.returns-then-not-is_blank
 returns-then-not-is_blank c =
@@ -50,7 +50,7 @@ returns c =
     c.put.new.self.layout t j' c.saturating_add-self-inside.result _ _ (by_write j j' c.args.slot c.args.offset (length c.args.bytes.now) c.in_ok-push.ensures.items refl) refl
     (write_back s t c.args.slot c.args.offset (length c.args.bytes.now) c.args.bytes.now c.put.ensures.content refl (omega (arith, fits, long)) blank)
     (program_done f.slots.layout s t c.args.slot c.args.offset c.args.bytes.now blank c.put.ensures.content) c.put.ensures.layout c.self.invariant.ascend
-    c.saturating_add-self-inside.ensures (omega (arith, f.entries.ok.0)) (omega (arith, c.self.invariant.few.saved))
+    c.saturating_add-self-inside.ensures (omega (arith, f.entries.ok.0)) (omega (arith, c.self.invariant.at_most.saved))
 
 pub invariant_of-self : goal.invariant_of-self
 invariant_of-self c = absurd (omega (arith, c.in_err-push.ensures.full, c.if-len-self.false, c.self.invariant.room.entries))

@@ -21,5 +21,5 @@ returns c =
     let f = c.args.self.now in
     let done : is_ok c.push.result ≡ true = search rules in
     let more = c.push.ensures.items ∙ ap (λ b. if b then f.checkpoints.items ++ c.in-Ok.content ∷ [] else f.checkpoints.items) done in
-    copies_mark f.slots.layout f.slots.content f.checkpoints.items c.push.new.self.items c.in-Ok.content f.failed c.len-place.result more c.in-Ok.ensures
+    copies_mark f.slots.layout f.slots.content f.checkpoints.items c.push.new.self.items c.in-Ok.content f.failed c.len-number.result more c.in-Ok.ensures
     (omega (arith, f.checkpoints.ok.0))

@@ -1,5 +1,5 @@
 use Rattle.std.proofs.Common.{inl, inr}
-use Rattle.mc_image.proofs.Walks.{found_first, found_further, some_one, some_many}
+use Rattle.mc_image.proofs.Scans.{found_first, found_further, some_one, some_many}
 use Rattle.mc_image.proofs.areas.Found.with.Goals as goal
 
 pub returns-in-Nothing : goal.returns-in-Nothing

@@ -1,10 +1,10 @@
 use Rattle.std.proofs.Common.{◌++◌, arith, sym, ap, ◌∙◌, subst, append_assoc, List, ℕ}
 use Rattle.std.proofs.lemmas.List.{drop_all}
 use Rattle.mc_image.specs.Image.{u16_at}
-use Rattle.mc_image.specs.inner.Reading.{head_fault, Walks}
+use Rattle.mc_image.specs.inner.Reading.{head_fault, Scans}
 use Rattle.mc_image.specs.inner.Judging.{verdict}
 use Rattle.mc_image.proofs.JudgeLaws.{plain_error, head_fault_more}
-use Rattle.mc_image.proofs.Walks.{head_first}
+use Rattle.mc_image.proofs.Scans.{head_first}
 use Rattle.mc_image.proofs.judge.Judge.after_head.Goals as goal
 
 pub returns-in-Err : goal.returns-in-Err
@@ -18,10 +18,10 @@ returns-in-Err c = λ body rest are is held len. record {
 pub returns-in-Ok : goal.returns-in-Ok
 returns-in-Ok c = λ body rest are is held len.
     let same = c.as_slice.ensures.bytes ∙ held in
-    c.go_on.ensures body rest are is (record {
+    c.continue_plain.ensures body rest are is (record {
       none = ap head_fault (sym same) ∙ c.in-Ok.ensures.0;
       head = omega (arith, len);
       total = c.in-Ok.ensures.3 ∙ ap (u16_at 2) same;
       left = omega (arith, len, c.in-Ok.ensures.2);
-      walk = subst (λ (x : List ℕ). Walks c.new.result x) (sym (drop_all 4 rest (omega (arith, len)))) c.new.ensures;
+      scan = subst (λ (x : List ℕ). Scans c.new.result x) (sym (drop_all 4 rest (omega (arith, len)))) c.new.ensures;
     })

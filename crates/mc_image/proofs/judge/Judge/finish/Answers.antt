@@ -18,10 +18,10 @@ pub returns-in-Protected : goal.returns-in-Protected
 returns-in-Protected c = λ bytes h.
     let s = at_stage _ c.in-Protected.is h in
     let p = s.2 in
-    let has = has_header_more _ p.front p.rest p.header in
-    let e = header_ends _ (p.front ++ p.rest) has.fields in
-    let f = header_ends _ p.front p.header.fields in
-    sym (ap verdict p.split ∙ body_short (p.front ++ p.rest) has.none (omega (arith, e.1, f.0, p.len, p.left, s.1, length-append p.front p.rest)))
+    let has = has_header_more _ p.prefix p.rest p.header in
+    let e = header_ends _ (p.prefix ++ p.rest) has.fields in
+    let f = header_ends _ p.prefix p.header.fields in
+    sym (ap verdict p.split ∙ body_short (p.prefix ++ p.rest) has.none (omega (arith, e.1, f.0, p.len, p.left, s.1, length-append p.prefix p.rest)))
 
 pub returns-in-PlainHead : goal.returns-in-PlainHead
 returns-in-PlainHead c = λ bytes h.

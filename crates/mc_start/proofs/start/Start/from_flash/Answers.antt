@@ -23,10 +23,10 @@ returns c =
       refl,
     )
 
--- What is told of some bytes is known of those that are the same.
+-- What is known of some bytes is known of those that are the same.
 known : (bytes same : List ℕ) (o : Option ImageId) → option_map identity_of o ≡ id_of bytes → same ≡ bytes → IsKnown same o
-known bytes same None told is = tt
-known bytes same (Some id) told is = ap id_of is ∙ sym told
+known bytes same None given is = tt
+known bytes same (Some id) given is = ap id_of is ∙ sym given
 
 pub invariant_of-result : goal.invariant_of-result
 invariant_of-result c =

@@ -2,7 +2,7 @@ use Rattle.std.proofs.Common.{rules, Some, length, arith, refl, sym, ap, ◌∙�
 use Rattle.mc_flash.specs.facts.Layouts.{fits_inside}
 use Rattle.mc_flash.specs.declared.op.Slot.TheVariants.{Primary, Secondary}
 use Rattle.mc_image.specs.Valid.{Identity, identity}
-use Rattle.mc_start.proofs.Starts.{names, told_ids}
+use Rattle.mc_start.proofs.Starts.{names, given_ids}
 use Rattle.mc_start.proofs.start.Start.from_images.Goals as goal
 
 pub start_slots-requires-clause-first : goal.start_slots-requires-clause-first
@@ -31,10 +31,10 @@ pub returns : goal.returns
 returns c =
     let first = c.in-Ok.ensures.value in
     let second = c.in-Ok-read.ensures.value in
-    let told = names c.args.kind c.args.a.now c.args.b.now (identity c.in-Ok.image.view) (identity c.in-Ok-read.image.view) first.2 second.2 in
-    let ids = told_ids c.args.kind c.named_of.result c.id-in_a.result c.id-in_b.result (identity c.in-Ok.image.view) (identity c.in-Ok-read.image.view)
+    let given = names c.args.kind c.args.a.now c.args.b.now (identity c.in-Ok.image.view) (identity c.in-Ok-read.image.view) first.2 second.2 in
+    let ids = given_ids c.args.kind c.named_of.result c.id-in_a.result c.id-in_b.result (identity c.in-Ok.image.view) (identity c.in-Ok-read.image.view)
     c.named_of.ensures c.id-in_a.ensures c.id-in_b.ensures in
-    (search rules, refl, refl, search rules, ap (λ (p : Identity × Identity). Some p) ids ∙ told)
+    (search rules, refl, refl, search rules, ap (λ (p : Identity × Identity). Some p) ids ∙ given)
 
 pub invariant_of-result : goal.invariant_of-result
 invariant_of-result c = (

@@ -8,10 +8,10 @@ use Rattle.mc_walk.proofs.tour.Tour.visit.Goals as goal
 pub returns-in_ok-begin-in-Fresh-clause-visits : goal.returns-in_ok-begin-in-Fresh-clause-visits
 returns-in_ok-begin-in-Fresh-clause-visits g c =
     let w = c.self.inside.walk in
-    let k = g.B.Branches.kind w.branches in
+    let k = g.B.FlashTree.model w.flash_tree in
     let old : Toured g.row.B.Denot = record { walk = w; phase = c.self.inside.phase } in
-    subst (λ (t : Toured g.row.B.Denot). (position : Position (List ℕ)) → StandsAt (g.B.Branches.kind t.walk.branches) t position
-    → Visits (g.B.Branches.kind t.walk.branches) t position true (record { walk = c.begin.new.self; phase = Going })) c.self.view_is
+    subst (λ (t : Toured g.row.B.Denot). (position : Position (List ℕ)) → StandsAt (g.B.FlashTree.model t.walk.flash_tree) t position
+    → Visits (g.B.FlashTree.model t.walk.flash_tree) t position true (record { walk = c.begin.new.self; phase = Going })) c.self.view_is
     (λ position at. visits_first k old c.in_ok-begin-in-Fresh.field-0 c.begin.new.self c.in_ok-begin-in-Fresh.ensures.begins position c.in-Fresh.is at)
 
 pub returns-in-Broken-clause-costs : goal.returns-in-Broken-clause-costs

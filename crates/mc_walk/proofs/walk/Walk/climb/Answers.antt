@@ -5,86 +5,88 @@ use Rattle.mc_walk.specs.Walks.{Walked, walked, Climbs, child_cost}
 use Rattle.mc_walk.proofs.Steps.{Arrives, Leaves, standing, mark_there, can_go_on, arrives_on, climbed, none_on}
 use Rattle.mc_walk.proofs.walk.Walk.climb.Given.{Over}
 use Rattle.mc_walk.proofs.walk.Walk.climb.Goals as goal
-use Rattle.mc_walk.proofs.walk.Walk.climb.Goals.{After-len, In_ok-told}
+use Rattle.mc_walk.proofs.walk.Walk.climb.Goals.{After-len, In_ok-summary}
 
 -- It stood, and a frame is left.
 leaves : (g : Over) (c : After-len g)
-    → Leaves (g.B.Branches.kind c.self.inside.branches) c.self.inside.bound (g.F.Flash.seen c.self.inside.flash) c.self.inside.frames.items c.leave_spent.new.frames.items
+    → Leaves (g.B.FlashTree.model c.self.inside.flash_tree) c.self.inside.bound (g.F.Flash.seen c.self.inside.flash) c.self.inside.frames.items c.leave_spent.new.frames.items
 leaves g c =
     let w = c.self.inside in
-    let k = g.B.Branches.kind w.branches in
-    let stood = standing k w.bound (g.F.Flash.seen w.flash) w.frames.items w.told (ap (λ (z : Walked _). z.stands) c.self.view_is ∙ c.requires) c.self.invariant.going in
+    let k = g.B.FlashTree.model w.flash_tree in
+    let stood = standing k w.bound (g.F.Flash.seen w.flash) w.frames.items w.summary (ap (λ (z : Walked _). z.stands) c.self.view_is ∙ c.requires) c.self.invariant.going in
     record {
-      told = stood.0;
+      summary = stood.0;
       going = stood.1;
       is = subst (λ b. LeavesOpen k w.frames.items b c.leave_spent.new.frames.items) c.if-not-leave_spent.false c.leave_spent.ensures.left;
     }
 
 -- The checkpoint of that frame.
-place : (g : Over) (c : After-len g) → c.len.result ≡ length c.leave_spent.new.frames.items
-place g c = omega (arith, c.len.ensures, c.leave_spent.new.frames.ok.0)
+index_is : (g : Over) (c : After-len g) → c.len.result ≡ length c.leave_spent.new.frames.items
+index_is g c = omega (arith, c.len.ensures, c.leave_spent.new.frames.ok.0)
 
-abbrev HasArrived : (g : Over) (c : In_ok-told g) → Type 0
+abbrev HasArrived : (g : Over) (c : In_ok-summary g) → Type 0
 HasArrived g c =
     let w = c.self.inside in
-    let k = g.B.Branches.kind w.branches in
-    Arrives k w.bound ((0 + 1) * k.step) (g.F.Flash.seen w.flash) (g.F.Flash.seen c.go_on.new.flash) c.go_on.new.frames.items c.in_ok-told.told
+    let k = g.B.FlashTree.model w.flash_tree in
+    Arrives k w.bound ((0 + 1) * k.step) (g.F.Flash.seen w.flash) (g.F.Flash.seen c.next_sibling.new.flash) c.next_sibling.new.frames.items c.in_ok-summary.summary
 
-arrived : (g : Over) (c : In_ok-told g)
-    → Leaves (g.B.Branches.kind c.self.inside.branches) c.self.inside.bound (g.F.Flash.seen c.self.inside.flash) c.self.inside.frames.items c.leave_spent.new.frames.items
+arrived : (g : Over) (c : In_ok-summary g)
+    → Leaves (g.B.FlashTree.model c.self.inside.flash_tree) c.self.inside.bound (g.F.Flash.seen c.self.inside.flash) c.self.inside.frames.items c.leave_spent.new.frames.items
     → c.len.result ≡ length c.leave_spent.new.frames.items → HasArrived g c
 arrived g c l at =
     let w = c.self.inside in
-    let h = c.in_ok-told.ensures in
+    let h = c.in_ok-summary.ensures in
     let back = c.back_to.ensures ∙ ap (λ n. went_back n (g.F.Flash.seen w.flash)) at in
-    arrives_on (g.B.Branches.kind w.branches) w.bound _ (g.F.Flash.seen c.back_to.new.self) w.frames.items _ l back _ _ _ h.stands h.frames h.spends
+    arrives_on (g.B.FlashTree.model w.flash_tree) w.bound _ (g.F.Flash.seen c.back_to.new.self) w.frames.items _ l back _ _ _ h.stands h.frames h.spends
 
 pub back_to-requires : goal.back_to-requires
 back_to-requires g c =
     let a = (goal.at.back_to-requires g c).After-len in
     let w = c.self.inside in
-    omega (arith, mark_there (g.B.Branches.kind w.branches) w.bound (g.F.Flash.seen w.flash) _ _ _ (leaves g a) refl, place g a)
+    omega (arith, mark_there (g.B.FlashTree.model w.flash_tree) w.bound (g.F.Flash.seen w.flash) _ _ _ (leaves g a) refl, index_is g a)
 
-pub go_on-requires : goal.go_on-requires
-go_on-requires g c =
-    let a = (goal.at.go_on-requires g c).After-len in
+pub next_sibling-requires : goal.next_sibling-requires
+next_sibling-requires g c =
+    let a = (goal.at.next_sibling-requires g c).After-len in
     let w = c.self.inside in
-    can_go_on (g.B.Branches.kind w.branches) w.bound (g.F.Flash.seen w.flash) _ _ _ (leaves g a) (c.back_to.ensures ∙ ap (λ n. went_back n (g.F.Flash.seen w.flash)) (place g a))
+    can_go_on (g.B.FlashTree.model w.flash_tree) w.bound (g.F.Flash.seen w.flash) _ _ _ (leaves g a) (c.back_to.ensures ∙ ap (λ n. went_back n (g.F.Flash.seen w.flash)) (index_is g a))
 
 pub invariant_of-self-2 : goal.invariant_of-self-2
 invariant_of-self-2 g c =
     let a = goal.at.invariant_of-self-2 g c in
     record {
-      reserved = omega (arith, c.self.invariant.reserved, c.leave_spent.ensures.capacity, c.in_ok-told.ensures.capacity);
-      going = (arrived g a.In_ok-told (leaves g a.After-len) (place g a.After-len)).going;
+      reserved = omega (arith, c.self.invariant.reserved, c.leave_spent.ensures.capacity, c.in_ok-summary.ensures.capacity);
+      going = (arrived g a.In_ok-summary (leaves g a.After-len) (index_is g a.After-len)).going;
     }
 
 pub returns-clause-step : goal.returns-clause-step
 returns-clause-step g c =
     let w = c.self.inside in
-    let k = g.B.Branches.kind w.branches in
+    let k = g.B.FlashTree.model w.flash_tree in
     let old = g.F.Flash.seen w.flash in
-    let new = g.F.Flash.seen c.go_on.new.flash in
+    let new = g.F.Flash.seen c.next_sibling.new.flash in
     let a = goal.at.returns-clause-step g c in
     let l = leaves g a.After-len in
-    let h = arrived g a.In_ok-told l (place g a.After-len) in
-    let next = c.in_ok-told.ensures.frames l.is.before l.is.frame l.is.frames_are in
-    subst (λ (z : Walked g.row.B.Denot). Climbs (g.B.Branches.kind z.branches) z true (walked w.branches w.bound new c.go_on.new.frames.items (Some c.in_ok-told.told))) c.self.view_is
-    (climbed k w.branches w.bound old new w.frames.items l.is.before c.go_on.new.frames.items l.is.frame next.0 w.told c.in_ok-told.told l.going.stands.stacked l.is.last next.2 next.1 h.origin)
+    let h = arrived g a.In_ok-summary l (index_is g a.After-len) in
+    let next = c.in_ok-summary.ensures.frames l.is.before l.is.frame l.is.frames_are in
+    subst (λ (z : Walked g.row.B.Denot). Climbs (g.B.FlashTree.model z.flash_tree) z true (walked w.flash_tree w.bound new c.next_sibling.new.frames.items (Some c.in_ok-summary.summary)))
+    c.self.view_is
+    (climbed k w.flash_tree w.bound old new w.frames.items l.is.before c.next_sibling.new.frames.items l.is.frame next.0 w.summary c.in_ok-summary.summary l.going.stands.stacked l.is.last
+    next.2 next.1 h.origin)
 
 pub returns-clause-spends : goal.returns-clause-spends
 returns-clause-spends g c =
     let a = goal.at.returns-clause-spends g c in
-    let h = arrived g a.In_ok-told (leaves g a.After-len) (place g a.After-len) in
-    subst (λ (z : Walked g.row.B.Denot). Spent (child_cost (g.B.Branches.kind z.branches) 0) z.seen (g.F.Flash.seen c.go_on.new.flash)) c.self.view_is h.spent
+    let h = arrived g a.In_ok-summary (leaves g a.After-len) (index_is g a.After-len) in
+    subst (λ (z : Walked g.row.B.Denot). Spent (child_cost (g.B.FlashTree.model z.flash_tree) 0) z.seen (g.F.Flash.seen c.next_sibling.new.flash)) c.self.view_is h.spent
 
 pub returns-then-not-leave_spent-clause-step : goal.returns-then-not-leave_spent-clause-step
 returns-then-not-leave_spent-clause-step g c =
     let w = c.self.inside in
-    let k = g.B.Branches.kind w.branches in
+    let k = g.B.FlashTree.model w.flash_tree in
     let old = g.F.Flash.seen w.flash in
-    let stood = standing k w.bound old w.frames.items w.told (ap (λ (z : Walked _). z.stands) c.self.view_is ∙ c.requires) c.self.invariant.going in
+    let stood = standing k w.bound old w.frames.items w.summary (ap (λ (z : Walked _). z.stands) c.self.view_is ∙ c.requires) c.self.invariant.going in
     let spent = subst (λ b. LeavesOpen k w.frames.items b c.leave_spent.new.frames.items) c.if-not-leave_spent.true c.leave_spent.ensures.left in
-    subst (λ (z : Walked g.row.B.Denot). Climbs (g.B.Branches.kind z.branches) z false (walked {A = g.row.B-At.Denot} {T =
-    g.row.B-Told.Denot} w.branches w.bound old c.leave_spent.new.frames.items None)) c.self.view_is
-    (none_on k w.branches w.bound old w.frames.items c.leave_spent.new.frames.items w.told stood.1.stands.stacked spent)
+    subst (λ (z : Walked g.row.B.Denot). Climbs (g.B.FlashTree.model z.flash_tree) z false (walked {A = g.row.B-Child.Denot} {T =
+    g.row.B-Summary.Denot} w.flash_tree w.bound old c.leave_spent.new.frames.items None)) c.self.view_is
+    (none_on k w.flash_tree w.bound old w.frames.items c.leave_spent.new.frames.items w.summary stood.1.stands.stacked spent)

@@ -1,0 +1,33 @@
+use Rattle.std.proofs.Common.{◌≡◌, arith, Some, sym, ap, ◌∙◌}
+use Rattle.mc_boot.specs.Joins.{erases_of, kept_of}
+use Rattle.mc_boot.proofs.SharedTailProof.{tail_shared_among, tail_shared_beyond, tail_shared_here}
+use Rattle.mc_boot.proofs.shared_tail.SharedTail.find.Goals as goal
+use Rattle.mc_boot.proofs.shared_tail.SharedTail.find.Goals.{then-done-kept, else-done-kept+in_ok-only}
+use Rattle.mc_boot.specs.Plan.{power_on}
+
+pub returns-then-done-eq0 : goal.returns-then-done-eq0
+returns-then-done-eq0 g c =
+    let seen = g.F.Flash.seen c.args.flash.now in
+    let none : c.args.cut.now.done ≡ 0 = omega (arith, c.if-done-eq0.true, c.count-done.ensures) in
+    λ r s whole is start. tail_shared_here (power_on r seen.geometry s) seen.content c.args.cut.now whole _ is none (omega arith) (omega arith)
+
+pub returns : goal.returns
+returns g c =
+    let seen = g.F.Flash.seen c.args.flash.now in
+    let a = c.in-Some.course in
+    let b = c.in-Some-course.following in
+    let at_a : c.args.cut.now.course ≡ Some a = cc in
+    let at_b : c.args.next.now.course ≡ Some b = cc in
+    let done : c.count-done.result ≡ c.args.cut.now.done = c.count-done.ensures in
+    let found : kept_of a c.args.cut.now.done b ≡ Some c.in_ok-kept.kept =
+    ap (λ n. kept_of a n b) (sym done) ∙ sym c.count_kept.ensures.test ∙ c.in_ok-kept.was in
+    let erases : c.erases_of-erases.result ≡ erases_of b = c.erases_of-erases.ensures.count in
+    λ r s whole is start. elim c.if-done-kept.branch [
+      | then-done-kept w ↦
+          tail_shared_among (power_on r seen.geometry s) seen.content c.args.cut.now c.args.next.now a b whole _ is at_a at_b c.requires start c.count_kept.ensures.valid
+          found done erases (omega (arith, w.if-done-kept.true))
+      | else-done-kept+in_ok-only w ↦
+          tail_shared_beyond (power_on r seen.geometry s) seen.content c.args.cut.now c.args.next.now a b whole _ is at_a at_b c.requires start c.count_kept.ensures.valid
+          found done erases (omega (arith, w.if-done-kept.false))
+          (λ i lt other. w.in_ok-only.ensures i lt (λ same. other (same ∙ sym w.only-is)))
+    ]

@@ -1,0 +1,40 @@
+use Rattle.std.proofs.Common.{◌≡◌, ◌+◌, ◌*◌, ◌≤◌, ℕ, Fits, w64, sym, arith, ◌∙◌}
+use Rattle.mc_flash.specs.Flash.{CanTry, size_of}
+use Rattle.mc_flash.specs.Geometry.{Geometry, IsLayout, in_pieces}
+use Rattle.mc_flash.specs.declared.op.Op.{Op}
+use Rattle.mc_flash.specs.declared.op.Op.TheVariants.{Erase}
+use Rattle.mc_flash.specs.declared.op.Slot.{Slot}
+use Rattle.mc_boot.specs.declared.course.Course.{Course}
+use Rattle.mc_boot.proofs.Courses.{slot_small}
+use Rattle.mc_boot.proofs.SharedTailProof.{sector_there}
+use Rattle.mc_boot.proofs.shared_tail.is_idle.Goals as goal
+
+-- a sector that an operation of a course erases lies in its slot
+module _ (a : Course) (g l : Geometry) (op : Op) (slot : Slot) (sector size : ℕ) where
+  there : a.layout ≡ in_pieces a.grain g → l ≡ g → IsLayout l → size ≡ l.sector → op ≡ Erase slot sector → CanTry a.layout op
+      → (Fits w64 (sector * size)) × (Fits w64 (sector * size + size)) × (sector * size + size ≤ size_of g slot)
+  there pieces same ok is erases can =
+      let inside = sector_there a.grain g slot sector (rw (pieces, erases) at can) in
+      let small = slot_small g slot (rw same at ok) in
+      rw (is, same) (omega (arith, inside, small), omega (arith, inside, small), inside)
+
+pub overflow_mul-at : goal.overflow_mul-at
+overflow_mul-at g c =
+    (there c.args.course.now (g.F.Flash.seen c.args.flash.now).geometry c.layout.result.now c.in-Some-Erase.field-0 c.in-Some-Erase.slot c.in-Some-Erase.sector c.sector-size.result
+    c.requires c.layout.ensures c.sector-size.ensures.valid c.sector-size.ensures.value c.in-Some-Erase.field-0-is c.in-Some-Erase.ensures.inside).0
+
+pub overflow_add-at : goal.overflow_add-at
+overflow_add-at g c =
+    (there c.args.course.now (g.F.Flash.seen c.args.flash.now).geometry c.layout.result.now c.in-Some-Erase.field-0 c.in-Some-Erase.slot c.in-Some-Erase.sector c.sector-size.result
+    c.requires c.layout.ensures c.sector-size.ensures.valid c.sector-size.ensures.value c.in-Some-Erase.field-0-is c.in-Some-Erase.ensures.inside).1
+
+pub slice_bounds-blank-end : goal.slice_bounds-blank-end
+slice_bounds-blank-end g c =
+    let inside = (there c.args.course.now (g.F.Flash.seen c.args.flash.now).geometry c.layout.result.now c.in-Some-Erase.field-0 c.in-Some-Erase.slot c.in-Some-Erase.sector c.sector-size.result
+    c.requires c.layout.ensures c.sector-size.ensures.valid c.sector-size.ensures.value c.in-Some-Erase.field-0-is c.in-Some-Erase.ensures.inside).2 in
+    omega (arith, inside, c.read.ensures.len)
+
+pub returns : goal.returns
+returns g c blank =
+    rw (← c.in-Some-Erase.ensures.at, c.in-Some-Erase.field-0-is)
+    (rw (c.sector-size.ensures.value, c.layout.ensures, c.read.ensures.value) at (sym c.blank.ensures ∙ blank))

@@ -1,0 +1,91 @@
+-- The cuts along a path, one after another.
+use Rattle.std.specs.Prelude.{◌≡◌, ◌≢◌, ℕ, get_or, ◌==◌, if◌then◌else◌, Bool, true, false, List, [], ◌∷◌, ◌++◌, refl}
+use Rattle.std.proofs.Common.{arith, length-append, subst, zero, suc, ◌+◌, ◌<◌, ◌≤◌, length, take, Option, Some, None, sym, ap, append-nil, ◌∙◌}
+use Rattle.std.specs.List.{slice_get}
+use Rattle.std.proofs.lemmas.Bool.Decides.{nat_tests}
+use Rattle.std.proofs.lemmas.List.{take_all, take_more}
+use Rattle.std.proofs.lemmas.Option.{get_or_from_slice_get, slice_get_within}
+use Rattle.mc_campaign.specs.Campaigns.{in_round}
+
+-- One cut more.
+pub in_round-push : (round : ℕ) (cuts : List (ℕ × ℕ)) (cut : ℕ × ℕ) → in_round round (cuts ++ cut ∷ []) ≡ in_round round cuts ++ in_round round (cut ∷ [])
+in_round-push round [] cut = refl
+in_round-push round (x ∷ cuts) cut = by (x.0 == round) (in_round-push round cuts cut)
+  where
+    by : (b : Bool) → in_round round (cuts ++ cut ∷ []) ≡ in_round round cuts ++ in_round round (cut ∷ [])
+        → (if b then x.1 ∷ in_round round (cuts ++ cut ∷ []) else in_round round (cuts ++ cut ∷ []))
+        ≡ (if b then x.1 ∷ in_round round cuts else in_round round cuts) ++ in_round round (cut ∷ [])
+    by true rest = ap (λ z. x.1 ∷ z) rest
+    by false rest = rest
+
+pub in_round_few : (round : ℕ) (cuts : List (ℕ × ℕ)) → length (in_round round cuts) ≤ length cuts
+in_round_few round [] = omega arith
+in_round_few round (x ∷ cuts) = by (x.0 == round) (in_round_few round cuts)
+  where
+    by : (b : Bool) → length (in_round round cuts) ≤ length cuts → length (if b then x.1 ∷ in_round round cuts else in_round round cuts) ≤ suc (length cuts)
+    by true at_most = omega (arith, at_most)
+    by false at_most = omega (arith, at_most)
+
+-- ---- cuts that are taken one after another
+
+pub is_none : {A : Type 0} (o : Option A) → ((x : A) → o ≡ Some x → ⊥) → o ≡ None
+is_none None not = refl
+is_none (Some x) not = absurd (not x refl)
+
+past_all : (xs : List (ℕ × ℕ)) (i : ℕ) → slice_get xs i ≡ None → length xs ≤ i
+past_all [] i none = omega arith
+past_all (x ∷ xs) zero none = absurd cc
+past_all (x ∷ xs) (suc i) none = omega (arith, past_all xs i none)
+
+module _ (all : List (ℕ × ℕ)) (step : ℕ) where
+  pub taken_more : (cut : ℕ × ℕ) → Some cut ≡ slice_get all step → take (step + 1) all ≡ take step all ++ cut ∷ []
+  taken_more cut is =
+      take_more all step cut (slice_get_within all step cut (sym is)) ∙ ap (λ z. take step all ++ z ∷ []) (get_or_from_slice_get all step cut cut (sym is))
+
+  pub taken_within : (cut : ℕ × ℕ) → Some cut ≡ slice_get all step → step < length all
+  taken_within cut is = slice_get_within all step cut (sym is)
+
+  pub taken_whole : None ≡ slice_get all step → take step all ≡ all
+  taken_whole none = take_all step all (past_all all step (sym none))
+
+-- ---- the cuts of a round, one after another
+
+module _ (round : ℕ) (cuts : List (ℕ × ℕ)) (i : ℕ) (inside : i < length cuts) where
+  abbrev next : ℕ × ℕ
+  next = get_or cuts i (0, 0)
+
+  one_more : in_round round (take (i + 1) cuts) ≡ in_round round (take i cuts) ++ in_round round (next ∷ [])
+  one_more = ap (in_round round) (take_more cuts i (0, 0) inside) ∙ in_round-push round (take i cuts) next
+
+  pub of_round : next.0 ≡ round → in_round round (take (i + 1) cuts) ≡ in_round round (take i cuts) ++ next.1 ∷ []
+  of_round is = one_more ∙ ap (λ z. in_round round (take i cuts) ++ z) (by (next.0 == round) refl)
+    where
+      by : (b : Bool) → (next.0 == round) ≡ b → (if b then next.1 ∷ [] else []) ≡ next.1 ∷ []
+      by true e = refl
+      by false e = absurd (grind (arith, nat_tests, e, is))
+
+  pub of_another : next.0 ≢ round → in_round round (take (i + 1) cuts) ≡ in_round round (take i cuts)
+  of_another is = one_more ∙ ap (λ z. in_round round (take i cuts) ++ z) (by (next.0 == round) refl) ∙ append-nil (in_round round (take i cuts))
+    where
+      by : (b : Bool) → (next.0 == round) ≡ b → (if b then next.1 ∷ [] else []) ≡ []
+      by true e = absurd (is (grind (arith, nat_tests, e)))
+      by false e = refl
+
+-- A cut is taken, of the round or not.
+module _ (round : ℕ) (cuts items : List (ℕ × ℕ)) (is : items ≡ cuts) (i : ℕ) (inside : i < length items) (old new : List ℕ) (so_far : old ≡ in_round round (take i cuts)) (at_most : length
+    old ≤ i) where
+  below : i < length cuts
+  below = subst (λ (l : List (ℕ × ℕ)). i < length l) is inside
+
+  pub takes_it : (get_or items i (0, 0)).0 ≡ round → new ≡ old ++ (get_or items i (0, 0)).1 ∷ [] → (new ≡ in_round round (take (i + 1) cuts)) × (length new ≤ i + 1)
+  takes_it at pushed = (
+    pushed ∙ ap (λ z. z ++ (get_or items i (0, 0)).1 ∷ []) so_far ∙ ap (λ (l : List (ℕ × ℕ)). in_round round (take i cuts) ++ (get_or l i (0, 0)).1 ∷ []) is
+        ∙ sym (of_round round cuts i below (ap (λ (l : List (ℕ × ℕ)). (get_or l i (0, 0)).0) (sym is) ∙ at)),
+    omega (arith, at_most, length-append old ((get_or items i (0, 0)).1 ∷ []), ap (λ (l : List ℕ). length l) pushed),
+  )
+
+  pub leaves_it : (get_or items i (0, 0)).0 ≢ round → new ≡ old → (new ≡ in_round round (take (i + 1) cuts)) × (length new ≤ i + 1)
+  leaves_it at same = (
+    same ∙ so_far ∙ sym (of_another round cuts i below (λ e. at (ap (λ (l : List (ℕ × ℕ)). (get_or l i (0, 0)).0) is ∙ e))),
+    omega (arith, at_most, ap (λ (l : List ℕ). length l) same),
+  )

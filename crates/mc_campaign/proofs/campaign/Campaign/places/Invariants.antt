@@ -1,6 +1,0 @@
-use Rattle.std.specs.Prelude.{◌≡◌, ◌≤◌, length, take}
-use Rattle.mc_campaign.specs.Campaigns.{in_round}
-use Rattle.mc_campaign.proofs.campaign.Campaign.places.Given as goal
-
-abbrev pub invariant-loop-number : goal.invariant-loop-number
-invariant-loop-number l = (l.places ≡ in_round l.of (take l.number-index l.self)) × (length l.places ≤ l.number-index)

@@ -1,0 +1,15 @@
+use Rattle.std.proofs.Common.{arith}
+use Rattle.mc_campaign.proofs.Along.{beyond_first, early, too_late}
+use Rattle.mc_campaign.proofs.campaign_path.child_of.Goals as goal
+
+pub returns-then-cut-eq2 : goal.returns-then-cut-eq2
+returns-then-cut-eq2 c = λ r g confirms p valid summary.
+    beyond_first r g confirms valid c.args.summary.now p c.in-First.is summary c.args.cut (omega (arith, c.if-cut-eq2.true)) c.checked_add.result c.checked_add.ensures
+
+pub returns-then-cut-summary : goal.returns-then-cut-summary
+returns-then-cut-summary c = λ r g confirms p valid summary.
+    early r g confirms valid c.args.summary.now p c.in-First.is summary c.args.cut (omega (arith, c.if-cut-ne1.false)) c.if-cut-summary.true
+
+pub returns-else-cut-summary : goal.returns-else-cut-summary
+returns-else-cut-summary c = λ r g confirms p valid summary.
+    too_late r g confirms valid c.args.summary.now p c.in-First.is summary c.args.cut (omega (arith, c.if-cut-ne1.false)) (omega (arith, c.if-cut-summary.false))

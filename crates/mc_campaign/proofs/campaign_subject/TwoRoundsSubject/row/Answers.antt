@@ -1,0 +1,24 @@
+use Rattle.std.proofs.Common.{List, ℕ, arith, length, ap, refl, sym, subst, ◌∙◌}
+use Rattle.mc_boot.specs.Outcome.{shown}
+use Rattle.mc_boot.specs.Plan.{power_on}
+use Rattle.mc_flash.specs.Flash.{Content}
+use Rattle.mc_walk.specs.Walks.{origin_of}
+use Rattle.mc_campaign.specs.inner.TwoRounds.{cuts_along}
+use Rattle.mc_campaign.specs.Campaigns.{AreReplayed}
+use Rattle.mc_campaign.proofs.Replays.{outcomes_shown}
+use Rattle.mc_campaign.proofs.campaign_subject.TwoRoundsSubject.row.Goals as goal
+
+pub campaign_at-campaign-requires-clause-at_most : goal.campaign_at-campaign-requires-clause-at_most
+campaign_at-campaign-requires-clause-at_most g c = omega (arith, c.cuts-cuts.ensures.at_most, ap (λ (l : List ℕ). length l) (c.cuts-cuts.ensures.value ∙ c.requires.path))
+
+pub returns-clause-outcome : goal.returns-clause-outcome
+returns-clause-outcome g c =
+    let w = c.args.walk.now in
+    let r = w.flash_tree.one_round.rules in
+    let l = w.flash_tree.one_round.layout in
+    let k = w.flash_tree.confirms in
+    let s = origin_of w.seen in
+    let summary = c.summary-summary.result.now in
+    let P : List (ℕ × ℕ) → Type 0 = λ d. (z : Content) × AreReplayed (power_on r l s) k d (shown summary.first.outcome) (shown summary.second.outcome) z in
+    subst P (sym c.campaign_at-campaign.ensures)
+    (outcomes_shown r l k s w.bound w.path (cuts_along r l k s w.path) summary (record { member = c.requires.listed; cuts_are = refl }) c.summary-summary.ensures.summary_is)

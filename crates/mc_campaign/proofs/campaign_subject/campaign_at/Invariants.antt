@@ -1,0 +1,12 @@
+use Rattle.std.proofs.Common.{◌≡◌, ◌-◌, length, take}
+use Rattle.mc_campaign.specs.inner.TwoRounds.{cuts_along}
+use Rattle.mc_campaign.specs.inner.View.{begun_of}
+use Rattle.mc_campaign.proofs.campaign_subject.campaign_at.Given as goal
+
+abbrev pub invariant-cuts : goal.invariant-cuts
+invariant-cuts g l =
+    let b = l.walk.flash_tree in
+    l.campaign ≡ take l.step (cuts_along b.one_round.rules b.one_round.layout b.confirms (begun_of l.walk).content l.walk.path)
+
+abbrev pub decreases-cuts : goal.decreases-cuts
+decreases-cuts g l = length l.walk.path - l.step

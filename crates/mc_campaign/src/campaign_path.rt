@@ -1,0 +1,66 @@
+//! A walk along the path of a campaign.
+ghost use Rattle.std.specs.Prelude.{◌≡◌, ℕ, Bool, [], true, IfOk, IfErr, OnOk};
+ghost use Rattle.mc_tree.specs.Tree.{RoundNode};
+ghost use Rattle.mc_flash.specs.Flash.{Content};
+ghost use Rattle.mc_flash.specs.Geometry.{Geometry, IsLayout};
+ghost use Rattle.mc_trailer.specs.declared.tables.Rules.{Rules};
+ghost use Rattle.mc_campaign.specs.inner.TwoRounds.{AreSummaries};
+ghost use Rattle.mc_campaign.specs.inner.View.{FollowsCampaign, HasChildOf};
+ghost use Rattle.mc_explore.specs.inner.Exploring.{NoAllocationFailed};
+
+use crate::campaign::{Campaign, Round};
+use crate::rounds::{Both, TwoRounds};
+use mc_explore::Start;
+use mc_flash::{Flash, FlashError};
+use mc_walk::Walk;
+
+// The number of the child of a node at that cut, if it has one: the children in the second round stand after those in the first.
+fn child_of(summary: &Both, cut: (u8, u32)) -> Option<u32>
+    ensures { (r : Rules) (g : Geometry) (confirms : Bool) (p : RoundNode Content) → IsLayout g
+        → AreSummaries r g confirms p summary.now → HasChildOf r g confirms p cut result }
+{
+    match summary.round {
+        Round::First => {
+            if cut.0 == 2 {
+                return summary.first.outcome.ops.checked_add(cut.1);
+            }
+            if cut.0 != 1 {
+                return None;
+            }
+            if cut.1 < summary.first.outcome.ops {
+                Some(cut.1)
+            } else {
+                None
+            }
+        }
+        Round::Second => { if cut.0 == 2 { Some(cut.1) } else { None } }
+    }
+}
+
+/// Goes from the root along the cuts of a campaign, if it is one of those to go through.
+///
+/// # Errors
+///
+/// `Memory` where the flash was refused memory.
+pub(crate) fn follow<F: Flash>(
+    walk: &mut Walk<F, TwoRounds>,
+    campaign: &Campaign,
+    start: &Start,
+) -> Result<bool, FlashError>
+    requires stands { walk.old.stands ≡ true }
+    requires root { walk.old.path ≡ [] }
+    requires valid { IsLayout walk.old.flash_tree.one_round.layout }
+    ensures follows { IfOk result (λ went. FollowsCampaign walk.old campaign.now went walk.new) }
+    ensures no_allocation_failed { OnOk result (NoAllocationFailed walk.old.seen walk.new.seen) }
+    ensures err { IfErr result (λ e. e ≡ FlashError.Memory) }
+{
+    for cut in campaign.cuts() {
+        let Some(number) = child_of(walk.summary(), *cut) else {
+            return Ok(false);
+        };
+        if !walk.go_down(number, start)? {
+            return Ok(false);
+        }
+    }
+    Ok(true)
+}

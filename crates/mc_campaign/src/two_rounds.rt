@@ -1,0 +1,129 @@
+//! The tree of two rounds of boots: a node lies in one of them, and its children are those of its round, and in the first round
+//! then those of the second round that begins after it.
+use crate::campaign::Round;
+use crate::rounds::{Both, ChildBoot, TwoRounds, go_between};
+use mc_explore::Start;
+use mc_flash::{Flash, FlashError};
+use mc_walk::FlashTree;
+
+impl FlashTree for TwoRounds {
+    ghost use Rattle.mc_tree.specs.Tree.{RoundNode};
+    ghost use Rattle.mc_flash.specs.Flash.{Content};
+    ghost use Rattle.mc_campaign.specs.inner.TwoRounds.{two_rounds_model};
+
+    ghost Node = { RoundNode Content };
+
+    type Child = ChildBoot;
+
+    type Summary = Both;
+
+    /// The number of a round, and a cut there.
+    type Label = (u8, u32);
+
+    /// The start, which knows its images.
+    type Known = Start;
+
+    ghost use Rattle.mc_tree.specs.Tree as trees;
+    ghost use Rattle.mc_explore.specs.inner.OneRound.{boots};
+    ghost use Rattle.mc_campaign.specs.inner.TwoRounds.{second_start};
+
+    ghost model = { λ t. two_rounds_model t.one_round.rules t.one_round.layout t.confirms };
+
+    ghost label_of = { λ t node number. trees.label (boots t.one_round.rules t.one_round.layout)
+        (second_start t.one_round.rules t.one_round.layout t.confirms) node number };
+
+    fn label(self, at: &ChildBoot) -> (u8, u32) {
+        match at {
+            ChildBoot::First { boot, .. } => (Round::First.number(), boot.count()),
+            ChildBoot::Second(boot) => (Round::Second.number(), boot.count()),
+        }
+    }
+
+    fn width(self, summary: &Both) -> u32 {
+        // Reading a field gives the prover that it is a layout, so that the sum is small.
+        let _sector = self.one_round.layout.sector();
+        match summary.round {
+            Round::First => summary
+                .first
+                .outcome
+                .ops
+                .saturating_add(summary.second.outcome.ops),
+            Round::Second => summary.second.outcome.ops,
+        }
+    }
+
+    fn first<F: Flash>(self, flash: &mut F, summary: &Both) -> Result<ChildBoot, FlashError> {
+        let later = summary.second;
+        match summary.round {
+            Round::First => {
+                let ops = summary.first.outcome.ops;
+                if ops > 0 {
+                    let boot = summary.first.boot;
+                    return Ok(ChildBoot::First { boot, ops, later });
+                }
+                go_between(self.confirms, flash)?;
+                Ok(ChildBoot::Second(later.boot))
+            }
+            Round::Second => Ok(ChildBoot::Second(later.boot)),
+        }
+    }
+
+    fn next<F: Flash>(self, flash: &mut F, at: &mut ChildBoot) -> Result<(), FlashError> {
+        match *at {
+            ChildBoot::First {
+                mut boot,
+                ops,
+                later,
+            } => {
+                self.one_round.pass(flash, &mut boot)?;
+                if boot.count() < ops {
+                    *at = ChildBoot::First { boot, ops, later };
+                    return Ok(());
+                }
+                go_between(self.confirms, flash)?;
+                *at = ChildBoot::Second(later.boot);
+                Ok(())
+            }
+            ChildBoot::Second(mut boot) => {
+                self.one_round.pass(flash, &mut boot)?;
+                *at = ChildBoot::Second(boot);
+                Ok(())
+            }
+        }
+    }
+
+    fn root<F: Flash>(self, flash: &mut F, start: &Start) -> Result<Both, FlashError> {
+        let boot = self.one_round.boot(flash, start);
+        self.run_and_return(flash, boot, start)
+    }
+
+    fn child<F: Flash>(
+        self,
+        flash: &mut F,
+        at: &ChildBoot,
+        parent: &Both,
+        start: &Start,
+    ) -> Result<Both, FlashError> {
+        match at {
+            ChildBoot::First { boot, .. } => match self
+                .one_round
+                .derive(flash, boot, &parent.first, start)
+            {
+                Ok(first) => Ok(Both {
+                    round: Round::First,
+                    first,
+                    second: parent.second,
+                }),
+                Err(boot) => self.run_and_return(flash, boot, start),
+            },
+            ChildBoot::Second(boot) => {
+                let second = self.one_round.child(flash, boot, &parent.second, start)?;
+                Ok(Both {
+                    round: Round::Second,
+                    first: parent.first,
+                    second,
+                })
+            }
+        }
+    }
+}

@@ -1,4 +1,0 @@
-use Rattle.mc_explore.proofs.once.Once.boot.Goals as goal
-
-pub returns : goal.returns
-returns g c = record { cold = c.cold_among.ensures.cold; bytes = rw c.read.ensures.value at c.bytes_stand.ensures }

@@ -1,0 +1,4 @@
+use Rattle.mc_explore.proofs.one_round.OneRoundFlashTree.root.Goals as goal
+
+pub returns-clause-spends : goal.returns-clause-spends
+returns-clause-spends g c = c.run_and_return.ensures.spends

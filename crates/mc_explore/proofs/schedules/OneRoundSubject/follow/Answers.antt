@@ -1,0 +1,10 @@
+use Rattle.mc_explore.proofs.Walks.{cheap, follows_schedule}
+use Rattle.mc_explore.proofs.schedules.OneRoundSubject.follow.Goals as goal
+
+pub returns-clause-follows : goal.returns-clause-follows
+returns-clause-follows g c = follows_schedule c.args.walk.now c.follow.new.self c.args.key.now c.requires.root c.in_ok-went.went (rw c.cuts.ensures.value at c.in_ok-went.ensures.step)
+
+pub returns-clause-cheap : goal.returns-clause-cheap
+returns-clause-cheap g c = λ went begun.
+    cheap c.args.walk.now c.follow.new.self c.args.key.now c.requires.root c.in_ok-went.went went (rw c.cuts.ensures.value at c.in_ok-went.ensures.step) c.requires.valid
+    (rw c.cuts.ensures.value at c.in_ok-went.ensures.spends) begun

@@ -1,0 +1,189 @@
+//! The tree of boots that are cut: a node is what a flash contains, and its child of a number is what the boot from there
+//! leaves that is cut before its operation of that number.
+
+use mc_boot::{Boot, Outcome, outcome_after};
+use mc_flash::{Flash, FlashError, Layout, Slot};
+use mc_image::are_bytes;
+use mc_start::Start;
+use mc_trailer::Rules;
+use mc_walk::FlashTree;
+
+/// The summary of a flash: the boot from there, before its first operation, and its outcome where it is not cut.
+#[derive(Clone, Copy)]
+pub struct Summary {
+    pub boot: Boot,
+    pub outcome: Outcome,
+}
+
+/// The boots of a layout by the same rules, each of which can be cut.
+#[derive(Clone, Copy)]
+pub struct OneRound {
+    pub rules: Rules,
+    pub layout: Layout,
+}
+
+impl OneRound {
+    ghost use Rattle.std.specs.Prelude.{◌≡◌, Some, IfOk, IfErr, OnOk};
+    ghost use Rattle.mc_flash.specs.Usage.{most_operations, Keeps, Allows, HasRoom, Spends, Stays};
+    ghost use Rattle.mc_walk.specs.TreeModel.{IsChild, IsChildSummary};
+    ghost use Rattle.mc_explore.specs.inner.OneRound.{begins, one_round, most_of, BeginsOn, CanPass, CountsAtMost, HasRun, IsBegun, IsSummary, LeavesAlike, Passes};
+
+    /// The boot at power-on from a flash. The secondary's image is hashed where it is none that the start is known to hold.
+    pub fn boot<F: Flash>(&self, flash: &F, start: &Start) -> Boot
+        ensures { IsBegun self.now.rules (F.seen flash.now) result }
+    {
+        are_bytes(flash.read(Slot::Secondary));
+        Boot::cold_among(flash, self.rules, &start.known())
+    }
+
+    /// Runs the boot at power-on to its end, and gives the summary of the flash where it began. An image that it leaves is hashed
+    /// where it is none that the start is known to hold.
+    ///
+    /// # Errors
+    ///
+    /// `Memory` where the flash was refused memory.
+    pub fn run<F: Flash>(
+        &self,
+        flash: &mut F,
+        boot: Boot,
+        start: &Start,
+    ) -> Result<Summary, FlashError>
+        requires begun { BeginsOn self.now.rules self.now.layout (F.seen flash.old) boot }
+        requires room { Allows (most_of self.now.rules self.now.layout) (F.seen flash.old) }
+        ensures ran { IfOk result (λ summary. HasRun (begins self.now (F.seen
+            flash.old).content) summary
+            (F.seen flash.new).content) }
+        ensures counts { CountsAtMost (most_of self.now.rules self.now.layout) (F.seen flash.old)
+            (F.seen flash.new) }
+        ensures spends { Spends (most_operations self.now.rules.grain self.now.layout)
+            (F.seen flash.old) result (F.seen flash.new) }
+        ensures err { IfErr result (λ e. e ≡ FlashError.Memory) }
+    {
+        let mut whole = boot;
+        whole.finish(flash)?;
+        let outcome = whole.outcome_among(flash, &start.known());
+        Ok(Summary { boot, outcome })
+    }
+
+    // The same, and goes back.
+    fn run_and_return<F: Flash>(
+        &self,
+        flash: &mut F,
+        boot: Boot,
+        start: &Start,
+    ) -> Result<Summary, FlashError>
+        requires begun { BeginsOn self.now.rules self.now.layout (F.seen flash.old) boot }
+        requires room { HasRoom (most_of self.now.rules self.now.layout) (F.seen flash.old) }
+        ensures summary { IfOk result (IsSummary (begins self.now (F.seen flash.old).content)) }
+        ensures stays { OnOk result (Stays (F.seen flash.old) (F.seen flash.new)) }
+        ensures spends { Spends (most_operations self.now.rules.grain self.now.layout)
+            (F.seen flash.old) result (F.seen flash.new) }
+        ensures err { IfErr result (λ e. e ≡ FlashError.Memory) }
+    {
+        let here = flash.mark()?;
+        let summary = self.run(flash, boot, start)?;
+        flash.back_to(here);
+        Ok(summary)
+    }
+
+    /// The summary of a child on its way, where it follows from that of its parent: then the uncut boots of both leave the
+    /// same flash. Elsewhere the boot at power-on from the child.
+    #[inline]
+    pub fn derive<F: Flash>(
+        &self,
+        flash: &F,
+        at: &Boot,
+        parent: &Summary,
+        start: &Start,
+    ) -> Result<Summary, Boot>
+        requires { IsChild (one_round self.now.rules self.now.layout) at.now parent.now
+            (F.seen flash.now) }
+        ensures summary { IfOk result (IsChildSummary (one_round self.now.rules self.now.layout)
+            at.now
+            parent.now (F.seen flash.now)) }
+        ensures left { OnOk result (LeavesAlike self.now.rules self.now.layout at.now parent.now
+            (F.seen flash.now)) }
+        ensures begun { IfErr result (IsBegun self.now.rules (F.seen flash.now)) }
+    {
+        // Before its first operation a boot has changed nothing.
+        if at.count() == 0 {
+            return Ok(*parent);
+        }
+        let boot = self.boot(flash, start);
+        match outcome_after(at, &parent.outcome, &boot) {
+            Some(outcome) => Ok(Summary { boot, outcome }),
+            None => Err(boot),
+        }
+    }
+
+    /// Makes the operation before which a boot was cut.
+    ///
+    /// # Errors
+    ///
+    /// `Memory` where the flash was refused memory.
+    pub fn pass<F: Flash>(&self, flash: &mut F, at: &mut Boot) -> Result<(), FlashError>
+        requires { CanPass self.now.rules self.now.layout at.old (F.seen flash.old) }
+        ensures passes { Passes self.now.rules self.now.layout at.old (F.seen flash.old) result
+            at.new (F.seen flash.new) }
+        ensures keeps { OnOk result (Keeps (F.seen flash.old) (F.seen flash.new)) }
+        ensures spends { Spends 1 (F.seen flash.old) result (F.seen flash.new) }
+        ensures err { IfErr result (λ e. e ≡ FlashError.Memory) }
+    {
+        at.step(flash)
+    }
+}
+
+impl FlashTree for OneRound {
+    ghost use Rattle.mc_flash.specs.Flash.{Content};
+    ghost use Rattle.mc_explore.specs.inner.OneRound.{one_round};
+
+    ghost Node = { Content };
+
+    type Child = Boot;
+
+    type Summary = Summary;
+
+    type Label = u32;
+
+    /// The start, which knows its images.
+    type Known = Start;
+
+    ghost model = { λ s. one_round s.rules s.layout };
+
+    ghost label_of = { λ _ _ number. number };
+
+    fn label(self, at: &Boot) -> u32 {
+        at.count()
+    }
+
+    fn width(self, summary: &Summary) -> u32 {
+        summary.outcome.ops
+    }
+
+    fn first<F: Flash>(self, _flash: &mut F, summary: &Summary) -> Result<Boot, FlashError> {
+        Ok(summary.boot)
+    }
+
+    fn next<F: Flash>(self, flash: &mut F, at: &mut Boot) -> Result<(), FlashError> {
+        self.pass(flash, at)
+    }
+
+    fn root<F: Flash>(self, flash: &mut F, start: &Start) -> Result<Summary, FlashError> {
+        let boot = self.boot(flash, start);
+        self.run_and_return(flash, boot, start)
+    }
+
+    #[inline]
+    fn child<F: Flash>(
+        self,
+        flash: &mut F,
+        at: &Boot,
+        parent: &Summary,
+        start: &Start,
+    ) -> Result<Summary, FlashError> {
+        match self.derive(flash, at, parent, start) {
+            Ok(summary) => Ok(summary),
+            Err(boot) => self.run_and_return(flash, boot, start),
+        }
+    }
+}

@@ -1,0 +1,152 @@
+//! One schedule of power cuts, replayed or followed to its last cut.
+ghost use Rattle.std.specs.Prelude.{◌≡◌, ◌+◌, ◌≤◌, true, false, length, Some, IfOk, IfErr, IsErrOf, MatchResult};
+ghost use Rattle.mc_flash.specs.Usage.{LeaveRoom, limits_for, no_counts};
+ghost use Rattle.mc_boot.specs.Outcome.{shown, after};
+ghost use Rattle.mc_walk.specs.inner.Stack.{most_at};
+ghost use Rattle.mc_walk.specs.Walks.{IsThere};
+ghost use Rattle.mc_explore.specs.inner.OneRound.{one_round, begun_of};
+ghost use Rattle.mc_explore.specs.Schedules.{IsReplayed, Refuses, Restarts};
+ghost use Rattle.mc_start.specs.Start.{begun};
+ghost use Rattle.mc_explore.specs.inner.View.{Followed, IsLoaded};
+
+use crate::loading::load;
+use crate::one_round::{OneRound, Summary};
+use mc_boot::{Outcome, restart_law};
+use mc_flash::{Flash, FlashError};
+use mc_start::{Schedule, Start};
+use mc_walk::Walk;
+use std::alloc::Global;
+use thiserror::Error;
+
+/// Why a schedule is not replayed.
+#[derive(Clone, Copy, Debug, PartialEq, Eq, Error)]
+pub enum ReplayError {
+    /// The cut of that number, counted from 0, is the first that can't occur.
+    #[error("E53 CannotOccur at {0}")]
+    CannotOccur(usize),
+    /// An allocation failed.
+    #[error("E52 Memory")]
+    Memory,
+}
+
+impl From<FlashError> for ReplayError {
+    ghost use Rattle.mc_explore.specs.declared.replays.ReplayError.TheVariants.{Memory};
+
+    ghost from_gives = { λ _ e. e ≡ Memory };
+
+    fn from(_: FlashError) -> Self {
+        ReplayError::Memory
+    }
+}
+
+// Goes along cuts on a walk from a start: the walk at their end, and the summary there.
+fn follow<F: Flash>(
+    mut walk: Walk<F, OneRound>,
+    cuts: &[u32],
+    start: &Start,
+) -> Result<(Walk<F, OneRound>, Summary), ReplayError>
+    requires loaded { IsLoaded F.counted (begun_of walk) (length cuts.now) walk }
+    requires at_most { length cuts.now ≤ 16 }
+    ensures followed { IfOk result (λ at. Followed F.counted (begun_of walk) (length cuts.now)
+        cuts.now at.0) }
+    ensures summary { IfOk result (λ at. IsThere
+        (one_round at.0.flash_tree.rules at.0.flash_tree.layout) at.0 at.1) }
+    ensures limits { IfOk result
+        (λ at. at.0.seen.usage.limits ≡ walk.seen.usage.limits) }
+    ensures refused { IfErr result (Refuses (begun_of walk) cuts.now) }
+    ensures cause { IsErrOf result ReplayError.Memory → F.counted ≡ false }
+{
+    walk.begin(start)?;
+    if !walk.follow(cuts, start)? {
+        return Err(ReplayError::CannotOccur(walk.path().len()));
+    }
+    let summary = *walk.summary();
+    Ok((walk, summary))
+}
+
+/// Goes along cuts on a walk from the flash of a start or of a later round: the outcome of the uncut boot after them, and the flash that it leaves.
+///
+/// # Errors
+///
+/// `CannotOccur` with the number of the first cut that is not less than the operations that its boot makes uncut; `Memory` where
+/// the flash was refused memory, which one that counts never is.
+pub fn replay_on<F: Flash>(
+    walk: Walk<F, OneRound>,
+    cuts: &[u32],
+    start: &Start,
+) -> Result<(Outcome, F), ReplayError>
+    requires loaded { IsLoaded F.counted (begun_of walk) (length cuts.now) walk }
+    requires at_most { length cuts.now ≤ 16 }
+    ensures replayed { let s = begun_of walk in MatchResult result
+        (λ done. IsReplayed s cuts.now (shown done.0) (F.seen done.1).content)
+        (λ e. Refuses s cuts.now e) }
+    ensures geometry { IfOk result
+        (λ done. (F.seen done.1).geometry ≡ (begun_of walk).geometry) }
+    ensures limits { IfOk result
+        (λ done. (F.seen done.1).usage.limits ≡ walk.seen.usage.limits) }
+    // No more is counted than a boot for each cut and one more make.
+    ensures counts { let s = begun_of walk in IfOk result
+        (λ done. LeaveRoom (F.seen done.1).usage.counts no_counts
+        (most_at (one_round s.rules s.geometry) (length cuts.now))) }
+    ensures cause { IsErrOf result ReplayError.Memory → F.counted ≡ false }
+{
+    let (there, summary) = follow(walk, cuts, start)?;
+    let mut flash = there.into_flash();
+    let mut boot = summary.boot;
+    boot.finish(&mut flash)?;
+    Ok((summary.outcome, flash))
+}
+
+/// The outcome of the uncut boot after a schedule of cuts, and the flash that it leaves, which is loaded for one boot more
+/// than there are cuts.
+///
+/// # Errors
+///
+/// `CannotOccur` with the number of the first cut that is not less than the operations that its boot makes uncut; `Memory`.
+pub fn replay<F: Flash>(
+    alloc: Global,
+    start: &Start,
+    schedule: &Schedule,
+) -> Result<(Outcome, F), ReplayError>
+    ensures replayed { MatchResult result
+        (λ done. IsReplayed (begun start.now) schedule.now (shown done.0) (F.seen done.1).content)
+        (λ e. Refuses (begun start.now) schedule.now e) }
+    ensures geometry { IfOk result (λ done. (F.seen done.1).geometry ≡ start.now.geometry) }
+    // A flash that counts has room for exactly so many boots.
+    ensures exact { IfOk result (λ done. F.counted ≡ true → (F.seen done.1).usage.limits
+        ≡ limits_for start.now.rules.grain start.now.geometry (length schedule.now + 1)) }
+    // The restart theorem, for the schedule that was replayed.
+    ensures restarts { IfOk result (λ done. Restarts (begun start.now) schedule.now
+        (shown done.0) (F.seen done.1).content) }
+{
+    restart_law();
+    let cuts = schedule.cuts();
+    let walk = load(alloc, start, cuts.len() as u8)?;
+    let done = replay_on(walk, cuts, start)?;
+    Ok(done)
+}
+
+/// The flash as it was when the last cut of a schedule fell, or the start's where there is none. It is loaded for one boot more
+/// than there are cuts.
+///
+/// # Errors
+///
+/// Those of `replay`.
+pub fn flash_at_cut<F: Flash>(
+    alloc: Global,
+    start: &Start,
+    schedule: &Schedule,
+) -> Result<F, ReplayError>
+    ensures cut { MatchResult result
+        (λ flash. after (begun start.now) schedule.now ≡ Some (F.seen flash).content)
+        (λ e. Refuses (begun start.now) schedule.now e) }
+    ensures geometry { IfOk result (λ flash. (F.seen flash).geometry ≡ start.now.geometry) }
+    // A flash that counts has room for exactly so many boots.
+    ensures exact { IfOk result (λ flash. F.counted ≡ true → (F.seen flash).usage.limits
+        ≡ limits_for start.now.rules.grain start.now.geometry (length schedule.now + 1)) }
+{
+    let cuts = schedule.cuts();
+    let walk = load(alloc, start, cuts.len() as u8)?;
+    let (there, _) = follow(walk, cuts, start)?;
+    Ok(there.into_flash())
+}

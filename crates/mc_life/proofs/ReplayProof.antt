@@ -1,0 +1,264 @@
+-- A script, replayed line by line.
+use Rattle.std.specs.Prelude.{◌≡◌, ℕ, ◌+◌, ◌≤◌, ◌==◌, Bool, true, false, if◌then◌else◌, List, [], ◌∷◌, ◌++◌, length, Option, Some, None, refl}
+use Rattle.std.specs.Io.KnownBytes.{Appends, Keeps}
+use Rattle.std.proofs.Common.{arith, inr, sym, ap, subst, append_assoc, append-nil, ◌∙◌}
+use Rattle.std.proofs.KnownBytes.{Appends-nil, Appends-trans}
+use Rattle.std.proofs.lemmas.Bool.Decides.{nat_tests}
+use Rattle.std.proofs.lemmas.List.{length-append}
+use Rattle.mc_boot.specs.Outcome.{Report}
+use Rattle.mc_output.specs.Text.{AppendsPrefix}
+use Rattle.mc_output.specs.facts.Parting.{AreParts, Lacks}
+use Rattle.mc_start.specs.Start.{Started}
+use Rattle.mc_life.specs.Script.{Named, Either, is_skipped, lines_left, lines_of, onto, size_left}
+use Rattle.mc_boot.specs.Life.{Event as Happening, IsDelivered, LifeLaw, Lives, LivesOn, Moment, resting}
+use Rattle.mc_flash.specs.Flash.{Content}
+use Rattle.mc_flash.specs.Geometry.{Geometry, IsLayout}
+use Rattle.mc_flash.specs.declared.op.Op.{Op}
+use Rattle.mc_trailer.specs.declared.tables.Rules.{Rules}
+use Rattle.mc_life.proofs.Going.{lives_both}
+use Rattle.mc_life.specs.Replay.{happenings, operations, BreaksOff, FailsLife, FailsLine, Happens, IsReplayed, RefusesLine, StopsAt, Replays, life_error, line_text}
+use Rattle.mc_life.specs.Device.{Goes, IsNew, Standing, moment}
+use Rattle.mc_life.specs.declared.life.LineError.{LineError}
+use Rattle.mc_life.specs.declared.life.LineError.TheVariants as errors_of_line
+use Rattle.mc_life.specs.declared.error.EventError.{EventError}
+use Rattle.mc_life.specs.declared.error.EventError.TheVariants as errors
+
+other_byte : (c : ℕ) → (c ≡ 10 → ⊥) → (c == 10) ≡ false
+other_byte c other = grind (arith, nat_tests)
+
+-- The first line, and the others.
+pub first_line : (line after : List ℕ) → Lacks 10 line → lines_of (line ++ 10 ∷ after) ≡ line ∷ lines_of after
+first_line [] after lacks = refl
+first_line (c ∷ line) after lacks =
+    ap (λ b. if b then [] ∷ lines_of (line ++ 10 ∷ after) else onto c (lines_of (line ++ 10 ∷ after))) (other_byte c lacks.0) ∙ ap (onto c) (first_line line after lacks.1)
+
+pub first_of : (text line after : List ℕ) → AreParts 10 text line after → lines_of text ≡ line ∷ lines_of after
+first_of text line after p = ap lines_of p.parts ∙ first_line line after p.lacks
+
+pub last_line : (line : List ℕ) → Lacks 10 line → lines_of line ≡ line ∷ []
+last_line [] lacks = refl
+last_line (c ∷ line) lacks = ap (λ b. if b then [] ∷ lines_of line else onto c (lines_of line)) (other_byte c lacks.0) ∙ ap (onto c) (last_line line lacks.1)
+
+-- ---- one line more
+
+either : (b : Bool) (A B C D : Type 0) → (A → C) → (B → D) → Either b A B → Either b C D
+either true A B C D f h x = f x
+either false A B C D f h x = h x
+
+first_one : (b : Bool) (A B : Type 0) → b ≡ true → A → Either b A B
+first_one true A B is a = a
+first_one false A B is a = absurd cc
+
+other_one : (b : Bool) (A B : Type 0) → b ≡ false → B → Either b A B
+other_one false A B is a = a
+other_one true A B is a = absurd cc
+
+skip_more : (files : List Named) (number : ℕ) (d : Standing) (lines : List (List ℕ)) (line : List ℕ) (count : ℕ) (e : Standing) (text : List ℕ) → is_skipped line ≡ true
+    → Replays files number d lines count e text → Replays files number d (lines ++ line ∷ []) count e text
+skip_more files number d [] line count e text skipped replayed = first_one (is_skipped line) _ _ skipped replayed
+skip_more files number d (l ∷ lines) line count e text skipped replayed =
+    either (is_skipped l) _ _ _ _ (skip_more files number d lines line count e text skipped)
+    (λ t. (t.0, t.1, t.2, t.3, t.4, skip_more files (number + 1) t.0 lines line t.3 e t.2 skipped t.5, t.6, t.7)) replayed
+
+replay_more : (files : List Named) (number at : ℕ) (d : Standing) (lines : List (List ℕ)) (line : List ℕ) (count : ℕ) (e k : Standing) (o : Option Report) (text : List ℕ) → is_skipped line ≡ false
+    → at ≡ number + count → Happens files line e k o → Replays files number d lines count e text
+    → Replays files number d (lines ++ line ∷ []) (count + 1) k (text ++ line_text at line o k)
+replay_more files number at d [] line count e k o text skipped here happens replayed =
+    let from : Happens files line d k o = subst (λ x. Happens files line x k o) replayed.0 happens in
+    let same : at ≡ number = omega (arith, here, replayed.1) in
+    let all : text ++ line_text at line o k ≡ line_text number line o k ++ [] =
+    ap (λ (z : List ℕ). z ++ line_text at line o k) replayed.2 ∙ ap (λ n. line_text n line o k) same ∙ sym (append-nil (line_text number line o k)) in
+    other_one (is_skipped line) _ _ skipped (k, o, [], 0, from, (refl, refl, refl), ap (λ n. n + 1) replayed.1, all)
+replay_more files number at d (l ∷ lines) line count e k o text skipped here happens replayed =
+    either (is_skipped l) _ _ _ _ (replay_more files number at d lines line count e k o text skipped here happens)
+    (λ t. (
+      t.0,
+      t.1,
+      t.2 ++ line_text at line o k,
+      t.3 + 1,
+      t.4,
+      replay_more files (number + 1) at t.0 lines line t.3 e k o t.2 skipped (omega (arith, here, t.6)) happens t.5,
+      ap (λ n. n + 1) t.6,
+      ap (λ (z : List ℕ). z ++ line_text at line o k) t.7 ∙ append_assoc (line_text number l t.1 t.0) t.2 (line_text at line o k),
+    )) replayed
+
+kept_out : (old now later : Option (List ℕ)) (text : List ℕ) → Appends old now text → Keeps now later → Appends old later text
+kept_out None now later text out keeps = tt
+kept_out (Some a) None later text out keeps = absurd out
+kept_out (Some a) (Some b) None text out keeps = absurd keeps
+kept_out (Some a) (Some b) (Some c) text out keeps = keeps ∙ out
+
+-- ---- how far a script was replayed
+
+pub record IsAt (files : List Named) (start : Started) (script : List ℕ) (old now : Option (List ℕ)) (rest : Option (List ℕ)) (number line : ℕ) (d : Standing) : Type 0 where
+  pub new : Standing
+  pub is_new : IsNew start new
+  pub before : List (List ℕ)
+  pub are : lines_of script ≡ before ++ lines_left rest
+  pub count : ℕ
+  pub text : List ℕ
+  pub replayed : Replays files 1 new before count d text
+  pub out : Appends old now text
+  pub number_is : number ≡ count + 1
+  pub line_is : line ≡ length before + 1
+  pub at_most : line + size_left rest ≤ length script + 2
+  pub fewer : number ≤ line
+
+module _ (files : List Named) (start : Started) (script : List ℕ) (old : Option (List ℕ)) where
+  pub begins : (d : Standing) → IsNew start d → IsAt files start script old old (Some script) 1 1 d
+  begins d is = record {
+    new = d;
+    is_new = is;
+    before = [];
+    are = refl;
+    count = 0;
+    text = [];
+    replayed = (refl, refl, refl);
+    out = Appends-nil old;
+    number_is = refl;
+    line_is = refl;
+    at_most = omega arith;
+    fewer = omega arith;
+  }
+
+  module _ (now : Option (List ℕ)) (text : List ℕ) (number line : ℕ) (d : Standing) (at : IsAt files start script old now (Some text) number line d)
+      (words : List ℕ) (after : Option (List ℕ)) (lines : lines_of text ≡ words ∷ lines_left after) (less : size_left after ≤ length text) where
+    are_now : lines_of script ≡ at.before ++ (words ∷ lines_left after)
+    are_now = at.are ∙ ap (λ (z : List (List ℕ)). at.before ++ z) lines
+
+    are_left : lines_of script ≡ (at.before ++ words ∷ []) ++ lines_left after
+    are_left = are_now ∙ sym (append_assoc at.before (words ∷ []) (lines_left after))
+
+    longer : line + 1 ≡ length (at.before ++ words ∷ []) + 1
+    longer = let n = length-append at.before (words ∷ []) in omega (arith, n, at.line_is)
+
+    pub skips : is_skipped words ≡ true → IsAt files start script old now after number (line + 1) d
+    skips skipped = record {
+      new = at.new;
+      is_new = at.is_new;
+      before = at.before ++ words ∷ [];
+      are = are_left;
+      count = at.count;
+      text = at.text;
+      replayed = skip_more files 1 at.new at.before words at.count d at.text skipped at.replayed;
+      out = at.out;
+      number_is = at.number_is;
+      line_is = longer;
+      at_most = omega (arith, at.at_most, less);
+      fewer = omega (arith, at.fewer);
+    }
+
+    pub happened : is_skipped words ≡ false → (e : Standing) (o : Option Report) (later : Option (List ℕ)) → Happens files words d e o → Appends now later (line_text number words o e)
+        → IsAt files start script old later after (number + 1) (line + 1) e
+    happened skipped e o later happens appends = record {
+      new = at.new;
+      is_new = at.is_new;
+      before = at.before ++ words ∷ [];
+      are = are_left;
+      count = at.count + 1;
+      text = at.text ++ line_text number words o e;
+      replayed = replay_more files 1 number at.new at.before words at.count d e o at.text skipped (omega (arith, at.number_is)) happens at.replayed;
+      out = Appends-trans old now later at.text (line_text number words o e) at.out appends;
+      number_is = ap (λ n. n + 1) at.number_is;
+      line_is = longer;
+      at_most = omega (arith, at.at_most, less);
+      fewer = omega (arith, at.fewer);
+    }
+
+    pub stops : is_skipped words ≡ false → (why : EventError) (later : Option (List ℕ)) → RefusesLine files words d why → Keeps now later → StopsAt files start script old later why number line
+    stops skipped why later refused keeps = record {
+      count = at.count;
+      left = d;
+      text = at.text;
+      here = words;
+      beyond = lines_left after;
+      replayed = record { new = at.new; is_new = at.is_new; before = at.before; are = are_now; replayed = at.replayed };
+      number_is = at.number_is;
+      line_is = at.line_is;
+      not_skipped = skipped;
+      refused = refused;
+      out = kept_out old now later at.text at.out keeps;
+    }
+
+    pub breaks : (later : Option (List ℕ)) (e : Standing) (o : Option Report) → Happens files words d e o → AppendsPrefix now later (line_text number words o e)
+        → BreaksOff files start script old later
+    breaks later e o happens prefix = record {
+      count = at.count;
+      left = d;
+      text = at.text;
+      here = words;
+      beyond = lines_left after;
+      replayed = record { new = at.new; is_new = at.is_new; before = at.before; are = are_now; replayed = at.replayed };
+      mid = now;
+      out = at.out;
+      next = e;
+      outcome = o;
+      happens = happens;
+      prefix = subst (λ n. AppendsPrefix now later (line_text n words o e)) at.number_is prefix;
+    }
+
+  pub ends : (now : Option (List ℕ)) (number line : ℕ) (d : Standing) → IsAt files start script old now None number line d → IsReplayed files start script old now d
+  ends now number line d at = record {
+    count = at.count;
+    text = at.text;
+    replayed = record { new = at.new; is_new = at.is_new; before = at.before; are = at.are; replayed = at.replayed };
+    out = at.out;
+  }
+
+-- A line that is not replayed.
+pub fails : (files : List Named) (start : Started) (script : List ℕ) (old now later : Option (List ℕ)) (text : List ℕ) (number line : ℕ) (d : Standing)
+    → IsAt files start script old now (Some text) number line d → (words : List ℕ) (after : Option (List ℕ)) → lines_of text ≡ words ∷ lines_left after → size_left after ≤ length text
+    → is_skipped words ≡ false → (e : LineError) → FailsLine files number words d now later e → FailsLife files start script old later (life_error e number line)
+fails files start script old now later text number line d at words after lines less skipped (errors_of_line.Event errors.Memory) failed =
+    inr (number, line, stops files start script old now text number line d at words after lines less skipped errors.Memory later failed.0 failed.1)
+fails files start script old now later text number line d at words after lines less skipped errors_of_line.Write failed =
+    breaks files start script old now text number line d at words after lines less later failed.0 failed.1 failed.2 failed.3
+fails files start script old now later text number line d at words after lines less skipped (errors_of_line.Event why) failed =
+    stops files start script old now text number line d at words after lines less skipped why later failed.0 failed.1
+
+-- ---- the life law
+
+-- What the lines replay is one life.
+record IsLife (d e : Standing) : Type 0 where
+  events : List Happening
+  lives : (rested : Content) → (later : Content) × Lives d.rules d.seen.geometry (moment d rested) events (moment e later)
+
+life_first : (d k e : Standing) (events : List Happening) (ops : List Op) → Goes d events ops k → IsLife k e → IsLife d e
+life_first d k e events ops goes life = record {
+  events = events ++ life.events;
+  lives = λ rested.
+      let a = goes.lives rested in
+      let b = life.lives a.0 in
+      let P : Rules → Geometry → Type 0 = λ r g. Lives r g (moment k a.0) life.events (moment e b.0) in (
+        b.0,
+        lives_both d.rules d.seen.geometry (moment d rested) (moment k a.0) (moment e b.0) events life.events a.1 (subst (λ g. P d.rules g) goes.geometry (subst
+            (λ r. P r k.seen.geometry) goes.rules b.1)),
+      );
+}
+
+life_by : (b : Bool) (A B : Type 0) (d e : Standing) → (A → IsLife d e) → (B → IsLife d e) → Either b A B → IsLife d e
+life_by true A B d e f h x = f x
+life_by false A B d e f h x = h x
+
+replay_lives : (files : List Named) (number : ℕ) (d : Standing) (lines : List (List ℕ)) (count : ℕ) (e : Standing) (text : List ℕ) → Replays files number d lines count e text → IsLife d e
+replay_lives files number d [] count e text replayed = subst (λ x. IsLife d x) (sym replayed.0) (record { events = []; lives = λ rested. (rested, refl) })
+replay_lives files number d (l ∷ lines) count e text replayed =
+    life_by (is_skipped l) _ _ d e (replay_lives files number d lines count e text)
+    (λ t. life_first d t.0 e (happenings files d t.4.event) (operations d t.4.event) t.4.goes (replay_lives files (number + 1) t.0 lines t.3 e t.2 t.5)) replayed
+
+pub lives_on : (files : List Named) (start : Started) (script : List ℕ) (old new : Option (List ℕ)) (e : Standing) → IsReplayed files start script old new e → ((r : Rules) → LifeLaw r)
+    → IsLayout start.geometry
+    → IsDelivered start.geometry start.content → (rested z : Content) × LivesOn start.rules start.geometry (moment e rested) z
+lives_on files start script old new e replayed law layout delivered =
+    let d = replayed.replayed.new in
+    let is = replayed.replayed.is_new in
+    let life = replay_lives files 1 d replayed.replayed.before replayed.count e replayed.text replayed.replayed.replayed in
+    let l = life.lives start.content in
+    let begun : moment d start.content ≡ resting start.content false =
+    ap (λ (s : Content). record { content = s; rested = start.content; runs = d.runs }) is.content ∙ ap (resting start.content) is.runs in
+    let from_start : Lives start.rules start.geometry (resting start.content false) life.events (moment e l.0) =
+    subst (λ (m : Moment). Lives start.rules start.geometry m life.events (moment e l.0)) begun
+    (subst (λ (g : Geometry). Lives start.rules g (moment d start.content) life.events (moment e l.0)) is.geometry
+    (subst (λ (r : Rules). Lives r d.seen.geometry (moment d start.content) life.events (moment e l.0)) is.rules l.1)) in
+    let on = law start.rules start.geometry start.content false life.events (moment e l.0) layout delivered from_start in
+    (l.0, on.0, on.1)

@@ -1,0 +1,85 @@
+//! What a walk goes through.
+use mc_flash::{Flash, FlashError};
+
+/// A kind of tree over the contents of a flash: how one goes from a node to its children, and what is known of a node, its
+/// summary. That may be derived from the summary of the parent.
+pub trait FlashTree: Copy {
+    ghost use Rattle.std.specs.Prelude.{◌≡◌, ℕ, IfOk, IfErr, OnOk};
+    ghost use Rattle.mc_flash.specs.Usage.{Keeps, HasRoom, Spends, Stays};
+    ghost use Rattle.mc_walk.specs.TreeModel.{TreeModel, CanReach, Reaches, HasNext, GoesOn, IsRoot, IsRootSummary, IsChild, IsChildSummary, HasWidth, owed_there, summary_cost};
+
+    ghost Node: { Type 0 };
+
+    /// A child on its way from its node.
+    type Child: Copy;
+
+    /// The summary of a node.
+    type Summary: Copy;
+
+    /// The name of a child among those of its node.
+    type Label: Copy;
+
+    /// What is known before the walk. It spares work, and changes no answer.
+    type Known;
+
+    ghost model: { Self → TreeModel Node Self.Child Self.Summary };
+
+    ghost label_of: { Self → Node → ℕ → Self.Label };
+
+    /// The name of a child on its way.
+    fn label(self, at: &Self::Child) -> Self::Label
+        ensures { (n : Node) (i : ℕ) → (model self).IsOn n i at.now → result ≡ label_of self n i };
+
+    /// How many children a node with that summary has.
+    fn width(self, summary: &Self::Summary) -> u32
+        ensures { HasWidth (model self) summary.now result };
+
+    /// Goes from a node, with that summary, to its first child.
+    fn first<F: Flash>(
+        self,
+        flash: &mut F,
+        summary: &Self::Summary,
+    ) -> Result<Self::Child, FlashError>
+        requires { CanReach (model self) 0 summary.now (F.seen flash.old) }
+        ensures reaches { Reaches (model self) 0 summary.now (F.seen flash.old) result
+            (F.seen flash.new) }
+        ensures keeps { OnOk result (Keeps (F.seen flash.old) (F.seen flash.new)) }
+        ensures spends { Spends (model self).step (F.seen flash.old) result (F.seen flash.new) }
+        ensures err { IfErr result (λ e. e ≡ FlashError.Memory) };
+
+    /// Goes from a child to the next.
+    fn next<F: Flash>(self, flash: &mut F, at: &mut Self::Child) -> Result<(), FlashError>
+        requires { HasNext (model self) at.old (F.seen flash.old) }
+        ensures goes_on { GoesOn (model self) at.old (F.seen flash.old) result at.new
+            (F.seen flash.new) }
+        ensures keeps { OnOk result (Keeps (F.seen flash.old) (F.seen flash.new)) }
+        ensures spends { Spends (model self).step (F.seen flash.old) result (F.seen flash.new) }
+        ensures err { IfErr result (λ e. e ≡ FlashError.Memory) };
+
+    /// The summary of the root at which the flash stands.
+    fn root<F: Flash>(self, flash: &mut F, known: &Self::Known) -> Result<Self::Summary, FlashError>
+        requires root { IsRoot (model self) (F.seen flash.old) }
+        requires room { HasRoom (model self).all (F.seen flash.old) }
+        ensures gives { IfOk result (IsRootSummary (model self) (F.seen flash.old)) }
+        ensures stays { OnOk result (Stays (F.seen flash.old) (F.seen flash.new)) }
+        ensures spends { Spends (summary_cost (model self)) (F.seen flash.old) result
+            (F.seen flash.new) }
+        ensures err { IfErr result (λ e. e ≡ FlashError.Memory) };
+
+    /// The summary of a child on its way, where that is the summary of its parent.
+    fn child<F: Flash>(
+        self,
+        flash: &mut F,
+        at: &Self::Child,
+        parent: &Self::Summary,
+        known: &Self::Known,
+    ) -> Result<Self::Summary, FlashError>
+        requires child { IsChild (model self) at.now parent.now (F.seen flash.old) }
+        requires room { HasRoom (owed_there (model self) at.now) (F.seen flash.old) }
+        ensures gives { IfOk result (IsChildSummary (model self) at.now parent.now (F.seen
+            flash.old)) }
+        ensures stays { OnOk result (Stays (F.seen flash.old) (F.seen flash.new)) }
+        ensures spends { Spends (summary_cost (model self)) (F.seen flash.old) result
+            (F.seen flash.new) }
+        ensures err { IfErr result (λ e. e ≡ FlashError.Memory) };
+}
