@@ -53,7 +53,7 @@ fn errors(
             rt,
             "an explorer",
         );
-        errors_of(rt, &mut explorer, &(), limit, writer)
+        errors_of(rt, &mut explorer, &None, limit, writer)
     } else {
         let mut explorer = TreeExplorer::<SnapFlash, OneRound>::start(
             alloc,
