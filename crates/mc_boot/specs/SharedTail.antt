@@ -21,3 +21,9 @@ pub record IsSharedTail (from : PowerOn) (u : Content) (x : SharedTail) : Type 0
   pub at_most : x.erases ≤ length (ops_of (again from u))
   pub same : (i : ℕ) → i < length (ops_of (again from u)) → at (again from u) i ≡ at from (index_in_parent x i)
   pub within : (i : ℕ) → i < length (ops_of (again from u)) → index_in_parent x i < length (ops_of from)
+
+-- Each of the flashes stands so many further on.
+pub record IsMovedBy (others : ℕ) (x y : SharedTail) : Type 0 where
+  pub kept_is : y.kept ≡ x.kept + others
+  pub erases_is : y.erases ≡ x.erases
+  pub index_is : (i : ℕ) → index_in_parent y i ≡ index_in_parent x i + others

@@ -29,7 +29,7 @@ pub struct SharedTail {
 }
 
 impl SharedTail {
-    ghost use Rattle.mc_boot.specs.SharedTail.{index_in_parent, IsSharedTail};
+    ghost use Rattle.mc_boot.specs.SharedTail.{index_in_parent, IsMovedBy, IsSharedTail};
 
     /// Where the flashes of the next boot lie among those of the boot that was cut: it stands where that one left the flash. None where
     /// that does not follow from the courses of the two, or from which sectors are erased.
@@ -98,6 +98,24 @@ impl SharedTail {
         ensures { result ≡ self.now.kept }
     {
         self.kept
+    }
+
+    /// The same among flashes of which so many others stand first, where the numbers are small.
+    pub fn moved_by(&self, others: u32) -> Option<SharedTail>
+        ensures { IfSome result (IsMovedBy others self.now) }
+    {
+        let kept = self.kept.checked_add(others)?;
+        let done = self.done.checked_add(others)?;
+        let (erases, only) = (self.erases, self.only);
+        if kept.checked_add(erases)? >= 1 << 31 {
+            return None;
+        }
+        Some(SharedTail {
+            kept,
+            erases,
+            done,
+            only,
+        })
     }
 }
 

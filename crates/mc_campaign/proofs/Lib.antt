@@ -1,3 +1,4 @@
+mod Tails
 mod Ways
 mod Steps
 mod Restarts

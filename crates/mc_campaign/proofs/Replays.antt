@@ -1,61 +1,27 @@
 -- Two rounds that are replayed one after the other, and the outcomes at their end.
 use Rattle.std.proofs.Common.{ap, inl, subst, ◌∙◌}
-use Rattle.std.specs.Prelude.{Bool, List, length, refl, ℕ, ◌+◌, ◌≡◌}
-use Rattle.mc_boot.specs.Outcome.{Report, shown}
+use Rattle.std.specs.Prelude.{Bool, List, length, ℕ, ◌+◌, ◌≡◌}
+use Rattle.mc_boot.specs.Outcome.{Report}
 use Rattle.mc_boot.specs.Plan.{PowerOn, power_on}
 use Rattle.mc_boot.specs.Restart.{confirmed_if}
-use Rattle.mc_campaign.specs.Campaigns.{AreReplayed, CannotOccurLater, IsMember, Refuses, in_round}
+use Rattle.mc_campaign.specs.Campaigns.{AreReplayed, CannotOccurLater, Refuses, in_round}
 use Rattle.mc_campaign.specs.declared.rounds.Both.{Both}
 use Rattle.mc_campaign.specs.declared.rounds.ChildBoot.{ChildBoot}
 use Rattle.mc_campaign.specs.declared.rounds.TwoRounds.{TwoRounds}
-use Rattle.mc_campaign.specs.facts.Paths.{are_replayed, first_allowed, listed_along}
-use Rattle.mc_campaign.specs.inner.TwoRounds.{AreSummaries, IsPathOf, began_at, cuts_along, later_from, rounds, second_start, two_rounds_model}
+use Rattle.mc_campaign.specs.inner.TwoRounds.{two_rounds_model}
 use Rattle.mc_explore.specs.Schedules.{CannotOccurAt, IsReplayed}
 use Rattle.mc_explore.specs.declared.replays.ReplayError.{ReplayError}
-use Rattle.mc_explore.specs.inner.OneRound.{IsSummary, boots}
 use Rattle.mc_flash.specs.Flash.{Content}
 use Rattle.mc_flash.specs.Geometry.{Geometry}
 use Rattle.mc_trailer.specs.declared.tables.Rules.{Rules}
-use Rattle.mc_tree.specs.Tree.{RoundNode, first, in_both, landed, second}
-use Rattle.mc_tree.specs.facts.Rounds.{both_first, both_second, first_of, second_of}
+use Rattle.mc_tree.specs.Tree.{RoundNode}
 use Rattle.mc_walk.specs.TreeModel.{TreeModel}
 use Rattle.mc_explore.specs.declared.replays.ReplayError.TheVariants as errors
 use Rattle.mc_explore.specs.Schedules as replays
 
--- The summary at the end of a path through two rounds.
-
 -- The kind of tree that a walk goes through.
 abbrev pub kind_of : TwoRounds → TreeModel (RoundNode Content) ChildBoot Both
 kind_of b = two_rounds_model b.one_round.rules b.one_round.layout b.confirms
-
-module _ (r : Rules) (g : Geometry) (confirms : Bool) (s : Content) (bound : ℕ) where
-  ended : (p : RoundNode Content) → (began_at p ≡ first_of (boots r g) (second_start r g confirms) p) × (later_from r g confirms p ≡ second_of (boots r g) (second_start r g confirms) p)
-  ended (first s) = (refl, refl)
-  ended (second began s) = (refl, refl)
-
-  pub outcomes_shown : (path : List ℕ) (c : List (ℕ × ℕ)) (summary : Both) → IsPathOf (power_on r g s) confirms bound path c
-      → AreSummaries r g confirms (landed (rounds r g confirms) (first s) path) summary
-      → (z : Content) × AreReplayed (power_on r g s) confirms c (shown summary.first.outcome) (shown summary.second.outcome) z
-  outcomes_shown path c summary p t =
-      let along = listed_along r g confirms s bound path p.member in
-      subst (λ d. (z : Content) × AreReplayed (power_on r g s) confirms d (shown summary.first.outcome) (shown summary.second.outcome) z) p.cuts_are
-      (here (cuts_along r g confirms s path) along.0 (subst (λ l. AreSummaries r g confirms (landed (rounds r g confirms) (first s) l) summary) along.1 t))
-    where
-      here : (d : List (ℕ × ℕ)) → IsMember (power_on r g s) confirms bound d
-          → AreSummaries r g confirms (landed (rounds r g confirms) (first s) (in_both (boots r g) (second_start r g confirms) s (in_round 1 d) (in_round 2 d))) summary
-          → (z : Content) × AreReplayed (power_on r g s) confirms d (shown summary.first.outcome) (shown summary.second.outcome) z
-      here d m at =
-          let l = in_round 1 d in
-          let later = in_round 2 d in
-          let one = first_allowed r g confirms s d m.1 in
-          let u : Content = landed (boots r g) s l in
-          let v : Content = landed (boots r g) (second_start r g confirms u) later in
-          let end : RoundNode Content = landed (rounds r g confirms) (first s) (in_both (boots r g) (second_start r g confirms) s l later) in
-          let at_u : began_at end ≡ u = (ended end).0 ∙ both_first (boots r g) (second_start r g confirms) s l later one in
-          let at_v : later_from r g confirms end ≡ v = (ended end).1 ∙ both_second (boots r g) (second_start r g confirms) s l later one in
-          let first_outcome = subst (λ x. IsSummary (power_on r g x) summary.first) at_u at.first_is in
-          let second_outcome = subst (λ x. IsSummary (power_on r g x) summary.second) at_v at.second_is in
-          are_replayed r g confirms s d m.1 (shown summary.first.outcome) (shown summary.second.outcome) first_outcome.outcome_is second_outcome.outcome_is
 
 -- Two rounds that are replayed one after the other.
 

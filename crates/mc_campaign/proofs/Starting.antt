@@ -1,5 +1,5 @@
 -- Where the second round of a campaign begins.
-use Rattle.std.proofs.Common.{ap, arith, drop, length, subst, sym, take, ◌∙◌}
+use Rattle.std.proofs.Common.{ap, arith, drop, length, sym, take, ◌∙◌}
 use Rattle.std.proofs.lemmas.Bool.Decides.{nat_tests}
 use Rattle.std.proofs.lemmas.List.{drop_at, length-append, take_at}
 use Rattle.std.specs.Prelude.{Bool, Err, List, MatchResult, Ok, Result, if◌then◌else◌, true, ℕ, ◌++◌, ◌+◌, ◌==◌, ◌≡◌}
@@ -12,7 +12,6 @@ use Rattle.mc_flash.specs.Flash.{Content, size_of}
 use Rattle.mc_flash.specs.Geometry.{Geometry}
 use Rattle.mc_flash.specs.declared.op.Slot.TheVariants.{Primary, Secondary}
 use Rattle.mc_start.specs.Start.{of_flash}
-use Rattle.mc_start.specs.declared.start.StartError.{StartError}
 use Rattle.mc_trailer.specs.declared.tables.Rules.{Rules}
 use Rattle.mc_start.specs.declared.start.StartError.TheVariants as errors
 

@@ -50,15 +50,18 @@ pub record ShownRow : Type 0 where
 abbrev pub shown_row : CampaignRow → ShownRow
 shown_row row = record { campaign = row.campaign; first = shown row.first; second = shown row.second }
 
--- How a campaign ends: as its first round does, where that does not end in a boot, else as its second.
-abbrev pub end_by : BootResult → Report → Report → Report
-end_by results.Boot first second = second
-end_by results.None first second = first
-end_by results.Panic first second = first
-end_by results.Fault first second = first
+-- How a campaign ends: as its second round does; but where the first does not end in a boot, with the result of the first.
+abbrev pub end_result : BootResult → BootResult → BootResult
+end_result results.Boot second = second
+end_result results.None second = results.None
+end_result results.Panic second = results.Panic
+end_result results.Fault second = results.Fault
+
+abbrev pub end_by : Report → Report → Report
+end_by first second = record second { result = end_result first.result second.result }
 
 abbrev pub end_of : ShownRow → Report
-end_of row = end_by row.first.result row.first row.second
+end_of row = end_by row.first row.second
 
 -- The outcomes of a row are those of its campaign, round by round.
 abbrev pub HasOutcomes : PowerOn → Bool → ShownRow → Type 0

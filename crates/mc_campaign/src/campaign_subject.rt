@@ -10,7 +10,8 @@ use crate::rounds::TwoRounds;
 use crate::row::CampaignRow;
 use mc_boot::{Outcome, restart_law};
 use mc_explore::{
-    Fields, Labels, Line, OneRound, RowsAhead, Schedule, Start, Subject, TreeExplorer,
+    Countable, ExploreError, Fields, Labels, Line, OneRound, RowsAhead, Schedule, Start, Subject,
+    TreeExplorer, load_walk,
 };
 use mc_flash::{Flash, FlashError};
 use mc_walk::Walk;
@@ -207,4 +208,31 @@ impl Subject for TwoRounds {
     ghost few_more = { three_more };
 
     ghost clear = { campaigns_clear };
+}
+
+impl Countable for TwoRounds {
+    ghost use Rattle.std.specs.Prelude.{refl};
+    ghost use Rattle.mc_explore.specs.inner.OneRound.{begins};
+    ghost use Rattle.mc_campaign.specs.facts.Listed.{all_rows, row_at};
+
+    fn key_at<F: Flash>(
+        alloc: Global,
+        start: &Start,
+        chosen: bool,
+        path: &Schedule,
+    ) -> Result<Campaign, ExploreError> {
+        let cuts = path.cuts();
+        let mut walk: Walk<F, TwoRounds> = load_walk(alloc, start, cuts.len() as u8, chosen)?;
+        walk.begin(start)?;
+        walk.follow(cuts, start)?;
+        Ok(campaign_at(&walk))
+    }
+
+    ghost row_of = { λ t c path. row_at (begins t.one_round c) t.confirms path };
+
+    ghost row_ends = { λ t c path. refl };
+
+    ghost row_key = { λ t c path. refl };
+
+    ghost all_rows = { λ t c bound. all_rows (begins t.one_round c) t.confirms bound };
 }

@@ -1,7 +1,7 @@
 //! A campaign with its outcomes.
 ghost use Rattle.std.specs.Prelude.{◌≡◌};
 ghost use Rattle.mc_boot.specs.Outcome.{shown};
-ghost use Rattle.mc_campaign.specs.Rows.{end_of, shown_row};
+ghost use Rattle.mc_campaign.specs.Rows.{end_by, end_of, shown_row};
 
 use crate::Campaign;
 use mc_boot::{BootResult, Outcome};
@@ -15,13 +15,21 @@ pub struct CampaignRow {
 }
 
 impl CampaignRow {
-    /// How the campaign ends: as its first round does, where that does not end in a boot, else as its second.
+    /// How the campaign ends: as its second round does; but where the first does not end in a boot, with the result of the first.
     pub fn end(&self) -> Outcome
         ensures { shown result ≡ end_of (shown_row self.now) }
     {
-        match self.first.result {
-            BootResult::Boot => self.second,
-            BootResult::None | BootResult::Panic | BootResult::Fault => self.first,
-        }
+        end_by(&self.first, &self.second)
     }
+}
+
+/// How two rounds end: as the second does; but where the first does not end in a boot, with the result of the first.
+pub(crate) fn end_by(first: &Outcome, second: &Outcome) -> Outcome
+    ensures { shown result ≡ end_by (shown first.now) (shown second.now) }
+{
+    let result = match first.result {
+        BootResult::Boot => second.result,
+        failed => failed,
+    };
+    Outcome { result, ..*second }
 }

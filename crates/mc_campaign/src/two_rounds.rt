@@ -2,7 +2,9 @@
 //! then those of the second round that begins after it.
 use crate::campaign::Round;
 use crate::rounds::{Both, ChildBoot, TwoRounds, go_between};
-use mc_explore::Start;
+use crate::row::end_by;
+use mc_boot::{Outcome, SharedTail};
+use mc_explore::{Ending, Start};
 use mc_flash::{Flash, FlashError};
 use mc_walk::FlashTree;
 
@@ -123,6 +125,48 @@ impl FlashTree for TwoRounds {
                     first: parent.first,
                     second,
                 })
+            }
+        }
+    }
+}
+
+impl Ending for TwoRounds {
+    ghost use Rattle.mc_tree.specs.Tree.{first, landed};
+    ghost use Rattle.mc_campaign.specs.inner.TwoRounds.{rounds};
+    ghost use Rattle.mc_campaign.specs.facts.Listed.{end_from};
+
+    ghost report_of = { λ t c path. end_from t.one_round.rules t.one_round.layout t.confirms
+        (landed (rounds t.one_round.rules t.one_round.layout t.confirms) (first c) path) };
+
+    fn ended(summary: &Both) -> Outcome {
+        end_by(&summary.first.outcome, &summary.second.outcome)
+    }
+
+    // A child of the first round leaves the same flash as its parent, where its boot goes on with that of the parent; so the nodes of
+    // the second round are those of the parent, and count as those do if the first rounds have the same result.
+    fn shared_tail<F: Flash>(
+        self,
+        flash: &F,
+        at: &ChildBoot,
+        parent: &Both,
+        child: &Both,
+    ) -> Option<SharedTail> {
+        match at {
+            ChildBoot::First { boot, .. } => {
+                if child.first.outcome.result != parent.first.outcome.result {
+                    return None;
+                }
+                self.one_round
+                    .tail_of(flash, boot, &parent.first, &child.first)
+            }
+            ChildBoot::Second(boot) => {
+                let tail = self
+                    .one_round
+                    .tail_of(flash, boot, &parent.second, &child.second)?;
+                match parent.round {
+                    Round::First => tail.moved_by(parent.first.outcome.ops),
+                    Round::Second => Some(tail),
+                }
             }
         }
     }

@@ -6,7 +6,7 @@ use Rattle.mc_boot.specs.declared.kind.Kind.{Kind}
 use Rattle.mc_boot.specs.declared.kind.Kind.TheVariants as starts
 use Rattle.mc_explore.specs.Census.{IsCensus}
 use Rattle.mc_explore.specs.Pages.{ShownIsOut}
-use Rattle.mc_explore.specs.Right.{AreRights, Rights, SurveysRows}
+use Rattle.mc_explore.specs.Right.{AreRights, SurveysRows}
 use Rattle.mc_explore.specs.Subject.{Explored, GoesOnBeyond, Resumes, State, Subject, at_start, rows_of}
 use Rattle.mc_explore.specs.declared.error.ExploreError.{ExploreError}
 use Rattle.mc_explore.specs.declared.error.ExploreError.TheVariants as errors
@@ -22,6 +22,7 @@ use Rattle.mc_command.specs.Numbers.{GivesNumber}
 use Rattle.mc_command.specs.Sources.{IsStartOf}
 use Rattle.mc_command.specs.Verdicts.{IsExpectation, GivesAsked}
 use Rattle.mc_command.specs.declared.commands.census.Counts.{Counts}
+use Rattle.mc_command.specs.declared.commands.census.Wanted.{Wanted}
 use Rattle.mc_command.specs.declared.commands.explore.Exploration.{Exploration}
 use Rattle.mc_command.specs.declared.numbers.NumberOption.TheVariants as numbers
 use Rattle.mc_command.specs.declared.options.FlashOptions.{FlashOptions}
@@ -105,21 +106,27 @@ module _ {C K R U : Type 0} (x : Subject C K R U) (fields : U → Fields C K) wh
     pub new : State C K
     pub out : ShownIsOut (rows_of x) e.range.until explorer.state new e.extent.limit before after
 
--- What of the rows of a start is right, where that is asked.
-abbrev pub AreRightsIf : Option Expectation → PowerOn → ℕ → Option Rights → Type 0
-AreRightsIf None start bound None = Unit {0}
-AreRightsIf (Some e) start bound (Some rights) = AreRights e start bound rights
-AreRightsIf None start bound (Some rights) = ⊥
-AreRightsIf (Some e) start bound None = ⊥
+-- The arguments give a census: its start, what is chosen, the most cuts, and what is asked of the rows.
+pub record GivesWanted {C : Type 0} (IsChoice : Found → C → Type 0) (is_back : Kind → C → Bool) (found : Found) (w : Wanted C) : Type 0 where
+  pub options : FlashOptions
+  pub options_given : GivesFlash found options
+  pub start : IsStartOf options w.start
+  pub choice : IsChoice found w.choice
+  pub back : w.back ≡ back_from is_back options.source w.choice
+  pub cuts : GivesNumber found numbers.Cuts w.cuts
+  pub asked : GivesAsked found w.asked
 
--- The census of the start and of the most cuts that the arguments give, and what of it is right as they ask.
-pub record GivesCensus (found : Found) (c : Counts) : Type 0 where
-  pub start : Started
-  pub start_given : GivesStart found start
-  pub cuts : ℕ
-  pub cuts_given : GivesNumber found numbers.Cuts cuts
-  pub comes_to : IsCensus (begun start) cuts c.census
-  pub asked : GivesAsked found c.asked
-  pub expectation : Option Expectation
-  pub expects : IsExpectation c.asked start.named (Ok expectation)
-  pub rights : AreRightsIf expectation (begun start) cuts c.rights
+module _ {C K R U : Type 0} (x : Subject C K R U) where
+  -- What of the rows of a start is right, where that is asked.
+  abbrev pub AreRightsIf : Option Expectation → PowerOn → C → ℕ → Option (RightsOf K) → Type 0
+  AreRightsIf None start choice bound None = Unit {0}
+  AreRightsIf (Some e) start choice bound (Some rights) = AreRights x e start choice bound rights
+  AreRightsIf None start choice bound (Some rights) = ⊥
+  AreRightsIf (Some e) start choice bound None = ⊥
+
+  -- Its census, and what of it is right as is asked.
+  pub record AreCounts (w : Wanted C) (c : Counts K) : Type 0 where
+    pub comes_to : IsCensus x (begun w.start) w.choice w.cuts c.census
+    pub expectation : Option Expectation
+    pub expects : IsExpectation w.asked (ends_of w.back w.start.named) (Ok expectation)
+    pub rights : AreRightsIf expectation (begun w.start) w.choice w.cuts c.rights

@@ -135,8 +135,22 @@ fn run_exploration<F: Files, O: Write>(
         "explore" => commands::explore::run::<OneRound, F, O>(files, alloc, arguments, out),
         "campaign" => commands::explore::run::<TwoRounds, F, O>(files, alloc, arguments, out),
         "survey" => run_survey(files, alloc, arguments, out),
-        "census" => commands::census::run(files, alloc, arguments, out),
+        "census" => run_census(files, alloc, arguments, out),
         _ => Err(Refusal::Argument),
+    }
+}
+
+/// Counts all schedules of power cuts, or all campaigns of two rounds.
+fn run_census<F: Files, O: Write>(
+    files: &F,
+    alloc: Global,
+    arguments: &ArgMatches<'_>,
+    out: &mut O,
+) -> Result<(), Refusal> {
+    if has_two_rounds(arguments)? {
+        commands::census::run::<TwoRounds, F, O>(files, alloc, arguments, out)
+    } else {
+        commands::census::run::<OneRound, F, O>(files, alloc, arguments, out)
     }
 }
 

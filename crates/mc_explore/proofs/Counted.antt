@@ -1,5 +1,5 @@
 -- The rows of a survey, counted one after another, and whether each ends in a boot.
-use Rattle.std.proofs.Common.{Bool, List, None, Option, Some, [], ap, arith, cond, false, is_some, length, max, refl, subst, suc, sym, true, ℕ, ◌++◌, ◌+◌, ◌-◌, ◌<◌, ◌∙◌, ◌∷◌, ◌≡◌, ◌≤◌}
+use Rattle.std.proofs.Common.{Bool, List, None, Option, Some, [], ap, arith, cond, false, length, max, refl, subst, suc, sym, true, ℕ, ◌++◌, ◌+◌, ◌-◌, ◌<◌, ◌∙◌, ◌∷◌, ◌≡◌, ◌≤◌}
 use Rattle.std.proofs.lemmas.List.{length-append}
 use Rattle.std.proofs.lemmas.List.Sums.{count_by-le-length, fold_push, sum_by-cons, sum_by_push}
 use Rattle.std.specs.List.{AllByRecursion}
@@ -8,9 +8,8 @@ use Rattle.mc_boot.specs.declared.outcome.BootResult.{BootResult}
 use Rattle.mc_explore.proofs.JudgedRows.{none_right, rights_more}
 use Rattle.mc_explore.proofs.PageRows.{AreSoFar, cursor_is, none_so_far, one_more, page_full, page_short, page_with}
 use Rattle.mc_explore.proofs.PageText.{last_on}
-use Rattle.mc_explore.specs.Census.{first_not_boot}
 use Rattle.mc_explore.specs.Pages.{FindsBefore, IsLawful}
-use Rattle.mc_explore.specs.Rows.{ShownRow, report_of, schedules}
+use Rattle.mc_explore.specs.Rows.{schedules}
 use Rattle.mc_explore.specs.Rows as rows_of_schedules
 use Rattle.mc_explore.specs.Subject.{State, Subject, rows_of}
 use Rattle.mc_explore.specs.Survey.{IsWithin, Surveys, SurveysUntil, Tally, count_if, ending_with, is_boot, is_fault, is_none, is_panic, most_ops, no_tally, one_row_more, tally_by_now, tally_of}
@@ -122,7 +121,7 @@ surveyed_whole old new limit tally (page, taken, is) =
     let w = whole_taken schedules old new limit page taken in
     record { rows = w.rows; rest = w.rest; tally_is = is ∙ ap tally_of w.page_is; left = w.left; past = w.past }
 
--- Whether each of some rows ends in a boot, by their tally and by their census.
+-- Whether each of some rows ends in a boot, by their tally.
 
 module _ {R : Type 0} (ends : R → Report) where
   abbrev Boots : R → Type 0
@@ -148,18 +147,3 @@ module _ {R : Type 0} (ends : R → Report) where
   pub all_counted : (rows : List R) → AllBoots rows → ending_with ends is_boot rows ≡ length rows
   all_counted [] all = refl
   all_counted (row ∷ rows) all = omega (arith, first row rows results.Boot all.0, all_counted rows all.1)
-
-found : (row : ShownRow) (rows : List ShownRow) (r : BootResult) → row.outcome.result ≡ r → (is_some (first_not_boot rows) ≡ false → AllBoots report_of rows)
-    → is_some (first_not_boot (row ∷ rows)) ≡ false → AllBoots report_of (row ∷ rows)
-found row rows results.Boot is rest e = (is, rest (rw is at e))
-found row rows results.None is rest e = absurd (let no = rw is at e in cc)
-found row rows results.Panic is rest e = absurd (let no = rw is at e in cc)
-found row rows results.Fault is rest e = absurd (let no = rw is at e in cc)
-
-pub none_found : (rows : List ShownRow) → is_some (first_not_boot rows) ≡ false → AllBoots report_of rows
-none_found [] e = tt
-none_found (row ∷ rows) e = found row rows row.outcome.result refl (none_found rows) e
-
-pub all_found : (rows : List ShownRow) → AllBoots report_of rows → is_some (first_not_boot rows) ≡ false
-all_found [] all = refl
-all_found (row ∷ rows) all = rw all.0 (all_found rows all.1)

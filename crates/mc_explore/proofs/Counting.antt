@@ -1,35 +1,40 @@
--- Totals that are cut off, one after another; what the one list of rows comes to is what the tree of boots does.
-use Rattle.std.proofs.Common.{Bool, List, None, Option, Some, [], ap, arith, false, if◌then◌else◌, length, map, max, nat_le, not, option_map, refl, subst, suc, sym, take, true, zero, ℕ, ◌++◌, ◌+◌, ◌-◌, ◌<◌, ◌∙◌, ◌∷◌, ◌≡◌, ◌≤◌}
-use Rattle.std.proofs.lemmas.Bool.Decides.{nat_tests}
-use Rattle.std.proofs.lemmas.List.{take-take, take_all}
+-- Totals that are cut off, one after another; what the rows of all paths come to is what the tree weighs.
+use Rattle.std.proofs.Common.{Bool, List, None, Option, Some, [], ap, arith, cond, false, if◌then◌else◌, length, map, max, not, option_map, refl, subst, suc, sym, take, true, zero, ℕ, ◌++◌, ◌+◌, ◌-◌, ◌<◌, ◌∙◌, ◌∷◌, ◌≡◌, ◌≤◌}
+use Rattle.std.proofs.lemmas.List.{length-map, take-take, take_all}
 use Rattle.std.proofs.lemmas.List.Recursion.{is_count_by}
+use Rattle.std.proofs.lemmas.List.Sums.{sum_by-cons}
 use Rattle.std.proofs.lemmas.Option.{same_Some}
 use Rattle.std.specs.List.{find, fold, slice_get}
 use Rattle.std.specs.Option.{option_or}
 use Rattle.std.specs.Prelude.{Contains}
-use Rattle.mc_boot.specs.Outcome.{Report, ops_of}
-use Rattle.mc_boot.specs.Plan.{PowerOn, power_on}
-use Rattle.mc_boot.specs.SharedTail.{IsSharedTail, index_in_parent}
+use Rattle.mc_boot.specs.Outcome.{Report}
+use Rattle.mc_boot.specs.Plan.{PowerOn}
+use Rattle.mc_boot.specs.SharedTail.{index_in_parent}
+use Rattle.mc_boot.specs.declared.outcome.BootResult.{BootResult}
 use Rattle.mc_boot.specs.declared.shared_tail.SharedTail.{SharedTail}
-use Rattle.mc_boot.specs.facts.Run.{outcome_defined}
-use Rattle.mc_explore.specs.Census.{Totals, both, census_of, cut_off, first_not_boot, no_totals, row_totals, totals}
-use Rattle.mc_explore.specs.Rows.{ShownRow}
-use Rattle.mc_explore.specs.Survey.{count_if, is_boot, is_fault, is_none, is_panic, most_ops_of, rows_with}
-use Rattle.mc_explore.specs.Right.{IsCensusOf, judged_row}
-use Rattle.mc_explore.specs.declared.census.Census.{Census}
+use Rattle.mc_explore.specs.Census.{IsCensusOf, census_by, cut_number}
+use Rattle.mc_explore.specs.Pages.{IsRest}
+use Rattle.mc_explore.specs.Right.{judged}
+use Rattle.mc_explore.specs.Rows.{ShownRow, report_of}
+use Rattle.mc_explore.specs.Subject.{Subject, at_start, rows_of}
+use Rattle.mc_explore.specs.Survey.{count_if, ending_with, is_boot, is_fault, is_none, is_panic, most_ops}
+use Rattle.mc_explore.specs.declared.census.CensusOf.{CensusOf}
 use Rattle.mc_explore.specs.declared.expectation.Expectation.{Expectation}
-use Rattle.mc_explore.specs.facts.Listed.{all_rows, row_at}
-use Rattle.mc_explore.specs.facts.Occurring.{at_is, lands_at}
-use Rattle.mc_explore.specs.inner.OneRound.{at_cut, boots}
-use Rattle.mc_explore.specs.inner.Table.{AreCutOff, AreSums, IsInside, IsLevel, own_totals, shown_totals, weigh, weigh_fewer}
-use Rattle.mc_flash.specs.Flash.{Content}
-use Rattle.mc_flash.specs.Geometry.{Geometry}
+use Rattle.mc_explore.specs.facts.Totals.{totals_weigh}
+use Rattle.mc_explore.specs.inner.Table.{AreCutOff, AreSums, IsJoined, IsTailOf, own_totals, weigh, weigh_below}
+use Rattle.mc_explore.specs.inner.Totals.{Totals, both, cut_off, no_totals, row_totals, totals}
 use Rattle.mc_start.specs.Start.{lowered}
-use Rattle.mc_trailer.specs.declared.tables.Rules.{Rules}
-use Rattle.mc_tree.specs.facts.Existence.{all_from}
+use Rattle.mc_tree.specs.Tree.{IsMember, Tree, landed}
+use Rattle.mc_tree.specs.facts.Existence.{all_from, all_paths, in_all, landed_path}
 use Rattle.mc_tree.specs.facts.Weighed.{AreWeighed, from_more, shared_weight, rows_weigh}
-use Rattle.mc_tree.specs.inner.Weights.{IsShared, IsWeighing, from, shared_below, total}
+use Rattle.mc_tree.specs.inner.Weights.{from, path_tree, shared_below, total}
 use Rattle.mc_tree.specs.facts.Lists as lists
+
+abbrev pub Census : Type 0
+Census = CensusOf (List ℕ)
+
+abbrev pub path_of : ShownRow → List ℕ
+path_of row = row.schedule
 
 -- Totals that are cut off, one after another.
 
@@ -65,88 +70,38 @@ cut_lowered j c a is =
 
 -- The totals of rows are weights.
 
-same_totals : (x y : Totals) → x.schedules ≡ y.schedules → x.boot ≡ y.boot → x.none ≡ y.none → x.panic ≡ y.panic → x.fault ≡ y.fault → x.most ≡ y.most → x.first ≡ y.first → x ≡ y
-same_totals x y a b c d e f h =
-    let same : ◌≡◌ {A = Totals} (record { schedules = x.schedules; boot = x.boot; none = x.none; panic = x.panic; fault = x.fault; most = x.most; first = x.first })
-    (record { schedules = y.schedules; boot = y.boot; none = y.none; panic = y.panic; fault = y.fault; most = y.most; first = y.first }) = cc in
-    same
-
-module _ {X : Type 0} where
-  or_none : (o : Option X) → option_or o None ≡ o
-  or_none None = refl
-  or_none (Some x) = refl
-
-  or_joined : (a b c : Option X) → option_or (option_or a b) c ≡ option_or a (option_or b c)
-  or_joined None b c = refl
-  or_joined (Some x) b c = refl
-
-  or_mapped : (f : X → X) (a b : Option X) → option_map f (option_or a b) ≡ option_or (option_map f a) (option_map f b)
-  or_mapped f None b = refl
-  or_mapped f (Some x) b = refl
-
-back_prefix : (j i : ℕ) (o : Option (List ℕ)) → option_map (lowered j) (option_map (λ l. (j + i) ∷ l) o) ≡ option_map (λ l. i ∷ l) o
-back_prefix j i None = refl
-back_prefix j i (Some l) = let e : (j + i) - j ≡ i = omega arith in ap (λ n. Some (n ∷ l)) e
-
-pub totals_weigh : IsWeighing totals
-totals_weigh = record {
-  left = λ a. same_totals (both no_totals a) a (omega arith) (omega arith) (omega arith) (omega arith) (omega arith) (omega arith) refl;
-  right = λ a. same_totals (both a no_totals) a (omega arith) (omega arith) (omega arith) (omega arith) (omega arith) (omega arith) (or_none a.first);
-  joined = λ a b c. same_totals (both (both a b) c) (both a (both b c)) (omega arith) (omega arith) (omega arith) (omega arith) (omega arith) (omega arith) (or_joined a.first b.first c.first);
-  prefixed_none = λ i. refl;
-  prefixed_both = λ i a b. same_totals (totals.prefixed i (both a b)) (both (totals.prefixed i a) (totals.prefixed i b)) refl refl refl refl refl refl (or_mapped (λ l. i ∷ l) a.first b.first);
-  lowered_none = λ j. refl;
-  lowered_both = λ j a b. same_totals (totals.first_lowered j (both a b)) (both (totals.first_lowered j a) (totals.first_lowered j b)) refl refl refl refl refl refl (or_mapped (lowered j)
-      a.first b.first);
-  lowered_prefixed = λ j i a. same_totals (totals.first_lowered j (totals.prefixed (j + i) a)) (totals.prefixed i a) refl refl refl refl refl refl (back_prefix j i a.first);
-}
-
 -- Those of no rows.
 from_none : (n i : ℕ) → from totals (λ x. no_totals) n i ≡ no_totals
 from_none zero i = refl
 from_none (suc n) i = ap (both no_totals) (from_none n (i + 1))
 
-module _ (r : Rules) (g : Geometry) where
-  -- All schedules from a content: the one of no cuts, and those after each first cut.
-  pub weigh_is : (e : Expectation) (d : ℕ) (s : Content) → weigh e r g d s
-      ≡ both (own_totals e r g s) (from totals (λ c. weigh_fewer e r g d (at_cut (power_on r g s) c)) (length (ops_of (power_on r g s))) 0)
-  weigh_is e zero s = sym (ap (both (own_totals e r g s)) (from_none (length (ops_of (power_on r g s))) 0) ∙ totals_weigh.right (own_totals e r g s))
-  weigh_is e (suc d) s = refl
+-- The totals of a tree, by the children of a node.
+module _ {N : Type 0} (t : Tree N) (ended : N → Report) (e : Expectation) where
+  -- All paths from a node: the one of no steps, and those after each first step.
+  pub weigh_is : (n : N) (d : ℕ) → both (own_totals t ended e n) (from totals (weigh_below t ended e n d) (t.width n) 0) ≡ weigh t ended e d n
+  weigh_is n zero = ap (both (own_totals t ended e n)) (from_none (t.width n) 0) ∙ totals_weigh.right (own_totals t ended e n)
+  weigh_is n (suc d) = refl
 
-  module _ (s u : Content) (x : SharedTail) (joined : IsSharedTail (power_on r g s) u x) where
-    pub inside : IsInside x (length (ops_of (power_on r g s)))
-    inside = record {
-      late = omega (arith, joined.width, joined.at_most);
-      early = λ i lt. joined.within i (omega (arith, lt, joined.at_most));
-    }
+  -- All paths from a child whose boot goes on with that of its parent.
+  tail_weighs : (n : N) (c : ℕ) (x : SharedTail) → IsTailOf t ended e n c x → (d : ℕ) → weigh_below t ended e n (suc d) c
+      ≡ both (own_totals t ended e (t.child n c)) (shared_below totals (weigh_below t ended e n d) (t.width n) x.kept x.erases (index_in_parent x))
+  tail_weighs n c x is (suc d) = shared_weight totals totals_weigh t (own_totals t ended e) n (t.child n c) x.kept x.erases (index_in_parent x) d is
+  tail_weighs n c x is zero =
+      let rest : ℕ = t.width n - (x.kept + x.erases) in
+      let early = from_none x.erases 0 in
+      let late = ap (totals.first_lowered x.kept) (from_none rest (x.kept + x.erases)) in
+      sym (ap (λ a. both (own_totals t ended e (t.child n c)) (both a (totals.first_lowered x.kept (from totals (λ i. no_totals) rest (x.kept + x.erases))))) early
+      ∙ ap (λ a. both (own_totals t ended e (t.child n c)) (both no_totals a)) late
+      ∙ totals_weigh.right (own_totals t ended e (t.child n c)))
 
-    late_index : (i : ℕ) → x.erases ≤ i → index_in_parent x i ≡ x.kept + i
-    late_index i le =
-        let test : nat_le x.erases i ≡ true = grind (arith, nat_tests) in
-        ap (λ b. if b then x.kept + i else (if nat_le x.done (x.kept + x.erases) then max x.done (x.kept + i) else if nat_le i x.only then x.done else x.kept + x.erases)) test
-
-    pub placed_at : (i : ℕ) → i < length (ops_of (power_on r g u)) → at_cut (power_on r g u) i ≡ at_cut (power_on r g s) (index_in_parent x i)
-    placed_at i lt = lands_at (power_on r g s) (at_cut (power_on r g u) i) (index_in_parent x i) (sym (joined.same i lt) ∙ at_is (power_on r g u) i)
-
-    placed : IsShared (boots r g) s u x.kept x.erases (index_in_parent x)
-    placed = record {
-      width = joined.width;
-      at_most = joined.at_most;
-      early = λ i lt. placed_at i (omega (arith, lt, joined.at_most));
-      late = λ i le lt. placed_at i lt ∙ ap (at_cut (power_on r g s)) (late_index i le);
-    }
-
-    -- All schedules from a content whose boot goes on with that of another.
-    pub rejoined_weigh : (e : Expectation) (d : ℕ) → weigh e r g d u ≡ both (own_totals e r g u)
-        (shared_below totals (λ c. weigh_fewer e r g d (at_cut (power_on r g s) c)) (length (ops_of (power_on r g s))) x.kept x.erases (index_in_parent x))
-    rejoined_weigh e (suc d) = shared_weight totals totals_weigh (boots r g) (own_totals e r g) s u x.kept x.erases (index_in_parent x) d placed
-    rejoined_weigh e zero =
-        let rest : ℕ = length (ops_of (power_on r g s)) - (x.kept + x.erases) in
-        let early = from_none x.erases 0 in
-        let late = ap (totals.first_lowered x.kept) (from_none rest (x.kept + x.erases)) in
-        sym (ap (λ a. both (own_totals e r g u) (both a (totals.first_lowered x.kept (from totals (λ c. no_totals) rest (x.kept + x.erases))))) early
-        ∙ ap (λ a. both (own_totals e r g u) (both no_totals a)) late
-        ∙ totals_weigh.right (own_totals e r g u))
+  pub is_joined : (n : N) (most c : ℕ) (own : Census) (x : SharedTail) → own ≡ cut_off (own_totals t ended e (t.child n c)) → IsTailOf t ended e n c x
+      → IsJoined (weigh_below t ended e n) (t.width n) most c own x
+  is_joined n most c own x own_is is = record {
+    inside = record { late = omega (arith, is.width, is.at_most); early = is.within };
+    alone = own_totals t ended e (t.child n c);
+    own_is = own_is;
+    weighs = tail_weighs n c x is;
+  }
 
 -- Lists of totals that are cut off.
 
@@ -186,27 +141,17 @@ module _ (under : ℕ → Totals) where
       let one : n + 1 ≡ suc n = omega arith in
       sym (ap (λ k. from totals under k 0) one ∙ from_more totals totals_weigh under n 0 ∙ ap (λ i. both (from totals under n 0) (totals.prefixed i (under i))) at)
 
--- All schedules of at most d cuts, by the positions of the boot, of which there are n.
-pub one_weighed : (e : Expectation) (x : PowerOn) (d n : ℕ) → n ≡ length (ops_of x)
-    → both (own_totals e x.rules x.geometry x.content) (from totals (λ c. weigh_fewer e x.rules x.geometry d (at_cut x c)) n (n - n)) ≡ weigh e x.rules x.geometry d x.content
-one_weighed e x d n is =
-    let g = x.geometry in
-    let s = x.content in
-    let under : ℕ → Totals = λ c. weigh_fewer e x.rules g d (at_cut x c) in
-    let at : n - n ≡ 0 = omega arith in
-    ap (λ i. both (own_totals e x.rules g s) (from totals under n i)) at ∙ ap (λ k. both (own_totals e x.rules g s) (from totals under k 0)) is ∙ sym (weigh_is x.rules g e d s)
-
--- The census of a content for one bound more, by the sums of all positions for that bound.
-pub entry_is : (e : Expectation) (x : PowerOn) (own sum one : Census) (d count : ℕ) (level sums : List Census)
+-- The census of a node for one bound more, by the sums of all children for that bound.
+pub entry_is : (under : ℕ → Totals) (alone : Totals) (own sum one : Census) (count : ℕ) (level sums : List Census)
     → ((under : ℕ → Totals) → AreCutOff under level → count ≡ length level → AreSums under count sums)
     → ((under : ℕ → Totals) → AreCutOff under sums → count < length sums → sum ≡ cut_off (under count))
     → ((a b : Totals) → own ≡ cut_off a → sum ≡ cut_off b → one ≡ cut_off (both a b))
-    → own ≡ cut_off (own_totals e x.rules x.geometry x.content) → count ≡ length (ops_of x) → IsLevel e x.rules x.geometry x.content d level → one ≡ cut_off (weigh e x.rules x.geometry d x.content)
-entry_is e x own sum one d count level sums summed last together own_is all is_level =
-    let under : ℕ → Totals = λ c. weigh_fewer e x.rules x.geometry d (at_cut x c) in
-    let are = summed under is_level.1 (all ∙ sym is_level.0) in
+    → own ≡ cut_off alone → AreCutOff under level → count ≡ length level → one ≡ cut_off (both alone (from totals under count 0))
+entry_is under alone own sum one count level sums summed last together own_is level_is many =
+    let are = summed under level_is many in
+    let at : count - count ≡ 0 = omega arith in
     let sum_is = last (λ k. from totals under k (count - k)) are.1 (omega (arith, are.0)) in
-    together (own_totals e x.rules x.geometry x.content) (from totals under count (count - count)) own_is sum_is ∙ ap cut_off (one_weighed e x d count all)
+    together alone (from totals under count (count - count)) own_is sum_is ∙ ap (λ i. cut_off (both alone (from totals under count i))) at
 
 -- What the one list of rows comes to is what the tree of boots does.
 
@@ -224,16 +169,16 @@ many_are [] = refl
 many_are (row ∷ rows) = let e = many_are rows in omega (arith, e)
 
 -- How many there are of one result.
-boots_are : (rows : List ShownRow) → (sum_of rows).boot ≡ rows_with is_boot rows
+boots_are : (rows : List ShownRow) → (sum_of rows).boot ≡ ending_with report_of is_boot rows
 boots_are = is_count_by (λ rows. (sum_of rows).boot) (λ row. is_boot row.outcome.result) refl (λ row rows. count_more (is_boot row.outcome.result) (sum_of rows).boot)
 
-nones_are : (rows : List ShownRow) → (sum_of rows).none ≡ rows_with is_none rows
+nones_are : (rows : List ShownRow) → (sum_of rows).none ≡ ending_with report_of is_none rows
 nones_are = is_count_by (λ rows. (sum_of rows).none) (λ row. is_none row.outcome.result) refl (λ row rows. count_more (is_none row.outcome.result) (sum_of rows).none)
 
-panics_are : (rows : List ShownRow) → (sum_of rows).panic ≡ rows_with is_panic rows
+panics_are : (rows : List ShownRow) → (sum_of rows).panic ≡ ending_with report_of is_panic rows
 panics_are = is_count_by (λ rows. (sum_of rows).panic) (λ row. is_panic row.outcome.result) refl (λ row rows. count_more (is_panic row.outcome.result) (sum_of rows).panic)
 
-faults_are : (rows : List ShownRow) → (sum_of rows).fault ≡ rows_with is_fault rows
+faults_are : (rows : List ShownRow) → (sum_of rows).fault ≡ ending_with report_of is_fault rows
 faults_are = is_count_by (λ rows. (sum_of rows).fault) (λ row. is_fault row.outcome.result) refl (λ row rows. count_more (is_fault row.outcome.result) (sum_of rows).fault)
 
 most_from : (n : ℕ) (rows : List ShownRow) → max n (sum_of rows).most ≡ fold (λ most row. max most row.outcome.ops) n rows
@@ -243,24 +188,41 @@ most_from n (row ∷ rows) =
     let e : max n (max row.outcome.ops rest) ≡ max (max n row.outcome.ops) rest = omega arith in
     e ∙ most_from (max n row.outcome.ops) rows
 
-most_is : (rows : List ShownRow) → (sum_of rows).most ≡ most_ops_of rows
+most_is : (rows : List ShownRow) → (sum_of rows).most ≡ most_ops report_of rows
 most_is rows = let e : (sum_of rows).most ≡ max 0 (sum_of rows).most = omega arith in e ∙ most_from 0 rows
 
-first_more : (b : Bool) (row : ShownRow) (o : Option (List ℕ)) (found : Option ShownRow) → length row.schedule ≤ 16 → option_map (take 16) o ≡ option_map (λ row. row.schedule) found
-    → option_map (take 16) (option_or (if b then None else Some row.schedule) o) ≡ option_map (λ row. row.schedule) (if not b then Some row else found)
+first_more : (b : Bool) (row : ShownRow) (o : Option (List ℕ)) (found : Option ShownRow) → length row.schedule ≤ 16 → option_map (take 16) o ≡ option_map path_of found
+    → option_map (take 16) (option_or (if b then None else Some row.schedule) o) ≡ option_map path_of (if not b then Some row else found)
 first_more true row o found at_most is = is
 first_more false row o found at_most is = ap (λ (l : List ℕ). Some l) (take_all 16 row.schedule at_most)
 
-first_is : (rows : List ShownRow) → ((row : ShownRow) → Contains rows row → length row.schedule ≤ 16) → option_map (take 16) (sum_of rows).first ≡ first_not_boot rows
+first_is : (rows : List ShownRow) → ((row : ShownRow) → Contains rows row → length row.schedule ≤ 16) → option_map (take 16) (sum_of rows).first ≡ (census_by report_of path_of rows).first_not_boot
 first_is [] at_most = refl
 first_is (row ∷ rows) at_most =
     first_more (is_boot row.outcome.result) row (sum_of rows).first (find (λ row. not (is_boot row.outcome.result)) rows) (at_most row (lists.at_head row rows))
     (first_is rows (λ x i. at_most x (lists.in_rest row x rows i)))
 
+same_numbers : (x y : Census) → x.schedules ≡ y.schedules → x.boot ≡ y.boot → x.none ≡ y.none → x.panic ≡ y.panic → x.fault ≡ y.fault → x.most_operations ≡ y.most_operations
+    → x.first_not_boot ≡ y.first_not_boot → x ≡ y
+same_numbers x y a b c d e f h =
+    let same : ◌≡◌ {A = Census} (record {
+      schedules = x.schedules;
+      boot = x.boot;
+      none = x.none;
+      panic = x.panic;
+      fault = x.fault;
+      most_operations = x.most_operations;
+      first_not_boot = x.first_not_boot;
+    })
+    (record { schedules = y.schedules; boot = y.boot; none = y.none; panic = y.panic; fault = y.fault; most_operations = y.most_operations; first_not_boot = y.first_not_boot }) = cc in
+    same
+
 -- The rows' totals, cut off, are their census.
-rows_census : (rows : List ShownRow) → ((row : ShownRow) → Contains rows row → length row.schedule ≤ 16) → cut_off (sum_of rows) ≡ census_of rows
+rows_census : (rows : List ShownRow) → ((row : ShownRow) → Contains rows row → length row.schedule ≤ 16) → cut_off (sum_of rows) ≡ census_by report_of path_of rows
 unfolding cut_off
-rows_census rows at_most = cc (many_are rows, boots_are rows, nones_are rows, panics_are rows, faults_are rows, most_is rows, first_is rows at_most)
+rows_census rows at_most =
+    same_numbers (cut_off (sum_of rows)) (census_by report_of path_of rows) (ap cut_number (many_are rows)) (ap cut_number (boots_are rows)) (ap cut_number (nones_are rows))
+    (ap cut_number (panics_are rows)) (ap cut_number (faults_are rows)) (most_is rows) (first_is rows at_most)
 
 -- ---- the tree
 
@@ -271,7 +233,7 @@ first_beyond : (b : Bool) (i : ℕ) (l : List ℕ) → first_by b (i ∷ l) ≡ 
 first_beyond true i l = refl
 first_beyond false i l = refl
 
--- A row after one more cut.
+-- A row after one more step.
 row_prefixed : (i : ℕ) (l : List ℕ) (o : Report) → row_totals (record { schedule = i ∷ l; outcome = o }) ≡ totals.prefixed i (row_totals (record { schedule = l; outcome = o }))
 row_prefixed i l o =
     ap (λ (first : Option (List ℕ)). record {
@@ -284,46 +246,131 @@ row_prefixed i l o =
       first = first;
     }) (first_beyond (is_boot o.result) i l)
 
-module _ (e : Expectation) (r : Rules) (g : Geometry) where
-  abbrev start_at : Content → PowerOn
-  start_at s = record { geometry = g; rules = r; content = s }
+module _ {N : Type 0} (t : Tree N) (ended : N → Report) (e : Expectation) where
+  -- The row of a path from a node, as it counts.
+  abbrev counted_row : N → List ℕ → ShownRow
+  counted_row n l = record { schedule = l; outcome = judged e (ended (landed t n l)) }
 
-  abbrev judged_at : Content → List ℕ → ShownRow
-  judged_at s l = judged_row e (row_at (start_at s) l)
-
-  rows_are_weighed : AreWeighed totals totals_weigh (boots r g) (own_totals e r g) row_totals judged_at
-  unfolding row_at
+  rows_are_weighed : AreWeighed totals totals_weigh t (own_totals t ended e) row_totals counted_row
   rows_are_weighed = record {
-    here = λ s. sym (ap (shown_totals e) (outcome_defined (power_on r g s)).1);
-    below = λ s i l. row_prefixed i l (judged_at (at_cut (power_on r g s) i) l).outcome;
+    here = λ n. refl;
+    below = λ n i l. row_prefixed i l (counted_row (t.child n i) l).outcome;
   }
 
-  -- All rows weigh what the tree does.
-  all_weigh : (bound : ℕ) (s : Content) → sum_of (map (judged_at s) (all_from (boots r g) bound s)) ≡ weigh e r g bound s
-  all_weigh bound s = rows_weigh totals totals_weigh (boots r g) (own_totals e r g) row_totals judged_at rows_are_weighed bound s
+  -- The rows of all paths are what the tree weighs.
+  all_weigh : (bound : ℕ) (n : N) → total totals row_totals (map (counted_row n) (all_from t bound n)) ≡ weigh t ended e bound n
+  all_weigh = rows_weigh totals totals_weigh t (own_totals t ended e) row_totals counted_row rows_are_weighed
 
--- The rows of a start, each judged.
-all_judged : (e : Expectation) (start : PowerOn) (ls : List (List ℕ)) → map (judged_at e start.rules start.geometry start.content) ls ≡ map (judged_row e) (map (row_at start) ls)
-all_judged e start [] = refl
-all_judged e start (l ∷ ls) = ap (λ (rows : List ShownRow). judged_row e (row_at start l) ∷ rows) (all_judged e start ls)
+-- And so it is in the tree of paths from a root.
+module _ {N : Type 0} (t : Tree N) (root : N) (ended : List ℕ → Report) (e : Expectation) where
+  abbrev pub path_row : List ℕ → ShownRow
+  path_row l = record { schedule = l; outcome = judged e (ended l) }
 
--- Each of some rows has as many cuts when it is judged.
-short_judged : (e : Expectation) (rows : List ShownRow) → ((row : ShownRow) → Contains rows row → length row.schedule ≤ 16) → (row : ShownRow) → Contains (map (judged_row e) rows) row
-    → length row.schedule ≤ 16
-short_judged e rows at_most row there =
-    let from = lists.in_map (judged_row e) row rows there in
-    omega (arith, at_most from.0 from.2, ap (λ (r : ShownRow). length r.schedule) from.1)
+  same_rows : (ls : List (List ℕ)) → map (counted_row (path_tree t root) ended e []) ls ≡ map path_row ls
+  same_rows [] = refl
+  same_rows (l ∷ ls) =
+      ap (λ (m : List ℕ). record { schedule = l; outcome = judged e (ended m) } ∷ map (counted_row (path_tree t root) ended e []) ls) (landed_path t root [] l)
+      ∙ ap (λ (rows : List ShownRow). path_row l ∷ rows) (same_rows ls)
 
-pub is_census : (e : Expectation) (start : PowerOn) (bound : ℕ) (census : Census) → bound ≤ 16 → census ≡ cut_off (weigh e start.rules start.geometry bound start.content)
-    → IsCensusOf e start bound census
-is_census e start bound census at_most is =
-    let paths = all_from (boots start.rules start.geometry) bound start.content in
-    let rows : List ShownRow = map (row_at start) paths in
-    let rest = all_rows start bound in
-    let short : (row : ShownRow) → Contains rows row → length row.schedule ≤ 16 = λ row i. omega (arith, at_most, (rest.only row i).0.listed.0) in
-    record {
-      rows = rows;
-      rest = rest;
-      census_is = is ∙ ap cut_off (sym (all_weigh e start.rules start.geometry bound start.content) ∙ ap sum_of (all_judged e start paths))
-          ∙ rows_census (map (judged_row e) rows) (short_judged e rows short);
-    }
+  pub paths_census : (bound : ℕ) → bound ≤ 16 → cut_off (weigh (path_tree t root) ended e bound []) ≡ census_by report_of path_of (map path_row (all_from t bound root))
+  paths_census bound at_most =
+      ap cut_off (sym (all_weigh (path_tree t root) ended e bound []) ∙ ap (λ ls. total totals row_totals (map (counted_row (path_tree t root) ended e []) ls)) (all_paths t root bound [])
+      ∙ ap (total totals row_totals) (same_rows (all_from t bound root)))
+      ∙ rows_census (map path_row (all_from t bound root)) short
+    where
+      short : (row : ShownRow) → Contains (map path_row (all_from t bound root)) row → length row.schedule ≤ 16
+      short row there =
+          let from = lists.in_map path_row row (all_from t bound root) there in
+          omega (arith, at_most, (in_all t bound root from.0 from.2).0, ap (λ (r : ShownRow). length r.schedule) from.1)
+
+-- Rows of whatever is counted, each of a path, have the census of these.
+module _ {R K : Type 0} (ends : R → Report) (key : R → K) (row_of : List ℕ → R) (o : List ℕ → Report) (key_of : List ℕ → K) (end_is : (l : List ℕ) → ends (row_of l) ≡ o l)
+    (key_is : (l : List ℕ) → key (row_of l) ≡ key_of l) where
+  abbrev of_path : List ℕ → ShownRow
+  of_path l = record { schedule = l; outcome = o l }
+
+  same_count : (test : BootResult → Bool) (ls : List (List ℕ)) → ending_with ends test (map row_of ls) ≡ ending_with report_of test (map of_path ls)
+  same_count test [] = refl
+  same_count test (l ∷ ls) =
+      sum_by-cons (λ (r : R). cond (test (ends r).result) 1 0) (row_of l) (map row_of ls)
+      ∙ ap (λ (x : Report). cond (test x.result) 1 0 + ending_with ends test (map row_of ls)) (end_is l)
+      ∙ ap (λ n. cond (test (o l).result) 1 0 + n) (same_count test ls)
+      ∙ sym (sum_by-cons (λ (r : ShownRow). cond (test r.outcome.result) 1 0) (of_path l) (map of_path ls))
+
+  same_most : (n : ℕ) (ls : List (List ℕ)) → fold (λ most row. max most (ends row).ops) n (map row_of ls) ≡ fold (λ most (row : ShownRow). max most row.outcome.ops) n (map of_path ls)
+  same_most n [] = refl
+  same_most n (l ∷ ls) =
+      ap (λ (x : Report). fold (λ most row. max most (ends row).ops) (max n x.ops) (map row_of ls)) (end_is l) ∙ same_most (max n (o l).ops) ls
+
+  abbrev fails : R → Bool
+  fails row = not (is_boot (ends row).result)
+
+  abbrev first_key : List (List ℕ) → Option K
+  first_key ls = option_map key_of (option_map path_of (find (λ (row : ShownRow). not (is_boot row.outcome.result)) (map of_path ls)))
+
+  same_first : (ls : List (List ℕ)) → option_map key (find fails (map row_of ls)) ≡ first_key ls
+  same_first [] = refl
+  same_first (l ∷ ls) =
+      ap (λ (x : Report). option_map key (if not (is_boot x.result) then Some (row_of l) else find fails (map row_of ls))) (end_is l) ∙ by (is_boot (o l).result) (same_first ls)
+    where
+      by : (b : Bool) → option_map key (find fails (map row_of ls)) ≡ first_key ls → option_map key (if not b then Some (row_of l) else find fails (map row_of ls))
+          ≡ option_map key_of (option_map path_of (if not b then Some (of_path l) else find (λ (row : ShownRow). not (is_boot row.outcome.result)) (map of_path ls)))
+      by true rest = rest
+      by false rest = ap (λ (k : K). Some k) (key_is l)
+
+  pub same_census : (ls : List (List ℕ)) (paths : Census) (census : CensusOf K) → paths ≡ census_by report_of path_of (map of_path ls)
+      → census ≡ record {
+        schedules = paths.schedules;
+        boot = paths.boot;
+        none = paths.none;
+        panic = paths.panic;
+        fault = paths.fault;
+        most_operations = paths.most_operations;
+        first_not_boot = option_map key_of paths.first_not_boot;
+      } → census ≡ census_by ends key (map row_of ls)
+  same_census ls paths census is census_is =
+      let many : length (map row_of ls) ≡ length (map of_path ls) = length-map ls row_of ∙ sym (length-map ls of_path) in
+      let boot = same_count is_boot ls in
+      let none = same_count is_none ls in
+      let panic = same_count is_panic ls in
+      let fault = same_count is_fault ls in
+      let most = same_most 0 ls in
+      let first = same_first ls in
+      rw is at census_is ∙ cc
+
+-- The census of a subject, whose rows are those of all paths of a tree.
+module _ {C K R U N : Type 0} (x : Subject C K R U) (t : Tree N) (root : N) (report : List ℕ → Report) (key_of : List ℕ → K) (row_of : List ℕ → R)
+    (ends_are : (l : List ℕ) → x.ends (row_of l) ≡ report l) (keys_are : (l : List ℕ) → x.key (row_of l) ≡ key_of l) (e : Expectation) (bound : ℕ) (at_most : bound ≤ 16) (paths : Census)
+    (is : paths ≡ cut_off (weigh (path_tree t root) report e bound [])) where
+  found_in : (ls : List (List ℕ)) (l : List ℕ) → option_map path_of (find (λ (row : ShownRow). not (is_boot row.outcome.result)) (map (path_row t root report e) ls)) ≡ Some l → Contains ls l
+  found_in [] l found = absurd cc
+  found_in (m ∷ ls) l found = by (is_boot (judged e (report m)).result) (found_in ls l) found
+    where
+      by : (b : Bool) → (option_map path_of (find (λ (row : ShownRow). not (is_boot row.outcome.result)) (map (path_row t root report e) ls)) ≡ Some l → Contains ls l)
+          → option_map path_of (if not b then Some (path_row t root report e m) else find (λ (row : ShownRow). not (is_boot row.outcome.result)) (map (path_row t root report e) ls)) ≡ Some l
+          → Contains (m ∷ ls) l
+      by true rest found = lists.in_rest m l ls (rest found)
+      by false rest found = subst (Contains (m ∷ ls)) (same_Some m l found) (lists.at_head m ls)
+
+  -- The first path that does not end in a boot is one of them.
+  pub first_member : (l : List ℕ) → paths.first_not_boot ≡ Some l → IsMember t root bound l
+  first_member l found =
+      let first = ap (λ (c : Census). c.first_not_boot) (is ∙ paths_census t root report e bound at_most) in
+      in_all t bound root l (found_in (all_from t bound root) l (sym first ∙ found))
+
+  pub is_census : (start : PowerOn) (choice : C) (census : CensusOf K) → IsRest (rows_of x) (at_start start choice bound) (map row_of (all_from t bound root))
+      → census ≡ record {
+        schedules = paths.schedules;
+        boot = paths.boot;
+        none = paths.none;
+        panic = paths.panic;
+        fault = paths.fault;
+        most_operations = paths.most_operations;
+        first_not_boot = option_map key_of paths.first_not_boot;
+      } → IsCensusOf x (λ row. judged e (x.ends row)) start choice bound census
+  is_census start choice census rest census_is = record {
+    rows = map row_of (all_from t bound root);
+    rest = rest;
+    census_is = same_census (λ row. judged e (x.ends row)) x.key row_of (λ l. judged e (report l)) key_of (λ l. ap (judged e) (ends_are l)) keys_are (all_from t bound root) paths census
+        (is ∙ paths_census t root report e bound at_most) census_is;
+  }

@@ -1,5 +1,5 @@
--- Rows that are right: one more of them, whether all are, and the census of rows that are judged.
-use Rattle.std.proofs.Common.{Bool, List, None, Option, Some, [], ap, arith, cond, false, if◌then◌else◌, is_some, map, min, not, option_map, refl, sym, true, ℕ, ◌+◌, ◌-◌, ◌&&◌, ◌++◌, ◌^◌, ◌∙◌, ◌∷◌, ◌≡◌}
+-- Rows that pass a test, those that are right, one more of them, and the census of rows that are judged.
+use Rattle.std.proofs.Common.{Bool, List, None, Option, Some, [], ap, arith, cond, false, if◌then◌else◌, is_some, min, not, option_map, refl, sym, true, ◌+◌, ◌-◌, ◌&&◌, ◌++◌, ◌^◌, ◌∙◌, ◌∷◌, ◌≡◌}
 use Rattle.std.proofs.lemmas.List.Folds.{find-append}
 use Rattle.std.proofs.lemmas.List.Sums.{sum_by-append, sum_by-cons}
 use Rattle.std.specs.List.{AllByRecursion, find}
@@ -7,11 +7,10 @@ use Rattle.std.specs.Option.{option_or}
 use Rattle.std.specs.Prelude.{count_by}
 use Rattle.mc_boot.specs.Outcome.{Report}
 use Rattle.mc_boot.specs.declared.outcome.BootResult.{BootResult}
-use Rattle.mc_explore.specs.Census.{census_of, cut_number, first_not_boot}
-use Rattle.mc_explore.specs.declared.census.Census.{Census}
-use Rattle.mc_explore.specs.Right.{is_met, is_right, judged, judged_row, no_rights, one_judged_more, rights_by, rights_of, schedule_of}
-use Rattle.mc_explore.specs.Rows.{ShownRow}
-use Rattle.mc_explore.specs.Survey.{is_boot, rows_with}
+use Rattle.mc_explore.specs.Census.{census_by, cut_number}
+use Rattle.mc_explore.specs.declared.census.CensusOf.{CensusOf}
+use Rattle.mc_explore.specs.Right.{is_met, is_right, judged, no_rights, one_judged_more, rights_by}
+use Rattle.mc_explore.specs.Survey.{is_boot}
 use Rattle.mc_explore.specs.declared.expectation.Expectation.{Expectation}
 use Rattle.mc_boot.specs.declared.outcome.BootResult.TheVariants as results
 
@@ -23,13 +22,53 @@ or_mapped : {X Y : Type 0} (f : X → Y) (a b : Option X) → option_map f (opti
 or_mapped f None b = refl
 or_mapped f (Some x) b = refl
 
--- A boot that is judged is one where it is right.
-boot_by : (m : Bool) (o : Report) (r : BootResult) → o.result ≡ r → is_boot (if not m && is_boot o.result then record o { result = results.None } else o).result ≡ (m && is_boot o.result)
-boot_by true o r is = refl
-boot_by false o results.Boot is = rw is refl
-boot_by false o results.None is = rw is refl
-boot_by false o results.Panic is = rw is refl
-boot_by false o results.Fault is = rw is refl
+-- Rows that pass a test, and the first that does not.
+module _ {R K : Type 0} (test : R → Bool) (key : R → K) where
+  abbrev pub first_failing : List R → Option K
+  first_failing rows = option_map key (find (λ row. not (test row)) rows)
+
+  abbrev pub AllPass : List R → Type 0
+  AllPass rows = AllByRecursion (λ row. test row ≡ true) rows
+
+  pub none_found : (rows : List R) → is_some (first_failing rows) ≡ false → AllPass rows
+  none_found [] none = tt
+  none_found (row ∷ rows) none = by (test row) refl (none_found rows)
+    where
+      by : (b : Bool) → test row ≡ b → (is_some (first_failing rows) ≡ false → AllPass rows) → AllPass (row ∷ rows)
+      by true is rest = (is, rest (rw is at none))
+      by false is rest = absurd (let no = rw is at none in cc)
+
+  pub all_found : (rows : List R) → AllPass rows → is_some (first_failing rows) ≡ false
+  all_found [] all = refl
+  all_found (row ∷ rows) all = rw all.0 (all_found rows all.1)
+
+  -- Another test that says the same.
+  module _ (other : R → Bool) (same : (row : R) → test row ≡ other row) where
+    pub same_number : (rows : List R) → count_by test rows ≡ count_by other rows
+    same_number [] = refl
+    same_number (row ∷ rows) =
+        sum_by-cons (λ row. cond (test row) 1 0) row rows ∙ ap (λ b. cond b 1 0 + count_by test rows) (same row) ∙ ap (λ n. cond (other row) 1 0 + n) (same_number rows)
+        ∙ sym (sum_by-cons (λ row. cond (other row) 1 0) row rows)
+
+    pub same_failing : (rows : List R) → first_failing rows ≡ option_map key (find (λ row. not (other row)) rows)
+    same_failing [] = refl
+    same_failing (row ∷ rows) =
+        ap (λ b. option_map key (if not b then Some row else find (λ row. not (test row)) rows)) (same row) ∙ by (other row) (same_failing rows)
+      where
+        by : (b : Bool) → first_failing rows ≡ option_map key (find (λ row. not (other row)) rows)
+            → option_map key (if not b then Some row else find (λ row. not (test row)) rows) ≡ option_map key (if not b then Some row else find (λ row. not (other row)) rows)
+        by true rest = rest
+        by false rest = refl
+
+-- A row ends in a boot.
+pub boots_if : (r : BootResult) → is_boot r ≡ true → r ≡ results.Boot
+boots_if results.Boot is = refl
+boots_if results.None is = absurd cc
+boots_if results.Panic is = absurd cc
+boots_if results.Fault is = absurd cc
+
+pub boots_then : (r : BootResult) → r ≡ results.Boot → is_boot r ≡ true
+boots_then r is = ap is_boot is
 
 -- Rows of whatever is explored.
 module _ {R K : Type 0} (ends : R → Report) (key : R → K) (e : Expectation) where
@@ -74,56 +113,22 @@ module _ {R K : Type 0} (ends : R → Report) (key : R → K) (e : Expectation) 
           let first_is : option_or (first rows) (Some (key row)) ≡ first (rows ++ row ∷ []) = sym (first_more rows row false is) in
           rw is cc
 
-  -- All of them are right.
-  abbrev pub Rightly : List R → Type 0
-  Rightly rows = AllByRecursion (λ row. right row ≡ true) rows
+-- The census of rows as they are judged.
+boot_by : (m : Bool) (o : Report) (r : BootResult) → o.result ≡ r → is_boot (if not m && is_boot o.result then record o { result = results.None } else o).result ≡ (m && is_boot o.result)
+boot_by true o r is = refl
+boot_by false o results.Boot is = rw is refl
+boot_by false o results.None is = rw is refl
+boot_by false o results.Panic is = rw is refl
+boot_by false o results.Fault is = rw is refl
 
-  pub none_found : (rows : List R) → is_some (first rows) ≡ false → Rightly rows
-  none_found [] none = tt
-  none_found (row ∷ rows) none = by (right row) refl (none_found rows)
-    where
-      by : (b : Bool) → right row ≡ b → (is_some (first rows) ≡ false → Rightly rows) → Rightly (row ∷ rows)
-      by true is rest = (is, rest (rw is at none))
-      by false is rest = absurd (let no = rw is at none in cc)
+module _ {R K : Type 0} (ends : R → Report) (key : R → K) (e : Expectation) where
+  boot_judged : (row : R) → is_boot (judged e (ends row)).result ≡ is_right e (ends row)
+  boot_judged row = boot_by (is_met e (ends row)) (ends row) (ends row).result refl
 
-  pub all_found : (rows : List R) → Rightly rows → is_some (first rows) ≡ false
-  all_found [] all = refl
-  all_found (row ∷ rows) all = rw all.0 (all_found rows all.1)
-
--- Rows of schedules.
-module _ (e : Expectation) where
-  abbrev good : ShownRow → Bool
-  good row = is_right e row.outcome
-
-  abbrev first_bad : List ShownRow → Option (List ℕ)
-  first_bad rows = option_map schedule_of (find (λ row. not (good row)) rows)
-
-  -- The census of the rows as they are judged.
-  boot_judged : (o : Report) → is_boot (judged e o).result ≡ is_right e o
-  boot_judged o = boot_by (is_met e o) o o.result refl
-
-  boots_judged : (rows : List ShownRow) → rows_with is_boot (map (judged_row e) rows) ≡ count_by good rows
-  boots_judged [] = refl
-  boots_judged (row ∷ rows) =
-      sum_by-cons (λ (r : ShownRow). cond (is_boot r.outcome.result) 1 0) (judged_row e row) (map (judged_row e) rows)
-      ∙ ap (λ n. cond (is_boot (judged e row.outcome).result) 1 0 + n) (boots_judged rows) ∙ ap (λ b. cond b 1 0 + count_by good rows) (boot_judged row.outcome)
-      ∙ sym (sum_by-cons (λ (r : ShownRow). cond (good r) 1 0) row rows)
-
-  first_judged : (rows : List ShownRow) → first_not_boot (map (judged_row e) rows) ≡ first_bad rows
-  first_judged [] = refl
-  first_judged (row ∷ rows) =
-      ap (λ b. option_map schedule_of (if not b then Some (judged_row e row) else find (λ row. not (is_boot row.outcome.result)) (map (judged_row e) rows))) (boot_judged row.outcome)
-      ∙ by (good row) (first_judged rows)
-    where
-      by : (b : Bool) → first_not_boot (map (judged_row e) rows) ≡ first_bad rows
-          → option_map schedule_of (if not b then Some (judged_row e row) else find (λ row. not (is_boot row.outcome.result)) (map (judged_row e) rows))
-          ≡ option_map schedule_of (if not b then Some row else find (λ row. not (good row)) rows)
-      by true rest = rest
-      by false rest = refl
-
-  pub rights_judged : (rows : List ShownRow) (census : Census) → census ≡ census_of (map (judged_row e) rows)
-      → record { right = census.boot; first_not_right = census.first_not_boot } ≡ rights_of e rows
+  pub rights_judged : (rows : List R) (census : CensusOf K) → census ≡ census_by (λ row. judged e (ends row)) key rows
+      → record { right = census.boot; first_not_right = census.first_not_boot } ≡ rights_by ends key e rows
   rights_judged rows census is =
-      let right_is = ap (λ (c : Census). c.boot) is ∙ ap cut_number (boots_judged rows) in
-      let first_is = ap (λ (c : Census). c.first_not_boot) is ∙ first_judged rows in
+      let right_is = ap (λ (c : CensusOf K). c.boot) is
+      ∙ ap cut_number (same_number (λ row. is_boot (judged e (ends row)).result) key (λ row. is_right e (ends row)) boot_judged rows) in
+      let first_is = ap (λ (c : CensusOf K). c.first_not_boot) is ∙ same_failing (λ row. is_boot (judged e (ends row)).result) key (λ row. is_right e (ends row)) boot_judged rows in
       cc

@@ -1,10 +1,10 @@
 mod Beginning
 mod Bytes
-mod Columns
 mod Continued
 mod Onwards
 mod PageRows
 mod PageText
+mod Passing
 mod Restarts
 mod TornPages
 mod Visiting

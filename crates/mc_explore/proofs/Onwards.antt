@@ -1,5 +1,5 @@
 -- From one cut of a boot to the next, and the summary of the flash there.
-use Rattle.std.specs.Prelude.{◌≡◌, ℕ, ◌+◌, ◌<◌, ◌≤◌, List, [], ◌∷◌, length, Some, Result, Ok, Err, IfErr, refl}
+use Rattle.std.specs.Prelude.{◌≡◌, ℕ, ◌+◌, ◌<◌, ◌≤◌, List, [], ◌∷◌, length, None, Option, Some, Result, Ok, Err, IfErr, IfSome, refl}
 use Rattle.std.proofs.Common.{arith, sym, ap, subst, ◌∙◌}
 use Rattle.mc_flash.specs.Flash.{Content, IsSized}
 use Rattle.mc_flash.specs.Geometry.{Geometry}
@@ -11,14 +11,16 @@ use Rattle.mc_trailer.specs.declared.tables.Rules.{Rules}
 use Rattle.mc_image.specs.Image.{IsBytes}
 use Rattle.mc_boot.specs.Joins.{IsCut}
 use Rattle.mc_boot.specs.Boot.{Progress, IsBootOf, StepsAlong, Steps, all_of, begun, progress, IsBounded, left_of, HasCome}
-use Rattle.mc_boot.specs.Outcome.{outcome_of, shown, left_by, ops_of}
+use Rattle.mc_boot.specs.Outcome.{Report, outcome_of, shown, left_by, ops_of}
+use Rattle.mc_boot.specs.SharedTail.{IsSharedTail}
+use Rattle.mc_boot.specs.declared.shared_tail.SharedTail.{SharedTail}
 use Rattle.mc_boot.specs.Plan.{plan, PowerOn, again, power_on, powered}
 use Rattle.mc_boot.specs.facts.Run.{come_begun, come_left, come_ops}
 use Rattle.mc_boot.specs.facts.Steps.{refused_here, step_counts, step_ran_out, step_spends, stepped_here}
 use Rattle.mc_boot.specs.declared.boot.Boot.{Boot}
 use Rattle.mc_boot.specs.declared.outcome.Outcome.{Outcome}
-use Rattle.mc_walk.specs.TreeModel.{IsAt, HasNext, GoesOn}
-use Rattle.mc_explore.specs.inner.OneRound.{at_cut, CanPass, IsBegun, IsSummary, Passes, most_of, one_round}
+use Rattle.mc_walk.specs.TreeModel.{IsAt, IsChildOf, HasNext, GoesOn}
+use Rattle.mc_explore.specs.inner.OneRound.{at_cut, CanPass, GoesOnIn, IsBegun, IsSummary, Passes, most_of, one_round}
 use Rattle.mc_explore.specs.Schedules.{EndsWith}
 use Rattle.mc_explore.specs.declared.one_round.Summary.{Summary}
 use Rattle.mc_explore.specs.facts.Occurring.{at_zero, come_lands}
@@ -171,6 +173,31 @@ module _ (r : Rules) (g : Geometry) where
     come = at.on_is.come;
     early = omega (arith, early, at.on_is.count_is);
     outcome = t.outcome_is;
+  }
+
+  -- A child whose boot goes on with that of its parent.
+  pub joined_here : (s : Content) (i : ℕ) (b : Boot) (child parent : Summary) (f : Seen) (x : SharedTail) → IsAt (one_round r g) s i b f → i < length (ops_of (power_on r g s))
+      → IsSummary (power_on r g s) parent
+      → IsSummary (power_on r g (at_cut (power_on r g s) i)) child
+      → ((y : Rules) (v : Content) (whole : Report) → IsCut (power_on y f.geometry v) f.content b whole → progress child.boot ≡ begun y (plan (powered y f))
+      → IsSharedTail (power_on y f.geometry v) f.content x)
+      → IsSharedTail (power_on r g s) (at_cut (power_on r g s) i) x
+  joined_here s i b child parent f x at early summary child_summary joins =
+      let P : Geometry → Content → Type 0 = λ y u. (whole : Report) → IsCut (power_on r y s) u b whole → progress child.boot ≡ begun r (plan (power_on r y u)) → IsSharedTail (power_on r y s) u x in
+      let here : P g f.content = subst (λ y. P y f.content) at.layout_is (joins r s) in
+      subst (P g) at.content_is here (shown parent.outcome) (cut_here s i b f parent at early summary) child_summary.boot_is
+
+  -- Where its flashes lie among those of the parent, and both leave the same.
+  pub goes_on_here : (b : Boot) (child parent : Summary) (f : Seen) (found : Option SharedTail)
+      → ((y : Rules) (v : Content) (whole : Report) → IsCut (power_on y f.geometry v) f.content b whole → progress child.boot ≡ begun y (plan (powered y f))
+      → IfSome found (IsSharedTail (power_on y f.geometry v) f.content))
+      → ((x : PowerOn) (u : Content) → IsCut x u b (shown parent.outcome) → IsBootOf x.geometry child.boot → progress child.boot ≡ begun x.rules (plan (again x u))
+      → left_by (again x u) ≡ left_by x)
+      → IfSome found (λ x. (s : Content) (i : ℕ) → IsChildOf (one_round r g) s i b parent child f → GoesOnIn (power_on r g s) i x)
+  goes_on_here b child parent f None joins lefts = tt
+  goes_on_here b child parent f (Some x) joins lefts = λ s i here. record {
+    shared = joined_here s i b child parent f x here.at_is here.some here.parent_is here.child_is joins;
+    left = lefts (power_on r g s) (at_cut (power_on r g s) i) (cut_here s i b f parent here.at_is here.some here.parent_is) here.child_is.layout_is here.child_is.boot_is;
   }
 
   -- Before the first operation.

@@ -10,12 +10,13 @@ use Rattle.mc_boot.specs.SharedTail.{IsSharedTail, index_in_parent}
 use Rattle.mc_boot.specs.declared.boot.Boot.{Boot}
 use Rattle.mc_boot.specs.declared.outcome.Outcome.{Outcome}
 use Rattle.mc_boot.specs.declared.shared_tail.SharedTail.{SharedTail}
-use Rattle.mc_explore.proofs.Columns.{joined_here}
-use Rattle.mc_explore.proofs.Counting.{each_more, placed_at}
+use Rattle.mc_explore.proofs.Counting.{each_more}
+use Rattle.mc_explore.proofs.Onwards.{joined_here}
 use Rattle.mc_explore.specs.declared.ahead.RowsAhead.{RowsAhead}
 use Rattle.mc_explore.specs.declared.one_round.OneRound.{OneRound}
 use Rattle.mc_explore.specs.declared.one_round.Summary.{Summary}
 use Rattle.mc_explore.specs.facts.Occurring.{at_zero}
+use Rattle.mc_explore.specs.facts.Tails.{placed_at}
 use Rattle.mc_explore.specs.facts.Summaries.{width_is}
 use Rattle.mc_explore.specs.inner.Exploring.{AreBeyond, AreFresh, IsAtPhase, IsInStep, IsRowing, IsSpent, StandsFor, last_of, with_last}
 use Rattle.mc_explore.specs.inner.LastCuts.{AreAtCuts, AreLastCuts, flash_at}
@@ -56,7 +57,7 @@ module _ (from : PowerOn) where
       subst (AreAtCuts from of) (sym is) (each_more (λ i p. outcome_of (again from (at_cut (again from (flash_at from of)) i)) ≡ Some (shown p)) outcomes o are here)
 
 -- The last element of a list, and those before it.
-last_alike : (xs ys : List ℕ) (x y : ℕ) → xs ++ x ∷ [] ≡ ys ++ y ∷ [] → xs ≡ ys
+pub last_alike : (xs ys : List ℕ) (x y : ℕ) → xs ++ x ∷ [] ≡ ys ++ y ∷ [] → xs ≡ ys
 last_alike [] [] x y e = refl
 last_alike [] (y' ∷ []) x y e = absurd cc
 last_alike [] (y' ∷ z ∷ ys) x y e = absurd cc
@@ -66,6 +67,14 @@ last_alike (x' ∷ xs) (y' ∷ ys) x y e =
     let rest = last_alike xs ys x y (cc) in
     let first : x' ≡ y' = cc in
     cc
+
+pub same_last : (xs ys : List ℕ) (x y : ℕ) → xs ++ x ∷ [] ≡ ys ++ y ∷ [] → x ≡ y
+same_last [] [] x y e = cc
+same_last [] (y' ∷ []) x y e = absurd cc
+same_last [] (y' ∷ z ∷ ys) x y e = absurd cc
+same_last (x' ∷ []) [] x y e = absurd cc
+same_last (x' ∷ z ∷ xs) [] x y e = absurd cc
+same_last (x' ∷ xs) (y' ∷ ys) x y e = same_last xs ys x y cc
 
 -- A walk stands after a cut, with that summary.
 module _ (w : Walked OneRound) (f : Frame Boot Summary) (summary : Summary) (of path : List ℕ) (last : ℕ) (step : IsLastStep (one_round w.flash_tree.rules w.flash_tree.layout) w f)

@@ -16,7 +16,6 @@ use Rattle.mc_explore.specs.declared.one_round.Summary.{Summary}
 use Rattle.mc_explore.specs.facts.Occurring.{allowed_after, occurs_allowed, path_of}
 use Rattle.mc_explore.specs.inner.Exploring.{FollowsKey}
 use Rattle.mc_explore.specs.inner.OneRound.{IsSummary, at_cut, begins, begun_of, boots, most_of, one_round}
-use Rattle.mc_explore.specs.inner.Table.{HasRoomFor}
 use Rattle.mc_explore.specs.inner.View.{Followed, IsLoaded, begun_with}
 use Rattle.mc_flash.specs.Flash.{Content}
 use Rattle.mc_flash.specs.Geometry.{Geometry, IsLayout}
@@ -50,18 +49,6 @@ module _ (counted : Bool) (g : Geometry) (primary secondary : List ℕ) (f : See
           checkpoints = omega (arith, limits.for_checkpoints, at_most);
         };
       }
-
--- It has room for so many boots, and their checkpoints.
-pub room_for : (counted : Bool) (g : Geometry) (primary secondary : List ℕ) (f : Seen) (r : Rules) (boots : ℕ) → Loads counted g primary secondary r.grain boots f → HasRoomFor r g boots f
-room_for counted g primary secondary f r boots l =
-    let limits = limits_are r.grain g boots f.usage.limits l.room in
-    record {
-      allows = record {
-        entries = omega (arith, limits.for_entries, ap (λ (x : Usage). x.counts.entries) l.usage_is);
-        saved = omega (arith, limits.for_saved, ap (λ (x : Usage). x.counts.saved) l.usage_is);
-      };
-      checkpoints = omega (arith, limits.for_checkpoints, ap length l.none);
-    }
 
 -- The start of the same four parts.
 pub same_start : (start : Started) (one_round : OneRound) (primary secondary : List ℕ) → one_round.rules ≡ start.rules → one_round.layout ≡ start.geometry → primary ≡ start.content.primary

@@ -1,16 +1,15 @@
 -- What the slots are to hold at the end, which outcomes are right then, and how many rows have them.
 use Rattle.std.specs.List.{find}
 use Rattle.std.specs.Option.{option_or}
-use Rattle.std.specs.Prelude.{All, Bool, List, None, Option, Some, codes, count_by, false, if◌then◌else◌, length, map, not, option_map, true, ℕ, ◌&&◌, ◌++◌, ◌+◌, ◌==◌, ◌≡◌}
+use Rattle.std.specs.Prelude.{All, Bool, List, None, Option, Some, codes, count_by, false, if◌then◌else◌, length, not, option_map, true, ℕ, ◌&&◌, ◌++◌, ◌+◌, ◌==◌, ◌≡◌}
 use Rattle.std.specs.Str.{bytes_eq}
 use Rattle.hex.specs.Hex.{IsBytes, encode_lower}
 use Rattle.mc_boot.specs.Outcome.{Report}
 use Rattle.mc_boot.specs.Plan.{PowerOn}
-use Rattle.mc_explore.specs.Census.{census_of, count_text, cut_number}
-use Rattle.mc_explore.specs.Rows.{IsRest, State, ShownRow, at_start, report_of, subject}
+use Rattle.mc_explore.specs.Census.{count_text, cut_number, key_or_none}
+use Rattle.mc_explore.specs.Rows.{State, subject}
 use Rattle.mc_explore.specs.Subject.{Subject, rows_of}
 use Rattle.mc_explore.specs.Survey.{Tally, is_boot, tally_by}
-use Rattle.mc_explore.specs.declared.census.Census.{Census}
 use Rattle.mc_explore.specs.declared.expectation.Expectation.{Expectation}
 use Rattle.mc_explore.specs.declared.expectation.Wanted.{Wanted}
 use Rattle.mc_explore.specs.declared.rights.RightsOf.{RightsOf}
@@ -82,48 +81,25 @@ abbrev pub SurveysRows : {C K R U : Type 0} → Subject C K R U → Expectation 
 SurveysRows {C} {K} {R} {U} x e until old new limit tally rights =
     (page : pages.Page R U) × pages.TakesPage (rows_of x) until old new limit page × (tally ≡ tally_by x.ends page) × (rights ≡ rights_by x.ends x.key e page.rows)
 
+-- Of the one list of the rows of a start, under a choice, for at most so many cuts, so many are right.
+pub record AreRights {C K R U : Type 0} (x : Subject C K R U) (e : Expectation) (start : PowerOn) (choice : C) (bound : ℕ) (rights : RightsOf K) : Type 0 where
+  pub rows : List R
+  pub rest : pages.IsRest (rows_of x) (states.at_start start choice bound) rows
+  pub rights_are : rights ≡ rights_by x.ends x.key e rows
+
 -- Rows of schedules.
 
 abbrev pub Rights : Type 0
 Rights = RightsOf (List ℕ)
 
-abbrev pub schedule_of : ShownRow → List ℕ
-schedule_of row = row.schedule
-
-abbrev pub AllRight : Expectation → List ShownRow → Type 0
-AllRight = AllEndRight report_of
-
-abbrev pub rights_of : Expectation → List ShownRow → Rights
-rights_of = rights_by report_of schedule_of
-
--- That is so of the one list of the rows of a start, for at most so many cuts.
-pub record AreRights (e : Expectation) (start : PowerOn) (bound : ℕ) (rights : Rights) : Type 0 where
-  pub rows : List ShownRow
-  pub rest : IsRest (at_start start bound) rows
-  pub rights_are : rights ≡ rights_of e rows
-
--- And of the page of the rows to come before a schedule, whose tally is that, and its rows are taken.
+-- The page of the rows to come before a schedule has that tally, and so many of its rows are right; and its rows are taken.
 abbrev pub SurveysRight : Expectation → Option (List ℕ) → State → State → ℕ → Tally → Rights → Type 0
 SurveysRight = SurveysRows subject
-
--- A key, or that there is none.
-abbrev pub key_or_none : {K : Type 0} → (K → List ℕ) → Option K → List ℕ
-key_or_none text None = codes "none"
-key_or_none text (Some key) = text key
 
 -- Two lines.
 abbrev pub rights_text : {C K R U : Type 0} → Subject C K R U → RightsOf K → List ℕ
 rights_text x r = (codes "right " ++ (count_text r.right ++ codes "\nfirst-not-right ")) ++ (key_or_none x.key_text r.first_not_right ++ codes "\n")
 
--- Rows as they are counted where only a right outcome is to count as a boot: any other boot counts as none.
+-- How a row counts where only a right outcome is to count as a boot: any other boot counts as none.
 abbrev pub judged : Expectation → Report → Report
 judged e o = if not (is_met e o) && is_boot o.result then record o { result = results.None } else o
-
-abbrev pub judged_row : Expectation → ShownRow → ShownRow
-judged_row e row = record { schedule = row.schedule; outcome = judged e row.outcome }
-
--- The census of the rows of a start that are counted so.
-pub record IsCensusOf (e : Expectation) (start : PowerOn) (bound : ℕ) (census : Census) : Type 0 where
-  pub rows : List ShownRow
-  pub rest : IsRest (at_start start bound) rows
-  pub census_is : census ≡ census_of (map (judged_row e) rows)

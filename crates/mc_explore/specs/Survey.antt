@@ -99,15 +99,6 @@ pub record IsWithin {U : Type 0} (t : TallyOf U) : Type 0 where
 abbrev pub Tally : Type 0
 Tally = TallyOf Cursor
 
-abbrev pub AllBoot : List ShownRow → Type 0
-AllBoot = AllEndInBoot report_of
-
-abbrev pub rows_with : (BootResult → Bool) → List ShownRow → ℕ
-rows_with = ending_with report_of
-
-abbrev pub most_ops_of : List ShownRow → ℕ
-most_ops_of = most_ops report_of
-
 abbrev pub tally_of : Page → Tally
 tally_of = tally_by report_of
 

@@ -6,3 +6,5 @@ pub mod Listed
 pub mod Keys
 pub mod Listings
 pub mod Whole
+pub mod Tails
+pub mod Totals

@@ -1,18 +1,19 @@
-//! What all schedules of power cuts come to.
+//! What all rows come to, in numbers.
 ghost use Rattle.std.specs.Prelude.{◌≡◌, ◌↔◌, true, List};
 ghost use Rattle.mc_boot.specs.Outcome.{shown};
 ghost use Rattle.mc_start.specs.Start.{lowered};
-ghost use Rattle.mc_explore.specs.Census.{census_of, Totals, both, cut_off, no_totals, report_totals, totals, with_first};
-ghost use Rattle.mc_explore.specs.Rows.{ShownRow};
-ghost use Rattle.mc_explore.specs.Survey.{AllBoot};
+ghost use Rattle.mc_explore.specs.Census.{census_by};
+ghost use Rattle.mc_explore.specs.Survey.{AllEndInBoot};
+ghost use Rattle.mc_explore.specs.inner.Totals.{Totals, both, cut_off, no_totals, report_totals, totals, with_first};
 
+use crate::subject::Subject;
 use mc_boot::{BootResult, Outcome};
 use mc_start::Schedule;
 
-/// What all schedules of at most so many cuts that can occur come to. Each number of schedules is cut off at the largest `u128`.
+/// What all rows of at most so many cuts that can occur come to. Each number of rows is cut off at the largest `u128`.
 #[derive(Clone, Copy, Debug)]
-pub struct Census {
-    /// How many schedules there are.
+pub struct CensusOf<K> {
+    /// How many rows there are.
     pub schedules: u128,
     /// How many of them end in a boot.
     pub boot: u128,
@@ -24,17 +25,20 @@ pub struct Census {
     pub fault: u128,
     /// The largest number of operations of a last boot.
     pub most_operations: u32,
-    /// The first schedule, in their order, that does not end in a boot.
-    pub first_not_boot: Option<Schedule>,
+    /// By what the first row is found, in their order, that does not end in a boot.
+    pub first_not_boot: Option<K>,
 }
 
-impl Census {
-    /// Of no schedules.
-    #[tactic(auto, unfolding(crate::specs::Census::cut_off, crate::specs::Census::cut_number))]
+/// What all schedules of power cuts come to, or all paths of a tree.
+pub type Census = CensusOf<Schedule>;
+
+impl CensusOf<Schedule> {
+    /// Of no paths.
+    #[tactic(auto, unfolding(crate::specs::inner::Totals::cut_off, crate::specs::Census::cut_number))]
     pub(crate) fn new() -> Census
         ensures { result ≡ cut_off no_totals }
     {
-        Census {
+        CensusOf {
             schedules: 0,
             boot: 0,
             none: 0,
@@ -45,35 +49,35 @@ impl Census {
         }
     }
 
-    /// Of the schedule of no cuts, which has that outcome.
-    #[tactic(auto, unfolding(crate::specs::Census::cut_off, crate::specs::Census::cut_number))]
+    /// Of the path of no steps, which ends so.
+    #[tactic(auto, unfolding(crate::specs::inner::Totals::cut_off, crate::specs::Census::cut_number))]
     pub(crate) fn of(outcome: &Outcome) -> Census
         ensures { result ≡ cut_off (report_totals (shown outcome.now)) }
     {
-        let counted = Census {
+        let counted = CensusOf {
             schedules: 1,
             most_operations: outcome.ops,
-            ..Census::new()
+            ..CensusOf::new()
         };
-        let failed = Census {
+        let failed = CensusOf {
             first_not_boot: Some(Schedule::new()),
             ..counted
         };
         match outcome.result {
-            BootResult::Boot => Census { boot: 1, ..counted },
-            BootResult::None => Census { none: 1, ..failed },
-            BootResult::Panic => Census { panic: 1, ..failed },
-            BootResult::Fault => Census { fault: 1, ..failed },
+            BootResult::Boot => CensusOf { boot: 1, ..counted },
+            BootResult::None => CensusOf { none: 1, ..failed },
+            BootResult::Panic => CensusOf { panic: 1, ..failed },
+            BootResult::Fault => CensusOf { fault: 1, ..failed },
         }
     }
 
-    /// Of these schedules and of others, which come after them.
-    #[tactic(auto, unfolding(crate::specs::Census::cut_off, crate::specs::Census::cut_number))]
+    /// Of these paths and of others, which come after them.
+    #[tactic(auto, unfolding(crate::specs::inner::Totals::cut_off, crate::specs::Census::cut_number))]
     pub(crate) fn both(&self, later: &Census) -> Census
         ensures { (a b : Totals) → self.now ≡ cut_off a → later.now ≡ cut_off b
             → result ≡ cut_off (both a b) }
     {
-        Census {
+        CensusOf {
             schedules: self.schedules.saturating_add(later.schedules),
             boot: self.boot.saturating_add(later.boot),
             none: self.none.saturating_add(later.none),
@@ -84,40 +88,40 @@ impl Census {
         }
     }
 
-    /// Whether each of the schedules ends in a boot.
-    pub fn all_boot(&self) -> bool
-        ensures { (rows : List ShownRow) → self.now ≡ census_of rows → (result ≡ true) ↔ AllBoot
-            rows }
-    {
-        self.first_not_boot.is_none()
-    }
-
-    /// Of the same schedules, each after that cut.
-    pub(crate) fn prefixed(&self, cut: u32) -> Census
-        ensures { (a : Totals) → self.now ≡ cut_off a → result ≡ cut_off (totals.prefixed cut a) }
+    /// Of the same paths, each after that step.
+    pub(crate) fn prefixed(&self, step: u32) -> Census
+        ensures { (a : Totals) → self.now ≡ cut_off a → result ≡ cut_off (totals.prefixed step a) }
     {
         let first_not_boot = match &self.first_not_boot {
-            Some(first) => Some(first.prefixed(cut)),
+            Some(first) => Some(first.prefixed(step)),
             None => None,
         };
-        Census {
+        CensusOf {
             first_not_boot,
             ..*self
         }
     }
 
-    /// Of the same schedules, the first cut of each so many operations earlier.
-    pub(crate) fn first_lowered(&self, operations: u32) -> Census
+    /// Of the same paths, the first step of each so many children earlier.
+    pub(crate) fn first_lowered(&self, children: u32) -> Census
         ensures { (a : Totals) → self.now ≡ cut_off a
-            → result ≡ cut_off (totals.first_lowered operations a) }
+            → result ≡ cut_off (totals.first_lowered children a) }
     {
         let first_not_boot = match &self.first_not_boot {
-            Some(first) => Some(first.first_lowered(operations)),
+            Some(first) => Some(first.first_lowered(children)),
             None => None,
         };
-        Census {
+        CensusOf {
             first_not_boot,
             ..*self
         }
     }
+}
+
+/// Whether each of the rows that a census counts ends in a boot.
+pub fn each_boots<X: Subject>(census: &CensusOf<X::Key>) -> bool
+    ensures { (rows : List X.Shown) → census.now ≡ census_by X.subject.ends X.subject.key rows
+        → (result ≡ true) ↔ AllEndInBoot X.subject.ends rows }
+{
+    census.first_not_boot.is_none()
 }

@@ -1,10 +1,14 @@
 //! Censuses as text.
-ghost use Rattle.std.specs.Prelude.{Some};
-ghost use Rattle.mc_explore.specs.Census.{census_text, count_text, first_text};
+ghost use Rattle.std.specs.Prelude.{◌≡◌, Some, IfErr, OnOk};
+ghost use Rattle.std.specs.Io.KnownBytes.{Appends};
+ghost use Rattle.mc_explore.specs.Census.{census_text, count_text, counts_text};
 
-use crate::census::Census;
-use mc_start::Schedule;
+use crate::census::CensusOf;
+use crate::error::ExploreError;
+use crate::output::write_first;
+use crate::subject::Subject;
 use std::fmt;
+use std::io::Write;
 
 // A number of rows, with `>=` before it where it was cut off.
 #[derive(Clone, Copy)]
@@ -22,39 +26,45 @@ impl fmt::Display for Count {
     }
 }
 
-// A schedule, if there is one.
+// The first six lines of a census: how many rows, how many of them with each result, the largest number of operations.
 #[derive(Clone, Copy)]
-struct First(Option<Schedule>);
+struct Counts<'a, K>(&'a CensusOf<K>);
 
-impl fmt::Display for First {
-    ghost output = { λ first. Some (first_text first.0) };
-
-    fn fmt<W: fmt::Write>(&self, f: &mut fmt::Formatter<W>) -> fmt::Result {
-        let Some(schedule) = self.0 else {
-            return f.write_str("none");
-        };
-        write!(f, "{schedule}")
-    }
-}
-
-/// Seven lines: how many schedules there are, how many with each result, the largest number of operations, and the first schedule
-/// that does not end in a boot, or `none`. A number that was cut off has `>=` before it.
-impl fmt::Display for Census {
-    ghost output = { λ census. Some (census_text census) };
+impl<'a, K: Copy> fmt::Display for Counts<'a, K> {
+    ghost output = { λ counts. Some (counts_text counts.0.now) };
 
     fn fmt<W: fmt::Write>(&self, f: &mut fmt::Formatter<W>) -> fmt::Result {
-        let schedules = Count(self.schedules);
-        let boot = Count(self.boot);
-        let none = Count(self.none);
+        let schedules = Count(self.0.schedules);
+        let boot = Count(self.0.boot);
+        let none = Count(self.0.none);
         write!(f, "schedules {schedules}\nboot {boot}\nnone {none}\n")?;
-        let panic = Count(self.panic);
-        let fault = Count(self.fault);
-        let most_operations = self.most_operations;
+        let panic = Count(self.0.panic);
+        let fault = Count(self.0.fault);
+        let most_operations = self.0.most_operations;
         write!(
             f,
             "panic {panic}\nfault {fault}\nmost-ops {most_operations}\n"
-        )?;
-        let first = First(self.first_not_boot);
-        write!(f, "first-not-boot {first}\n")
+        )
     }
+}
+
+/// Writes seven lines: how many rows there are, how many with each result, the largest number of operations, and the key of the
+/// first row that does not end in a boot, or `none`. A number that was cut off has `>=` before it.
+///
+/// # Errors
+///
+/// `Write` where a write fails or takes no bytes.
+pub fn write_census<X: Subject, W: Write>(
+    census: &CensusOf<X::Key>,
+    writer: &mut W,
+) -> Result<(), ExploreError>
+    ensures whole { OnOk result (Appends (W.contents writer.old) (W.contents writer.new)
+        (census_text X.subject census.now)) }
+    ensures err { IfErr result (λ e. e ≡ ExploreError.Write) }
+{
+    let counts = Counts(census);
+    if write!(writer, "{counts}first-not-boot ").is_err() {
+        return Err(ExploreError::Write);
+    }
+    write_first::<X, W>(&census.first_not_boot, writer)
 }

@@ -4,6 +4,7 @@
 mod ahead;
 mod census;
 mod census_text;
+mod countable;
 mod error;
 mod expectation;
 mod explorer;
@@ -30,7 +31,9 @@ mod tree_explorer;
 mod tree_loading;
 
 pub use ahead::RowsAhead;
-pub use census::Census;
+pub use census::{Census, CensusOf, each_boots};
+pub use census_text::write_census;
+pub use countable::{Countable, Ending};
 pub use error::ExploreError;
 pub use expectation::{Expectation, Wanted};
 pub use explorer::Explorer;
@@ -58,3 +61,4 @@ pub use tally::{
 };
 pub use torn::last_row;
 pub use tree_explorer::TreeExplorer;
+pub use tree_loading::load_walk;

@@ -1,7 +1,7 @@
 //! The tree of boots that are cut: a node is what a flash contains, and its child of a number is what the boot from there
 //! leaves that is cut before its operation of that number.
 
-use mc_boot::{Boot, Outcome, outcome_after};
+use mc_boot::{Boot, Outcome, SharedTail, outcome_after};
 use mc_flash::{Flash, FlashError, Layout, Slot};
 use mc_image::are_bytes;
 use mc_start::Start;
@@ -23,10 +23,11 @@ pub struct OneRound {
 }
 
 impl OneRound {
-    ghost use Rattle.std.specs.Prelude.{◌≡◌, Some, IfOk, IfErr, OnOk};
+    ghost use Rattle.std.specs.Prelude.{◌≡◌, ℕ, Some, IfOk, IfErr, IfSome, OnOk};
+    ghost use Rattle.mc_flash.specs.Flash.{Content};
     ghost use Rattle.mc_flash.specs.Usage.{most_operations, Keeps, Allows, HasRoom, Spends, Stays};
-    ghost use Rattle.mc_walk.specs.TreeModel.{IsChild, IsChildSummary};
-    ghost use Rattle.mc_explore.specs.inner.OneRound.{begins, one_round, most_of, BeginsOn, CanPass, CountsAtMost, HasRun, IsBegun, IsSummary, LeavesAlike, Passes};
+    ghost use Rattle.mc_walk.specs.TreeModel.{HasChild, IsChild, IsChildOf, IsChildSummary};
+    ghost use Rattle.mc_explore.specs.inner.OneRound.{begins, one_round, most_of, BeginsOn, CanPass, CountsAtMost, GoesOnIn, HasRun, IsBegun, IsSummary, LeavesAlike, Passes};
 
     /// The boot at power-on from a flash. The secondary's image is hashed where it is none that the start is known to hold.
     pub fn boot<F: Flash>(&self, flash: &F, start: &Start) -> Boot
@@ -114,6 +115,25 @@ impl OneRound {
             Some(outcome) => Ok(Summary { boot, outcome }),
             None => Err(boot),
         }
+    }
+
+    /// Where the flashes below a cut lie among those of the boot that was cut, both with their summaries: the flash stands where that
+    /// one left it. Then the uncut boots of both leave the same flash. None where that is not known.
+    pub fn tail_of<F: Flash>(
+        &self,
+        flash: &F,
+        at: &Boot,
+        parent: &Summary,
+        child: &Summary,
+    ) -> Option<SharedTail>
+        requires { HasChild (one_round self.now.rules self.now.layout) at.now parent.now child.now
+            (F.seen flash.now) }
+        ensures { IfSome result (λ x. (s : Content) (i : ℕ)
+            → IsChildOf (one_round self.now.rules self.now.layout) s i at.now parent.now child.now
+            (F.seen flash.now) → GoesOnIn (begins self.now s) i x) }
+    {
+        outcome_after(at, &parent.outcome, &child.boot)?;
+        SharedTail::find(flash, at, &child.boot)
     }
 
     /// Makes the operation before which a boot was cut.

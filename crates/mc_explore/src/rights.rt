@@ -8,10 +8,10 @@ ghost use Rattle.mc_explore.specs.declared.expectation.Expectation.{Expectation 
 use crate::census_text::Count;
 use crate::error::ExploreError;
 use crate::expectation::Expectation;
-use crate::output::write_text;
+use crate::output::write_first;
 use crate::subject::Subject;
 use mc_boot::Outcome;
-use mc_start::{Line, Schedule};
+use mc_start::Schedule;
 use std::io::Write;
 
 /// How many rows come to what is right, cut off at the largest `u128`, and the key of the first of them that does not.
@@ -76,11 +76,5 @@ pub fn write_rights<X: Subject, W: Write>(
     if write!(writer, "right {right}\nfirst-not-right ").is_err() {
         return Err(ExploreError::Write);
     }
-    let mut line = Line::new();
-    match &rights.first_not_right {
-        Some(key) => X::put_key(key, &mut line),
-        None => line.put("none"),
-    }
-    line.put("\n");
-    write_text(writer, line.as_str().as_bytes())
+    write_first::<X, W>(&rights.first_not_right, writer)
 }

@@ -1,11 +1,13 @@
 //! Schedules, as what an explorer goes through.
 use crate::ahead::RowsAhead;
+use crate::countable::{Countable, Ending};
+use crate::error::ExploreError;
 use crate::labels::Labels;
 use crate::last_cuts::AtCuts;
-use crate::one_round::OneRound;
+use crate::one_round::{OneRound, Summary};
 use crate::row::Row;
 use crate::subject::{Fields, Subject};
-use mc_boot::{Outcome, SharedTail, restart_law};
+use mc_boot::{Boot, Outcome, SharedTail, restart_law};
 use mc_flash::{Flash, FlashError, most_operations};
 use mc_start::{Cursor, Line, Schedule, Start};
 use mc_walk::Walk;
@@ -192,4 +194,48 @@ impl Subject for OneRound {
     ghost few_more = { one_more };
 
     ghost clear = { schedules_clear };
+}
+
+impl Ending for OneRound {
+    ghost use Rattle.mc_explore.specs.facts.Listed.{report_after};
+    ghost use Rattle.mc_explore.specs.inner.OneRound.{begins};
+
+    ghost report_of = { λ o c path. report_after (begins o c) path };
+
+    fn ended(summary: &Summary) -> Outcome {
+        summary.outcome
+    }
+
+    fn shared_tail<F: Flash>(
+        self,
+        flash: &F,
+        at: &Boot,
+        parent: &Summary,
+        child: &Summary,
+    ) -> Option<SharedTail> {
+        self.tail_of(flash, at, parent, child)
+    }
+}
+
+impl Countable for OneRound {
+    ghost use Rattle.std.specs.Prelude.{refl};
+    ghost use Rattle.mc_explore.specs.facts.Listed.{all_rows, row_at};
+    ghost use Rattle.mc_explore.specs.inner.OneRound.{begins};
+
+    fn key_at<F: Flash>(
+        _alloc: Global,
+        _start: &Start,
+        _chosen: (),
+        path: &Schedule,
+    ) -> Result<Schedule, ExploreError> {
+        Ok(*path)
+    }
+
+    ghost row_of = { λ o c path. row_at (begins o c) path };
+
+    ghost row_ends = { λ o c path. refl };
+
+    ghost row_key = { λ o c path. refl };
+
+    ghost all_rows = { λ o c bound. all_rows (begins o c) bound };
 }

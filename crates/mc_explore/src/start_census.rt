@@ -1,167 +1,200 @@
-//! Takes the census of a start: level by level, without going through the schedules.
-ghost use Rattle.std.specs.Prelude.{◌≡◌, ◌+◌, ◌≤◌, false, IfOk, IfErr, IsErrOf, OnOk};
-ghost use Rattle.mc_explore.specs.Census.{IsCensus, cut_off};
-ghost use Rattle.mc_explore.specs.Right.{AreRights, IsCensusOf};
+//! Takes the census of a start: level by level, without going through the rows.
+ghost use Rattle.std.specs.Prelude.{◌≡◌, ◌+◌, ◌≤◌, length, true, false, IfOk, IfErr, IfSome, IsErr, IsErrOf, OnOk};
+ghost use Rattle.mc_boot.specs.Outcome.{shown};
 ghost use Rattle.mc_start.specs.Start.{begun};
-ghost use Rattle.mc_explore.specs.inner.Table.{HasRoomFor, weigh};
+ghost use Rattle.mc_explore.specs.Census.{IsCensus, IsCensusOf};
+ghost use Rattle.mc_explore.specs.Right.{AreRights, judged};
+ghost use Rattle.mc_explore.specs.declared.expectation.Expectation.{Expectation as Expected};
+ghost use Rattle.mc_explore.specs.inner.Table.{CanPass, HasSameLimits, HasWeights, IsTailHere, PassesBelow, ReachesChild, paths_of};
+ghost use Rattle.mc_walk.specs.Walks.{IsPath, origin_of};
 
-use crate::census::Census;
+use crate::census::{Census, CensusOf};
+use crate::countable::{Countable, Ending};
 use crate::error::{CensusError, ExploreError};
 use crate::expectation::Expectation;
-use crate::one_round::{OneRound, Summary};
-use crate::rights::Rights;
+use crate::rights::RightsOf;
 use crate::table::{Below, Position, census_at, column_of};
-use mc_boot::SharedTail;
-use mc_flash::Flash;
+use crate::tree_loading::load_walk;
+use mc_boot::{Outcome, SharedTail};
+use mc_flash::{Flash, FlashError};
 use mc_start::Start;
-use mc_walk::FlashTree;
+use mc_walk::Walk;
 use std::alloc::Global;
 
-impl OneRound {
-    ghost use Rattle.mc_explore.specs.inner.Table.{IsColumn, IsSummaryHere, StaysSo};
-
-    // The censuses of a flash, with that summary, for each bound up to that one. The flash stays. Of a boot that goes on with the
-    // one that was cut the positions of that one are enough; only another one is stepped through by itself.
-    fn census_column<F: Flash>(
-        &self,
-        alloc: Global,
-        flash: &mut F,
-        summary: &Summary,
-        bound: u32,
-        start: &Start,
-        expectation: &Expectation,
-    ) -> Result<Vec<Census>, CensusError>
-        requires summary { IsSummaryHere self.now.rules self.now.layout (F.seen flash.old)
-            summary.now }
-        requires room { HasRoomFor self.now.rules self.now.layout (bound + 1) (F.seen flash.old) }
-        requires at_most { bound ≤ 16 }
-        ensures column { IfOk result (λ column. IsColumn expectation.now self.now.rules
-            self.now.layout (F.seen flash.old).content (bound + 1) column.items) }
-        ensures stays { OnOk result (StaysSo (F.seen flash.old) (F.seen flash.new)) }
-        ensures cause { IsErrOf result CensusError.Flash → (F.seen flash.old).usage.limits.counted
-            ≡ false }
-    {
-        let own = Census::of(&expectation.judge(&summary.outcome));
-        if bound == 0 {
-            return Ok(vec![in alloc; own]?);
-        }
-        let mut positions = Vec::new(alloc);
-        let here = flash.mark()?;
-        let mut at = summary.boot;
-        for _number in 0..summary.outcome.ops {
-            let child = self.child(flash, &at, summary, start)?;
-            let below = match SharedTail::find(flash, &at, &child.boot) {
-                Some(shared_tail) => Below::Joined(shared_tail),
-                None => Below::Apart(self.census_column(
-                    alloc,
-                    flash,
-                    &child,
-                    bound - 1,
-                    start,
-                    expectation,
-                )?),
-            };
-            positions.push(Position {
-                own: Census::of(&expectation.judge(&child.outcome)),
-                below,
-            })?;
-            self.pass(flash, &mut at)?;
-        }
-        flash.back_to(here);
-        Ok(column_of(alloc, own, &positions, summary.outcome.ops, bound)?)
+// Goes to the child of that number of a node, where the walk has passed those before it.
+fn go_to_child<F: Flash, X: Ending>(
+    walk: &mut Walk<F, X>,
+    number: u32,
+    start: &Start,
+) -> Result<(), FlashError>
+    requires stands { walk.old.stands ≡ true }
+    requires passed { CanPass (X.model walk.old.flash_tree) number walk.old }
+    ensures reaches { OnOk result (ReachesChild (X.model walk.old.flash_tree) number walk.old
+        walk.new) }
+    ensures limits { OnOk result (HasSameLimits walk.old walk.new) }
+    ensures cause { IsErr result → walk.old.seen.usage.limits.counted ≡ false }
+{
+    if number == 0 {
+        walk.go_down(0, start)?;
+    } else {
+        walk.climb(start)?;
     }
+    Ok(())
 }
 
-// The census of a flash that was just loaded for one boot more than there are cuts.
-fn census_from<F: Flash>(
+// Where the nodes below that one lie among those below its parent, if that is known.
+fn tail_here<F: Flash, X: Ending>(walk: &Walk<F, X>) -> Option<SharedTail>
+    requires { walk.now.stands ≡ true }
+    ensures { IfSome result (IsTailHere X.model X.report_of walk.now) }
+{
+    let step = walk.last_step()?;
+    let flash_tree = walk.flash_tree();
+    flash_tree.shared_tail(walk.flash(), &step.at, &step.parent, walk.summary())
+}
+
+// How a path ends, and where the nodes below its end lie among those below the parent, if that is known.
+#[derive(Clone, Copy)]
+struct End {
+    outcome: Outcome,
+    tail: Option<SharedTail>,
+}
+
+// The same, and looks at it.
+fn visit_child<F: Flash, X: Ending>(
+    walk: &mut Walk<F, X>,
+    number: u32,
+    start: &Start,
+) -> Result<End, FlashError>
+    requires stands { walk.old.stands ≡ true }
+    requires passed { CanPass (X.model walk.old.flash_tree) number walk.old }
+    ensures reaches { OnOk result (ReachesChild (X.model walk.old.flash_tree) number walk.old
+        walk.new) }
+    ensures ended { IfOk result (λ end. shown end.outcome ≡ X.report_of walk.new.flash_tree
+        (origin_of walk.new.seen) walk.new.path) }
+    ensures tail { IfOk result (λ end. IfSome end.tail (IsTailHere X.model X.report_of walk.new)) }
+    ensures limits { OnOk result (HasSameLimits walk.old walk.new) }
+    ensures cause { IsErr result → walk.old.seen.usage.limits.counted ≡ false }
+{
+    go_to_child(walk, number, start)?;
+    Ok(End {
+        outcome: X::ended(walk.summary()),
+        tail: tail_here(walk),
+    })
+}
+
+// The censuses of the node where a walk stands, for each bound up to that one. The walk passes all that lies below the node. Of a
+// child whose boot goes on with that of the node the node's other children are enough; it goes below another one alone.
+fn column<F: Flash, X: Ending>(
     alloc: Global,
-    one_round: &OneRound,
-    flash: &mut F,
+    walk: &mut Walk<F, X>,
     bound: u32,
     start: &Start,
     expectation: &Expectation,
-) -> Result<Census, CensusError>
-    requires layout { (F.seen flash.old).geometry ≡ one_round.now.layout }
-    requires room { HasRoomFor one_round.now.rules one_round.now.layout (bound + 1) (F.seen
-        flash.old) }
-    requires at_most { bound ≤ 16 }
-    ensures census { IfOk result (λ census. census ≡ cut_off
-        (weigh expectation.now one_round.now.rules one_round.now.layout bound (F.seen flash.old).content)) }
-    ensures cause { IsErrOf result CensusError.Flash → (F.seen flash.old).usage.limits.counted
-        ≡ false }
+) -> Result<Vec<Census>, CensusError>
+    requires stands { walk.old.stands ≡ true }
+    requires listed { IsPath (X.model walk.old.flash_tree) walk.old walk.old.path }
+    requires deep { length walk.old.path + bound ≡ walk.old.bound }
+    ensures column { IfOk result (λ column. HasWeights
+        (paths_of (X.model walk.old.flash_tree) walk.old)
+        (X.report_of walk.old.flash_tree (origin_of walk.old.seen)) expectation.now walk.old.path
+        (bound + 1) column.items) }
+    ensures passes { OnOk result (PassesBelow (X.model walk.old.flash_tree) walk.old walk.new) }
+    ensures cause { IsErrOf result CensusError.Flash → walk.old.seen.usage.limits.counted ≡ false }
 {
-    let summary = one_round.root(flash, start)?;
-    let column = one_round.census_column(alloc, flash, &summary, bound, start, expectation)?;
-    Ok(census_at(&column, bound as usize))
+    let summary = *walk.summary();
+    let own = Census::of(&expectation.judge(&X::ended(&summary)));
+    if bound == 0 {
+        return Ok(vec![in alloc; own]?);
+    }
+    let count = walk.flash_tree().width(&summary);
+    let mut positions = Vec::new(alloc);
+    for number in 0..count {
+        let end = visit_child(walk, number, start)?;
+        let below = match end.tail {
+            Some(shared_tail) => Below::Joined(shared_tail),
+            None => Below::Apart(column(alloc, walk, bound - 1, start, expectation)?),
+        };
+        let own = Census::of(&expectation.judge(&end.outcome));
+        positions.push(Position { own, below })?;
+    }
+    Ok(column_of(alloc, own, &positions, count, bound)?)
 }
 
 // The census of a start, where only an outcome that meets the expectation counts as a boot.
-fn judged_census<F: Flash>(
+fn judged_census<F: Flash, X: Countable>(
     alloc: Global,
     start: &Start,
-    bound: u32,
+    bound: u8,
+    chosen: X::Choice,
     expectation: &Expectation,
-) -> Result<Census, ExploreError>
+) -> Result<CensusOf<X::Key>, ExploreError>
     requires { bound ≤ 16 }
-    ensures census { IfOk result (IsCensusOf expectation.now (begun start.now) bound) }
+    ensures census { IfOk result (IsCensusOf X.subject (λ row. judged expectation.now
+        (X.subject.ends row)) (begun start.now) chosen bound) }
     ensures err { IfErr result (λ e. e ≡ ExploreError.Memory) }
 {
-    let one_round = OneRound {
-        rules: start.rules(),
-        layout: *start.layout(),
+    let mut walk: Walk<F, X> = load_walk(alloc, start, bound, chosen)?;
+    walk.begin(start)?;
+    let most = u32::from(bound);
+    let column = column(alloc, &mut walk, most, start, expectation)?;
+    let census = census_at(&column, usize::from(bound));
+    let first_not_boot = match &census.first_not_boot {
+        Some(path) => Some(X::key_at::<F>(alloc, start, chosen, path)?),
+        None => None,
     };
-    let (primary, secondary) = (start.primary(), start.secondary());
-    let grain = one_round.rules.grain;
-    let mut flash = F::load(
-        alloc,
-        &one_round.layout,
-        grain,
-        primary,
-        secondary,
-        bound + 1,
-    )?;
-    let census = census_from(alloc, &one_round, &mut flash, bound, start, expectation)?;
-    Ok(census)
+    Ok(CensusOf {
+        schedules: census.schedules,
+        boot: census.boot,
+        none: census.none,
+        panic: census.panic,
+        fault: census.fault,
+        most_operations: census.most_operations,
+        first_not_boot,
+    })
 }
 
-/// What all schedules of at most so many cuts that can occur come to, without going through them: its time grows with the
-/// operations of a boot and with the bound, not with the schedules. It loads a flash for one boot more than there are cuts, and
-/// keeps a table of the flashes on the way of each boot that does not go on with the one that was cut.
+/// What all rows of at most so many cuts that can occur come to, without going through them: its time grows with the operations of
+/// a boot and with the bound, not with the rows. It loads a flash as an explorer does, and keeps a table of the flashes on the way
+/// of each boot that does not go on with the one that was cut.
 ///
 /// # Errors
 ///
 /// `Memory` where an allocation failed.
-pub fn take_census<F: Flash>(
+pub fn take_census<F: Flash, X: Countable>(
     alloc: Global,
     start: &Start,
-    bound: u32,
-) -> Result<Census, ExploreError>
+    bound: u8,
+    chosen: X::Choice,
+) -> Result<CensusOf<X::Key>, ExploreError>
     requires { bound ≤ 16 }
-    ensures census { IfOk result (IsCensus (begun start.now) bound) }
+    ensures census { IfOk result (IsCensus X.subject (begun start.now) chosen bound) }
     ensures err { IfErr result (λ e. e ≡ ExploreError.Memory) }
 {
-    let census = judged_census::<F>(alloc, start, bound, &Expectation::any())?;
+    let any = Expectation::any();
+    let census = judged_census::<F, X>(alloc, start, bound, chosen, &any)?;
     Ok(census)
 }
 
-/// How many of all schedules of at most so many cuts that can occur come to what is right, and the first that does not. It takes
-/// what a census takes.
+/// How many of all rows of at most so many cuts that can occur come to what is right, and the first that does not. It takes what a
+/// census takes.
 ///
 /// # Errors
 ///
 /// `Memory` where an allocation failed.
-pub fn take_rights<F: Flash>(
+pub fn take_rights<F: Flash, X: Countable>(
     alloc: Global,
     start: &Start,
-    bound: u32,
+    bound: u8,
+    chosen: X::Choice,
     expectation: &Expectation,
-) -> Result<Rights, ExploreError>
+) -> Result<RightsOf<X::Key>, ExploreError>
     requires { bound ≤ 16 }
-    ensures rights { IfOk result (AreRights expectation.now (begun start.now) bound) }
+    ensures rights { IfOk result (AreRights X.subject expectation.now (begun start.now) chosen
+        bound) }
     ensures err { IfErr result (λ e. e ≡ ExploreError.Memory) }
 {
-    let census = judged_census::<F>(alloc, start, bound, expectation)?;
-    Ok(Rights {
+    let census = judged_census::<F, X>(alloc, start, bound, chosen, expectation)?;
+    Ok(RightsOf {
         right: census.boot,
         first_not_right: census.first_not_boot,
     })

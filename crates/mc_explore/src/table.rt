@@ -1,38 +1,31 @@
-//! The censuses of the flashes on the way of one boot, for one bound after another.
-ghost use Rattle.std.specs.Prelude.{◌≡◌, ℕ, ◌+◌, ◌<◌, ◌≤◌, ◌^◌, length, IfOk};
-ghost use Rattle.mc_flash.specs.Flash.{Content};
-ghost use Rattle.mc_flash.specs.Geometry.{Geometry};
-ghost use Rattle.mc_trailer.specs.declared.tables.Rules.{Rules};
-ghost use Rattle.mc_boot.specs.Plan.{power_on};
-ghost use Rattle.mc_boot.specs.SharedTail.{IsSharedTail, index_in_parent};
-ghost use Rattle.mc_boot.specs.Outcome.{ops_of};
+//! The censuses of the children of one node, for one bound after another.
+ghost use Rattle.std.specs.Prelude.{◌≡◌, ℕ, suc, ◌+◌, ◌<◌, length, IfOk};
+ghost use Rattle.mc_boot.specs.SharedTail.{index_in_parent};
 ghost use Rattle.mc_tree.specs.inner.Weights.{from, shared_below};
-ghost use Rattle.mc_explore.specs.declared.expectation.Expectation.{Expectation};
-ghost use Rattle.mc_explore.specs.inner.OneRound.{at_cut};
-ghost use Rattle.mc_explore.specs.inner.Table.{AreCutOff, ArePositions, AreSums, IsColumn, IsInside, IsLevel, IsPosition, own_totals, weigh, weigh_fewer};
-ghost use Rattle.mc_explore.specs.Census.{Totals, both, cut_off, totals};
+ghost use Rattle.mc_explore.specs.inner.Table.{AreCutOff, ArePositions, AreSums, IsColumn, IsInside, IsLevel, IsPosition};
+ghost use Rattle.mc_explore.specs.inner.Totals.{Totals, both, cut_off, no_totals, totals};
 
 use crate::census::Census;
 use mc_boot::SharedTail;
 use std::alloc::{AllocError, Global};
 
-/// The schedules from a flash on the way of a boot.
+/// The paths from a child.
 #[derive(Drop)]
 pub(crate) enum Below {
-    /// Its boot goes on with that one.
+    /// Its boot goes on with that of its parent.
     Joined(SharedTail),
     /// Their censuses by themselves, for each bound.
     Apart(Vec<Census>),
 }
 
-/// A flash on the way of a boot: the census of its schedule of no cuts, and its further schedules.
+/// A child of a node: the census of its path of no steps, and its further paths.
 #[derive(Drop)]
 pub(crate) struct Position {
     pub own: Census,
     pub below: Below,
 }
 
-/// The census of a number in a list, and that of no schedules past its end.
+/// The census of a number in a list, and that of no paths past its end.
 pub(crate) fn census_at(list: &[Census], index: usize) -> Census
     ensures { (under : ℕ → Totals) → AreCutOff under list.now → index < length list.now
         → result ≡ cut_off (under index) }
@@ -40,7 +33,7 @@ pub(crate) fn census_at(list: &[Census], index: usize) -> Census
     list.get(index).copied().unwrap_or(Census::new())
 }
 
-/// The sums of the last of so many censuses, each after its number as a first cut: of none, of one, and so on to all of them.
+/// The sums of the last of so many censuses, each after its number as a first step: of none, of one, and so on to all of them.
 fn sums(alloc: Global, level: &[Census], count: u32) -> Result<Vec<Census>, AllocError>
     ensures { IfOk result (λ sums. (under : ℕ → Totals) → AreCutOff under level.now
         → count ≡ length level.now → AreSums under count sums.items) }
@@ -86,12 +79,11 @@ fn with_shared_tail(shared_tail: &SharedTail, level: &[Census], sums: &[Census])
 }
 
 impl Position {
-    /// The census of the schedules of at most so many cuts from there, by those of all positions for fewer cuts and their sums.
+    /// The census of the paths of at most so many steps from there, by those of all children for fewer steps and their sums.
     fn census(&self, level: &[Census], sums: &[Census], bound: u32) -> Census
-        ensures { (e : Expectation) (r : Rules) (g : Geometry) (s u : Content) (most : ℕ)
-            → IsPosition e r g s most u self.now → IsLevel e r g s bound level.now
-            → AreSums (λ c. weigh_fewer e r g bound (at_cut (power_on r g s) c)) (length level.now)
-            sums.now → bound < most → result ≡ cut_off (weigh e r g bound u) }
+        ensures { (under : ℕ → ℕ → Totals) (n most c : ℕ) → IsPosition under n most c self.now
+            → IsLevel under n bound level.now → AreSums (under bound) n sums.now → bound < most
+            → result ≡ cut_off (under (suc bound) c) }
     {
         match &self.below {
             Below::Joined(shared_tail) => self
@@ -102,7 +94,7 @@ impl Position {
     }
 }
 
-/// The censuses of all positions for at most so many cuts, by those for fewer cuts and their sums.
+/// The censuses of all children for at most so many steps, by those for fewer steps and their sums.
 fn next_level(
     alloc: Global,
     positions: &[Position],
@@ -110,12 +102,10 @@ fn next_level(
     sums: &[Census],
     bound: u32,
 ) -> Result<Vec<Census>, AllocError>
-    ensures { IfOk result (λ next. (e : Expectation) (r : Rules) (g : Geometry) (s : Content)
-        (most : ℕ) → ArePositions e r g s most positions.now
-        → length positions.now ≡ length (ops_of (power_on r g s))
-        → IsLevel e r g s bound level.now
-        → AreSums (λ c. weigh_fewer e r g bound (at_cut (power_on r g s) c)) (length level.now)
-        sums.now → bound < most → IsLevel e r g s (bound + 1) next.items) }
+    ensures { IfOk result (λ next. (under : ℕ → ℕ → Totals) (n most : ℕ)
+        → ArePositions under n most positions.now → length positions.now ≡ n
+        → IsLevel under n bound level.now → AreSums (under bound) n sums.now → bound < most
+        → IsLevel under n (suc bound) next.items) }
 {
     let mut next = Vec::new(alloc);
     for position in positions {
@@ -124,8 +114,8 @@ fn next_level(
     Ok(next)
 }
 
-/// The censuses of a flash for each bound up to that one, by that of its schedule of no cuts and by the positions of its boot,
-/// of which there are so many.
+/// The censuses of a node for each bound up to that one, by that of its path of no steps and by its children, of which there are so
+/// many.
 pub(crate) fn column_of(
     alloc: Global,
     own: Census,
@@ -133,10 +123,10 @@ pub(crate) fn column_of(
     count: u32,
     bound: u32,
 ) -> Result<Vec<Census>, AllocError>
-    ensures { IfOk result (λ column. (e : Expectation) (r : Rules) (g : Geometry) (s : Content)
-        → own ≡ cut_off (own_totals e r g s) → ArePositions e r g s bound positions.now
-        → count ≡ length positions.now → count ≡ length (ops_of (power_on r g s))
-        → IsColumn e r g s (bound + 1) column.items) }
+    ensures { IfOk result (λ column. (alone : Totals) (under : ℕ → ℕ → Totals)
+        → own ≡ cut_off alone → ((i : ℕ) → under 0 i ≡ no_totals)
+        → ArePositions under count bound positions.now → count ≡ length positions.now
+        → IsColumn (λ d. both alone (from totals (under d) count 0)) (bound + 1) column.items) }
 {
     let mut column = Vec::new(alloc);
     let mut level = Vec::new(alloc);

@@ -12,7 +12,7 @@ use crate::output::write_text;
 use crate::rows::Rows;
 use crate::source::RowSource;
 use crate::subject::{Fields, Subject};
-use crate::tree_loading::{check_cursor, load};
+use crate::tree_loading::{check_cursor, load_walk};
 use mc_flash::Flash;
 use mc_start::{Line, Start};
 use std::alloc::Global;
@@ -71,7 +71,7 @@ impl<'a, F: Flash + Drop, X: Subject> TreeExplorer<'a, F, X> {
             ≡ limits_for start.now.rules.grain start.now.geometry (bound + X.MORE)) }
         ensures err { IfErr result (λ e. e ≡ ExploreError.Memory) }
     {
-        let walk = load(alloc, start, bound, choice)?;
+        let walk = load_walk(alloc, start, bound, choice)?;
         let kept = X::kept(alloc, start, bound)?;
         Ok(TreeExplorer {
             start,
@@ -103,7 +103,7 @@ impl<'a, F: Flash + Drop, X: Subject> TreeExplorer<'a, F, X> {
         ensures exact { IfOk result (λ explorer. F.counted ≡ true → explorer.usage.limits
             ≡ limits_for start.now.rules.grain start.now.geometry (bound + X.MORE)) }
     {
-        let mut walk = load(alloc, start, bound, choice)?;
+        let mut walk = load_walk(alloc, start, bound, choice)?;
         walk.begin(start)?;
         if !X::follow(&mut walk, key, start)? {
             return Err(ExploreError::CannotOccur);

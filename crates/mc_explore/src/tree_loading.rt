@@ -17,7 +17,7 @@ use std::alloc::Global;
 /// # Errors
 ///
 /// `Memory` where an allocation failed.
-pub fn load<F: Flash, X: Subject>(
+pub fn load_walk<F: Flash, X: Subject>(
     alloc: Global,
     start: &Start,
     bound: u8,

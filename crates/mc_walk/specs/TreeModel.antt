@@ -96,3 +96,13 @@ module _ {N A T : Type 0} (k : TreeModel N A T) where
   abbrev pub IsChildSummary : A → T → Seen → T → Type 0
   IsChildSummary at parent seen summary =
       (n : N) (i : ℕ) → IsAt n i at seen → i < k.tree.width n → k.IsSummary n parent → k.IsSummary (k.tree.child n i) summary
+
+  -- The flash stands at that child, with both summaries.
+  pub record IsChildOf (n : N) (i : ℕ) (at : A) (parent child : T) (seen : Seen) : Type 0 where
+    pub at_is : IsAt n i at seen
+    pub some : i < k.tree.width n
+    pub parent_is : k.IsSummary n parent
+    pub child_is : k.IsSummary (k.tree.child n i) child
+
+  abbrev pub HasChild : A → T → T → Seen → Type 0
+  HasChild at parent child seen = (n : N) × (i : ℕ) × IsChildOf n i at parent child seen

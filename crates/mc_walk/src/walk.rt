@@ -101,6 +101,13 @@ impl<F: Flash, B: FlashTree> Walk<F, B> {
         }
     }
 
+    /// The kind of tree.
+    pub fn flash_tree(&self) -> B
+        ensures { result ≡ self.now.flash_tree }
+    {
+        self.flash_tree
+    }
+
     /// The most steps of a path.
     pub fn bound(&self) -> usize
         ensures { result ≡ self.now.bound }

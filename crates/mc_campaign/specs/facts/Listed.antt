@@ -1,23 +1,31 @@
 -- The rows of campaigns are listed as those of the tree of two rounds.
-use Rattle.std.specs.Prelude.{◌≡◌, ℕ, Bool, List}
+use Rattle.std.specs.Prelude.{◌≡◌, ℕ, Bool, List, map}
 use Rattle.std.proofs.Common.{refl, sym, ap, subst, ◌∙◌}
-use Rattle.mc_tree.specs.Tree.{landed, first}
+use Rattle.mc_tree.specs.Tree.{IsMember, RoundNode, landed, first}
 use Rattle.mc_tree.specs.facts.Existence as existence
-use Rattle.mc_tree.specs.facts.Existence.{AreRows}
+use Rattle.mc_tree.specs.facts.Existence.{AreRows, all_from, all_rest}
 use Rattle.mc_tree.specs.facts.Order.{pairs_in_order}
 use Rattle.mc_flash.specs.Flash.{Content}
+use Rattle.mc_flash.specs.Geometry.{Geometry}
+use Rattle.mc_trailer.specs.declared.tables.Rules.{Rules}
 use Rattle.mc_boot.specs.Restart.{confirmed_if}
 use Rattle.mc_boot.specs.Outcome.{Report, outcome_of, left_by}
 use Rattle.mc_boot.specs.facts.Run.{outcome_defined}
-use Rattle.mc_explore.specs.inner.OneRound.{boots}
 use Rattle.mc_explore.specs.Pages.{IsLawful}
 use Rattle.mc_explore.specs.Schedules.{IsReplayed}
 use Rattle.mc_explore.specs.Subject.{are_lawful, rows_of}
-use Rattle.mc_boot.specs.Plan.{PowerOn, again}
-use Rattle.mc_campaign.specs.inner.TwoRounds.{cuts_along, rounds, second_start}
-use Rattle.mc_campaign.specs.Campaigns.{CanOccur, Precedes, in_round, AreReplayed}
-use Rattle.mc_campaign.specs.Rows.{IsRest, IsRow, campaigns, State, ShownRow, HasOutcomes}
-use Rattle.mc_campaign.specs.facts.Paths.{are_replayed, listed_along, path_of, same_order, some_same}
+use Rattle.mc_boot.specs.Plan.{PowerOn, again, power_on}
+use Rattle.mc_campaign.specs.inner.TwoRounds.{began_at, cuts_along, later_from, rounds}
+use Rattle.mc_campaign.specs.Campaigns.{Precedes, in_round, AreReplayed}
+use Rattle.mc_campaign.specs.Rows.{IsRest, IsRow, campaigns, State, ShownRow, HasOutcomes, at_start, end_by}
+use Rattle.mc_campaign.specs.facts.Paths.{listed_along, path_of, replayed_at, same_order, some_same}
+
+-- What the uncut boot from a flash comes to, and how a path ends that leads to a node.
+abbrev pub report_from : Rules → Geometry → Content → Report
+report_from r g s = (outcome_defined (power_on r g s)).0
+
+abbrev pub end_from : Rules → Geometry → Bool → RoundNode Content → Report
+end_from r g confirms p = end_by (report_from r g (began_at p)) (report_from r g (later_from r g confirms p))
 
 -- ---- a campaign has one row
 
@@ -50,51 +58,44 @@ module _ (start : PowerOn) (confirms : Bool) where
       let two = same_outcome (again start (confirmed_if confirms start.geometry a.middle)) (in_round 2 c) x.second y.second end moved.0 a.second second in
       summary_is x.campaign y.campaign x.first y.first x.second y.second e one two
 
-  first_end : List (ℕ × ℕ) → Content
-  first_end c = landed (boots start.rules start.geometry) start.content (in_round 1 c)
+  -- The row of a path: its campaign, and what the boots come to from the node at its end.
+  abbrev pub node_at : List ℕ → RoundNode Content
+  node_at path = landed (rounds start.rules start.geometry confirms) (first start.content) path
 
-  second_end : List (ℕ × ℕ) → Content
-  second_end c = landed (boots start.rules start.geometry) (second_start start.rules start.geometry confirms (first_end c)) (in_round 2 c)
-
-  -- The row of a campaign.
-  row_of : List (ℕ × ℕ) → ShownRow
-  row_of c = record {
-    campaign = c;
-    first = (outcome_defined (again start (first_end c))).0;
-    second = (outcome_defined (again start (second_end c))).0;
+  abbrev pub row_at : List ℕ → ShownRow
+  row_at path = record {
+    campaign = cuts_along start.rules start.geometry confirms start.content path;
+    first = report_from start.rules start.geometry (began_at (node_at path));
+    second = report_from start.rules start.geometry (later_from start.rules start.geometry confirms (node_at path));
   }
 
-  has_outcomes : (c : List (ℕ × ℕ)) → CanOccur start confirms c → HasOutcomes start confirms (row_of c)
-  unfolding row_of first_end second_end
-  has_outcomes c o =
-      let row = row_of c in
-      are_replayed start.rules start.geometry confirms start.content c o row.first row.second (outcome_defined (again start (first_end c))).1
-      (outcome_defined (again start (second_end c))).1
+  has_outcomes : (bound : ℕ) (path : List ℕ) → IsMember (rounds start.rules start.geometry confirms) (first start.content) bound path → HasOutcomes start confirms (row_at path)
+  has_outcomes bound path m =
+      replayed_at start.rules start.geometry confirms start.content bound path (row_at path).campaign (row_at path).first (row_at path).second (record { member = m; cuts_are = refl })
+      (outcome_defined (again start (began_at (node_at path)))).1 (outcome_defined (again start (later_from start.rules start.geometry confirms (node_at path)))).1
 
-  along : List ℕ → List (ℕ × ℕ)
-  along path = cuts_along start.rules start.geometry confirms start.content path
-
-  are_rows : (bound : ℕ) → AreRows Precedes pairs_in_order (λ row. row.campaign) (IsRow start confirms bound) (rounds start.rules start.geometry confirms) (first start.content) bound
-      (λ path. row_of (along path))
-  unfolding row_of along
+  are_rows : (bound : ℕ) → AreRows Precedes pairs_in_order (λ row. row.campaign) (IsRow start confirms bound) (rounds start.rules start.geometry confirms) (first start.content) bound row_at
   are_rows bound =
       let r = start.rules in
       let g = start.geometry in
       let s = start.content in
       record {
-        in_order = λ l m i j before.
-            (same_order r g confirms s bound l m (along l) (along m) (record { member = i; cuts_are = refl }) (record { member = j; cuts_are = refl })).1 before;
-        is_row = λ l i. let m = (listed_along r g confirms s bound l i).0 in record { listed = m; outcome = has_outcomes (along l) m.1 };
+        in_order = λ l m i j before. (same_order r g confirms s bound l m _ _ (record { member = i; cuts_are = refl }) (record { member = j; cuts_are = refl })).1 before;
+        is_row = λ l i. record { listed = (listed_along r g confirms s bound l i).0; outcome = has_outcomes bound l i };
         only = λ row is.
             let p = path_of r g confirms s bound row.campaign is.listed in
-            let m = (listed_along r g confirms s bound p.0 p.1.member).0 in
-            (p.0, p.1.member, same_row row (row_of (along p.0)) is.outcome (has_outcomes (along p.0) m.1) (sym p.1.cuts_are));
+            (p.0, p.1.member, same_row row (row_at p.0) is.outcome (has_outcomes bound p.0 p.1.member) (sym p.1.cuts_are));
       }
+
+  -- The rows from the start, as those of all paths.
+  pub all_rows : (bound : ℕ) → IsRest (at_start start confirms bound) (map row_at (all_from (rounds start.rules start.geometry confirms) bound (first start.content)))
+  all_rows bound =
+      all_rest Precedes pairs_in_order (λ row. row.campaign) (IsRow start confirms bound) (rounds start.rules start.geometry confirms) (first start.content) bound row_at (are_rows bound)
 
 pub some_rest : (state : State) → (rows : List ShownRow) × IsRest state rows
 some_rest state =
     existence.some_rest Precedes pairs_in_order (λ row. row.campaign) (IsRow state.start state.choice state.bound) (rounds state.start.rules state.start.geometry state.choice)
-    (first state.start.content) state.bound _ (are_rows state.start state.choice state.bound) state.position
+    (first state.start.content) state.bound (row_at state.start state.choice) (are_rows state.start state.choice state.bound) state.position
 
 pub campaigns_are_lawful : IsLawful (rows_of campaigns)
 campaigns_are_lawful = are_lawful campaigns pairs_in_order some_rest

@@ -561,9 +561,9 @@ none, panic, fault), the most operations of a last boot, and next CURSOR or end,
 Where something is expected of the slots, two lines more: how many rows boot with the expected
 images, and the first that does not. --all-right expects of two images the named one in the primary
 at the end and the other in the secondary. A survey of a part of the rows gives no verdict (E77).
-With --rounds 2 the rows are those of campaign, each counted by how its second round ends, or its
-first where that does not end in a boot. --all-right expects a test that does not confirm itself to
-be taken back: each image where it was at the start.";
+With --rounds 2 the rows are those of campaign, each counted by how its second round ends, but with
+the result of the first where that does not end in a boot. --all-right expects a test that does not
+confirm itself to be taken back: each image where it was at the start.";
 
 const AFTER_CENSUS: &str = "\
 Seven lines: how many schedules of at most K power cuts can occur, how many of them have each RESULT
@@ -573,6 +573,7 @@ with the grain unit and large images it may take half a minute and 300 MB.
 Where something is expected of the slots, two lines more: how many schedules boot with the expected
 images, and the first that does not. --all-right expects of two images the named one in the primary
 at the end and the other in the secondary; that takes a second census.
+With --rounds 2 campaigns are counted, as survey --rounds 2 counts them.
 A number of 2^128 - 1 or more is printed as >=340282366920938463463374607431768211455.";
 
 const AFTER_CAMPAIGN: &str = "\
@@ -740,6 +741,7 @@ static COMMANDS: [Subcommand; 15] = [
             Group::Source,
             Group::Rules,
             Group::Census,
+            Group::Rounds,
             Group::Verdict,
         ],
     },

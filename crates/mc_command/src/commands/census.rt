@@ -1,68 +1,81 @@
-//! `census`: what all schedules of power cuts come to, without listing them.
+//! `census`: what all schedules of power cuts, or all campaigns of two rounds, come to, without listing them.
 ghost use Rattle.std.specs.Prelude.{◌≡◌, ◌≤◌, List, IfOk, true};
-ghost use Rattle.mc_explore.specs.Census.{census_of};
-ghost use Rattle.mc_explore.specs.Rows.{ShownRow, report_of, subject};
+ghost use Rattle.mc_explore.specs.Census.{census_by};
 ghost use Rattle.mc_explore.specs.declared.expectation.Expectation.{Expectation as Expected};
 ghost use Rattle.clap.specs.Matches.{found_of};
-ghost use Rattle.mc_command.specs.Sessions.{GivesCensus, AreRightsIf};
+ghost use Rattle.mc_command.specs.Sessions.{AreCounts, AreRightsIf, GivesWanted};
 ghost use Rattle.mc_command.specs.Verdicts.{AreCounted, IsVerdict};
 ghost use Rattle.mc_start.specs.Start.{begun};
 
+use super::explore::{ends, is_taken_back};
+use crate::explorable::Explorable;
 use crate::options::{census_options, flash_options};
 use crate::refusal::Refusal;
 use crate::source::read_start;
 use crate::verdict::{Asked, right_if_asked, write_lines};
 use clap::ArgMatches;
-use mc_explore::{Census, Expectation, OneRound, Rights, Start, take_census, take_rights};
+use mc_explore::{
+    CensusOf, Countable, Expectation, RightsOf, Start, each_boots, take_census, take_rights,
+    write_census,
+};
 use mc_flash::JournalFlash;
 use std::alloc::Global;
 use std::io::Write;
 use std::rt::Files;
 
-/// What the schedules come to that the words ask for.
-#[derive(Clone, Copy)]
-struct Counts {
+/// A census that the words ask for.
+#[derive(Drop)]
+struct Wanted<C: Copy> {
+    start: Start,
+    /// What is chosen besides the start.
+    choice: C,
+    /// Whether both images are to lie at the end where they would without the swap.
+    back: bool,
+    cuts: u8,
     asked: Asked,
-    census: Census,
-    // What of it is right, where that was asked.
-    rights: Option<Rights>,
 }
 
-/// How many schedules from a start are right, where that is asked.
+/// What its rows come to.
+#[derive(Clone, Copy)]
+struct Counts<K> {
+    census: CensusOf<K>,
+    // What of it is right, where that was asked.
+    rights: Option<RightsOf<K>>,
+}
+
+/// How many rows from a start are right, where that is asked.
 ///
 /// # Errors
 ///
 /// `Explore` where memory failed.
-fn rights_if(
+fn rights_if<X: Countable>(
     alloc: Global,
     start: &Start,
     cuts: u8,
+    chosen: X::Choice,
     expectation: &Option<Expectation>,
-) -> Result<Option<Rights>, Refusal>
+) -> Result<Option<RightsOf<X::Key>>, Refusal>
     requires { cuts ≤ 16 }
-    ensures { IfOk result (AreRightsIf expectation.now (begun start.now) cuts) }
+    ensures { IfOk result (AreRightsIf X.subject expectation.now (begun start.now) chosen cuts) }
 {
     match expectation {
-        Some(expectation) => {
-            let rights = take_rights::<JournalFlash>(alloc, start, u32::from(cuts), expectation)?;
-            Ok(Some(rights))
-        }
+        Some(e) => Ok(Some(take_rights::<JournalFlash, X>(alloc, start, cuts, chosen, e)?)),
         None => Ok(None),
     }
 }
 
-/// What the schedules that the words ask for come to. The words are checked before a file is touched.
+/// The census that the words ask for. They are checked before a file is touched.
 ///
 /// # Errors
 ///
-/// `Source`, `Layout`, the numbers and `Version` of the words; what `read_start` refuses; `Expectation`; `Explore` where memory
-/// failed.
-fn read_census<F: Files>(
+/// `Source`, `Layout`, the numbers and `Version` of the words; what `read_start` refuses.
+fn read<X: Explorable, F: Files>(
     files: &F,
     alloc: Global,
     arguments: &ArgMatches<'_>,
-) -> Result<Counts, Refusal>
-    ensures { IfOk result (GivesCensus (found_of arguments.now)) }
+) -> Result<Wanted<X::Choice>, Refusal>
+    ensures given { IfOk result (GivesWanted X.IsChoice X.is_taken_back (found_of arguments.now)) }
+    ensures range { IfOk result (λ wanted. wanted.cuts ≤ 16) }
 {
     let options = match flash_options(arguments) {
         Ok(options) => options,
@@ -70,49 +83,66 @@ fn read_census<F: Files>(
     };
     let cuts = census_options(arguments)?;
     let asked = Asked::read(arguments)?;
-    let start = read_start(files, alloc, &options)?;
-    let expectation = asked.expectation(start.named())?;
-    let rights = rights_if(alloc, &start, cuts, &expectation)?;
-    let census = take_census::<JournalFlash>(alloc, &start, u32::from(cuts))?;
-    Ok(Counts {
+    let choice = X::chosen(arguments);
+    Ok(Wanted {
+        choice,
+        back: is_taken_back::<X>(&options.source, choice),
+        cuts,
         asked,
-        census,
-        rights,
+        start: read_start(files, alloc, &options)?,
     })
 }
 
-/// Prints how many schedules of at most so many cuts can occur, how many of them with each result, the largest number of operations
-/// of a last boot, and the first schedule that does not end in a boot. Where something is expected of the slots, also how many
-/// schedules are right, and the first that is not.
+/// What its rows come to.
 ///
 /// # Errors
 ///
-/// Those of `read_census`; `Write` where the output cannot be written. With `--all-boot` also `NotAllBoot` where a schedule does not
-/// end in a boot, and with `--all-right` `NotAllRight` where one is not right; the output is written then.
-pub fn run<F: Files, O: Write>(
+/// `Expectation`; `Explore` where memory failed.
+fn count<X: Countable>(alloc: Global, wanted: &Wanted<X::Choice>) -> Result<Counts<X::Key>, Refusal>
+    requires { wanted.now.cuts ≤ 16 }
+    ensures { IfOk result (AreCounts X.subject wanted.now) }
+{
+    let (start, cuts, choice) = (&wanted.start, wanted.cuts, wanted.choice);
+    let expectation = wanted.asked.expectation(ends(wanted.back, start.named()))?;
+    Ok(Counts {
+        rights: rights_if::<X>(alloc, start, cuts, choice, &expectation)?,
+        census: take_census::<JournalFlash, X>(alloc, start, cuts, choice)?,
+    })
+}
+
+/// Prints how many schedules, or campaigns, of at most so many cuts can occur, how many of them with each result, the largest number
+/// of operations of a last boot, and the first that does not end in a boot. Where something is expected of the slots, also how many
+/// are right, and the first that is not.
+///
+/// # Errors
+///
+/// Those of `read` and `count`; `Explore` where the output cannot be written. With `--all-boot` also `NotAllBoot` where one does not end
+/// in a boot, and with `--all-right` `NotAllRight` where one is not right; the output is written then.
+pub fn run<X: Explorable + Countable, F: Files, O: Write>(
     files: &F,
     alloc: Global,
     arguments: &ArgMatches<'_>,
     out: &mut O,
 ) -> Result<(), Refusal> {
-    let counts = read_census(files, alloc, arguments)?;
-    let census = counts.census;
-    write!(out, "{census}").map_err(|_| Refusal::Write)?;
-    write_lines::<OneRound, O>(&counts.rights, out)?;
-    judge(&counts)
+    let wanted = read::<X, F>(files, alloc, arguments)?;
+    let counts = count::<X>(alloc, &wanted)?;
+    write_census::<X, O>(&counts.census, out)?;
+    write_lines::<X, O>(&counts.rights, out)?;
+    judge::<X>(&counts, &wanted.asked)
 }
 
-/// The verdict on the schedules that were counted.
+/// The verdict on the rows that were counted.
 ///
 /// # Errors
 ///
 /// The first of `NotAllBoot` and `NotAllRight` that was asked for and does not hold.
-fn judge(counts: &Counts) -> Result<(), Refusal>
-    ensures { (e : Expected) (rows : List ShownRow) → counts.now.census ≡ census_of rows
-        → AreCounted subject e rows counts.now.rights
-        → IsVerdict report_of counts.now.asked e rows counts.now.rights true result }
+fn judge<X: Explorable>(counts: &Counts<X::Key>, asked: &Asked) -> Result<(), Refusal>
+    ensures { (e : Expected) (rows : List X.Shown) → counts.now.census
+        ≡ census_by X.subject.ends X.subject.key rows
+        → AreCounted X.subject e rows counts.now.rights
+        → IsVerdict X.subject.ends asked.now e rows counts.now.rights true result }
 {
-    let boots = counts.census.all_boot();
-    let right = right_if_asked::<OneRound>(&counts.rights);
-    counts.asked.verdict(boots, right, true)
+    let boots = each_boots::<X>(&counts.census);
+    let right = right_if_asked::<X>(&counts.rights);
+    asked.verdict(boots, right, true)
 }

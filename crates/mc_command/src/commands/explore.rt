@@ -7,7 +7,7 @@ ghost use Rattle.mc_explore.specs.Pages.{Page};
 ghost use Rattle.mc_explore.specs.Survey.{tally_by, tally_text};
 ghost use Rattle.mc_explore.specs.declared.expectation.Expectation.{Expectation as Expected};
 ghost use Rattle.mc_command.specs.Sessions.{Explores, PrintsUntil, TalliesAsked, TalliesUntil, GivesExploration, back_from, ends_of};
-ghost use Rattle.mc_command.specs.Verdicts.{AreCounted, IsVerdict, lines_of};
+ghost use Rattle.mc_command.specs.Verdicts.{AreCounted, IsExpectation, IsVerdict, lines_of};
 ghost use Rattle.mc_boot.specs.Plan.{identity_of};
 
 use super::{finish, in_blocks};
@@ -40,7 +40,7 @@ struct Exploration<C: Copy, U: Copy, K: Copy> {
 }
 
 /// Whether both images of a source are to lie at the end where they would without the swap.
-fn is_taken_back<X: Explorable>(source: &Source<'_>, choice: X::Choice) -> bool
+pub fn is_taken_back<X: Explorable>(source: &Source<'_>, choice: X::Choice) -> bool
     ensures { result ≡ back_from X.is_taken_back source.now choice }
 {
     match source {
@@ -50,7 +50,7 @@ fn is_taken_back<X: Explorable>(source: &Source<'_>, choice: X::Choice) -> bool
 }
 
 /// The image that is to lie in the primary at the end, and the one in the secondary.
-fn ends(back: bool, named: Option<(ImageId, ImageId)>) -> Option<(ImageId, ImageId)>
+pub fn ends(back: bool, named: Option<(ImageId, ImageId)>) -> Option<(ImageId, ImageId)>
     ensures { option_map (λ p. (identity_of p.0, identity_of p.1)) result ≡ ends_of back
         (option_map (λ p. (identity_of p.0, identity_of p.1)) named) }
 {
@@ -88,6 +88,19 @@ fn read<X: Explorable, F: Files>(
         range,
         start: read_start(files, alloc, &options)?,
     })
+}
+
+impl<C: Copy, U: Copy, K: Copy> Exploration<C, U, K> {
+    /// What the slots are to hold at the end, where that is asked.
+    ///
+    /// # Errors
+    ///
+    /// `Expectation` where each row is to be right, from a flash, and a slot's expectation is not given.
+    fn expectation(&self, asked: &Asked) -> Result<Option<Expectation>, Refusal>
+        ensures { IsExpectation asked.now (ends_of self.now.back self.now.start.named) result }
+    {
+        asked.expectation(ends(self.back, self.start.named()))
+    }
 }
 
 /// Makes an explorer at the first row, or after the one that the options name.
@@ -176,8 +189,7 @@ fn counts<X: Explorable>(
     ensures { IfOk result (λ counted. TalliesAsked X.subject X.fields exploration.now asked.now
         counted.0 counted.1) }
 {
-    let named = exploration.start.named();
-    let wanted = asked.expectation(ends(exploration.back, named))?;
+    let wanted = exploration.expectation(asked)?;
     let expectation = wanted.unwrap_or(Expectation::any());
     let (tally, rights) = tally::<X>(exploration, alloc, &expectation)?;
     match wanted {
@@ -202,8 +214,7 @@ pub fn run<X: Explorable, F: Files, O: Write>(
 ) -> Result<(), Refusal> {
     let asked = Asked::read(arguments)?;
     let exploration = read::<X, F>(files, alloc, arguments)?;
-    let named = exploration.start.named();
-    let _known = asked.expectation(ends(exploration.back, named))?;
+    let _known = exploration.expectation(&asked)?;
     print::<X, &mut O>(&exploration, alloc, &mut *out)?;
     if !asked.is_any() {
         return Ok(());

@@ -30,9 +30,12 @@ module _ (start : PowerOn) where
   same_row x y p q e =
       summary_is x.schedule y.schedule x.outcome y.outcome e (one_outcome x.schedule y.schedule x.outcome y.outcome (outcome_after start) e p q)
 
-  -- The row of a schedule.
-  unfoldable pub row_at : List ℕ → ShownRow
-  row_at l = record { schedule = l; outcome = (outcome_defined (again start (landed (boots start.rules start.geometry) start.content l))).0 }
+  -- The row of a schedule, with the outcome of the uncut boot after it.
+  abbrev pub report_after : List ℕ → Report
+  report_after l = (outcome_defined (again start (landed (boots start.rules start.geometry) start.content l))).0
+
+  abbrev pub row_at : List ℕ → ShownRow
+  row_at l = record { schedule = l; outcome = report_after l }
 
   pub lands_summary : (l : List ℕ) → Allowed (boots start.rules start.geometry) start.content l
       → outcome_after start l ≡ outcome_of (again start (landed (boots start.rules start.geometry) start.content l))
@@ -41,11 +44,9 @@ module _ (start : PowerOn) where
       ap (λ (o : Option Content). option_and_then (λ u. outcome_of (again start u)) o) (allowed_after start l a)
 
   has_outcome : (l : List ℕ) → Allowed (boots start.rules start.geometry) start.content l → HasOutcome start (row_at l)
-  unfolding row_at
   has_outcome l a = lands_summary l a ∙ (outcome_defined (again start (landed (boots start.rules start.geometry) start.content l))).1
 
   are_rows : (bound : ℕ) → AreRows Precedes paths_in_order (λ row. row.schedule) (IsRow start bound) (boots start.rules start.geometry) start.content bound row_at
-  unfolding row_at
   are_rows bound = record {
     in_order = λ l m i j before. before;
     is_row = λ l m. record { listed = member_of start bound l m; outcome = has_outcome l m.1 };

@@ -4,7 +4,9 @@ use Rattle.std.specs.Prelude.{Err, List, None, Ok, Option, Result, Some, [], len
 use Rattle.mc_boot.specs.Boot.{HasCome, IsBootOf, IsBounded, IsCold, all_of, begun, left_of, progress}
 use Rattle.mc_boot.specs.Outcome.{at, left_by, ops_of, outcome_of, shown}
 use Rattle.mc_boot.specs.Plan.{PowerOn, again, plan, power_on}
+use Rattle.mc_boot.specs.SharedTail.{IsSharedTail}
 use Rattle.mc_boot.specs.declared.boot.Boot.{Boot}
+use Rattle.mc_boot.specs.declared.shared_tail.SharedTail.{SharedTail}
 use Rattle.mc_explore.specs.declared.one_round.OneRound.{OneRound}
 use Rattle.mc_explore.specs.declared.one_round.Summary.{Summary}
 use Rattle.mc_flash.specs.Flash.{Content, IsSized}
@@ -123,3 +125,8 @@ abbrev pub LeavesAlike : Rules → Geometry → Boot → Summary → Seen → Ty
 LeavesAlike r g b parent seen =
     (s : Content) (i : ℕ) → IsAt (one_round r g) s i b seen → i < length (ops_of (power_on r g s)) → IsSummary (power_on r g s) parent
     → left_by (power_on r g (at_cut (power_on r g s) i)) ≡ left_by (power_on r g s)
+
+-- The boot after a cut goes on with the one that was cut: its flashes lie among those of that one, and both leave the same.
+pub record GoesOnIn (x : PowerOn) (i : ℕ) (tail : SharedTail) : Type 0 where
+  pub shared : IsSharedTail x (at_cut x i) tail
+  pub left : left_by (again x (at_cut x i)) ≡ left_by x

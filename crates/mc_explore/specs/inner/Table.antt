@@ -1,89 +1,130 @@
--- The totals of the contents on the way of one boot, for each bound.
+-- The totals of the nodes below a node, for each bound, and how a walk passes them.
 use Rattle.std.specs.List.{slice_get}
-use Rattle.std.specs.Prelude.{List, None, Option, Some, length, suc, zero, ℕ, ◌+◌, ◌-◌, ◌<◌, ◌≡◌, ◌≤◌}
-use Rattle.mc_boot.specs.Outcome.{Report, ops_of, outcome_of}
-use Rattle.mc_boot.specs.Plan.{power_on}
-use Rattle.mc_boot.specs.SharedTail.{IsSharedTail, index_in_parent}
+use Rattle.std.specs.Prelude.{List, Some, [], length, suc, true, zero, ℕ, ◌++◌, ◌+◌, ◌-◌, ◌<◌, ◌∷◌, ◌≡◌, ◌≤◌}
+use Rattle.mc_boot.specs.Outcome.{Report}
+use Rattle.mc_boot.specs.SharedTail.{index_in_parent}
 use Rattle.mc_boot.specs.declared.shared_tail.SharedTail.{SharedTail}
-use Rattle.mc_explore.specs.Census.{Totals, cut_off, no_totals, report_totals, totals}
-use Rattle.mc_explore.specs.declared.census.Census.{Census}
-use Rattle.mc_explore.specs.declared.one_round.Summary.{Summary}
+use Rattle.mc_explore.specs.Right.{judged}
+use Rattle.mc_explore.specs.declared.census.CensusOf.{CensusOf}
+use Rattle.mc_explore.specs.declared.expectation.Expectation.{Expectation}
 use Rattle.mc_explore.specs.declared.table.Below.{Below}
 use Rattle.mc_explore.specs.declared.table.Below.TheVariants.{Apart, Joined}
 use Rattle.mc_explore.specs.declared.table.Position.{Position}
-use Rattle.mc_explore.specs.inner.OneRound.{IsSummary, at_cut, boots, most_of}
-use Rattle.mc_explore.specs.declared.expectation.Expectation.{Expectation}
-use Rattle.mc_explore.specs.Right.{judged}
+use Rattle.mc_explore.specs.inner.Totals.{Totals, both, cut_off, no_totals, report_totals, totals}
 use Rattle.mc_flash.specs.Flash.{Content}
-use Rattle.mc_flash.specs.Geometry.{Geometry}
-use Rattle.mc_flash.specs.Usage.{Allows, Seen, Stays, times}
-use Rattle.mc_trailer.specs.declared.tables.Rules.{Rules}
-use Rattle.mc_tree.specs.inner.Weights.{from, weight}
+use Rattle.mc_tree.specs.Tree.{Allowed, Beyond, Tree}
+use Rattle.mc_tree.specs.facts.Order.{HasPassed}
+use Rattle.mc_tree.specs.inner.Weights.{IsShared, from, path_tree, shared_below, weight}
+use Rattle.mc_walk.specs.TreeModel.{TreeModel}
+use Rattle.mc_walk.specs.Walks.{IsPath, IsSame, Walked, origin_of, root_of}
+
+-- The censuses of the children of one node.
 
 -- Totals by their number, each cut off.
-abbrev pub AreCutOff : (ℕ → Totals) → List Census → Type 0
+abbrev pub AreCutOff : (ℕ → Totals) → List (CensusOf (List ℕ)) → Type 0
 AreCutOff under censuses = (i : ℕ) → i < length censuses → slice_get censuses i ≡ Some (cut_off (under i))
 
+-- For each bound below that one.
+abbrev pub IsColumn : (ℕ → Totals) → ℕ → List (CensusOf (List ℕ)) → Type 0
+IsColumn by_bound bound column = (length column ≡ bound) × AreCutOff by_bound column
+
 -- The sums of the last ones of n, each after its number: of none, of one, and so on to all of them.
-abbrev pub AreSums : (ℕ → Totals) → ℕ → List Census → Type 0
+abbrev pub AreSums : (ℕ → Totals) → ℕ → List (CensusOf (List ℕ)) → Type 0
 AreSums under n sums = (length sums ≡ n + 1) × AreCutOff (λ k. from totals under k (n - k)) sums
 
--- The flashes of a boot that goes on with one of n operations are among its own.
+-- The flashes of a boot that goes on with one of n children are among those.
 pub record IsInside (x : SharedTail) (n : ℕ) : Type 0 where
   pub late : x.kept + x.erases ≤ n
   pub early : (i : ℕ) → i < x.erases → index_in_parent x i < n
 
--- The totals of the outcome of a boot, where only an outcome that meets the expectation counts as a boot.
-abbrev pub shown_totals : Expectation → Option Report → Totals
-shown_totals e None = no_totals
-shown_totals e (Some report) = report_totals (judged e report)
+-- Of a node with n children: `under d c` are the totals of all paths of fewer than d steps from the child of number c.
+module _ (under : ℕ → ℕ → Totals) (n most : ℕ) where
+  -- A child whose boot goes on with that of its parent: by the censuses of all children for one step fewer.
+  pub record IsJoined (c : ℕ) (own : CensusOf (List ℕ)) (x : SharedTail) : Type 0 where
+    pub inside : IsInside x n
+    pub alone : Totals
+    pub own_is : own ≡ cut_off alone
+    pub weighs : (d : ℕ) → under (suc d) c ≡ both alone (shared_below totals (under d) n x.kept x.erases (index_in_parent x))
 
-module _ (e : Expectation) (r : Rules) (g : Geometry) where
-  -- The totals of the schedule of no cuts from a content, and of all schedules of at most so many cuts.
-  abbrev pub own_totals : Content → Totals
-  own_totals s = shown_totals e (outcome_of (power_on r g s))
+  abbrev pub IsPosition : ℕ → Position → Type 0
+  IsPosition c position = by position.below
+    where
+      by : Below → Type 0
+      by (Joined x) = IsJoined c position.own x
+      by (Apart column) = IsColumn (λ d. under (suc d) c) most column.items
 
-  abbrev pub weigh : ℕ → Content → Totals
-  weigh bound s = weight totals (boots r g) own_totals bound s
+  abbrev pub ArePositions : List Position → Type 0
+  ArePositions positions = (c : ℕ) (position : Position) → slice_get positions c ≡ Some position → IsPosition c position
 
-  -- Of all schedules of fewer cuts.
-  abbrev pub weigh_fewer : ℕ → Content → Totals
-  weigh_fewer zero s = no_totals
-  weigh_fewer (suc bound) s = weigh bound s
+-- The totals of all children for one bound.
+abbrev pub IsLevel : (ℕ → ℕ → Totals) → ℕ → ℕ → List (CensusOf (List ℕ)) → Type 0
+IsLevel under n d level = (length level ≡ n) × AreCutOff (under d) level
 
-  -- The totals from a content for fewer cuts than that, for each number of them.
-  abbrev pub IsColumn : Content → ℕ → List Census → Type 0
-  IsColumn s bound column = (length column ≡ bound) × AreCutOff (λ d. weigh d s) column
+-- The totals of a tree.
 
-  module _ (s : Content) where
-    -- The schedules from u, on the way of the boot from s: it goes on with that boot, or there is a column.
-    abbrev pub IsBelow : ℕ → Content → Below → Type 0
-    IsBelow bound u (Joined x) = IsSharedTail (power_on r g s) u x
-    IsBelow bound u (Apart column) = IsColumn u bound column.items
+module _ {N : Type 0} (t : Tree N) (ended : N → Report) (e : Expectation) where
+  -- The totals of the path of no steps from a node, and of all paths of at most so many steps, where only an outcome that meets the
+  -- expectation counts as a boot.
+  abbrev pub own_totals : N → Totals
+  own_totals n = report_totals (judged e (ended n))
 
-    pub record IsPosition (bound : ℕ) (u : Content) (position : Position) : Type 0 where
-      pub own_is : position.own ≡ cut_off (own_totals u)
-      pub below : IsBelow bound u position.below
+  abbrev pub weigh : ℕ → N → Totals
+  weigh bound n = weight totals t own_totals bound n
 
-    abbrev pub ArePositions : ℕ → List Position → Type 0
-    ArePositions bound positions =
-        (c : ℕ) (position : Position) → slice_get positions c ≡ Some position → IsPosition bound (at_cut (power_on r g s) c) position
+  -- Of all paths of fewer steps.
+  abbrev pub weigh_fewer : ℕ → N → Totals
+  weigh_fewer zero n = no_totals
+  weigh_fewer (suc bound) n = weigh bound n
 
-    -- The totals of each position for fewer cuts.
-    abbrev pub IsLevel : ℕ → List Census → Type 0
-    IsLevel bound level = (length level ≡ length (ops_of (power_on r g s))) × AreCutOff (λ c. weigh_fewer bound (at_cut (power_on r g s) c)) level
+  -- Of those from the children of a node.
+  abbrev pub weigh_below : N → ℕ → ℕ → Totals
+  weigh_below n d c = weigh_fewer d (t.child n c)
 
--- That is the summary of where a flash of that layout stands.
-pub record IsSummaryHere (r : Rules) (g : Geometry) (seen : Seen) (summary : Summary) : Type 0 where
-  pub layout_is : seen.geometry ≡ g
-  pub summary_is : IsSummary (power_on r g seen.content) summary
+  -- The totals of a node for each bound.
+  abbrev pub HasWeights : N → ℕ → List (CensusOf (List ℕ)) → Type 0
+  HasWeights n = IsColumn (λ d. weigh d n)
 
--- Room for so many boots on one another, and their checkpoints.
-pub record HasRoomFor (r : Rules) (g : Geometry) (boots : ℕ) (seen : Seen) : Type 0 where
-  pub allows : Allows (times boots (most_of r g)) seen
-  pub checkpoints : length seen.checkpoints + boots ≤ seen.usage.limits.checkpoints
+  -- What lies below a child lies among what lies below its parent.
+  abbrev pub IsTailOf : N → ℕ → SharedTail → Type 0
+  IsTailOf n c x = IsShared totals t own_totals n (t.child n c) x.kept x.erases (index_in_parent x)
 
--- The flash stays, and its limits.
-pub record StaysSo (old new : Seen) : Type 0 where
-  pub stays : Stays old new
-  pub limits : new.usage.limits ≡ old.usage.limits
+-- A walk that passes the nodes below a node.
+
+-- The limits of its flash stay.
+abbrev pub HasSameLimits : {B : Type 0} → Walked B → Walked B → Type 0
+HasSameLimits old new = new.seen.usage.limits ≡ old.seen.usage.limits
+
+module _ {N A T : Type 0} (k : TreeModel N A T) where
+  -- The tree of the paths from the root of a walk.
+  abbrev pub paths_of : {B : Type 0} → Walked B → Tree (List ℕ)
+  paths_of walk = path_tree k.tree (root_of k walk)
+
+  module _ {B : Type 0} where
+    -- The walk has passed so many children of the node at the end of a path, and there is one more, within the bound.
+    abbrev pub Passed : List ℕ → ℕ → Walked B → Type 0
+    Passed l number walk = HasPassed k.tree (root_of k walk) l number walk.path
+
+    pub record CanPass (number : ℕ) (walk : Walked B) : Type 0 where
+      pub path : List ℕ
+      pub passed : Passed path number walk
+      pub listed : IsPath k walk (path ++ number ∷ [])
+
+    -- The walk stands at that child.
+    abbrev pub ReachesChild : ℕ → Walked B → Walked B → Type 0
+    ReachesChild number old new =
+        (l : List ℕ) → Passed l number old → IsPath k old (l ++ number ∷ []) → (new.path ≡ l ++ number ∷ []) × IsSame old new × (new.stands ≡ true)
+
+    -- The walk has passed all that lies below the node where it stood.
+    pub record PassesBelow (old new : Walked B) : Type 0 where
+      pub same : IsSame old new
+      pub limits : HasSameLimits old new
+      pub stands : new.stands ≡ true
+      pub more : List ℕ
+      pub path_is : new.path ≡ old.path ++ more
+      pub beyond : (m : List ℕ) → Allowed k.tree (root_of k old) m → Beyond new.path m → Beyond old.path m
+
+-- Where what lies below the node at which a walk stands lies among what lies below its parent.
+abbrev pub IsTailHere : {N A T B : Type 0} → (B → TreeModel N A T) → (B → Content → List ℕ → Report) → Walked B → SharedTail → Type 0
+IsTailHere model report_of walk x =
+    (e : Expectation) (l : List ℕ) (number : ℕ) → walk.path ≡ l ++ number ∷ []
+    → IsTailOf (paths_of (model walk.flash_tree) walk) (report_of walk.flash_tree (origin_of walk.seen)) e l number x

@@ -23,9 +23,6 @@ spent_more a b x y le s = record { applied = omega (arith, s.applied, le); limit
 pub ran_out_later : (n : ℕ) (x y z : Seen) → Spent n x y → RanOut y z → RanOut x z
 ran_out_later n x y z s r = record { counted = ap (λ (l : Limits). l.counted) (sym s.limits) ∙ r.counted; limits = r.limits ∙ s.limits; failed = r.failed }
 
-pub keeps_none : (f : Seen) → Keeps f f
-keeps_none f = record { geometry = refl; checkpoints = refl }
-
 pub keeps_both : (x y z : Seen) → Keeps x y → Keeps y z → Keeps x z
 keeps_both x y z a b = record { geometry = b.geometry ∙ a.geometry; checkpoints = b.checkpoints ∙ a.checkpoints }
 

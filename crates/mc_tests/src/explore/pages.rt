@@ -2,7 +2,10 @@
 ghost use Rattle.std.specs.Prelude.{◌≤◌};
 
 use super::common::swap;
-use mc_explore::{Census, Explorer, Schedule, Start, last_row, survey, survey_until, write_page};
+use mc_explore::{
+    Census, Explorer, OneRound, Schedule, Start, last_row, survey, survey_until, write_census,
+    write_page,
+};
 use mc_flash::{JournalFlash, SnapFlash};
 use std::alloc::Global;
 use std::process::Abort;
@@ -126,6 +129,7 @@ fn a_number_that_was_cut_off_is_shown_so(rt: HostRuntime) {
         most_operations: 7,
         first_not_boot: Some(Schedule::read("0.17").expect(&rt, "a text")),
     };
-    let shown = format!(in rt.alloc(); "{census}").expect(&rt, "memory");
-    assert_eq!(rt; shown.as_str(), CUT_OFF);
+    let mut shown = Vec::new(rt.alloc());
+    write_census::<OneRound, Vec<u8>>(&census, &mut shown).expect(&rt, "a writer");
+    assert_eq!(rt; shown.as_slice(), CUT_OFF.as_bytes());
 }

@@ -1,10 +1,11 @@
 -- There is a list of the rows to come: of all paths within the bound those past the position, each with its row.
-use Rattle.std.proofs.Common.{◌≡◌, ℕ, suc, zero, ◌<◌, List, [], ◌∷◌, ◌++◌, map, inl, inr, refl, sym, subst, arith}
+use Rattle.std.proofs.Common.{◌≡◌, ℕ, suc, zero, ◌<◌, List, [], ◌∷◌, ◌++◌, map, inl, inr, refl, sym, subst, ap, ◌∙◌, append-nil, append_assoc, arith}
 use Rattle.std.specs.Prelude.{AllPairs, Contains}
 use Rattle.std.proofs.lemmas.Bool.{cases_lt}
 use Rattle.std.proofs.lemmas.List.Elements.{Contains-append_cases, Contains-append_left, Contains-append_right}
-use Rattle.mc_tree.specs.Tree.{Tree, IsMember, Precedes, Position, AtStart, After, Lost, Ascends, IsRest}
-use Rattle.mc_tree.specs.facts.Order.{IsOrder, cases_of}
+use Rattle.mc_tree.specs.Tree.{Tree, IsMember, Precedes, Position, AtStart, After, Lost, Ascends, IsRest, landed}
+use Rattle.mc_tree.specs.facts.Order.{IsOrder, cases_of, landed-push}
+use Rattle.mc_tree.specs.inner.Weights.{path_tree}
 use Rattle.mc_tree.specs.facts.Lists.{no_element, at_head, in_rest, head_or_rest, no_pairs, pairs_rest, pairs_head, more_pairs, pairs_append, in_map, map_in, pairs_mapped}
 
 -- Each path comes before all that stand after it.
@@ -62,7 +63,7 @@ module _ {N : Type 0} (t : Tree N) where
       (λ m i. let q = in_beginning f (t.width s) m i in subst (Precedes []) (sym q.3) tt)
       (beginning_ascends f (t.width s) (λ x. ascends_all k (t.child s x)))
 
-  in_all : (k : ℕ) (s : N) (m : List ℕ) → Contains (all_from k s) m → IsMember t s k m
+  pub in_all : (k : ℕ) (s : N) (m : List ℕ) → Contains (all_from k s) m → IsMember t s k m
   unfolding all_from
   in_all zero s m i = elim (head_or_rest [] m [] i) [
     | inl e ↦ subst (IsMember t s 0) (sym e) (omega arith, tt)
@@ -87,6 +88,26 @@ module _ {N : Type 0} (t : Tree N) where
       let f : ℕ → List (List ℕ) = λ x. all_from k (t.child s x) in
       in_rest [] (x ∷ xs) (beginning f (t.width s))
       (beginning_in f (t.width s) x xs mem.1.0 (all_in k (t.child s x) xs (omega (arith, mem.0), mem.1.1)))
+
+beginning_alike : (f h : ℕ → List (List ℕ)) (n : ℕ) → ((x : ℕ) → f x ≡ h x) → beginning f n ≡ beginning h n
+unfolding beginning
+beginning_alike f h zero same = refl
+beginning_alike f h (suc n) same =
+    ap (λ (ls : List (List ℕ)). ls ++ map (λ l. n ∷ l) (f n)) (beginning_alike f h n same) ∙ ap (λ (ls : List (List ℕ)). beginning h n ++ map (λ l. n ∷ l) ls) (same n)
+
+-- The paths from the end of a path, in the tree of paths.
+module _ {N : Type 0} (t : Tree N) (root : N) where
+  pub all_paths : (k : ℕ) (l : List ℕ) → all_from (path_tree t root) k l ≡ all_from t k (landed t root l)
+  unfolding all_from
+  all_paths zero l = refl
+  all_paths (suc k) l =
+      ap (λ (ls : List (List ℕ)). [] ∷ ls)
+      (beginning_alike (λ x. all_from (path_tree t root) k (l ++ x ∷ [])) (λ x. all_from t k (t.child (landed t root l) x)) (t.width (landed t root l))
+      (λ x. all_paths k (l ++ x ∷ []) ∙ ap (all_from t k) (landed-push t root l x)))
+
+  pub landed_path : (l m : List ℕ) → landed (path_tree t root) l m ≡ l ++ m
+  landed_path l [] = sym (append-nil l)
+  landed_path l (x ∷ m) = landed_path (l ++ x ∷ []) m ∙ append_assoc l (x ∷ []) m
 
 module _ {K R : Type 0} (Before : K → K → Type 0) (order : IsOrder Before) (key : R → K) where
   abbrev RowsBefore : R → R → Type 0

@@ -288,7 +288,7 @@ module _ {N : Type 0} (t : Tree N) where
   beyond_more (x ∷ xs) (y ∷ ys) number (inl lt) = inl lt
   beyond_more (x ∷ xs) (y ∷ ys) number (inr b) = inr (b.0, beyond_more xs ys number b.1)
 
-  beyond_last : (s : N) (l m : List ℕ) (number : ℕ) → t.width (landed t s l) ≤ number + 1 → Allowed t s m → Beyond (l ++ number ∷ []) m → Beyond l m
+  pub beyond_last : (s : N) (l m : List ℕ) (number : ℕ) → t.width (landed t s l) ≤ number + 1 → Allowed t s m → Beyond (l ++ number ∷ []) m → Beyond l m
   beyond_last s [] [] number last a b = b
   beyond_last s [] (y ∷ ys) number last a (inl lt) = omega (arith, last, a.0)
   beyond_last s [] (y ∷ ys) number last a (inr b) = b.1
@@ -319,6 +319,34 @@ module _ {N : Type 0} (t : Tree N) where
 
     pub none_after_last : t.width (landed t s l) ≤ number + 1 → NoneBeyond s l → IsOver (IsMember t s bound) (After (l ++ number ∷ []))
     none_after_last last nb = none_above s bound (l ++ number ∷ []) full (λ m a b. nb m a (beyond_last s l m number last a b))
+
+-- The children of a node, one after another, past what lies below each.
+module _ {N : Type 0} (t : Tree N) (s : N) (l : List ℕ) where
+  -- One has come to a path that begins with l: to l, or to one below a child, past whose end nothing lies below that child.
+  abbrev pub HasPassed : ℕ → List ℕ → Type 0
+  HasPassed zero path = path ≡ l
+  HasPassed (suc number) path =
+      (more : List ℕ) × (path ≡ l ++ number ∷ more) × ((m : List ℕ) → Allowed t s m → Beyond path m → Beyond (l ++ number ∷ []) m)
+
+  -- What is beyond it then is the next child, where there is one.
+  pub next_child : (number : ℕ) (path next : List ℕ) → HasPassed (suc number) path → Allowed t s (l ++ (number + 1) ∷ [])
+      → IsNextBeyond t s path next → next ≡ l ++ (number + 1) ∷ []
+  next_child number path next passed allowed n = elim (paths_in_order.total next (l ++ (number + 1) ∷ [])) [
+    | inl before ↦ absurd (none_between_later l number next (passed.2 next n.allowed n.beyond) before)
+    | inr (inl same) ↦ same
+    | inr (inr before) ↦ absurd (n.none_between (l ++ (number + 1) ∷ []) allowed (subst (λ p. Beyond p (l ++ (number + 1) ∷ [])) (sym passed.1) (beyond_later l number passed.0)) before)
+  ]
+
+  pub some_child : (number : ℕ) (path : List ℕ) → HasPassed (suc number) path → Allowed t s (l ++ (number + 1) ∷ []) → NoneBeyond t s path → ⊥
+  some_child number path passed allowed none = none (l ++ (number + 1) ∷ []) allowed (subst (λ p. Beyond p (l ++ (number + 1) ∷ [])) (sym passed.1) (beyond_later l number passed.0))
+
+  -- Past the last child nothing lies below the node.
+  pub passed_all : (path m : List ℕ) → HasPassed (t.width (landed t s l)) path → Allowed t s m → Beyond path m → Beyond l m
+  passed_all path m passed allowed beyond = by (t.width (landed t s l)) refl passed
+    where
+      by : (n : ℕ) → t.width (landed t s l) ≡ n → HasPassed n path → Beyond l m
+      by zero is at = subst (λ p. Beyond p m) at beyond
+      by (suc number) is at = beyond_last t s l m number (omega (arith, is)) allowed (at.2 m allowed beyond)
 
 -- What is past a position, and what is next there.
 

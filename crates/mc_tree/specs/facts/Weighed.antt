@@ -2,8 +2,9 @@
 use Rattle.std.specs.Prelude.{◌≡◌, ℕ, zero, suc, ◌+◌, ◌-◌, ◌<◌, ◌≤◌, List, [], ◌∷◌, ◌++◌, map, refl}
 use Rattle.std.proofs.Common.{arith, sym, ap, ◌∙◌}
 use Rattle.std.proofs.lemmas.List.{map-append}
-use Rattle.mc_tree.specs.Tree.{Tree}
-use Rattle.mc_tree.specs.inner.Weights.{Weighing, IsWeighing, IsShared, from, shared_below, total, weight}
+use Rattle.mc_tree.specs.Tree.{Tree, landed}
+use Rattle.mc_tree.specs.facts.Order.{landed-push}
+use Rattle.mc_tree.specs.inner.Weights.{Weighing, IsWeighing, IsShared, from, path_tree, shared_below, total, weight}
 use Rattle.mc_tree.specs.facts.Existence.{all_from, beginning}
 
 module _ {M : Type 0} (w : Weighing M) (is : IsWeighing w) where
@@ -94,7 +95,7 @@ module _ {M : Type 0} (w : Weighing M) (is : IsWeighing w) where
 
   module _ {N : Type 0} (t : Tree N) (own : N → M) (p u : N) (j m : ℕ) (index : ℕ → ℕ) where
     -- What is below the second node, by what lies below the first.
-    pub shared_weight : (k : ℕ) → IsShared t p u j m index
+    pub shared_weight : (k : ℕ) → IsShared w t own p u j m index
         → weight w t own (suc k) u ≡ w.both (own u) (shared_below w (λ x. weight w t own k (t.child p x)) (t.width p) j m index)
     shared_weight k is_shared =
         let under : ℕ → M = λ x. weight w t own k (t.child p x) in
@@ -103,12 +104,41 @@ module _ {M : Type 0} (w : Weighing M) (is : IsWeighing w) where
         let count : t.width u ≡ m + rest = (let a = is_shared.width in let b = is_shared.at_most in omega (arith, a, b)) in
         let first : 0 + m ≡ m = omega arith in
         let early : from w below m 0 ≡ from w (λ i. under (index i)) m 0 =
-        from_alike below (λ i. under (index i)) m 0 (λ i le lt. ap (weight w t own k) (is_shared.early i (omega (arith, lt)))) in
+        from_alike below (λ i. under (index i)) m 0 (λ i le lt. is_shared.early i (omega (arith, lt)) k) in
         let late : from w below rest m ≡ w.first_lowered j (from w under rest (j + m)) =
-        from_alike below (λ i. under (j + i)) rest m (λ i le lt. ap (weight w t own k) (is_shared.late i le (omega (arith, lt, count)))) ∙ sym (from_back under j rest m) in
+        from_alike below (λ i. under (j + i)) rest m (λ i le lt. is_shared.late i le (omega (arith, lt, count)) k) ∙ sym (from_back under j rest m) in
         ap (w.both (own u))
         (ap (λ n. from w below n 0) count
         ∙ from_parts below m rest 0
         ∙ ap (λ x. w.both (from w below m 0) (from w below rest x)) first
         ∙ ap (λ a. w.both a (from w below rest m)) early
         ∙ ap (w.both (from w (λ i. under (index i)) m 0)) late)
+
+  -- Paths weigh what the nodes at their ends do.
+  module _ {N : Type 0} (t : Tree N) (root : N) (own : N → M) where
+    abbrev own_of : List ℕ → M
+    own_of l = own (landed t root l)
+
+    path_weighs : (k : ℕ) (l : List ℕ) → weight w (path_tree t root) own_of k l ≡ weight w t own k (landed t root l)
+    path_weighs zero l = refl
+    path_weighs (suc k) l =
+        ap (w.both (own (landed t root l)))
+        (from_alike (λ i. weight w (path_tree t root) own_of k (l ++ i ∷ [])) (λ i. weight w t own k (t.child (landed t root l) i)) (t.width (landed t root l)) 0
+        (λ i le lt. path_weighs k (l ++ i ∷ []) ∙ ap (weight w t own k) (landed-push t root l i)))
+
+    child_weighs : (k : ℕ) (l : List ℕ) (i : ℕ) → weight w (path_tree t root) own_of k (l ++ i ∷ []) ≡ weight w t own k (t.child (landed t root l) i)
+    child_weighs k l i = path_weighs k (l ++ i ∷ []) ∙ ap (weight w t own k) (landed-push t root l i)
+
+    pub path_shared : (l : List ℕ) (c j m : ℕ) (index : ℕ → ℕ) → IsShared w t own (landed t root l) (t.child (landed t root l) c) j m index
+        → IsShared w (path_tree t root) own_of l (l ++ c ∷ []) j m index
+    path_shared l c j m index is =
+        let here : landed t root (l ++ c ∷ []) ≡ t.child (landed t root l) c = landed-push t root l c in
+        let below : (k i : ℕ) → weight w (path_tree t root) own_of k ((l ++ c ∷ []) ++ i ∷ []) ≡ weight w t own k (t.child (t.child (landed t root l) c) i) =
+        λ k i. child_weighs k (l ++ c ∷ []) i ∙ ap (λ n. weight w t own k (t.child n i)) here in
+        record {
+          width = ap (λ n. t.width n + j) here ∙ is.width;
+          at_most = omega (arith, is.at_most, ap t.width here);
+          within = is.within;
+          early = λ i lt k. below k i ∙ is.early i lt k ∙ sym (child_weighs k l (index i));
+          late = λ i le lt k. below k i ∙ is.late i le (omega (arith, lt, ap t.width here)) k ∙ sym (child_weighs k l (j + i));
+        }

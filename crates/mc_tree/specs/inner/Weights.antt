@@ -1,6 +1,6 @@
 -- What the nodes of a tree come to together, each by a weight of its own. What a weight is, is left open.
-use Rattle.std.specs.Prelude.{List, [], suc, zero, ℕ, ◌+◌, ◌-◌, ◌<◌, ◌∷◌, ◌≡◌, ◌≤◌}
-use Rattle.mc_tree.specs.Tree.{Tree}
+use Rattle.std.specs.Prelude.{List, [], suc, zero, ℕ, ◌++◌, ◌+◌, ◌-◌, ◌<◌, ◌∷◌, ◌≡◌, ◌≤◌}
+use Rattle.mc_tree.specs.Tree.{Tree, landed}
 
 -- Weights: none, two one after another, the one of paths that have a number in front, and of paths whose first number is lowered.
 pub record Weighing (M : Type 0) : Type 0 where
@@ -42,9 +42,20 @@ module _ {M : Type 0} (w : Weighing M) where
   shared_below under width j m index =
       w.both (from (λ i. under (index i)) m 0) (w.first_lowered j (from under (width - (j + m)) (j + m)))
 
--- The children of a node u are among those of p: from number m on those j numbers further, and each before where it is placed.
-pub record IsShared {N : Type 0} (t : Tree N) (p u : N) (j m : ℕ) (index : ℕ → ℕ) : Type 0 where
-  pub width : t.width u + j ≡ t.width p
-  pub at_most : m ≤ t.width u
-  pub early : (i : ℕ) → i < m → t.child u i ≡ t.child p (index i)
-  pub late : (i : ℕ) → m ≤ i → i < t.width u → t.child u i ≡ t.child p (j + i)
+-- The tree of the paths from a node.
+abbrev pub path_tree : {N : Type 0} → Tree N → N → Tree (List ℕ)
+path_tree t root = record { width = λ l. t.width (landed t root l); child = λ l i. l ++ i ∷ [] }
+
+module _ {M N : Type 0} (w : Weighing M) (t : Tree N) (own : N → M) where
+  -- Two nodes weigh the same, with whatever number of steps below them.
+  abbrev pub WeighAlike : N → N → Type 0
+  WeighAlike x y = (k : ℕ) → weight w t own k x ≡ weight w t own k y
+
+  -- The children of a node u weigh what children of p do: from number m on those j numbers further, and each before where it is
+  -- placed.
+  pub record IsShared (p u : N) (j m : ℕ) (index : ℕ → ℕ) : Type 0 where
+    pub width : t.width u + j ≡ t.width p
+    pub at_most : m ≤ t.width u
+    pub within : (i : ℕ) → i < m → index i < t.width p
+    pub early : (i : ℕ) → i < m → WeighAlike (t.child u i) (t.child p (index i))
+    pub late : (i : ℕ) → m ≤ i → i < t.width u → WeighAlike (t.child u i) (t.child p (j + i))

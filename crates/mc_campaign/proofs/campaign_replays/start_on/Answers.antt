@@ -1,7 +1,4 @@
-use Rattle.std.proofs.Common.{ap, rules, sym, ◌++◌, ◌∙◌, ◌≡◌}
-use Rattle.mc_boot.specs.Plan.{again, power_on}
-use Rattle.mc_flash.specs.Flash.{Content}
-use Rattle.mc_start.specs.Start.{begun, of_flash}
+use Rattle.std.proofs.Common.{rules, sym, ◌++◌, ◌≡◌}
 use Rattle.mc_campaign.proofs.Starting.{of_both}
 use Rattle.mc_campaign.proofs.campaign_replays.start_on.Goals as goal
 

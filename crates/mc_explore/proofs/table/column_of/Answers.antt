@@ -1,12 +1,10 @@
-use Rattle.std.proofs.Common.{◌≡◌, ℕ, List, [], ◌∷◌, ◌++◌, length, sym, ap, ◌∙◌, arith}
+use Rattle.std.proofs.Common.{◌≡◌, ℕ, suc, ◌+◌, List, Some, subst, [], ◌∷◌, ◌++◌, length, sym, ap, ◌∙◌, arith}
 use Rattle.std.proofs.lemmas.List.{length-append}
-use Rattle.mc_explore.specs.inner.OneRound.{at_cut}
-use Rattle.mc_explore.specs.inner.Table.{IsLevel, weigh, weigh_fewer}
-use Rattle.mc_explore.specs.declared.census.Census.{Census}
-use Rattle.mc_explore.proofs.Counting.{entry_is, more_cut_off}
+use Rattle.mc_tree.specs.inner.Weights.{from}
+use Rattle.mc_explore.specs.inner.Table.{IsLevel}
+use Rattle.mc_explore.specs.inner.Totals.{both, cut_off, no_totals, totals}
+use Rattle.mc_explore.proofs.Counting.{Census, entry_is, more_cut_off}
 use Rattle.mc_explore.proofs.table.column_of.Goals as goal
-use Rattle.mc_explore.specs.Census.{no_totals}
-use Rattle.mc_boot.specs.Plan.{power_on}
 
 pub loop-fewer-preserved : goal.loop-fewer-preserved
 loop-fewer-preserved c =
@@ -22,20 +20,22 @@ loop-fewer-preserved c =
     let last = rw c.deref-in-loop-fewer.ensures.value at c.census_at.ensures in
     record {
       many = omega (arith, ap length pushed, length-append old (one ∷ []), i.many);
-      column = λ e r g s own positions some all.
-          let is = entry_is e (power_on r g s) c.args.own c.census_at.result one d count level sums summed last c.both.ensures own all (i.level e r g s own positions some all) in
-          more_cut_off (λ k. weigh e r g k s) old _ one d pushed i.many (i.column e r g s own positions some all) is;
-      level = λ e r g s own positions some all.
-          let here : IsLevel e r g s d level = i.level e r g s own positions some all in
-          let many : count ≡ length level = all ∙ sym here.0 in
-          let are = summed (λ k. weigh_fewer e r g d (at_cut (power_on r g s) k)) here.1 many in
+      column = λ alone under own none positions all.
+          let here = i.level under none positions all in
+          let is = entry_is (under d) alone c.args.own c.census_at.result one count level sums summed last c.both.ensures own here.1 (sym here.0) in
+          more_cut_off (λ k. both alone (from totals (under k) count 0)) old _ one d pushed i.many (i.column alone under own none positions all) is;
+      level = λ under none positions all.
+          let here = i.level under none positions all in
+          let are = summed (under d) here.1 (sym here.0) in
           let next = rw c.deref-in-loop-fewer-3.ensures.value at (rw c.deref-in-loop-fewer-2.ensures.value at c.in_ok-level.ensures) in
-          next e r g s c.args.bound positions (sym some ∙ all) here (rw many at are) (omega (arith, c.loop-fewer-test.true));
+          let one : suc d ≡ d + 1 = omega arith in
+          subst (λ n. IsLevel under count n c.in_ok-level.level.items) one (next under count c.args.bound positions (sym all) here are (omega (arith, c.loop-fewer-test.true)));
     }
 
 pub returns : goal.returns
-returns c = λ e r g s own positions some all.
+returns c = λ alone under own none positions all.
     let i = c.loop-fewer.invariant in
+    let d : ℕ = c.loop-fewer.fewer in
     let count : ℕ = c.args.count in
     let old : List Census = c.loop-fewer.column.items in
     let level : List Census = c.loop-fewer.level.items in
@@ -44,9 +44,10 @@ returns c = λ e r g s own positions some all.
     let pushed : c.push-2.new.self.items ≡ old ++ one ∷ [] = c.in_ok-push-3.ensures.items in
     let summed = rw c.deref-2.ensures.value at c.in_ok-sums-2.ensures in
     let last = rw c.deref-3.ensures.value at c.census_at-2.ensures in
-    let is = entry_is e (power_on r g s) c.args.own c.census_at-2.result one c.loop-fewer.fewer count level sums summed last c.both-2.ensures own all (i.level e r g s own positions some all) in (
+    let here = i.level under none positions all in
+    let is = entry_is (under d) alone c.args.own c.census_at-2.result one count level sums summed last c.both-2.ensures own here.1 (sym here.0) in (
       omega (arith, ap length pushed, length-append old (one ∷ []), i.many, c.loop-fewer-test.false, c.loop-fewer.auto.fewer-end),
-      more_cut_off (λ k. weigh e r g k s) old _ one c.loop-fewer.fewer pushed i.many (i.column e r g s own positions some all) is,
+      more_cut_off (λ k. both alone (from totals (under k) count 0)) old _ one d pushed i.many (i.column alone under own none positions all) is,
     )
 
 pub loop-position-init : goal.loop-position-init
@@ -70,6 +71,9 @@ loop-fewer-init c =
     let i = c.loop-position.invariant in
     record {
       many = none;
-      column = λ e r g s own positions some all i at_most. absurd (omega (arith, at_most, none));
-      level = λ e r g s own positions some all. (omega (arith, i.many, c.loop-position-test.false, c.loop-position.auto._position-end, all), i.none);
+      column = λ alone under own zero positions all i at_most. absurd (omega (arith, at_most, none));
+      level = λ under zero positions all. (
+        omega (arith, i.many, c.loop-position-test.false, c.loop-position.auto._position-end),
+        λ k lt. i.none k lt ∙ ap (λ a. Some (cut_off a)) (sym (zero k)),
+      );
     }

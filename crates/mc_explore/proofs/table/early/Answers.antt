@@ -1,7 +1,7 @@
 use Rattle.std.proofs.Common.{◌≡◌, ℕ, ap, ◌∙◌, arith}
 use Rattle.mc_boot.specs.SharedTail.{index_in_parent}
 use Rattle.mc_tree.specs.inner.Weights.{from}
-use Rattle.mc_explore.specs.Census.{Totals, cut_off, totals}
+use Rattle.mc_explore.specs.inner.Totals.{Totals, cut_off, totals}
 use Rattle.mc_explore.proofs.Counting.{more_first}
 use Rattle.mc_explore.proofs.table.early.Goals as goal
 

@@ -1,12 +1,8 @@
-use Rattle.std.proofs.Common.{◌≡◌, ℕ, suc, ◌+◌, List, [], ◌∷◌, ◌++◌, length, refl, ap, subst, arith}
+use Rattle.std.proofs.Common.{◌≡◌, ℕ, suc, List, [], ◌∷◌, ◌++◌, length, refl, ap, arith}
 use Rattle.std.proofs.lemmas.List.{length-append}
 use Rattle.std.proofs.lemmas.Option.{slice_get_read}
-use Rattle.mc_explore.specs.inner.OneRound.{at_cut}
-use Rattle.mc_explore.specs.inner.Table.{AreCutOff, weigh, weigh_fewer}
-use Rattle.mc_explore.specs.declared.census.Census.{Census}
-use Rattle.mc_explore.proofs.Counting.{more_cut_off}
+use Rattle.mc_explore.proofs.Counting.{Census, more_cut_off}
 use Rattle.mc_explore.proofs.table.next_level.Goals as goal
-use Rattle.mc_boot.specs.Plan.{power_on}
 
 pub loop-position-preserved : goal.loop-position-preserved
 loop-position-preserved c =
@@ -18,16 +14,12 @@ loop-position-preserved c =
     let item = slice_get_read c.args.positions.now (length c.args.positions.now) index c.position-item.result refl (omega (arith, c.loop-position-test.true)) c.position-item.is in
     record {
       many = omega (arith, ap length pushed, length-append old (one ∷ []), i.many);
-      cut_off = λ e r g s most positions all level sums lt.
-          let here = c.census.ensures e r g s (at_cut (power_on r g s) index) most (positions index c.position-item.result item) level sums lt in
-          more_cut_off (λ k. weigh e r g c.args.bound (at_cut (power_on r g s) k)) old _ one index pushed i.many (i.cut_off e r g s most positions all level sums lt) here;
+      cut_off = λ under n most positions all level sums lt.
+          let here = c.census.ensures under n most index (positions index c.position-item.result item) level sums lt in
+          more_cut_off (under (suc c.args.bound)) old _ one index pushed i.many (i.cut_off under n most positions all level sums lt) here;
     }
 
 pub returns : goal.returns
-returns c = λ e r g s most positions all level sums lt.
+returns c = λ under n most positions all level sums lt.
     let i = c.loop-position.invariant in
-    let next : List Census = c.loop-position.next.items in
-    let one : suc c.args.bound ≡ c.args.bound + 1 = omega arith in (
-      omega (arith, i.many, all, c.loop-position-test.false, c.loop-position.auto.position-index-end),
-      subst (λ d. AreCutOff (λ k. weigh_fewer e r g d (at_cut (power_on r g s) k)) next) one (i.cut_off e r g s most positions all level sums lt),
-    )
+    (omega (arith, i.many, all, c.loop-position-test.false, c.loop-position.auto.position-index-end), i.cut_off under n most positions all level sums lt)

@@ -2,8 +2,8 @@ use Rattle.std.proofs.Common.{◌≡◌, ℕ, ◌+◌, ◌-◌, ◌∷◌, ◌++
 use Rattle.std.proofs.lemmas.List.{length-append}
 use Rattle.mc_tree.specs.inner.Weights.{from}
 use Rattle.mc_explore.specs.inner.Table.{AreCutOff}
-use Rattle.mc_explore.specs.Census.{Totals, cut_off, totals}
-use Rattle.mc_explore.specs.declared.census.Census.{Census}
+use Rattle.mc_explore.specs.inner.Totals.{Totals, cut_off, totals}
+use Rattle.mc_explore.proofs.Counting.{Census}
 use Rattle.mc_explore.proofs.Counting.{more_cut_off, more_sums}
 use Rattle.mc_explore.proofs.table.sums.Goals as goal
 

@@ -1,7 +1,7 @@
 use Rattle.std.proofs.Common.{◌≡◌, ℕ, ◌+◌, ◌-◌, length}
 use Rattle.mc_tree.specs.inner.Weights.{from}
 use Rattle.mc_explore.specs.inner.Table.{AreCutOff}
-use Rattle.mc_explore.specs.Census.{Totals, cut_off, totals}
+use Rattle.mc_explore.specs.inner.Totals.{Totals, cut_off, totals}
 use Rattle.mc_explore.proofs.table.sums.Given as goal
 
 abbrev pub invariant-loop-later : goal.invariant-loop-later

@@ -5,7 +5,7 @@ use Rattle.mc_flash.specs.Flash.{Content}
 use Rattle.mc_walk.specs.Walks.{origin_of}
 use Rattle.mc_campaign.specs.inner.TwoRounds.{cuts_along}
 use Rattle.mc_campaign.specs.Campaigns.{AreReplayed}
-use Rattle.mc_campaign.proofs.Replays.{outcomes_shown}
+use Rattle.mc_campaign.specs.facts.Paths.{replayed_at}
 use Rattle.mc_campaign.proofs.campaign_subject.TwoRoundsSubject.row.Goals as goal
 
 pub campaign_at-campaign-requires-clause-at_most : goal.campaign_at-campaign-requires-clause-at_most
@@ -21,4 +21,5 @@ returns-clause-outcome g c =
     let summary = c.summary-summary.result.now in
     let P : List (ℕ × ℕ) → Type 0 = λ d. (z : Content) × AreReplayed (power_on r l s) k d (shown summary.first.outcome) (shown summary.second.outcome) z in
     subst P (sym c.campaign_at-campaign.ensures)
-    (outcomes_shown r l k s w.bound w.path (cuts_along r l k s w.path) summary (record { member = c.requires.listed; cuts_are = refl }) c.summary-summary.ensures.summary_is)
+    (replayed_at r l k s w.bound w.path (cuts_along r l k s w.path) _ _ (record { member = c.requires.listed; cuts_are = refl }) c.summary-summary.ensures.summary_is.first_is.outcome_is
+    c.summary-summary.ensures.summary_is.second_is.outcome_is)

@@ -2,7 +2,7 @@ use Rattle.std.proofs.Common.{sym, subst, ◌+◌}
 use Rattle.mc_boot.specs.Plan.{PowerOn}
 use Rattle.mc_start.specs.Start.{begun}
 use Rattle.mc_explore.specs.inner.Exploring.{LoadsFor}
-use Rattle.mc_explore.proofs.tree_loading.load.Goals as goal
+use Rattle.mc_explore.proofs.tree_loading.load_walk.Goals as goal
 
 pub start-requires : goal.start-requires
 start-requires g c =

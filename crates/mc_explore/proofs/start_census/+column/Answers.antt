@@ -1,0 +1,113 @@
+use Rattle.std.proofs.Common.{List, Some, [], ap, arith, length, length-append, refl, subst, suc, sym, ℕ, ◌++◌, ◌+◌, ◌-◌, ◌∙◌, ◌∷◌, ◌≡◌}
+use Rattle.mc_boot.specs.Outcome.{shown}
+use Rattle.mc_explore.proofs.Counting.{Census, each_more, is_joined, weigh_is}
+use Rattle.mc_explore.proofs.Passing.{HasCome, IsAtChild, can_pass, come_below, come_on, listed_there, own_there, passes_all, passes_none, reached, tail_there, weights_there, width_here}
+use Rattle.mc_explore.specs.Right.{judged}
+use Rattle.mc_explore.specs.declared.table.Below.{Below}
+use Rattle.mc_explore.specs.declared.table.Position.{Position}
+use Rattle.mc_explore.specs.inner.Table.{ArePositions, HasWeights, IsJoined, IsPosition, own_totals, paths_of, weigh_below}
+use Rattle.mc_explore.specs.inner.Totals.{both, cut_off, report_totals, totals}
+use Rattle.mc_tree.specs.inner.Weights.{from}
+use Rattle.mc_walk.specs.Walks.{origin_of}
+use Rattle.mc_explore.proofs.start_census.+column.Goals as goal
+use Rattle.mc_explore.proofs.start_census.+column.Given.{Over}
+use Rattle.mc_explore.proofs.start_census.+column.Goals.{In_ok-end, in-Some, in-None+in_ok-column-in-None}
+
+pub returns-then-bound-eq0-clause-passes : goal.returns-then-bound-eq0-clause-passes
+returns-then-bound-eq0-clause-passes g t c = passes_none g.X.FlashTree.model c.args.walk.now c.requires.stands
+
+pub visit_child-requires-clause-passed : goal.visit_child-requires-clause-passed
+visit_child-requires-clause-passed g t c =
+    let walk = c.args.walk.now in
+    let all = width_here g.X.FlashTree.model walk c.flash_tree.result c.summary.result.now c.width-count.result c.flash_tree.ensures c.summary.ensures c.width-count.ensures in
+    can_pass g.X.FlashTree.model walk c.requires.listed c.loop-number.number (omega (arith, c.loop-number-test.true, all)) (omega (arith, c.requires.deep, c.if-bound-eq0.false))
+    c.loop-number.walk c.loop-number.invariant.come
+
+-- The walk stands at that child.
+at_child : (g : Over) (t : ℕ) (c : In_ok-end g t) → IsAtChild g.X.FlashTree.model c.args.walk.now c.loop-number.number c.visit_child.new.walk
+at_child g t c =
+    let walk = c.args.walk.now in
+    let all = width_here g.X.FlashTree.model walk c.flash_tree.result c.summary.result.now c.width-count.result c.flash_tree.ensures c.summary.ensures c.width-count.ensures in
+    reached g.X.FlashTree.model walk c.requires.listed c.loop-number.number (omega (arith, c.loop-number-test.true, all)) (omega (arith, c.requires.deep, c.if-bound-eq0.false))
+    c.loop-number.walk c.loop-number.invariant.come c.visit_child.new.walk c.in_ok-end.ensures.reaches c.in_ok-end.ensures.limits
+
+pub column-requires : goal.column-requires
+column-requires g t c κs within =
+    let x = (goal.at.column-requires g t c).In_ok-end in
+    let walk = c.args.walk.now in
+    let at = c.visit_child.new.walk in
+    let here = at_child g t x in
+    let all = width_here g.X.FlashTree.model walk c.flash_tree.result c.summary.result.now c.width-count.result c.flash_tree.ensures c.summary.ensures c.width-count.ensures in
+    let listed = listed_there g.X.FlashTree.model walk c.requires.listed c.loop-number.number (omega (arith, c.loop-number-test.true, all))
+    (omega (arith, c.requires.deep, c.if-bound-eq0.false)) at here in
+    let deep : length at.path + (c.args.bound - 1) ≡ at.bound =
+    omega (arith, c.requires.deep, c.if-bound-eq0.false, here.same.bound, ap length here.path, length-append walk.path (c.loop-number.number ∷ [])) in
+    (omega (arith, c.decreases, c.if-bound-eq0.false), (within.0, (within.1.0, (within.1.1.0, (within.1.1.1.0, (within.1.1.1.1, (here.stands, (listed, deep))))))))
+
+pub loop-number-preserved : goal.loop-number-preserved
+loop-number-preserved g t c =
+    let x = (goal.at.loop-number-preserved g t c).In_ok-end in
+    let walk = c.args.walk.now in
+    let model = g.X.FlashTree.model in
+    let report_of = g.X.Ending.report_of in
+    let e = c.args.expectation.now in
+    let n : ℕ = c.loop-number.number in
+    let bound : ℕ = c.args.bound in
+    let i = c.loop-number.invariant in
+    let at = c.visit_child.new.walk in
+    let here = at_child g t x in
+    let one : suc n ≡ n + 1 = omega arith in
+    let fewer : bound - 1 + 1 ≡ bound = omega (arith, c.if-bound-eq0.false) in
+    let paths = paths_of (model walk.flash_tree) walk in
+    let report = report_of walk.flash_tree (origin_of walk.seen) in
+    let under = weigh_below paths report e walk.path in
+    let all = width_here model walk c.flash_tree.result c.summary.result.now c.width-count.result c.flash_tree.ensures c.summary.ensures c.width-count.ensures in
+    let own : Census = c.of-own-in-loop-number.result in
+    let own_is = own_there model walk n at here report_of e (shown c.in_ok-end.end.outcome) own c.in_ok-end.ensures.ended
+    (c.of-own-in-loop-number.ensures ∙ ap (λ o. cut_off (report_totals o)) c.judge-in-loop-number.ensures) in
+    let come : HasCome model walk (suc n) c.match-end.walk = elim c.match-end.branch [
+      | in-Some w ↦ subst (HasCome model walk (suc n)) (sym w.walk-is) (come_on model walk n at here)
+      | in-None+in_ok-column-in-None w ↦ subst (HasCome model walk (suc n)) (sym w.walk-is) (come_below model walk n at here _ w.in_ok-column-in-None.ensures.passes)
+    ] in
+    let P : Below → Type 0 = λ b. IsPosition under c.width-count.result bound n (record { own = own; below = b }) in
+    let position : P c.match-end.below = elim c.match-end.branch [
+      | in-Some w ↦
+          let y = w.in-Some.shared_tail in
+          let tail = tail_there model walk n at here report_of e y ((rw w.in-Some.is at c.in_ok-end.ensures.tail) e walk.path n here.path) in
+          subst P (sym w.below-is) (subst (λ m. IsJoined under m bound n own y) (sym all) (is_joined paths report e walk.path bound n own y own_is tail))
+      | in-None+in_ok-column-in-None w ↦
+          let column = w.in_ok-column-in-None in
+          let weights = weights_there model walk n at here report_of e (bound - 1 + 1) column.field-0.items column.ensures.column in
+          subst P (sym w.below-is) (subst (λ m. HasWeights paths report e (walk.path ++ n ∷ []) m column.field-0.items) fewer weights)
+    ] in
+    let old_ps : List Position = c.loop-number.positions.items in
+    let p : Position = record { own = own; below = c.match-end.below } in
+    let pushed : c.push.new.self.items ≡ old_ps ++ p ∷ [] = c.in_ok-push.ensures.items in
+    record {
+      come = subst (λ m. HasCome model walk m c.match-end.walk) one come;
+      many = omega (arith, ap length pushed, length-append old_ps (p ∷ []), i.many);
+      positions = subst (ArePositions under c.width-count.result bound) (sym pushed)
+          (each_more (IsPosition under c.width-count.result bound) old_ps p i.positions (subst (λ m. IsPosition under c.width-count.result bound m p) (sym i.many) position));
+    }
+
+pub returns-clause-column : goal.returns-clause-column
+returns-clause-column g t c =
+    let walk = c.args.walk.now in
+    let e = c.args.expectation.now in
+    let i = c.loop-number.invariant in
+    let count : ℕ = c.width-count.result in
+    let paths = paths_of (g.X.FlashTree.model walk.flash_tree) walk in
+    let report = g.X.Ending.report_of walk.flash_tree (origin_of walk.seen) in
+    let under = weigh_below paths report e walk.path in
+    let all = width_here g.X.FlashTree.model walk c.flash_tree.result c.summary.result.now count c.flash_tree.ensures c.summary.ensures c.width-count.ensures in
+    let own_is : c.of-own.result ≡ cut_off (own_totals paths report e walk.path) =
+    c.of-own.ensures ∙ ap (λ o. cut_off (report_totals o)) (c.judge.ensures ∙ ap (judged e) (c.ended.ensures walk.flash_tree (origin_of walk.seen) walk.path c.summary.ensures.summary_is)) in
+    let column = rw c.deref.ensures.value at c.in_ok-column_of.ensures in
+    let is = column (own_totals paths report e walk.path) under own_is (λ i. refl) i.positions (omega (arith, i.many, c.loop-number-test.false, c.loop-number.auto.number-end)) in
+    (is.0, λ d lt. is.1 d lt ∙ ap (λ n. Some (cut_off (both (own_totals paths report e walk.path) (from totals (under d) n 0)))) all ∙ ap (λ a. Some (cut_off a)) (weigh_is paths report e walk.path d))
+
+pub returns-clause-passes : goal.returns-clause-passes
+returns-clause-passes g t c =
+    let walk = c.args.walk.now in
+    let all = width_here g.X.FlashTree.model walk c.flash_tree.result c.summary.result.now c.width-count.result c.flash_tree.ensures c.summary.ensures c.width-count.ensures in
+    passes_all g.X.FlashTree.model walk c.loop-number.number c.loop-number.walk (omega (arith, c.loop-number-test.false, c.loop-number.auto.number-end, all)) c.loop-number.invariant.come

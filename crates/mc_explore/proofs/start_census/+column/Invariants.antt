@@ -1,0 +1,18 @@
+use Rattle.std.proofs.Common.{◌≡◌, length}
+use Rattle.mc_explore.proofs.Passing.{HasCome}
+use Rattle.mc_explore.specs.inner.Table.{ArePositions, paths_of, weigh_below}
+use Rattle.mc_walk.specs.Walks.{origin_of}
+use Rattle.mc_explore.proofs.start_census.+column.Given as goal
+
+abbrev pub decreases-column : goal.decreases-column
+decreases-column g l = l.bound
+
+abbrev pub invariant-loop-number : goal.invariant-loop-number
+invariant-loop-number g l =
+    let old = l.fn.walk in
+    let k = g.X.FlashTree.model old.flash_tree in
+    record {
+      come : HasCome g.X.FlashTree.model old l.number l.walk;
+      many : length l.positions.items ≡ l.number;
+      positions : ArePositions (weigh_below (paths_of k old) (g.X.Ending.report_of old.flash_tree (origin_of old.seen)) l.fn.expectation old.path) l.count l.bound l.positions.items;
+    }
