@@ -9,9 +9,11 @@ use Rattle.mc_tree.specs.facts.Order.{allowed-last, allowed_prefix, not_same, pa
 use Rattle.mc_tree.specs.facts.Rounds.{inside, outside, pairs_precede}
 use Rattle.mc_flash.specs.Flash.{Content}
 use Rattle.mc_flash.specs.Geometry.{Geometry, IsLayout}
+use Rattle.mc_flash.specs.facts.Usage.{few_operations}
 use Rattle.mc_trailer.specs.declared.tables.Rules.{Rules}
 use Rattle.mc_boot.specs.Plan.{power_on}
 use Rattle.mc_boot.specs.Outcome.{ops_of}
+use Rattle.mc_boot.specs.facts.Bounds.{few_ops}
 use Rattle.mc_walk.specs.Walks.{Walked, GoesDown, IsSame, IsThere, origin_of}
 use Rattle.mc_walk.specs.facts.Same.{path_back, same_back}
 use Rattle.mc_explore.specs.inner.OneRound.{boots}
@@ -24,7 +26,6 @@ use Rattle.mc_campaign.specs.declared.campaign.Round.TheVariants as rounds_of
 use Rattle.mc_campaign.specs.declared.rounds.Both.{Both}
 use Rattle.mc_campaign.specs.declared.rounds.TwoRounds.{TwoRounds}
 use Rattle.mc_campaign.specs.facts.Paths.{path_of}
-use Rattle.mc_campaign.proofs.Steps.{few_ops}
 use Rattle.mc_campaign.proofs.Replays.{kind_of}
 
 -- ---- labels along a path
@@ -218,7 +219,13 @@ module _ (r : Rules) (g : Geometry) (confirms : Bool) (valid : IsLayout g) (summ
             λ e.
                 let index : i - length (ops_of (power_on r g f.0)) ≡ cut.1 = ap (λ (z : ℕ × ℕ). z.1) (sym (label_late f.0 i above) ∙ e) in
                 let sum_is : summary.first.outcome.ops + cut.1 ≡ i = omega (arith, index, above, f.2) in
-                some_there number sum i sum_is (omega (arith, some, few_ops r g confirms f.0 valid, few_ops r g confirms (second_start r g confirms f.0) valid)),
+                some_there number sum i sum_is (omega (
+                  arith,
+                  some,
+                  few_ops (power_on r g f.0) valid,
+                  few_ops (power_on r g (second_start r g confirms f.0)) valid,
+                  few_operations r.grain g valid,
+                )),
             λ e.
                 let index : cut.1 ≡ i - length (ops_of (power_on r g f.0)) = omega (arith, (there number sum i e).1, f.2) in
                 label_late f.0 i above ∙ pair_is cut 2 (i - length (ops_of (power_on r g f.0))) two index,

@@ -1,16 +1,14 @@
 -- The first child of a node of two rounds, and the next.
 use Rattle.std.specs.Prelude.{◌≡◌, ℕ, ◌+◌, ◌<◌, ◌≤◌, min, Bool, List, length, Some, Result, Ok, Err, IfOk, refl}
 use Rattle.std.proofs.Common.{arith, sym, ap, subst, ◌∙◌}
-use Rattle.std.proofs.lemmas.List.{take_all}
 use Rattle.mc_tree.specs.Tree.{RoundNode, first, second}
 use Rattle.mc_flash.specs.Flash.{Content}
 use Rattle.mc_flash.specs.Geometry.{Geometry, IsLayout}
 use Rattle.mc_flash.specs.Usage.{Counts, Limits, no_counts, Seen, Allows, LeaveRoom, plus, room_of}
 use Rattle.mc_flash.specs.facts.Usage.{few_operations}
-use Rattle.mc_flash.specs.declared.op.Op.{Op}
 use Rattle.mc_trailer.specs.declared.tables.Rules.{Rules}
 use Rattle.mc_boot.specs.Boot.{progress, left_of}
-use Rattle.mc_boot.specs.facts.Bounds.{ops_few}
+use Rattle.mc_boot.specs.facts.Bounds.{few_ops}
 use Rattle.mc_boot.specs.Restart.{confirmed_if, one_write}
 use Rattle.mc_boot.specs.Outcome.{left_by, ops_of}
 use Rattle.mc_boot.specs.declared.boot.Boot.{Boot}
@@ -44,13 +42,6 @@ module _ (r : Rules) (g : Geometry) (old mid : Seen) (room : Allows (most_of_bot
   }
 
 module _ (r : Rules) (g : Geometry) (confirms : Bool) where
-  -- ---- how many children
-
-  pub few_ops : (s : Content) → IsLayout g → length (ops_of (power_on r g s)) ≤ 204000000
-  few_ops s valid =
-      let at_most = ops_few (power_on r g s) (length (ops_of (power_on r g s))) valid in
-      omega (arith, at_most, few_operations r.grain g valid, ap (λ (ops : List Op). length ops) (take_all (length (ops_of (power_on r g s))) (ops_of (power_on r g s)) (omega arith)))
-
   -- ---- the first
 
   pub begins_first : (p : RoundNode Content) (summary : Both) (seen : Seen) → summary.round ≡ rounds_of.First → 0 < summary.first.outcome.ops → AreSummaries r g confirms p summary
@@ -228,7 +219,15 @@ module _ (r : Rules) (g : Geometry) (confirms : Bool) where
       → n ≡ min (summary.first.outcome.ops + summary.second.outcome.ops) 4294967295
       → n ≡ width r g confirms p
   width_first (first s) summary n valid round t is =
-      omega (arith, is, width_is r g summary.first s t.first_is, width_is r g summary.second (second_start r g confirms s) t.second_is, few_ops s valid, few_ops (second_start r g confirms s) valid)
+      omega (
+        arith,
+        is,
+        width_is r g summary.first s t.first_is,
+        width_is r g summary.second (second_start r g confirms s) t.second_is,
+        few_ops (power_on r g s) valid,
+        few_ops (power_on r g (second_start r g confirms s)) valid,
+        few_operations r.grain g valid,
+      )
   width_first (second began s) summary n valid round t is = let not_so : rounds_of.First ≡ rounds_of.Second = sym round ∙ t.round_is in absurd cc
 
   pub width_second : (p : RoundNode Content) (summary : Both) → summary.round ≡ rounds_of.Second → AreSummaries r g confirms p summary → summary.second.outcome.ops ≡ width r g confirms p

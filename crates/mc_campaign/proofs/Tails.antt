@@ -81,8 +81,8 @@ module _ (r : Rules) (g : Geometry) (confirms : Bool) where
         let here : own (second a v) ≡ own (second b v) = ap (λ (x : BootResult). report_totals (judged e (record (report_from r g v) { result = end_result x (report_from r g v).result }))) same in
         let below = from_alike totals totals_weigh (λ i. weight totals (rounds r g confirms) own k (second a (at_cut (power_on r g v) i)))
         (λ i. weight totals (rounds r g confirms) own k (second b (at_cut (power_on r g v) i))) (length (ops_of (power_on r g v))) 0 (λ i le lt. same_second a b same k (at_cut (power_on r g v) i)) in
-        ap (λ (x : Totals). totals.both x (from totals (λ i. weight totals (rounds r g confirms) own k (second a (at_cut (power_on r g v) i))) (length (ops_of (power_on r g v))) 0)) here
-        ∙ ap (totals.both (own (second b v))) below
+        ap (λ (x : Totals). totals.merged x (from totals (λ i. weight totals (rounds r g confirms) own k (second a (at_cut (power_on r g v) i))) (length (ops_of (power_on r g v))) 0)) here
+        ∙ ap (totals.merged (own (second b v))) below
 
     same_node : (p q : RoundNode Content) → p ≡ q → Alike p q
     same_node p q is k = ap (weight totals (rounds r g confirms) own k) is

@@ -22,7 +22,7 @@ use Rattle.mc_explore.specs.declared.census.CensusOf.{CensusOf}
 use Rattle.mc_explore.specs.declared.expectation.Expectation.{Expectation}
 use Rattle.mc_explore.specs.facts.Totals.{totals_weigh}
 use Rattle.mc_explore.specs.inner.Table.{AreCutOff, AreSums, IsJoined, IsTailOf, own_totals, weigh, weigh_below}
-use Rattle.mc_explore.specs.inner.Totals.{Totals, both, cut_off, no_totals, row_totals, totals}
+use Rattle.mc_explore.specs.inner.Totals.{Totals, merged, cut_off, no_totals, row_totals, totals}
 use Rattle.mc_start.specs.Start.{lowered}
 use Rattle.mc_tree.specs.Tree.{IsMember, Tree, landed}
 use Rattle.mc_tree.specs.facts.Existence.{all_from, all_paths, in_all, landed_path}
@@ -73,25 +73,25 @@ cut_lowered j c a is =
 -- Those of no rows.
 from_none : (n i : ℕ) → from totals (λ x. no_totals) n i ≡ no_totals
 from_none zero i = refl
-from_none (suc n) i = ap (both no_totals) (from_none n (i + 1))
+from_none (suc n) i = ap (merged no_totals) (from_none n (i + 1))
 
 -- The totals of a tree, by the children of a node.
 module _ {N : Type 0} (t : Tree N) (ended : N → Report) (e : Expectation) where
   -- All paths from a node: the one of no steps, and those after each first step.
-  pub weigh_is : (n : N) (d : ℕ) → both (own_totals t ended e n) (from totals (weigh_below t ended e n d) (t.width n) 0) ≡ weigh t ended e d n
-  weigh_is n zero = ap (both (own_totals t ended e n)) (from_none (t.width n) 0) ∙ totals_weigh.right (own_totals t ended e n)
+  pub weigh_is : (n : N) (d : ℕ) → merged (own_totals t ended e n) (from totals (weigh_below t ended e n d) (t.width n) 0) ≡ weigh t ended e d n
+  weigh_is n zero = ap (merged (own_totals t ended e n)) (from_none (t.width n) 0) ∙ totals_weigh.right (own_totals t ended e n)
   weigh_is n (suc d) = refl
 
   -- All paths from a child whose boot goes on with that of its parent.
   tail_weighs : (n : N) (c : ℕ) (x : SharedTail) → IsTailOf t ended e n c x → (d : ℕ) → weigh_below t ended e n (suc d) c
-      ≡ both (own_totals t ended e (t.child n c)) (shared_below totals (weigh_below t ended e n d) (t.width n) x.kept x.erases (index_in_parent x))
+      ≡ merged (own_totals t ended e (t.child n c)) (shared_below totals (weigh_below t ended e n d) (t.width n) x.kept x.erases (index_in_parent x))
   tail_weighs n c x is (suc d) = shared_weight totals totals_weigh t (own_totals t ended e) n (t.child n c) x.kept x.erases (index_in_parent x) d is
   tail_weighs n c x is zero =
       let rest : ℕ = t.width n - (x.kept + x.erases) in
       let early = from_none x.erases 0 in
       let late = ap (totals.first_lowered x.kept) (from_none rest (x.kept + x.erases)) in
-      sym (ap (λ a. both (own_totals t ended e (t.child n c)) (both a (totals.first_lowered x.kept (from totals (λ i. no_totals) rest (x.kept + x.erases))))) early
-      ∙ ap (λ a. both (own_totals t ended e (t.child n c)) (both no_totals a)) late
+      sym (ap (λ a. merged (own_totals t ended e (t.child n c)) (merged a (totals.first_lowered x.kept (from totals (λ i. no_totals) rest (x.kept + x.erases))))) early
+      ∙ ap (λ a. merged (own_totals t ended e (t.child n c)) (merged no_totals a)) late
       ∙ totals_weigh.right (own_totals t ended e (t.child n c)))
 
   pub is_joined : (n : N) (most c : ℕ) (own : Census) (x : SharedTail) → own ≡ cut_off (own_totals t ended e (t.child n c)) → IsTailOf t ended e n c x
@@ -125,33 +125,33 @@ more_cut_off under xs all y n pushed many are is = subst (AreCutOff under) (sym 
 
 module _ (under : ℕ → Totals) where
   -- The sums of one more of the last ones.
-  pub more_sums : (n later number : ℕ) → number + 1 + later ≡ n → both (totals.prefixed number (under number)) (from totals under later (n - later)) ≡ from totals under (later + 1) (n - (later + 1))
+  pub more_sums : (n later number : ℕ) → number + 1 + later ≡ n → merged (totals.prefixed number (under number)) (from totals under later (n - later)) ≡ from totals under (later + 1) (n - (later + 1))
   more_sums n later number e =
       let one : later + 1 ≡ suc later = omega arith in
       let first : n - (later + 1) ≡ number = omega (arith, e) in
       let second : n - later ≡ number + 1 = omega (arith, e) in
-      ap (λ i. both (totals.prefixed number (under number)) (from totals under later i)) second
+      ap (λ i. merged (totals.prefixed number (under number)) (from totals under later i)) second
       ∙ ap (λ i. from totals under (suc later) i) (sym first)
       ∙ ap (λ k. from totals under k (n - (later + 1))) (sym one)
 
   -- And of one more of the first ones.
-  pub more_first : (n : ℕ) → both (from totals under n 0) (totals.prefixed n (under n)) ≡ from totals under (n + 1) 0
+  pub more_first : (n : ℕ) → merged (from totals under n 0) (totals.prefixed n (under n)) ≡ from totals under (n + 1) 0
   more_first n =
       let at : 0 + n ≡ n = omega arith in
       let one : n + 1 ≡ suc n = omega arith in
-      sym (ap (λ k. from totals under k 0) one ∙ from_more totals totals_weigh under n 0 ∙ ap (λ i. both (from totals under n 0) (totals.prefixed i (under i))) at)
+      sym (ap (λ k. from totals under k 0) one ∙ from_more totals totals_weigh under n 0 ∙ ap (λ i. merged (from totals under n 0) (totals.prefixed i (under i))) at)
 
 -- The census of a node for one bound more, by the sums of all children for that bound.
 pub entry_is : (under : ℕ → Totals) (alone : Totals) (own sum one : Census) (count : ℕ) (level sums : List Census)
     → ((under : ℕ → Totals) → AreCutOff under level → count ≡ length level → AreSums under count sums)
     → ((under : ℕ → Totals) → AreCutOff under sums → count < length sums → sum ≡ cut_off (under count))
-    → ((a b : Totals) → own ≡ cut_off a → sum ≡ cut_off b → one ≡ cut_off (both a b))
-    → own ≡ cut_off alone → AreCutOff under level → count ≡ length level → one ≡ cut_off (both alone (from totals under count 0))
+    → ((a b : Totals) → own ≡ cut_off a → sum ≡ cut_off b → one ≡ cut_off (merged a b))
+    → own ≡ cut_off alone → AreCutOff under level → count ≡ length level → one ≡ cut_off (merged alone (from totals under count 0))
 entry_is under alone own sum one count level sums summed last together own_is level_is many =
     let are = summed under level_is many in
     let at : count - count ≡ 0 = omega arith in
     let sum_is = last (λ k. from totals under k (count - k)) are.1 (omega (arith, are.0)) in
-    together alone (from totals under count (count - count)) own_is sum_is ∙ ap (λ i. cut_off (both alone (from totals under count i))) at
+    together alone (from totals under count (count - count)) own_is sum_is ∙ ap (λ i. cut_off (merged alone (from totals under count i))) at
 
 -- What the one list of rows comes to is what the tree of boots does.
 

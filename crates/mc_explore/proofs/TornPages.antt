@@ -22,7 +22,7 @@ use Rattle.mc_start.specs.Start.{IsSchedule, schedule_text}
 use Rattle.mc_explore.specs.Survey.{AreLines, IsRowLine, AreRowLines, HasRows, IsOfLast, IsLastRow, Continues}
 use Rattle.mc_start.specs.declared.cursor.Cursor.{Cursor}
 use Rattle.mc_explore.proofs.Bytes.{IsBetween, NoFeed, literal, and, feedless_prefix, schedule_between, lacks_feed, lacks_literal, row_feedless, cursor_feedless, no_space}
-use Rattle.mc_explore.proofs.Walks.{few_ops}
+use Rattle.mc_boot.specs.facts.Bounds.{few_ops}
 use Rattle.mc_explore.specs.facts.Listed.{schedules_are_lawful}
 use Rattle.mc_explore.specs.facts.Listings.{rest_tail}
 use Rattle.mc_explore.specs.facts.Occurring.{path_of}

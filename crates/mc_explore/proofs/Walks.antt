@@ -1,12 +1,12 @@
 -- A flash that was just loaded, and a walk from there along a schedule.
 use Rattle.std.proofs.Common.{ap, arith, subst, sym, ◌∙◌}
 use Rattle.std.proofs.Math.Nat.{mul-le-mul_right}
-use Rattle.std.proofs.lemmas.List.{length-take-le, take_all}
+use Rattle.std.proofs.lemmas.List.{length-take-le}
 use Rattle.std.specs.Prelude.{Bool, List, None, Option, Some, [], false, is_some, length, refl, suc, take, true, ℕ, ◌*◌, ◌++◌, ◌+◌, ◌∷◌, ◌≡◌, ◌≤◌}
 use Rattle.mc_boot.specs.Boot.{HasCome, Progress, left_of, progress}
 use Rattle.mc_boot.specs.Outcome.{after, ops_of, shown}
 use Rattle.mc_boot.specs.Plan.{PowerOn, again, power_on}
-use Rattle.mc_boot.specs.facts.Bounds.{ops_few}
+use Rattle.mc_boot.specs.facts.Bounds.{few_ops}
 use Rattle.mc_boot.specs.facts.Run.{come_begun, come_left}
 use Rattle.mc_explore.proofs.Onwards.{ComesOn}
 use Rattle.mc_explore.specs.Rows.{subject}
@@ -20,7 +20,6 @@ use Rattle.mc_explore.specs.inner.View.{Followed, IsLoaded, begun_with}
 use Rattle.mc_flash.specs.Flash.{Content}
 use Rattle.mc_flash.specs.Geometry.{Geometry, IsLayout}
 use Rattle.mc_flash.specs.Usage.{Allows, LeaveRoom, Limits, Loads, Seen, Spent, Usage, most_operations, most_saved, room_of}
-use Rattle.mc_flash.specs.declared.op.Op.{Op}
 use Rattle.mc_start.specs.Start.{Started, begun}
 use Rattle.mc_start.specs.facts.Room.{limits_are}
 use Rattle.mc_trailer.specs.declared.tables.Rules.{Rules}
@@ -64,11 +63,6 @@ same_begun : (old new : Walked OneRound) → IsSame old new → begun_of new ≡
 same_begun old new s = cc (s.flash_tree, s.origin)
 
 -- ---- what a path costs
-
-pub few_ops : (x : PowerOn) → IsLayout x.geometry → length (ops_of x) ≤ most_operations x.rules.grain x.geometry
-few_ops x valid =
-    let at_most = ops_few x (length (ops_of x)) valid in
-    omega (arith, at_most, ap (λ (ops : List Op). length ops) (take_all (length (ops_of x)) (ops_of x) (omega arith)))
 
 pub cost_few : (x : PowerOn) (l : List ℕ) → IsLayout x.geometry → Allowed (boots x.rules x.geometry) x.content l
     → path_cost (one_round x.rules x.geometry) l ≤ length l * (2 * most_operations x.rules.grain x.geometry)

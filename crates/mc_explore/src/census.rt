@@ -4,7 +4,7 @@ ghost use Rattle.mc_boot.specs.Outcome.{shown};
 ghost use Rattle.mc_start.specs.Start.{lowered};
 ghost use Rattle.mc_explore.specs.Census.{census_by};
 ghost use Rattle.mc_explore.specs.Survey.{AllEndInBoot};
-ghost use Rattle.mc_explore.specs.inner.Totals.{Totals, both, cut_off, no_totals, report_totals, totals, with_first};
+ghost use Rattle.mc_explore.specs.inner.Totals.{Totals, merged, cut_off, no_totals, report_totals, totals, with_first};
 
 use crate::subject::Subject;
 use mc_boot::{BootResult, Outcome};
@@ -73,9 +73,9 @@ impl CensusOf<Schedule> {
 
     /// Of these paths and of others, which come after them.
     #[tactic(auto, unfolding(crate::specs::inner::Totals::cut_off, crate::specs::Census::cut_number))]
-    pub(crate) fn both(&self, later: &Census) -> Census
+    pub(crate) fn merged(&self, later: &Census) -> Census
         ensures { (a b : Totals) → self.now ≡ cut_off a → later.now ≡ cut_off b
-            → result ≡ cut_off (both a b) }
+            → result ≡ cut_off (merged a b) }
     {
         CensusOf {
             schedules: self.schedules.saturating_add(later.schedules),

@@ -22,7 +22,7 @@ const MOST_COUNT: u32 = 0x8000_0000;
 #[derive(Drop)]
 pub struct AtCuts {
     /// The schedule after which that boot begins.
-    pub of: Schedule,
+    pub parent_path: Schedule,
     pub outcomes: Vec<Outcome>,
 }
 
@@ -36,7 +36,7 @@ impl AtCuts {
         ensures { IfOk result (λ none. none.outcomes.items ≡ []) }
     {
         Ok(AtCuts {
-            of: Schedule::new(),
+            parent_path: Schedule::new(),
             outcomes: Vec::with_capacity(alloc, room)?,
         })
     }
@@ -60,16 +60,16 @@ impl AtCuts {
     ) -> Option<RowsAhead<SharedTail>>
         requires stands { walk.now.stands ≡ true }
         requires path { path.now ≡ walk.now.path }
-        ensures cuts { IfSome result (λ rows. AreLastCuts (begun_of walk.now) self.now.of path.now
-            self.now.outcomes.items rows.ahead rows.count) }
+        ensures cuts { IfSome result (λ rows. AreLastCuts (begun_of walk.now)
+            self.now.parent_path path.now self.now.outcomes.items rows.ahead rows.count) }
         ensures fresh { IfSome result (λ rows. rows.next ≡ 0) }
     {
         let step = walk.last_step()?;
-        let (_, of) = path.split_last()?;
+        let (_, parent_path) = path.split_last()?;
         let summary = walk.summary();
         let count = summary.outcome.ops;
         let whole = step.parent.outcome.ops as usize;
-        if self.of.cuts() != of
+        if self.parent_path.cuts() != parent_path
             || self.outcomes.len() != whole
             || count == 0
             || count > MOST_COUNT
@@ -88,22 +88,25 @@ impl AtCuts {
     /// what the boot before it began with.
     pub fn keep(&mut self, schedule: &[u32], outcome: Outcome)
         requires at_most { length schedule.now ≤ 16 }
-        ensures { (x : PowerOn) → AreAtCuts x self.old.of self.old.outcomes.items
+        ensures { (x : PowerOn) → AreAtCuts x self.old.parent_path self.old.outcomes.items
             → outcome_of (again x (flash_at x schedule.now)) ≡ Some (shown outcome)
-            → AreAtCuts x self.new.of self.new.outcomes.items }
+            → AreAtCuts x self.new.parent_path self.new.outcomes.items }
     {
         let Some((last, before)) = schedule.split_last() else {
             return;
         };
-        let Some((0, of)) = before.split_last() else {
+        let Some((0, parent_path)) = before.split_last() else {
             return;
         };
         if *last == 0 {
-            self.of = Schedule::of(of);
+            self.parent_path = Schedule::of(parent_path);
             self.outcomes.clear();
         }
         let count = self.outcomes.len();
-        if self.of.cuts() == of && count == *last as usize && count < self.outcomes.capacity() {
+        if self.parent_path.cuts() == parent_path
+            && count == *last as usize
+            && count < self.outcomes.capacity()
+        {
             self.outcomes.push_reserved(outcome);
         }
     }

@@ -55,9 +55,9 @@ impl Subject for OneRound {
 
     ghost fields = { fields_of };
 
-    ghost holds = { λ o c kept. AreAtCuts (begins o c) kept.of kept.outcomes.items };
+    ghost holds = { λ o c kept. AreAtCuts (begins o c) kept.parent_path kept.outcomes.items };
 
-    ghost is_ahead = { λ o c kept path shared_tail count. AreLastCuts (begins o c) kept.of path
+    ghost is_ahead = { λ o c kept path shared_tail count. AreLastCuts (begins o c) kept.parent_path path
         kept.outcomes.items shared_tail count };
 
     ghost MORE = { 1 };

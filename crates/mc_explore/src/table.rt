@@ -3,7 +3,7 @@ ghost use Rattle.std.specs.Prelude.{◌≡◌, ℕ, suc, ◌+◌, ◌<◌, lengt
 ghost use Rattle.mc_boot.specs.SharedTail.{index_in_parent};
 ghost use Rattle.mc_tree.specs.inner.Weights.{from, shared_below};
 ghost use Rattle.mc_explore.specs.inner.Table.{AreCutOff, ArePositions, AreSums, IsColumn, IsInside, IsLevel, IsPosition};
-ghost use Rattle.mc_explore.specs.inner.Totals.{Totals, both, cut_off, no_totals, totals};
+ghost use Rattle.mc_explore.specs.inner.Totals.{Totals, merged, cut_off, no_totals, totals};
 
 use crate::census::Census;
 use mc_boot::SharedTail;
@@ -45,7 +45,7 @@ fn sums(alloc: Global, level: &[Census], count: u32) -> Result<Vec<Census>, Allo
         let number = count - 1 - later;
         sum = census_at(level, number as usize)
             .prefixed(number)
-            .both(&sum);
+            .merged(&sum);
         sums.push(sum)?;
     }
     Ok(sums)
@@ -60,7 +60,7 @@ fn early(shared_tail: &SharedTail, level: &[Census]) -> Census
     let mut sum = Census::new();
     for number in 0..shared_tail.erases() {
         let index = shared_tail.index_in_parent(number) as usize;
-        sum = sum.both(&census_at(level, index).prefixed(number));
+        sum = sum.merged(&census_at(level, index).prefixed(number));
     }
     sum
 }
@@ -75,7 +75,7 @@ fn with_shared_tail(shared_tail: &SharedTail, level: &[Census], sums: &[Census])
 {
     let from = (shared_tail.kept() + shared_tail.erases()) as usize;
     let later = census_at(sums, level.len().saturating_sub(from));
-    early(shared_tail, level).both(&later.first_lowered(shared_tail.kept()))
+    early(shared_tail, level).merged(&later.first_lowered(shared_tail.kept()))
 }
 
 impl Position {
@@ -88,7 +88,7 @@ impl Position {
         match &self.below {
             Below::Joined(shared_tail) => self
                 .own
-                .both(&with_shared_tail(shared_tail, level, sums)),
+                .merged(&with_shared_tail(shared_tail, level, sums)),
             Below::Apart(column) => census_at(column, bound as usize),
         }
     }
@@ -126,7 +126,7 @@ pub(crate) fn column_of(
     ensures { IfOk result (λ column. (alone : Totals) (under : ℕ → ℕ → Totals)
         → own ≡ cut_off alone → ((i : ℕ) → under 0 i ≡ no_totals)
         → ArePositions under count bound positions.now → count ≡ length positions.now
-        → IsColumn (λ d. both alone (from totals (under d) count 0)) (bound + 1) column.items) }
+        → IsColumn (λ d. merged alone (from totals (under d) count 0)) (bound + 1) column.items) }
 {
     let mut column = Vec::new(alloc);
     let mut level = Vec::new(alloc);
@@ -135,10 +135,10 @@ pub(crate) fn column_of(
     }
     for fewer in 0..bound {
         let sums = sums(alloc, &level, count)?;
-        column.push(own.both(&census_at(&sums, count as usize)))?;
+        column.push(own.merged(&census_at(&sums, count as usize)))?;
         level = next_level(alloc, positions, &level, &sums, fewer)?;
     }
     let sums = sums(alloc, &level, count)?;
-    column.push(own.both(&census_at(&sums, count as usize)))?;
+    column.push(own.merged(&census_at(&sums, count as usize)))?;
     Ok(column)
 }

@@ -21,5 +21,5 @@ pub use judge::{Judge, Judged};
 pub use laws::{any_cut, are_bytes, one_reading, same_prefix, valid_bytes};
 pub use tlvs::{Tlv, Tlvs};
 pub use version::Version;
-pub use view::ImageView;
+pub use view::{ImageView, digest_of_parts};
 pub use writing::{ImageParts, write_image};

@@ -1,6 +1,5 @@
 //! The flash that an exploration starts from.
 ghost use Rattle.std.specs.Prelude.{◌≡◌, ℕ, ◌≤◌, ◌+◌, ◌^◌, ◌++◌, [], ◌∷◌, List, length, IfOk, IfErr, MatchResult, Some, None, option_map, string_bytes};
-ghost use Rattle.sha2.specs.Sha256.{sha256};
 ghost use Rattle.mc_image.specs.Image.{image_text};
 ghost use Rattle.mc_image.specs.Valid.{identity, id_of, image_fault};
 ghost use Rattle.mc_flash.specs.Geometry.{IsLayout};
@@ -13,9 +12,8 @@ ghost use Rattle.mc_start.specs.Start.{layout_line, IsKnown, Starts, Gives, begu
 use crate::slots::start_slots;
 use mc_boot::{ImageId, Kind, KnownImage, image_in, known_id};
 use mc_flash::{Content, FlashError, Layout, Slot};
-use mc_image::{ImageError, ImageView};
+use mc_image::{ImageError, ImageView, digest_of_parts};
 use mc_trailer::Rules;
-use sha2::{Digest, Sha256};
 use std::alloc::{AllocError, Global};
 use std::marker::Model;
 use thiserror::Error;
@@ -112,17 +110,6 @@ fn layout_line(alloc: Global, layout: &Layout) -> Result<String, AllocError>
     line.push_str(rest.as_str())?;
     line.push_str("\n")?;
     Ok(line)
-}
-
-// The digest of three byte lists, one after the other.
-fn digest_of(first: &[u8], second: &[u8], third: &[u8]) -> [u8; 32]
-    ensures { result ≡ sha256 ((first.now ++ second.now) ++ third.now) }
-{
-    let mut hasher = Sha256::new();
-    hasher.update(first);
-    hasher.update(second);
-    hasher.update(third);
-    hasher.finalize()
 }
 
 // A valid image: its bytes, and what was read of them.
@@ -318,7 +305,7 @@ impl Start {
     pub fn digest(&self) -> [u8; 32]
         ensures { result ≡ start_digest (begun self.now) }
     {
-        digest_of(
+        digest_of_parts(
             self.line.as_bytes(),
             self.content.bytes(Slot::Primary),
             self.content.bytes(Slot::Secondary),

@@ -1,5 +1,5 @@
 -- How much a boot does at most: how many operations, and how many bytes their erases save.
-use Rattle.std.specs.Prelude.{◌≡◌, ◌⊎◌, ℕ, zero, suc, ◌+◌, ◌-◌, ◌*◌, ◌/◌, ◌≤◌, ◌==◌, ◌||◌, not, nat_lt, Bool, true, false, if◌then◌else◌, List, [], ◌∷◌, ◌++◌, length, take, drop, map, flat_map, Option, Some, None, refl}
+use Rattle.std.specs.Prelude.{◌≡◌, ◌⊎◌, ℕ, zero, suc, ◌+◌, ◌-◌, ◌*◌, ◌/◌, ◌≤◌, ◌==◌, ◌||◌, not, nat_lt, Bool, true, false, if◌then◌else◌, List, [], ◌∷◌, ◌++◌, length, drop, map, flat_map, Option, Some, None, refl}
 use Rattle.std.specs.Int.{div_ceil}
 use Rattle.std.specs.List.{range_with_len}
 use Rattle.std.proofs.Common.{arith, sym, ap, subst, length-append, inl, inr}
@@ -373,39 +373,16 @@ plan_saves x ok = (plan_bounded x ok).saves
 
 -- ---- what happens
 
-prefix_bounded : (g : Geometry) (k n m : ℕ) (ops : List Op) → IsBounded g ops n m → IsBounded g (take k ops) n m
-prefix_bounded g k n m ops h = let f = shorter k ops in record { at_most = omega (arith, f.0, h.at_most); saves = omega (arith, f.1, h.saves) }
-  where
-    shorter : (k : ℕ) (ops : List Op) → (length (take k ops) ≤ length ops) × (all_saves g (take k ops) ≤ all_saves g ops)
-    shorter zero [] = (omega arith, omega arith)
-    shorter (suc k) [] = (omega arith, omega arith)
-    shorter zero (op ∷ ops) = (omega arith, omega arith)
-    shorter (suc k) (op ∷ ops) = let rest = shorter k ops in (omega (arith, rest.0), omega (arith, rest.1))
+first_less : (op : Op) (ops : List Op) (rest : Content → List Op) → ((t : Content) → length (rest t) ≤ length ops) → (o : Option Content)
+    → length (first_then op rest o) ≤ length (op ∷ ops)
+first_less op ops rest less None = omega arith
+first_less op ops rest less (Some t) = omega (arith, less t)
 
-first_less : (g : Geometry) (op : Op) (ops : List Op) (rest : Content → List Op) → ((t : Content) → (length (rest t) ≤ length ops) × (all_saves g (rest t) ≤ all_saves g ops)) → (o : Option Content)
-    → (length (first_then op rest o) ≤ length (op ∷ ops)) × (all_saves g (first_then op rest o) ≤ all_saves g (op ∷ ops))
-first_less g op ops rest less None = (omega arith, omega arith)
-first_less g op ops rest less (Some t) = let beyond = less t in (omega (arith, beyond.0), omega (arith, beyond.1))
+happens_less : (g : Geometry) (ops : List Op) (s : Content) → length (happening g ops s) ≤ length ops
+happens_less g [] s = omega arith
+happens_less g (op ∷ ops) s = first_less op ops (λ t. happening g ops t) (λ t. happens_less g ops t) (apply g op s)
 
-happens_less : (g : Geometry) (ops : List Op) (s : Content) → (length (happening g ops s) ≤ length ops) × (all_saves g (happening g ops s) ≤ all_saves g ops)
-happens_less g [] s = (omega arith, omega arith)
-happens_less g (op ∷ ops) s = first_less g op ops (λ t. happening g ops t) (λ t. happens_less g ops t) (apply g op s)
-
--- So does each prefix of what happens.
-ops_bounded : (x : PowerOn) (k : ℕ) → IsLayout x.geometry → IsBoot x.rules.grain x.geometry (take k (ops_of x))
+-- The uncut boot makes no more operations than any boot.
+pub few_ops : (x : PowerOn) → IsLayout x.geometry → length (ops_of x) ≤ most_operations x.rules.grain x.geometry
 unfolding ops_of
-ops_bounded x k ok =
-    let whole = plan_bounded x ok in
-    let less = happens_less x.geometry (plan x).list x.content in
-    prefix_bounded x.geometry k (most_operations x.rules.grain x.geometry) (most_saved x.geometry) (happening x.geometry (plan x).list x.content)
-    (wider x.geometry (happening x.geometry (plan x).list x.content) (length (happening x.geometry (plan x).list x.content)) (all_saves x.geometry (happening x.geometry (plan x).list x.content))
-    (most_operations x.rules.grain x.geometry) (most_saved x.geometry)
-    (below (length (happening x.geometry (plan x).list x.content)) (length (plan x).list) (most_operations x.rules.grain x.geometry) less.0 whole.at_most)
-    (below (all_saves x.geometry (happening x.geometry (plan x).list x.content)) (all_saves x.geometry (plan x).list) (most_saved x.geometry) less.1 whole.saves)
-    (record { at_most = omega arith; saves = omega arith }))
-  where
-    below : (a b c : ℕ) → a ≤ b → b ≤ c → a ≤ c
-    below a b c p q = omega (arith, p, q)
-
-pub ops_few : (x : PowerOn) (k : ℕ) → IsLayout x.geometry → length (take k (ops_of x)) ≤ most_operations x.rules.grain x.geometry
-ops_few x k ok = (ops_bounded x k ok).at_most
+few_ops x ok = omega (arith, happens_less x.geometry (plan x).list x.content, plan_few x ok)

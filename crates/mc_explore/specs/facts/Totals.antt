@@ -1,7 +1,7 @@
 -- The totals of rows are weights.
 use Rattle.std.proofs.Common.{List, None, Option, Some, ap, arith, option_map, refl, ℕ, ◌+◌, ◌-◌, ◌∷◌, ◌≡◌}
 use Rattle.std.specs.Option.{option_or}
-use Rattle.mc_explore.specs.inner.Totals.{Totals, both, no_totals, totals}
+use Rattle.mc_explore.specs.inner.Totals.{Totals, merged, no_totals, totals}
 use Rattle.mc_start.specs.Start.{lowered}
 use Rattle.mc_tree.specs.inner.Weights.{IsWeighing}
 
@@ -30,13 +30,13 @@ back_prefix j i (Some l) = let e : (j + i) - j ≡ i = omega arith in ap (λ n. 
 
 pub totals_weigh : IsWeighing totals
 totals_weigh = record {
-  left = λ a. same_totals (both no_totals a) a (omega arith) (omega arith) (omega arith) (omega arith) (omega arith) (omega arith) refl;
-  right = λ a. same_totals (both a no_totals) a (omega arith) (omega arith) (omega arith) (omega arith) (omega arith) (omega arith) (or_none a.first);
-  joined = λ a b c. same_totals (both (both a b) c) (both a (both b c)) (omega arith) (omega arith) (omega arith) (omega arith) (omega arith) (omega arith) (or_joined a.first b.first c.first);
+  left = λ a. same_totals (merged no_totals a) a (omega arith) (omega arith) (omega arith) (omega arith) (omega arith) (omega arith) refl;
+  right = λ a. same_totals (merged a no_totals) a (omega arith) (omega arith) (omega arith) (omega arith) (omega arith) (omega arith) (or_none a.first);
+  joined = λ a b c. same_totals (merged (merged a b) c) (merged a (merged b c)) (omega arith) (omega arith) (omega arith) (omega arith) (omega arith) (omega arith) (or_joined a.first b.first c.first);
   prefixed_none = λ i. refl;
-  prefixed_both = λ i a b. same_totals (totals.prefixed i (both a b)) (both (totals.prefixed i a) (totals.prefixed i b)) refl refl refl refl refl refl (or_mapped (λ l. i ∷ l) a.first b.first);
+  prefixed_merged = λ i a b. same_totals (totals.prefixed i (merged a b)) (merged (totals.prefixed i a) (totals.prefixed i b)) refl refl refl refl refl refl (or_mapped (λ l. i ∷ l) a.first b.first);
   lowered_none = λ j. refl;
-  lowered_both = λ j a b. same_totals (totals.first_lowered j (both a b)) (both (totals.first_lowered j a) (totals.first_lowered j b)) refl refl refl refl refl refl (or_mapped (lowered j)
+  lowered_merged = λ j a b. same_totals (totals.first_lowered j (merged a b)) (merged (totals.first_lowered j a) (totals.first_lowered j b)) refl refl refl refl refl refl (or_mapped (lowered j)
       a.first b.first);
   lowered_prefixed = λ j i a. same_totals (totals.first_lowered j (totals.prefixed (j + i) a)) (totals.prefixed i a) refl refl refl refl refl refl (back_prefix j i a.first);
 }

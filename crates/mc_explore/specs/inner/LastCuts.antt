@@ -16,16 +16,16 @@ module _ (from : PowerOn) where
 
   -- The outcomes of the boots after the first cuts of the boot there.
   abbrev pub AreAtCuts : List ℕ → List Outcome → Type 0
-  AreAtCuts of outcomes =
-      (i : ℕ) (o : Outcome) → slice_get outcomes i ≡ Some o → outcome_of (again from (at_cut (again from (flash_at of)) i)) ≡ Some (shown o)
+  AreAtCuts parent_path outcomes =
+      (i : ℕ) (o : Outcome) → slice_get outcomes i ≡ Some o → outcome_of (again from (at_cut (again from (flash_at parent_path)) i)) ≡ Some (shown o)
 
   -- The last cuts after a path, so many, of a boot that goes on with the one after the path without its last cut; all outcomes of
   -- that one are there.
-  pub record AreLastCuts (of path : List ℕ) (outcomes : List Outcome) (shared_tail : SharedTail) (count : ℕ) : Type 0 where
+  pub record AreLastCuts (parent_path path : List ℕ) (outcomes : List Outcome) (shared_tail : SharedTail) (count : ℕ) : Type 0 where
     pub number : ℕ
-    pub path_is : path ≡ of ++ number ∷ []
-    pub with_shared_tail : IsSharedTail (again from (flash_at of)) (flash_at path) shared_tail
+    pub path_is : path ≡ parent_path ++ number ∷ []
+    pub with_shared_tail : IsSharedTail (again from (flash_at parent_path)) (flash_at path) shared_tail
     pub count_is : count ≡ length (ops_of (again from (flash_at path)))
-    pub whole : length outcomes ≡ length (ops_of (again from (flash_at of)))
+    pub whole : length outcomes ≡ length (ops_of (again from (flash_at parent_path)))
     pub some : 1 ≤ count
     pub small : count ≤ 2 ^ 31

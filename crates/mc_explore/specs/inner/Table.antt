@@ -10,7 +10,7 @@ use Rattle.mc_explore.specs.declared.expectation.Expectation.{Expectation}
 use Rattle.mc_explore.specs.declared.table.Below.{Below}
 use Rattle.mc_explore.specs.declared.table.Below.TheVariants.{Apart, Joined}
 use Rattle.mc_explore.specs.declared.table.Position.{Position}
-use Rattle.mc_explore.specs.inner.Totals.{Totals, both, cut_off, no_totals, report_totals, totals}
+use Rattle.mc_explore.specs.inner.Totals.{Totals, merged, cut_off, no_totals, report_totals, totals}
 use Rattle.mc_flash.specs.Flash.{Content}
 use Rattle.mc_tree.specs.Tree.{Allowed, Beyond, Tree}
 use Rattle.mc_tree.specs.facts.Order.{HasPassed}
@@ -44,7 +44,7 @@ module _ (under : ℕ → ℕ → Totals) (n most : ℕ) where
     pub inside : IsInside x n
     pub alone : Totals
     pub own_is : own ≡ cut_off alone
-    pub weighs : (d : ℕ) → under (suc d) c ≡ both alone (shared_below totals (under d) n x.kept x.erases (index_in_parent x))
+    pub weighs : (d : ℕ) → under (suc d) c ≡ merged alone (shared_below totals (under d) n x.kept x.erases (index_in_parent x))
 
   abbrev pub IsPosition : ℕ → Position → Type 0
   IsPosition c position = by position.below

@@ -24,8 +24,8 @@ pub record Totals : Type 0 where
 abbrev pub no_totals : Totals
 no_totals = record { schedules = 0; boot = 0; none = 0; panic = 0; fault = 0; most = 0; first = None }
 
-abbrev pub both : Totals → Totals → Totals
-both a b = record {
+abbrev pub merged : Totals → Totals → Totals
+merged a b = record {
   schedules = a.schedules + b.schedules;
   boot = a.boot + b.boot;
   none = a.none + b.none;
@@ -41,7 +41,7 @@ with_first f a = record a { first = option_map f a.first }
 
 -- Of paths that have a step in front, or whose first step is that much lower.
 abbrev pub totals : Weighing Totals
-totals = record { none = no_totals; both = both; prefixed = λ i. with_first (λ l. i ∷ l); first_lowered = λ j. with_first (lowered j) }
+totals = record { none = no_totals; merged = merged; prefixed = λ i. with_first (λ l. i ∷ l); first_lowered = λ j. with_first (lowered j) }
 
 -- The totals of a row of a path.
 abbrev pub row_totals : ShownRow → Totals

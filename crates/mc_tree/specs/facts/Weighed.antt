@@ -8,24 +8,24 @@ use Rattle.mc_tree.specs.inner.Weights.{Weighing, IsWeighing, IsShared, from, pa
 use Rattle.mc_tree.specs.facts.Existence.{all_from, beginning}
 
 module _ {M : Type 0} (w : Weighing M) (is : IsWeighing w) where
-  total_append : {R : Type 0} (one : R → M) (xs ys : List R) → total w one (xs ++ ys) ≡ w.both (total w one xs) (total w one ys)
+  total_append : {R : Type 0} (one : R → M) (xs ys : List R) → total w one (xs ++ ys) ≡ w.merged (total w one xs) (total w one ys)
   total_append one [] ys = sym (is.left (total w one ys))
   total_append one (x ∷ xs) ys =
-      ap (w.both (one x)) (total_append one xs ys) ∙ sym (is.joined (one x) (total w one xs) (total w one ys))
+      ap (w.merged (one x)) (total_append one xs ys) ∙ sym (is.joined (one x) (total w one xs) (total w one ys))
 
   -- The numbers up to one, and that one.
-  pub from_more : (f : ℕ → M) (n i : ℕ) → from w f (suc n) i ≡ w.both (from w f n i) (w.prefixed (i + n) (f (i + n)))
+  pub from_more : (f : ℕ → M) (n i : ℕ) → from w f (suc n) i ≡ w.merged (from w f n i) (w.prefixed (i + n) (f (i + n)))
   from_more f zero i =
       let at : ℕ → M = λ x. w.prefixed x (f x) in
       is.right (at i) ∙ ap at (omega arith) ∙ sym (is.left (at (i + 0)))
   from_more f (suc n) i =
       let at : ℕ → M = λ x. w.prefixed x (f x) in
-      ap (w.both (at i)) (from_more f n (i + 1))
+      ap (w.merged (at i)) (from_more f n (i + 1))
       ∙ sym (is.joined (at i) (from w f n (i + 1)) (at (i + 1 + n)))
-      ∙ ap (λ x. w.both (from w f (suc n) i) (at x)) (omega arith)
+      ∙ ap (λ x. w.merged (from w f (suc n) i) (at x)) (omega arith)
 
   -- The numbers in two parts.
-  pub from_parts : (f : ℕ → M) (n m i : ℕ) → from w f (n + m) i ≡ w.both (from w f n i) (from w f m (i + n))
+  pub from_parts : (f : ℕ → M) (n m i : ℕ) → from w f (n + m) i ≡ w.merged (from w f n i) (from w f m (i + n))
   from_parts f zero m i =
       let same : i ≡ i + 0 = omega arith in
       ap (λ k. from w f k i) (omega arith) ∙ ap (from w f m) same ∙ sym (is.left (from w f m (i + 0)))
@@ -34,25 +34,25 @@ module _ {M : Type 0} (w : Weighing M) (is : IsWeighing w) where
       let count : suc n + m ≡ suc (n + m) = omega arith in
       let last : i + 1 + n ≡ i + suc n = omega arith in
       ap (λ k. from w f k i) count
-      ∙ ap (w.both at) (from_parts f n m (i + 1))
+      ∙ ap (w.merged at) (from_parts f n m (i + 1))
       ∙ sym (is.joined at (from w f n (i + 1)) (from w f m (i + 1 + n)))
-      ∙ ap (λ x. w.both (from w f (suc n) i) (from w f m x)) last
+      ∙ ap (λ x. w.merged (from w f (suc n) i) (from w f m x)) last
 
   -- Weights that are alike for each of the numbers.
   pub from_alike : (f h : ℕ → M) (n i : ℕ) → ((x : ℕ) → i ≤ x → x < i + n → f x ≡ h x) → from w f n i ≡ from w h n i
   from_alike f h zero i same = refl
   from_alike f h (suc n) i same =
-      ap (λ a. w.both (w.prefixed i a) (from w f n (i + 1))) (same i (omega arith) (omega arith))
-      ∙ ap (w.both (w.prefixed i (h i))) (from_alike f h n (i + 1) (λ x le lt. same x (omega (arith, le)) (omega (arith, lt))))
+      ap (λ a. w.merged (w.prefixed i a) (from w f n (i + 1))) (same i (omega arith) (omega arith))
+      ∙ ap (w.merged (w.prefixed i (h i))) (from_alike f h n (i + 1) (λ x le lt. same x (omega (arith, le)) (omega (arith, lt))))
 
   -- Numbers that are lowered.
   pub from_back : (f : ℕ → M) (j n i : ℕ) → w.first_lowered j (from w f n (j + i)) ≡ from w (λ x. f (j + x)) n i
   from_back f j zero i = is.lowered_none j
   from_back f j (suc n) i =
-      is.lowered_both j (w.prefixed (j + i) (f (j + i))) (from w f n (j + i + 1))
-      ∙ ap (λ a. w.both a (w.first_lowered j (from w f n (j + i + 1)))) (is.lowered_prefixed j i (f (j + i)))
-      ∙ ap (λ x. w.both (w.prefixed i (f (j + i))) (w.first_lowered j (from w f n x))) (omega arith)
-      ∙ ap (w.both (w.prefixed i (f (j + i)))) (from_back f j n (i + 1))
+      is.lowered_merged j (w.prefixed (j + i) (f (j + i))) (from w f n (j + i + 1))
+      ∙ ap (λ a. w.merged a (w.first_lowered j (from w f n (j + i + 1)))) (is.lowered_prefixed j i (f (j + i)))
+      ∙ ap (λ x. w.merged (w.prefixed i (f (j + i))) (w.first_lowered j (from w f n x))) (omega arith)
+      ∙ ap (w.merged (w.prefixed i (f (j + i)))) (from_back f j n (i + 1))
 
   module _ {N R : Type 0} (t : Tree N) (own : N → M) (one : R → M) (row_of : N → List ℕ → R) where
     -- A row weighs what its node does, after the numbers of its path.
@@ -65,9 +65,9 @@ module _ {M : Type 0} (w : Weighing M) (is : IsWeighing w) where
           → total w one (map (row_of s) (map (λ l. i ∷ l) ls)) ≡ w.prefixed i (total w one (map (row_of (t.child s i)) ls))
       rows_prefixed s i [] = sym (is.prefixed_none i)
       rows_prefixed s i (l ∷ ls) =
-          ap (λ a. w.both a (total w one (map (row_of s) (map (λ l. i ∷ l) ls)))) (are.below s i l)
-          ∙ ap (w.both (w.prefixed i (one (row_of (t.child s i) l)))) (rows_prefixed s i ls)
-          ∙ sym (is.prefixed_both i (one (row_of (t.child s i) l)) (total w one (map (row_of (t.child s i)) ls)))
+          ap (λ a. w.merged a (total w one (map (row_of s) (map (λ l. i ∷ l) ls)))) (are.below s i l)
+          ∙ ap (w.merged (w.prefixed i (one (row_of (t.child s i) l)))) (rows_prefixed s i ls)
+          ∙ sym (is.prefixed_merged i (one (row_of (t.child s i) l)) (total w one (map (row_of (t.child s i)) ls)))
 
       rows_beginning : (s : N) (f : ℕ → List (List ℕ)) (n : ℕ)
           → total w one (map (row_of s) (beginning f n)) ≡ from w (λ i. total w one (map (row_of (t.child s i)) (f i))) n 0
@@ -77,9 +77,9 @@ module _ {M : Type 0} (w : Weighing M) (is : IsWeighing w) where
           let under : ℕ → M = λ i. total w one (map (row_of (t.child s i)) (f i)) in
           ap (total w one) (map-append (row_of s) (beginning f n) (map (λ l. n ∷ l) (f n)))
           ∙ total_append one (map (row_of s) (beginning f n)) (map (row_of s) (map (λ l. n ∷ l) (f n)))
-          ∙ ap (λ a. w.both a (total w one (map (row_of s) (map (λ l. n ∷ l) (f n))))) (rows_beginning s f n)
-          ∙ ap (w.both (from w under n 0)) (rows_prefixed s n (f n))
-          ∙ ap (λ x. w.both (from w under n 0) (w.prefixed x (under x))) (omega arith)
+          ∙ ap (λ a. w.merged a (total w one (map (row_of s) (map (λ l. n ∷ l) (f n))))) (rows_beginning s f n)
+          ∙ ap (w.merged (from w under n 0)) (rows_prefixed s n (f n))
+          ∙ ap (λ x. w.merged (from w under n 0) (w.prefixed x (under x))) (omega arith)
           ∙ sym (from_more under n 0)
 
       -- All rows weigh what the tree does.
@@ -88,15 +88,15 @@ module _ {M : Type 0} (w : Weighing M) (is : IsWeighing w) where
       rows_weigh zero s = is.right (one (row_of s [])) ∙ are.here s
       rows_weigh (suc k) s =
           let f : ℕ → List (List ℕ) = λ x. all_from t k (t.child s x) in
-          ap (λ a. w.both a (total w one (map (row_of s) (beginning f (t.width s))))) (are.here s)
-          ∙ ap (w.both (own s)) (rows_beginning s f (t.width s)
+          ap (λ a. w.merged a (total w one (map (row_of s) (beginning f (t.width s))))) (are.here s)
+          ∙ ap (w.merged (own s)) (rows_beginning s f (t.width s)
           ∙ from_alike (λ i. total w one (map (row_of (t.child s i)) (f i))) (λ i. weight w t own k (t.child s i)) (t.width s) 0
           (λ i le lt. rows_weigh k (t.child s i)))
 
   module _ {N : Type 0} (t : Tree N) (own : N → M) (p u : N) (j m : ℕ) (index : ℕ → ℕ) where
     -- What is below the second node, by what lies below the first.
     pub shared_weight : (k : ℕ) → IsShared w t own p u j m index
-        → weight w t own (suc k) u ≡ w.both (own u) (shared_below w (λ x. weight w t own k (t.child p x)) (t.width p) j m index)
+        → weight w t own (suc k) u ≡ w.merged (own u) (shared_below w (λ x. weight w t own k (t.child p x)) (t.width p) j m index)
     shared_weight k is_shared =
         let under : ℕ → M = λ x. weight w t own k (t.child p x) in
         let below : ℕ → M = λ i. weight w t own k (t.child u i) in
@@ -107,12 +107,12 @@ module _ {M : Type 0} (w : Weighing M) (is : IsWeighing w) where
         from_alike below (λ i. under (index i)) m 0 (λ i le lt. is_shared.early i (omega (arith, lt)) k) in
         let late : from w below rest m ≡ w.first_lowered j (from w under rest (j + m)) =
         from_alike below (λ i. under (j + i)) rest m (λ i le lt. is_shared.late i le (omega (arith, lt, count)) k) ∙ sym (from_back under j rest m) in
-        ap (w.both (own u))
+        ap (w.merged (own u))
         (ap (λ n. from w below n 0) count
         ∙ from_parts below m rest 0
-        ∙ ap (λ x. w.both (from w below m 0) (from w below rest x)) first
-        ∙ ap (λ a. w.both a (from w below rest m)) early
-        ∙ ap (w.both (from w (λ i. under (index i)) m 0)) late)
+        ∙ ap (λ x. w.merged (from w below m 0) (from w below rest x)) first
+        ∙ ap (λ a. w.merged a (from w below rest m)) early
+        ∙ ap (w.merged (from w (λ i. under (index i)) m 0)) late)
 
   -- Paths weigh what the nodes at their ends do.
   module _ {N : Type 0} (t : Tree N) (root : N) (own : N → M) where
@@ -122,7 +122,7 @@ module _ {M : Type 0} (w : Weighing M) (is : IsWeighing w) where
     path_weighs : (k : ℕ) (l : List ℕ) → weight w (path_tree t root) own_of k l ≡ weight w t own k (landed t root l)
     path_weighs zero l = refl
     path_weighs (suc k) l =
-        ap (w.both (own (landed t root l)))
+        ap (w.merged (own (landed t root l)))
         (from_alike (λ i. weight w (path_tree t root) own_of k (l ++ i ∷ [])) (λ i. weight w t own k (t.child (landed t root l) i)) (t.width (landed t root l)) 0
         (λ i le lt. path_weighs k (l ++ i ∷ []) ∙ ap (weight w t own k) (landed-push t root l i)))
 

@@ -5,42 +5,42 @@ use Rattle.mc_tree.specs.Tree.{Tree, landed}
 -- Weights: none, two one after another, the one of paths that have a number in front, and of paths whose first number is lowered.
 pub record Weighing (M : Type 0) : Type 0 where
   pub none : M
-  pub both : M → M → M
+  pub merged : M → M → M
   pub prefixed : ℕ → M → M
   pub first_lowered : ℕ → M → M
 
 module _ {M : Type 0} (w : Weighing M) where
   -- It does not matter how they are put together.
   pub record IsWeighing : Type 0 where
-    pub left : (a : M) → w.both w.none a ≡ a
-    pub right : (a : M) → w.both a w.none ≡ a
-    pub joined : (a b c : M) → w.both (w.both a b) c ≡ w.both a (w.both b c)
+    pub left : (a : M) → w.merged w.none a ≡ a
+    pub right : (a : M) → w.merged a w.none ≡ a
+    pub joined : (a b c : M) → w.merged (w.merged a b) c ≡ w.merged a (w.merged b c)
     pub prefixed_none : (i : ℕ) → w.prefixed i w.none ≡ w.none
-    pub prefixed_both : (i : ℕ) (a b : M) → w.prefixed i (w.both a b) ≡ w.both (w.prefixed i a) (w.prefixed i b)
+    pub prefixed_merged : (i : ℕ) (a b : M) → w.prefixed i (w.merged a b) ≡ w.merged (w.prefixed i a) (w.prefixed i b)
     pub lowered_none : (j : ℕ) → w.first_lowered j w.none ≡ w.none
-    pub lowered_both : (j : ℕ) (a b : M) → w.first_lowered j (w.both a b) ≡ w.both (w.first_lowered j a) (w.first_lowered j b)
+    pub lowered_merged : (j : ℕ) (a b : M) → w.first_lowered j (w.merged a b) ≡ w.merged (w.first_lowered j a) (w.first_lowered j b)
     pub lowered_prefixed : (j i : ℕ) (a : M) → w.first_lowered j (w.prefixed (j + i) a) ≡ w.prefixed i a
 
   -- The weights of so many numbers from one on, each after its number.
   abbrev pub from : (ℕ → M) → ℕ → ℕ → M
   from f zero i = w.none
-  from f (suc n) i = w.both (w.prefixed i (f i)) (from f n (i + 1))
+  from f (suc n) i = w.merged (w.prefixed i (f i)) (from f n (i + 1))
 
   -- The weights of a list.
   abbrev pub total : {R : Type 0} → (R → M) → List R → M
   total one [] = w.none
-  total one (row ∷ rows) = w.both (one row) (total one rows)
+  total one (row ∷ rows) = w.merged (one row) (total one rows)
 
   -- The weight of a node, and of all that are at most so many steps below it.
   abbrev pub weight : {N : Type 0} → Tree N → (N → M) → ℕ → N → M
   weight t own zero s = own s
-  weight t own (suc k) s = w.both (own s) (from (λ i. weight t own k (t.child s i)) (t.width s) 0)
+  weight t own (suc k) s = w.merged (own s) (from (λ i. weight t own k (t.child s i)) (t.width s) 0)
 
   -- What is below a node whose children from m on are the other one's from j + m on, and the ones before lie there too: by the
   -- weights of the other one's children, of which it has so many.
   abbrev pub shared_below : (ℕ → M) → ℕ → ℕ → ℕ → (ℕ → ℕ) → M
   shared_below under width j m index =
-      w.both (from (λ i. under (index i)) m 0) (w.first_lowered j (from under (width - (j + m)) (j + m)))
+      w.merged (from (λ i. under (index i)) m 0) (w.first_lowered j (from under (width - (j + m)) (j + m)))
 
 -- The tree of the paths from a node.
 abbrev pub path_tree : {N : Type 0} → Tree N → N → Tree (List ℕ)

@@ -6,7 +6,7 @@ use Rattle.mc_explore.specs.Right.{judged}
 use Rattle.mc_explore.specs.declared.table.Below.{Below}
 use Rattle.mc_explore.specs.declared.table.Position.{Position}
 use Rattle.mc_explore.specs.inner.Table.{ArePositions, HasWeights, IsJoined, IsPosition, own_totals, paths_of, weigh_below}
-use Rattle.mc_explore.specs.inner.Totals.{both, cut_off, report_totals, totals}
+use Rattle.mc_explore.specs.inner.Totals.{merged, cut_off, report_totals, totals}
 use Rattle.mc_tree.specs.inner.Weights.{from}
 use Rattle.mc_walk.specs.Walks.{origin_of}
 use Rattle.mc_explore.proofs.start_census.+column.Goals as goal
@@ -103,8 +103,11 @@ returns-clause-column g t c =
     let own_is : c.of-own.result ≡ cut_off (own_totals paths report e walk.path) =
     c.of-own.ensures ∙ ap (λ o. cut_off (report_totals o)) (c.judge.ensures ∙ ap (judged e) (c.ended.ensures walk.flash_tree (origin_of walk.seen) walk.path c.summary.ensures.summary_is)) in
     let column = rw c.deref.ensures.value at c.in_ok-column_of.ensures in
-    let is = column (own_totals paths report e walk.path) under own_is (λ i. refl) i.positions (omega (arith, i.many, c.loop-number-test.false, c.loop-number.auto.number-end)) in
-    (is.0, λ d lt. is.1 d lt ∙ ap (λ n. Some (cut_off (both (own_totals paths report e walk.path) (from totals (under d) n 0)))) all ∙ ap (λ a. Some (cut_off a)) (weigh_is paths report e walk.path d))
+    let is = column (own_totals paths report e walk.path) under own_is (λ i. refl) i.positions (omega (arith, i.many, c.loop-number-test.false, c.loop-number.auto.number-end)) in (
+      is.0,
+      λ d lt. is.1 d lt ∙ ap (λ n. Some (cut_off (merged (own_totals paths report e walk.path) (from totals (under d) n 0)))) all
+          ∙ ap (λ a. Some (cut_off a)) (weigh_is paths report e walk.path d),
+    )
 
 pub returns-clause-passes : goal.returns-clause-passes
 returns-clause-passes g t c =

@@ -2,7 +2,7 @@ use Rattle.std.proofs.Common.{◌≡◌, ℕ, suc, ◌+◌, List, Some, subst, [
 use Rattle.std.proofs.lemmas.List.{length-append}
 use Rattle.mc_tree.specs.inner.Weights.{from}
 use Rattle.mc_explore.specs.inner.Table.{IsLevel}
-use Rattle.mc_explore.specs.inner.Totals.{both, cut_off, no_totals, totals}
+use Rattle.mc_explore.specs.inner.Totals.{merged, cut_off, no_totals, totals}
 use Rattle.mc_explore.proofs.Counting.{Census, entry_is, more_cut_off}
 use Rattle.mc_explore.proofs.table.column_of.Goals as goal
 
@@ -14,7 +14,7 @@ loop-fewer-preserved c =
     let old : List Census = c.loop-fewer.column.items in
     let level : List Census = c.loop-fewer.level.items in
     let sums : List Census = c.in_ok-sums.sums.items in
-    let one : Census = c.both.result in
+    let one : Census = c.merged.result in
     let pushed : c.push-in-loop-fewer.new.self.items ≡ old ++ one ∷ [] = c.in_ok-push-2.ensures.items in
     let summed = rw c.deref.ensures.value at c.in_ok-sums.ensures in
     let last = rw c.deref-in-loop-fewer.ensures.value at c.census_at.ensures in
@@ -22,8 +22,8 @@ loop-fewer-preserved c =
       many = omega (arith, ap length pushed, length-append old (one ∷ []), i.many);
       column = λ alone under own none positions all.
           let here = i.level under none positions all in
-          let is = entry_is (under d) alone c.args.own c.census_at.result one count level sums summed last c.both.ensures own here.1 (sym here.0) in
-          more_cut_off (λ k. both alone (from totals (under k) count 0)) old _ one d pushed i.many (i.column alone under own none positions all) is;
+          let is = entry_is (under d) alone c.args.own c.census_at.result one count level sums summed last c.merged.ensures own here.1 (sym here.0) in
+          more_cut_off (λ k. merged alone (from totals (under k) count 0)) old _ one d pushed i.many (i.column alone under own none positions all) is;
       level = λ under none positions all.
           let here = i.level under none positions all in
           let are = summed (under d) here.1 (sym here.0) in
@@ -40,14 +40,14 @@ returns c = λ alone under own none positions all.
     let old : List Census = c.loop-fewer.column.items in
     let level : List Census = c.loop-fewer.level.items in
     let sums : List Census = c.in_ok-sums-2.sums.items in
-    let one : Census = c.both-2.result in
+    let one : Census = c.merged-2.result in
     let pushed : c.push-2.new.self.items ≡ old ++ one ∷ [] = c.in_ok-push-3.ensures.items in
     let summed = rw c.deref-2.ensures.value at c.in_ok-sums-2.ensures in
     let last = rw c.deref-3.ensures.value at c.census_at-2.ensures in
     let here = i.level under none positions all in
-    let is = entry_is (under d) alone c.args.own c.census_at-2.result one count level sums summed last c.both-2.ensures own here.1 (sym here.0) in (
+    let is = entry_is (under d) alone c.args.own c.census_at-2.result one count level sums summed last c.merged-2.ensures own here.1 (sym here.0) in (
       omega (arith, ap length pushed, length-append old (one ∷ []), i.many, c.loop-fewer-test.false, c.loop-fewer.auto.fewer-end),
-      more_cut_off (λ k. both alone (from totals (under k) count 0)) old _ one d pushed i.many (i.column alone under own none positions all) is,
+      more_cut_off (λ k. merged alone (from totals (under k) count 0)) old _ one d pushed i.many (i.column alone under own none positions all) is,
     )
 
 pub loop-position-init : goal.loop-position-init

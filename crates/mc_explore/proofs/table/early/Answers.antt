@@ -11,7 +11,7 @@ loop-number-preserved c = λ under are inside.
     let at : ℕ → Totals = λ i. under (index_in_parent c.args.shared_tail.now i) in
     let there = c.census_at.ensures under are (omega (arith, c.index_in_parent-index.ensures, inside.early n (omega (arith, c.loop-number-test.true, c.erases-number-end.ensures)))) in
     let one = c.prefixed.ensures (at n) (there ∙ ap (λ p. cut_off (under p)) c.index_in_parent-index.ensures) in
-    c.both-sum.ensures (from totals at n 0) (totals.prefixed n (at n)) (c.loop-number.invariant under are inside) one ∙ ap cut_off (more_first at n)
+    c.merged-sum.ensures (from totals at n 0) (totals.prefixed n (at n)) (c.loop-number.invariant under are inside) one ∙ ap cut_off (more_first at n)
 
 pub returns : goal.returns
 returns c = λ under are inside.

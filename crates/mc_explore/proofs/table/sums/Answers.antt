@@ -14,13 +14,13 @@ loop-later-preserved c =
     let n : ℕ = c.args.count in
     let number : ℕ = n - 1 - later in
     let old : List Census = c.loop-later.sums.items in
-    let one : Census = c.both-sum.result in
+    let one : Census = c.merged-sum.result in
     let pushed : c.push-in-loop-later.new.self.items ≡ old ++ one ∷ [] = c.in_ok-push-2.ensures.items in
     let sum_is : (under : ℕ → Totals) → AreCutOff under c.args.level.now → n ≡ length c.args.level.now → one ≡ cut_off (from totals under (later + 1) (n - (later + 1))) = λ under are all.
     let there = c.census_at.ensures under are (omega (arith, c.loop-later-test.true, all)) in
     let prefixed = c.prefixed.ensures (under number) there in
     let all_one : number + 1 + later ≡ n = omega (arith, c.loop-later-test.true) in
-    c.both-sum.ensures (totals.prefixed number (under number)) (from totals under later (n - later)) prefixed (i.sum under are all) ∙ ap cut_off (more_sums under n later number all_one) in
+    c.merged-sum.ensures (totals.prefixed number (under number)) (from totals under later (n - later)) prefixed (i.sum under are all) ∙ ap cut_off (more_sums under n later number all_one) in
     record {
       many = omega (arith, ap length pushed, length-append old (one ∷ []), i.many);
       sum = sum_is;

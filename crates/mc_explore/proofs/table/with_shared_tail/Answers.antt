@@ -14,5 +14,5 @@ returns c = λ under are sums inside.
     let end : n - rest ≡ x.kept + x.erases = omega (arith, inside.late) in
     let there = c.census_at-later.ensures (λ k. from totals under k (n - k)) sums.1 (omega (arith, at, sums.0)) in
     let lowered = c.first_lowered.ensures later (there ∙ ap (λ k. cut_off (from totals under k (n - k))) at ∙ ap (λ i. cut_off (from totals under rest i)) end) in
-    c.both.ensures (from totals (λ i. under (index_in_parent x i)) x.erases 0) (totals.first_lowered x.kept later) (c.early.ensures under are inside)
+    c.merged.ensures (from totals (λ i. under (index_in_parent x i)) x.erases 0) (totals.first_lowered x.kept later) (c.early.ensures under are inside)
     (lowered ∙ ap (λ j. cut_off (totals.first_lowered j later)) c.kept-2.ensures)

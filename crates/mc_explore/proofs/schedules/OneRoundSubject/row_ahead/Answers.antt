@@ -13,6 +13,6 @@ returns c = λ o s holds are allowed.
     let path = c.args.path.now ++ rows.next ∷ [] in (
       c.push.ensures,
       ap (λ (l : List ℕ). outcome_after x l) c.push.ensures ∙ lands_summary x path allowed
-          ∙ outcome_there x kept.of c.args.path.now kept.outcomes.items rows.ahead rows.count rows.next are c.requires.some (Some c.in_ok-outcome.outcome) holds
+          ∙ outcome_there x kept.parent_path c.args.path.now kept.outcomes.items rows.ahead rows.count rows.next are c.requires.some (Some c.in_ok-outcome.outcome) holds
           (sym c.in_ok-outcome.was ∙ c.outcome.ensures),
     )

@@ -2,7 +2,7 @@ use Rattle.std.proofs.Common.{ℕ, length, suc, sym, ap, ◌∙◌, arith}
 use Rattle.mc_boot.specs.SharedTail.{index_in_parent}
 use Rattle.mc_tree.specs.inner.Weights.{shared_below}
 use Rattle.mc_explore.specs.inner.Table.{IsColumn, IsInside, IsJoined}
-use Rattle.mc_explore.specs.inner.Totals.{both, cut_off, totals}
+use Rattle.mc_explore.specs.inner.Totals.{merged, cut_off, totals}
 use Rattle.mc_explore.proofs.table.Position.census.Goals as goal
 
 pub returns-in-Joined : goal.returns-in-Joined
@@ -12,8 +12,8 @@ returns-in-Joined c = λ under n most i here level sums lt.
     let joined : IsJoined under n most i c.args.self.now.own x = rw c.in-Joined.is at here in
     let inside_here : IsInside x (length c.args.level.now) = rw level.0 joined.inside in
     let children = c.with_shared_tail.ensures (under d) level.1 (rw level.0 sums) inside_here in
-    c.both.ensures joined.alone (shared_below totals (under d) (length c.args.level.now) x.kept x.erases (index_in_parent x)) joined.own_is children
-    ∙ ap (λ n. cut_off (both joined.alone (shared_below totals (under d) n x.kept x.erases (index_in_parent x)))) level.0
+    c.merged.ensures joined.alone (shared_below totals (under d) (length c.args.level.now) x.kept x.erases (index_in_parent x)) joined.own_is children
+    ∙ ap (λ n. cut_off (merged joined.alone (shared_below totals (under d) n x.kept x.erases (index_in_parent x)))) level.0
     ∙ ap cut_off (sym (joined.weighs d))
 
 pub returns-in-Apart : goal.returns-in-Apart
