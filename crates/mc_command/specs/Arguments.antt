@@ -14,6 +14,11 @@ use Rattle.mc_boot.specs.declared.kind.Kind.TheVariants as kinds
 use Rattle.mc_flash.specs.Flash.{grain_text}
 use Rattle.mc_trailer.specs.declared.tables.Rules.{Rules}
 use Rattle.mc_trailer.specs.Tables.{profile_text}
+use Rattle.mc_trace.specs.declared.sectors.Moment.TheVariants as moments
+use Rattle.mc_trace.specs.declared.sectors.View.{View}
+use Rattle.mc_trace.specs.declared.cells.Words.{Words}
+use Rattle.mc_trace.specs.declared.cells.Words.TheVariants as words
+use Rattle.mc_trace.specs.declared.trace.Span.{Span}
 use Rattle.mc_command.specs.declared.options.ExploreOptions.{ExploreOptions}
 use Rattle.mc_command.specs.declared.options.FlashOptions.{FlashOptions}
 use Rattle.mc_command.specs.declared.options.RangeOptions.{RangeOptions}
@@ -116,6 +121,27 @@ pub record GivesExtent (found : Found) (o : ExploreOptions) : Type 0 where
   pub all : Bool
   pub all_given : IsFlag found (codes "all") all
   pub limit_is : o.limit ≡ (if all then 2 ^ 32 - 1 else number)
+
+-- the arguments give from which number to which operations are shown; where nothing is given, all of them
+pub record GivesSpan (found : Found) (s : Span) : Type 0 where
+  pub from : Option ℕ
+  pub from_given : MayGiveNumber found numbers.From from
+  pub from_is : s.from ≡ unwrap_or from 0
+  pub to : Option ℕ
+  pub to_given : MayGiveNumber found numbers.To to
+  pub to_is : s.to ≡ unwrap_or to (2 ^ 32 - 1)
+
+-- the text of a choice of words
+abbrev pub words_text : Words → List ℕ
+words_text words.Plain = codes "plain"
+words_text words.All = codes "all"
+
+-- the arguments say of which flash a picture is, and which words it has; where nothing is given, the one at the last cut, in few words
+pub record GivesView (found : Found) (v : View) : Type 0 where
+  pub end : Bool
+  pub end_given : IsFlag found (codes "end") end
+  pub moment : v.moment ≡ (if end then moments.AtEnd else moments.AtCut)
+  pub words : unwrap_or (first_value found (codes "words")) (codes "plain") ≡ words_text v.words
 
 -- the text of an option is that of a schedule, or the option is left out
 abbrev pub MayGiveSchedule : Found → List ℕ → Option (List ℕ) → Type 0

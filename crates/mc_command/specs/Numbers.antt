@@ -36,6 +36,8 @@ option_name numbers.Primary = codes "primary"
 option_name numbers.Secondary = codes "secondary"
 option_name numbers.Cuts = codes "cuts"
 option_name numbers.Limit = codes "limit"
+option_name numbers.From = codes "from"
+option_name numbers.To = codes "to"
 
 -- the least and the largest number that it takes
 abbrev pub least_of : NumberOption → ℕ

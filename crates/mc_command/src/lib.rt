@@ -20,7 +20,7 @@ use clap::{ArgMatches, Error};
 use commands::rounds::{RoundText, print as print_rounds};
 use mc_campaign::TwoRounds;
 use mc_explore::OneRound;
-use options::has_two_rounds;
+use options::{has_two_rounds, span_options, view_options};
 pub use refusal::Refusal;
 use std::alloc::Global;
 use std::io::{Read, Write};
@@ -115,8 +115,14 @@ fn run_schedule<F: Files, O: Write>(
 ) -> Result<(), Refusal> {
     match (name, has_two_rounds(arguments)?) {
         ("replay", true) => commands::rounds::replay(files, alloc, arguments, out),
-        ("trace", true) => print_rounds(files, alloc, arguments, RoundText::Operations, out),
-        (_, true) => print_rounds(files, alloc, arguments, RoundText::Sectors, out),
+        ("trace", true) => {
+            let text = RoundText::Operations(span_options(arguments)?);
+            print_rounds(files, alloc, arguments, text, out)
+        }
+        (_, true) => {
+            let text = RoundText::Sectors(view_options(arguments)?);
+            print_rounds(files, alloc, arguments, text, out)
+        }
         ("replay", false) => commands::replay::run(files, alloc, arguments, out),
         ("trace", false) => commands::trace::run(files, alloc, arguments, out),
         (_, false) => commands::trace::sectors(files, alloc, arguments, out),

@@ -26,6 +26,8 @@ pub enum NumberOption {
     Secondary,
     Cuts,
     Limit,
+    From,
+    To,
 }
 
 impl NumberOption {
@@ -46,6 +48,8 @@ impl NumberOption {
             NumberOption::Secondary => "secondary",
             NumberOption::Cuts => "cuts",
             NumberOption::Limit => "limit",
+            NumberOption::From => "from",
+            NumberOption::To => "to",
         }
     }
 

@@ -4,7 +4,7 @@ ghost use Rattle.clap.specs.Matches.{found_of};
 ghost use Rattle.clap.specs.Words.{first_value};
 ghost use Rattle.mc_command.specs.Numbers.{GivesNumber, IsUnit};
 ghost use Rattle.mc_flash.specs.Geometry.{Geometry, refusal_of};
-ghost use Rattle.mc_command.specs.Arguments.{GivesCreate, GivesLayout, Judges, GivesSource, RefusesSource, is_source, kind_text, GivesRules, GivesFlash, GivesExtent, GivesRange, HasTexts, gives_both};
+ghost use Rattle.mc_command.specs.Arguments.{GivesCreate, GivesLayout, Judges, GivesSource, RefusesSource, is_source, kind_text, GivesRules, GivesFlash, GivesExtent, GivesRange, GivesSpan, GivesView, HasTexts, gives_both};
 
 use crate::numbers::NumberOption;
 use crate::refusal::Refusal;
@@ -14,6 +14,7 @@ use mc_explore::{Cursor, Kind, Schedule};
 use mc_flash::{Grain, Layout};
 use mc_image::Version;
 use mc_imgtool::CreateOptions;
+use mc_trace::{Moment, Span, View, Words};
 use mc_trailer::{Profile, Rules};
 
 /// The text of an argument that a command cannot do without.
@@ -202,6 +203,45 @@ pub fn has_two_rounds(arguments: &ArgMatches<'_>) -> Result<bool, Refusal>
         return Err(Refusal::Argument);
     }
     Ok(two)
+}
+
+/// From which number of a boot's operations to which they are shown: all where nothing is given.
+///
+/// # Errors
+///
+/// `Number` where a text says no number that it takes.
+pub fn span_options(arguments: &ArgMatches<'_>) -> Result<Span, Refusal>
+    ensures given { IfOk result (GivesSpan (found_of arguments.now)) }
+    ensures taken { (s : Span) → GivesSpan (found_of arguments.now) s → IsOk result }
+{
+    let from = NumberOption::From.read(arguments)?;
+    let to = NumberOption::To.read(arguments)?;
+    Ok(Span {
+        from: from.unwrap_or(0),
+        to: to.unwrap_or(u32::MAX),
+    })
+}
+
+/// Of which flash a picture is, and which words it has.
+///
+/// # Errors
+///
+/// `Argument` where the text names no words.
+pub fn view_options(arguments: &ArgMatches<'_>) -> Result<View, Refusal>
+    ensures given { IfOk result (GivesView (found_of arguments.now)) }
+    ensures taken { (v : View) → GivesView (found_of arguments.now) v → IsOk result }
+{
+    let words = match arguments.get_str("words") {
+        None | Some("plain") => Words::Plain,
+        Some("all") => Words::All,
+        Some(_) => return Err(Refusal::Argument),
+    };
+    let moment = if arguments.get_flag("end") {
+        Moment::AtEnd
+    } else {
+        Moment::AtCut
+    };
+    Ok(View { moment, words })
 }
 
 /// How far an exploration goes.

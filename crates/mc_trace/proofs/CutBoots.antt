@@ -13,6 +13,7 @@ use Rattle.mc_boot.specs.Plan.{plan, PowerOn}
 use Rattle.mc_boot.specs.facts.Run.{come_at, come_count, come_prefix, come_ops}
 use Rattle.mc_boot.specs.Outcome.{happening, ops_of}
 use Rattle.mc_explore.specs.inner.OneRound.{at_cut, content_or}
+use Rattle.mc_trace.specs.declared.trace.Span.{Span}
 use Rattle.mc_trace.specs.Trace.{operation_lines, up_to, head_line, cut_line, cut_text, last_text}
 
 get_dropped : (ops : List Op) (n : ℕ) → slice_get (drop n ops) 0 ≡ slice_get ops n
@@ -21,19 +22,20 @@ get_dropped [] (suc n) = refl
 get_dropped (op ∷ ops) zero = refl
 get_dropped (op ∷ ops) (suc n) = get_dropped ops n
 
-module _ (from : PowerOn) where
+module _ (span : Span) (from : PowerOn) where
   abbrev list : List Op
   list = (plan from).list
 
   -- What is written up to a cut, and in all.
   module _ (p : Progress) (is : p ≡ begun from.rules (plan from)) where
-    pub written_cut : (cut : ℕ) → operation_lines from.geometry p.count (up_to (Some cut) p.count p.to_come) from.content ≡ operation_lines from.geometry 0 (take cut list) from.content
+    pub written_cut : (cut : ℕ) → operation_lines span from.geometry p.count (up_to (Some cut) p.count p.to_come) from.content ≡ operation_lines span from.geometry 0 (take cut list) from.content
     written_cut cut =
         let e : cut - 0 ≡ cut = omega arith in
-        ap (λ (x : Progress). operation_lines from.geometry x.count (up_to (Some cut) x.count x.to_come) from.content) is ∙ ap (λ n. operation_lines from.geometry 0 (take n list) from.content) e
+        ap (λ (x : Progress). operation_lines span from.geometry x.count (up_to (Some cut) x.count x.to_come) from.content) is
+        ∙ ap (λ n. operation_lines span from.geometry 0 (take n list) from.content) e
 
-    pub written_all : operation_lines from.geometry p.count (up_to None p.count p.to_come) from.content ≡ operation_lines from.geometry 0 list from.content
-    written_all = ap (λ (x : Progress). operation_lines from.geometry x.count (up_to None x.count x.to_come) from.content) is
+    pub written_all : operation_lines span from.geometry p.count (up_to None p.count p.to_come) from.content ≡ operation_lines span from.geometry 0 list from.content
+    written_all = ap (λ (x : Progress). operation_lines span from.geometry x.count (up_to None x.count x.to_come) from.content) is
 
   -- The boot has come to the cut, which can occur.
   module _ (q : Progress) (t : Content) (cut : ℕ) (come : HasCome from q t) (at_most : q.count ≤ cut) (end : (q.to_come ≡ []) ⊎ (q.count ≡ cut)) (inside : cut < length (ops_of from)) where
@@ -62,7 +64,7 @@ module _ (from : PowerOn) where
 
   module _ (p : Progress) (is : p ≡ begun from.rules (plan from)) (boot : ℕ) (kind : SwapType) (kind_is : kind ≡ p.kind) (before mid : Option (List ℕ)) where
     abbrev lines : Option ℕ → List ℕ
-    lines until = operation_lines from.geometry p.count (up_to until p.count p.to_come) from.content
+    lines until = operation_lines span from.geometry p.count (up_to until p.count p.to_come) from.content
 
     head : head_line boot kind ≡ head_line boot (plan from).kind
     head = ap (head_line boot) kind_is ∙ ap (λ (x : Progress). head_line boot x.kind) is
@@ -74,43 +76,43 @@ module _ (from : PowerOn) where
     head_begun rest p = out_prefix before before mid (head_line boot (plan from).kind ++ rest) (head_line boot (plan from).kind) rest (out_begun before _) (subst (AppendsPrefix before mid) head p)
 
     module _ (first : Appends before mid (head_line boot kind)) (new : Option (List ℕ)) where
-      pub last_out : Appends mid new (lines None) → Appends before new (last_text from.rules from.geometry boot from.content)
+      pub last_out : Appends mid new (lines None) → Appends before new (last_text span from.rules from.geometry boot from.content)
       last_out q =
-          let rest = operation_lines from.geometry 0 list from.content in
-          let o = subst (IsOut before mid (last_text from.rules from.geometry boot from.content)) (sym (append-nil rest)) (head_out rest first) in
+          let rest = operation_lines span from.geometry 0 list from.content in
+          let o = subst (IsOut before mid (last_text span from.rules from.geometry boot from.content)) (sym (append-nil rest)) (head_out rest first) in
           out_all before new _ (out_more before mid new _ rest [] o (subst (Appends mid new) (written_all p is) q))
 
-      pub last_begun : AppendsPrefix mid new (lines None) → AppendsPrefix before new (last_text from.rules from.geometry boot from.content)
+      pub last_begun : AppendsPrefix mid new (lines None) → AppendsPrefix before new (last_text span from.rules from.geometry boot from.content)
       last_begun q =
-          let rest = operation_lines from.geometry 0 list from.content in
-          let o = subst (IsOut before mid (last_text from.rules from.geometry boot from.content)) (sym (append-nil rest)) (head_out rest first) in
+          let rest = operation_lines span from.geometry 0 list from.content in
+          let o = subst (IsOut before mid (last_text span from.rules from.geometry boot from.content)) (sym (append-nil rest)) (head_out rest first) in
           out_prefix before mid new _ rest [] o (subst (AppendsPrefix mid new) (written_all p is) q)
 
       -- The lines up to a cut, and what comes at the cut.
       module _ (cut : ℕ) where
         abbrev prefix : List ℕ
-        prefix = operation_lines from.geometry 0 (take cut list) from.content
+        prefix = operation_lines span from.geometry 0 (take cut list) from.content
 
-        pub cut_begun : AppendsPrefix mid new (lines (Some cut)) → AppendsPrefix before new (cut_text from.rules from.geometry boot from.content cut)
+        pub cut_begun : AppendsPrefix mid new (lines (Some cut)) → AppendsPrefix before new (cut_text span from.rules from.geometry boot from.content cut)
         cut_begun q = out_prefix before mid new _ prefix _ (head_out _ first) (subst (AppendsPrefix mid new) (written_cut p is cut) q)
 
         module _ (here : Appends mid new (lines (Some cut))) where
-          come_out : IsOut before new (cut_text from.rules from.geometry boot from.content cut) (cut_line from.geometry cut (slice_get list cut))
+          come_out : IsOut before new (cut_text span from.rules from.geometry boot from.content cut) (cut_line from.geometry cut (slice_get list cut))
           come_out = out_more before mid new _ prefix _ (head_out _ first) (subst (Appends mid new) (written_cut p is cut) here)
 
           -- Nothing is there.
-          pub cut_out_none : slice_get list cut ≡ None → Appends before new (cut_text from.rules from.geometry boot from.content cut)
-          cut_out_none none = out_all before new _ (subst (λ o. IsOut before new (cut_text from.rules from.geometry boot from.content cut) (cut_line from.geometry cut o)) none come_out)
+          pub cut_out_none : slice_get list cut ≡ None → Appends before new (cut_text span from.rules from.geometry boot from.content cut)
+          cut_out_none none = out_all before new _ (subst (λ o. IsOut before new (cut_text span from.rules from.geometry boot from.content cut) (cut_line from.geometry cut o)) none come_out)
 
           module _ (op : Op) (next : slice_get list cut ≡ Some op) (last : Option (List ℕ)) where
-            at_op : IsOut before new (cut_text from.rules from.geometry boot from.content cut) (cut_line from.geometry cut (Some op) ++ [])
-            at_op = subst (IsOut before new (cut_text from.rules from.geometry boot from.content cut)) (sym (append-nil (cut_line from.geometry cut (Some op))))
-                (subst (λ o. IsOut before new (cut_text from.rules from.geometry boot from.content cut) (cut_line from.geometry cut o)) next come_out)
+            at_op : IsOut before new (cut_text span from.rules from.geometry boot from.content cut) (cut_line from.geometry cut (Some op) ++ [])
+            at_op = subst (IsOut before new (cut_text span from.rules from.geometry boot from.content cut)) (sym (append-nil (cut_line from.geometry cut (Some op))))
+                (subst (λ o. IsOut before new (cut_text span from.rules from.geometry boot from.content cut) (cut_line from.geometry cut o)) next come_out)
 
-            pub cut_out : (x : Geometry) → x ≡ from.geometry → Appends new last (cut_line x cut (Some op)) → Appends before last (cut_text from.rules from.geometry boot from.content cut)
+            pub cut_out : (x : Geometry) → x ≡ from.geometry → Appends new last (cut_line x cut (Some op)) → Appends before last (cut_text span from.rules from.geometry boot from.content cut)
             cut_out x layout_is q = out_all before last _ (out_more before new last _ (cut_line from.geometry cut (Some op)) [] at_op (subst (λ y. Appends new last (cut_line y cut (Some
                 op))) layout_is q))
 
             pub cut_line_begun : (x : Geometry) → x ≡ from.geometry → AppendsPrefix new last (cut_line x cut (Some op))
-                → AppendsPrefix before last (cut_text from.rules from.geometry boot from.content cut)
+                → AppendsPrefix before last (cut_text span from.rules from.geometry boot from.content cut)
             cut_line_begun x layout_is q = out_prefix before new last _ (cut_line from.geometry cut (Some op)) [] at_op (subst (λ y. AppendsPrefix new last (cut_line y cut (Some op))) layout_is q)

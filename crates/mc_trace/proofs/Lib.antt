@@ -2,4 +2,5 @@ mod OperationLines
 mod CutBoots
 mod Tracing
 mod Pictured
+mod Used
 pub mod Out

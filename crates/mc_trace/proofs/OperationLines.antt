@@ -1,7 +1,7 @@
 -- The lines of a boot's operations, one step after another.
 use Rattle.std.specs.Prelude.{◌≡◌, ℕ, zero, suc, ◌+◌, ◌-◌, ◌<◌, ◌≤◌, List, [], ◌∷◌, ◌++◌, take, slice_get, codes, Option, Some, None, IfSome, Result, Ok, Err, is_some, true, refl, OnOk, OnErr}
 use Rattle.std.specs.Io.KnownBytes.{Appends}
-use Rattle.std.proofs.Common.{arith, sym, ap, subst, append_assoc, append-nil, ◌∙◌}
+use Rattle.std.proofs.Common.{arith, sym, ap, subst, append-nil, ◌∙◌}
 use Rattle.mc_flash.specs.facts.Done.{did, undefined}
 use Rattle.mc_flash.specs.Geometry.{Geometry}
 use Rattle.mc_flash.specs.Usage.{Seen}
@@ -15,11 +15,12 @@ use Rattle.mc_output.specs.Text.{AppendsPrefix}
 use Rattle.mc_trace.specs.inner.Boots.{CountsUpTo, GoesUpTo, WritesText}
 use Rattle.mc_trace.specs.declared.error.TraceError.{TraceError}
 use Rattle.mc_trace.specs.declared.error.TraceError.TheVariants as traces
-use Rattle.mc_trace.specs.Trace.{numbered_text, operation_lines, first_operation_lines, up_to}
+use Rattle.mc_trace.specs.Trace.{numbered_text, operation_lines, first_operation_lines, shown, up_to}
+use Rattle.mc_trace.specs.declared.trace.Span.{Span}
 
 -- What is still to be written of a boot that has come to p.
-abbrev pub left_to_write : Option ℕ → Seen → Progress → List ℕ
-left_to_write until f p = operation_lines f.geometry p.count (up_to until p.count p.to_come) f.content
+abbrev pub left_to_write : Span → Option ℕ → Seen → Progress → List ℕ
+left_to_write span until f p = operation_lines span f.geometry p.count (up_to until p.count p.to_come) f.content
 
 taken : (until : Option ℕ) (n : ℕ) (op : Op) (rest : List Op) → IfSome until (λ m. n < m) → up_to until n (op ∷ rest) ≡ op ∷ up_to until (n + 1) rest
 taken None n op rest going = refl
@@ -33,70 +34,63 @@ pub none_left : (until : Option ℕ) (n : ℕ) → up_to until n [] ≡ []
 none_left None n = refl
 none_left (Some m) n = none_of_none (m - n)
 
-module _ (old new : Seen) (p q : Progress) (op : Op) (until : Option ℕ) (first : slice_get p.to_come 0 ≡ Some op) (going : IfSome until (λ m. p.count < m)) where
+module _ (span : Span) (old new : Seen) (p q : Progress) (op : Op) (until : Option ℕ) (first : slice_get p.to_come 0 ≡ Some op) (going : IfSome until (λ m. p.count < m)) where
   -- The next operation happened.
   pub happened : (result : Result (Unit {0}) FlashError) → result ≡ Ok tt → Steps p old result q new
-      → left_to_write until old p ≡ (numbered_text old.geometry p.count op ++ 10 ∷ []) ++ left_to_write until new q
+      → left_to_write span until old p ≡ shown span p.count (numbered_text old.geometry p.count op ++ codes "\n") ++ left_to_write span until new q
   happened (Err e) is steps = absurd cc
   happened (Ok v) is steps = at p.to_come refl first steps
     where
       at : (ops : List Op) → p.to_come ≡ ops → slice_get ops 0 ≡ Some op → StepsAlong ops p old (Ok v) q new
-          → left_to_write until old p ≡ (numbered_text old.geometry p.count op ++ 10 ∷ []) ++ left_to_write until new q
+          → left_to_write span until old p ≡ shown span p.count (numbered_text old.geometry p.count op ++ codes "\n") ++ left_to_write span until new q
       at [] to one d = absurd cc
       at (x ∷ rest) to one d =
           let same : x ≡ op = cc in
           let does = did x old new d.1.0 in
           let beyond : List Op = up_to until (p.count + 1) rest in
-          let line : List ℕ = numbered_text old.geometry p.count op ++ 10 ∷ [] in
-          ap (λ os. operation_lines old.geometry p.count os old.content) (ap (up_to until p.count) to ∙ taken until p.count x rest going)
-          ∙ ap (first_operation_lines old.geometry p.count x (λ t. operation_lines old.geometry (p.count + 1) beyond t)) does.applied
-          ∙ ap (λ o. (numbered_text old.geometry p.count o ++ 10 ∷ []) ++ operation_lines old.geometry (p.count + 1) beyond new.content) same
-          ∙ ap (λ (g : Geometry). line ++ operation_lines g (p.count + 1) beyond new.content) (sym (ap (λ (f : Seen). f.geometry) does.is))
-          ∙ ap (λ (z : Progress). line ++ left_to_write until new z) (sym d.0)
+          let line : List ℕ = shown span p.count (numbered_text old.geometry p.count op ++ codes "\n") in
+          ap (λ os. operation_lines span old.geometry p.count os old.content) (ap (up_to until p.count) to ∙ taken until p.count x rest going)
+          ∙ ap (first_operation_lines span old.geometry p.count x (λ t. operation_lines span old.geometry (p.count + 1) beyond t)) does.applied
+          ∙ ap (λ o. shown span p.count (numbered_text old.geometry p.count o ++ codes "\n") ++ operation_lines span old.geometry (p.count + 1) beyond new.content) same
+          ∙ ap (λ (g : Geometry). line ++ operation_lines span g (p.count + 1) beyond new.content) (sym (ap (λ (f : Seen). f.geometry) does.is))
+          ∙ ap (λ (z : Progress). line ++ left_to_write span until new z) (sym d.0)
 
   -- It was refused, and none is to come.
   pub refused : (result : Result (Unit {0}) FlashError) → result ≡ Err errors.NotErased → Steps p old result q new
-      → left_to_write until old p ≡ ((numbered_text old.geometry p.count op ++ codes " refused") ++ 10 ∷ []) ++ left_to_write until new q
+      → left_to_write span until old p ≡ shown span p.count (numbered_text old.geometry p.count op ++ codes " refused\n") ++ left_to_write span until new q
   refused (Ok v) is steps = absurd cc
   refused (Err errors.Memory) is steps = absurd cc
   refused (Err errors.NotErased) is steps = at p.to_come refl first steps
     where
       at : (ops : List Op) → p.to_come ≡ ops → slice_get ops 0 ≡ Some op → StepsAlong ops p old (Err errors.NotErased) q new
-          → left_to_write until old p ≡ ((numbered_text old.geometry p.count op ++ codes " refused") ++ 10 ∷ []) ++ left_to_write until new q
+          → left_to_write span until old p ≡ shown span p.count (numbered_text old.geometry p.count op ++ codes " refused\n") ++ left_to_write span until new q
       at [] to one d = absurd d
       at (x ∷ rest) to one d =
           let same : x ≡ op = cc in
-          let line : List ℕ = (numbered_text old.geometry p.count op ++ codes " refused") ++ 10 ∷ [] in
-          let over : left_to_write until new q ≡ [] =
-          ap (λ (z : Progress). left_to_write until new z) d.0 ∙ ap (λ os. operation_lines new.geometry p.count os new.content) (none_left until p.count) in
-          ap (λ os. operation_lines old.geometry p.count os old.content) (ap (up_to until p.count) to ∙ taken until p.count x rest going)
-          ∙ ap (first_operation_lines old.geometry p.count x (λ t. operation_lines old.geometry (p.count + 1) (up_to until (p.count + 1) rest) t)) (undefined x old d.1.0)
-          ∙ ap (λ o. (numbered_text old.geometry p.count o ++ codes " refused") ++ 10 ∷ []) same
+          let line : List ℕ = shown span p.count (numbered_text old.geometry p.count op ++ codes " refused\n") in
+          let over : left_to_write span until new q ≡ [] =
+          ap (λ (z : Progress). left_to_write span until new z) d.0 ∙ ap (λ os. operation_lines span new.geometry p.count os new.content) (none_left until p.count) in
+          ap (λ os. operation_lines span old.geometry p.count os old.content) (ap (up_to until p.count) to ∙ taken until p.count x rest going)
+          ∙ ap (first_operation_lines span old.geometry p.count x (λ t. operation_lines span old.geometry (p.count + 1) (up_to until (p.count + 1) rest) t)) (undefined x old d.1.0)
+          ∙ ap (λ o. shown span p.count (numbered_text old.geometry p.count o ++ codes " refused\n")) same
           ∙ sym (append-nil line)
           ∙ ap (λ z. line ++ z) (sym over)
 
 -- None is left where there is no next one, and where the number is reached.
-pub over : (until : Option ℕ) (f : Seen) (p : Progress) → p.to_come ≡ [] → left_to_write until f p ≡ []
-over until f p end = ap (λ os. operation_lines f.geometry p.count (up_to until p.count os) f.content) end ∙ ap (λ os. operation_lines f.geometry p.count os f.content) (none_left until p.count)
+pub over : (span : Span) (until : Option ℕ) (f : Seen) (p : Progress) → p.to_come ≡ [] → left_to_write span until f p ≡ []
+over span until f p end =
+    ap (λ os. operation_lines span f.geometry p.count (up_to until p.count os) f.content) end ∙ ap (λ os. operation_lines span f.geometry p.count os f.content) (none_left until p.count)
 
-pub reached : (until : Option ℕ) (f : Seen) (p : Progress) → IfSome until (λ n. p.count ≡ n) → is_some until ≡ true → left_to_write until f p ≡ []
-reached None f p at some = absurd cc
-reached (Some n) f p at some = let e : n - p.count ≡ 0 = omega (arith, at) in ap (λ k. operation_lines f.geometry p.count (take k p.to_come) f.content) e
+pub reached : (span : Span) (until : Option ℕ) (f : Seen) (p : Progress) → IfSome until (λ n. p.count ≡ n) → is_some until ≡ true → left_to_write span until f p ≡ []
+reached span None f p at some = absurd cc
+reached span (Some n) f p at some = let e : n - p.count ≡ 0 = omega (arith, at) in ap (λ k. operation_lines span f.geometry p.count (take k p.to_come) f.content) e
 
 -- ---- what is out by then
 
-module _ (before mid new : Option (List ℕ)) (text all rest : List ℕ) (g here : Geometry) (n count : ℕ) (op : Op) (layout_is : g ≡ here) (at : n ≡ count) (out : IsOut before mid text all) where
+module _ (span : Span) (before mid new : Option (List ℕ)) (text all rest : List ℕ) (g here : Geometry) (n count : ℕ) (op : Op) (layout_is : g ≡ here) (at : n ≡ count) (out : IsOut before mid text all)
+    (end : List ℕ) where
   abbrev line : Geometry → ℕ → List ℕ
-  line x k = numbered_text x k op ++ 10 ∷ []
-
-  abbrev refusal : Geometry → ℕ → List ℕ
-  refusal x k = numbered_text x k op ++ codes " refused\n"
-
-  abbrev Refuses : Type 0
-  Refuses = all ≡ ((numbered_text here count op ++ codes " refused") ++ 10 ∷ []) ++ rest
-
-  refusal_is : Refuses → all ≡ refusal here count ++ rest
-  refusal_is e = e ∙ ap (λ (z : List ℕ). z ++ rest) (append_assoc (numbered_text here count op) (codes " refused") (10 ∷ []))
+  line x k = shown span k (numbered_text x k op ++ end)
 
   there : (P : Geometry → ℕ → Type 0) → P g n → P here count
   there P p = subst (λ x. P x count) layout_is (subst (P g) at p)
@@ -106,12 +100,6 @@ module _ (before mid new : Option (List ℕ)) (text all rest : List ℕ) (g here
 
   pub line_begun : all ≡ line here count ++ rest → AppendsPrefix mid new (line g n) → AppendsPrefix before new text
   line_begun e p = out_prefix before mid new text (line here count) rest (subst (IsOut before mid text) e out) (there (λ x k. AppendsPrefix mid new (line x k)) p)
-
-  pub refusal_out : Refuses → Appends mid new (refusal g n) → IsOut before new text rest
-  refusal_out e p = out_more before mid new text (refusal here count) rest (subst (IsOut before mid text) (refusal_is e) out) (there (λ x k. Appends mid new (refusal x k)) p)
-
-  pub refusal_begun : Refuses → AppendsPrefix mid new (refusal g n) → AppendsPrefix before new text
-  refusal_begun e p = out_prefix before mid new text (refusal here count) rest (subst (IsOut before mid text) (refusal_is e) out) (there (λ x k. AppendsPrefix mid new (refusal x k)) p)
 
 -- ---- how many operations happened
 

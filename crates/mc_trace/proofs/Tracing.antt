@@ -15,12 +15,13 @@ use Rattle.mc_output.specs.Text.{AppendsPrefix}
 use Rattle.mc_boot.specs.Outcome.{Report, outcome_of, outcome_text, after, at, ops_of}
 use Rattle.mc_boot.specs.Plan.{PowerOn, again, power_on, powered}
 use Rattle.mc_trace.specs.Trace.{RefusesTrace, boots_text, cut_text, last_text, outcome_lines, trace_text}
+use Rattle.mc_trace.specs.declared.trace.Span.{Span}
 use Rattle.mc_trace.specs.declared.error.TraceError.{TraceError}
 use Rattle.mc_trace.specs.declared.error.TraceError.TheVariants as errors
 
 -- So many cuts are traced, and the flash stands where they left it.
-pub record AreWritten (start : PowerOn) (cuts : List ℕ) (before now : Option (List ℕ)) (written : ℕ) (boot : ℕ) (f : Seen) : Type 0 where
-  pub out : IsOut before now (trace_text start cuts) (boots_text start.rules start.geometry boot f.content (drop written cuts))
+pub record AreWritten (span : Span) (start : PowerOn) (cuts : List ℕ) (before now : Option (List ℕ)) (written : ℕ) (boot : ℕ) (f : Seen) : Type 0 where
+  pub out : IsOut before now (trace_text span start cuts) (boots_text span start.rules start.geometry boot f.content (drop written cuts))
   pub path : after (again start f.content) (drop written cuts) ≡ after start cuts
   pub layout : f.geometry ≡ start.geometry
   pub number : boot ≡ written
@@ -45,16 +46,16 @@ module _ (x : PowerOn) (cut : ℕ) (cuts : List ℕ) (u : Content) (occurs : aft
   pub beyond : after (again x (at_cut x cut)) cuts ≡ Some u
   beyond = there (at x cut) refl (ap (λ b. option_and_then (λ t. after (again x t) cuts) (if b then at x cut else None)) (sym inside_is) ∙ occurs)
 
-module _ (start : PowerOn) (cuts : List ℕ) (before : Option (List ℕ)) where
-  pub none_written : (f : Seen) → f.content ≡ start.content → f.geometry ≡ start.geometry → AreWritten start cuts before before 0 0 f
+module _ (span : Span) (start : PowerOn) (cuts : List ℕ) (before : Option (List ℕ)) where
+  pub none_written : (f : Seen) → f.content ≡ start.content → f.geometry ≡ start.geometry → AreWritten span start cuts before before 0 0 f
   none_written f content layout = record {
-    out = subst (λ (c : Content). IsOut before before (trace_text start cuts) (boots_text start.rules start.geometry 0 c cuts)) (sym content) (out_begun before (trace_text start cuts));
+    out = subst (λ (c : Content). IsOut before before (trace_text span start cuts) (boots_text span start.rules start.geometry 0 c cuts)) (sym content) (out_begun before (trace_text span start cuts));
     path = ap (λ (c : Content). after (again start c) cuts) content;
     layout = layout;
     number = refl;
   }
 
-  module _ (now new : Option (List ℕ)) (written boot : ℕ) (f : Seen) (are : AreWritten start cuts before now written boot f) (more : written < length cuts) (u : Content)
+  module _ (now new : Option (List ℕ)) (written boot : ℕ) (f : Seen) (are : AreWritten span start cuts before now written boot f) (more : written < length cuts) (u : Content)
       (occurs : after start cuts ≡ Some u) where
     abbrev cut : ℕ
     cut = get_or cuts written 0
@@ -68,28 +69,28 @@ module _ (start : PowerOn) (cuts : List ℕ) (before : Option (List ℕ)) where
     path_here : after (again start f.content) (cut ∷ rest) ≡ Some u
     path_here = ap (after (again start f.content)) (sym next_is) ∙ are.path ∙ occurs
 
-    out_here : IsOut before now (trace_text start cuts) (cut_text start.rules start.geometry boot f.content cut ++ boots_text start.rules start.geometry (boot + 1)
+    out_here : IsOut before now (trace_text span start cuts) (cut_text span start.rules start.geometry boot f.content cut ++ boots_text span start.rules start.geometry (boot + 1)
         (at_cut (again start f.content) cut) rest)
-    out_here = subst (λ cs. IsOut before now (trace_text start cuts) (boots_text start.rules start.geometry boot f.content cs)) next_is are.out
+    out_here = subst (λ cs. IsOut before now (trace_text span start cuts) (boots_text span start.rules start.geometry boot f.content cs)) next_is are.out
 
-    pub one_begun : AppendsPrefix now new (cut_text start.rules f.geometry boot f.content cut) → AppendsPrefix before new (trace_text start cuts)
-    one_begun p = out_prefix before now new _ (cut_text start.rules start.geometry boot f.content cut) _ out_here
-        (subst (λ g. AppendsPrefix now new (cut_text start.rules g boot f.content cut)) are.layout p)
+    pub one_begun : AppendsPrefix now new (cut_text span start.rules f.geometry boot f.content cut) → AppendsPrefix before new (trace_text span start cuts)
+    one_begun p = out_prefix before now new _ (cut_text span start.rules start.geometry boot f.content cut) _ out_here
+        (subst (λ g. AppendsPrefix now new (cut_text span start.rules g boot f.content cut)) are.layout p)
 
-    pub one_written : (h : Seen) → Appends now new (cut_text start.rules f.geometry boot f.content cut) → h.content ≡ at_cut (powered start.rules f) cut → h.geometry ≡ f.geometry
-        → AreWritten start cuts before new (written + 1) (boot + 1) h
+    pub one_written : (h : Seen) → Appends now new (cut_text span start.rules f.geometry boot f.content cut) → h.content ≡ at_cut (powered start.rules f) cut → h.geometry ≡ f.geometry
+        → AreWritten span start cuts before new (written + 1) (boot + 1) h
     one_written h p left layout =
         let content : h.content ≡ at_cut (again start f.content) cut = left ∙ ap (λ g. at_cut (power_on start.rules g f.content) cut) are.layout in
-        let shown = out_more before now new _ (cut_text start.rules start.geometry boot f.content cut) _ out_here
-        (subst (λ g. Appends now new (cut_text start.rules g boot f.content cut)) are.layout p) in
+        let shown = out_more before now new _ (cut_text span start.rules start.geometry boot f.content cut) _ out_here
+        (subst (λ g. Appends now new (cut_text span start.rules g boot f.content cut)) are.layout p) in
         record {
-          out = subst (λ (c : Content). IsOut before new (trace_text start cuts) (boots_text start.rules start.geometry (boot + 1) c rest)) (sym content) shown;
+          out = subst (λ (c : Content). IsOut before new (trace_text span start cuts) (boots_text span start.rules start.geometry (boot + 1) c rest)) (sym content) shown;
           path = ap (λ (c : Content). after (again start c) rest) content ∙ beyond (again start f.content) cut rest u path_here ∙ sym occurs;
           layout = layout ∙ are.layout;
           number = omega (arith, are.number);
         }
 
-  module _ (now : Option (List ℕ)) (written boot : ℕ) (f : Seen) (are : AreWritten start cuts before now written boot f) (end : length cuts ≤ written) (u : Content)
+  module _ (now : Option (List ℕ)) (written boot : ℕ) (f : Seen) (are : AreWritten span start cuts before now written boot f) (end : length cuts ≤ written) (u : Content)
       (occurs : after start cuts ≡ Some u) (outcome : Report) (outcome_is : outcome_of (again start u) ≡ Some outcome) where
     none_left : drop written cuts ≡ []
     none_left = drop_of_length-le cuts end
@@ -97,28 +98,29 @@ module _ (start : PowerOn) (cuts : List ℕ) (before : Option (List ℕ)) where
     at_end : f.content ≡ u
     at_end = let e : Some f.content ≡ Some u = sym (ap (after (again start f.content)) none_left) ∙ are.path ∙ occurs in cc
 
-    lines_are : boots_text start.rules start.geometry boot f.content (drop written cuts) ≡ last_text start.rules start.geometry boot f.content ++ (outcome_text outcome ++ [])
+    lines_are : boots_text span start.rules start.geometry boot f.content (drop written cuts) ≡ last_text span start.rules start.geometry boot f.content ++ (outcome_text outcome ++ [])
     lines_are =
-        ap (boots_text start.rules start.geometry boot f.content) none_left
-        ∙ ap (λ o. last_text start.rules start.geometry boot f.content ++ outcome_lines o) (ap (λ s. outcome_of (again start s)) at_end ∙ outcome_is)
-        ∙ ap (λ z. last_text start.rules start.geometry boot f.content ++ z) (sym (append-nil (outcome_text outcome)))
+        ap (boots_text span start.rules start.geometry boot f.content) none_left
+        ∙ ap (λ o. last_text span start.rules start.geometry boot f.content ++ outcome_lines o) (ap (λ s. outcome_of (again start s)) at_end ∙ outcome_is)
+        ∙ ap (λ z. last_text span start.rules start.geometry boot f.content ++ z) (sym (append-nil (outcome_text outcome)))
 
-    out_end : IsOut before now (trace_text start cuts) (last_text start.rules start.geometry boot f.content ++ (outcome_text outcome ++ []))
-    out_end = subst (IsOut before now (trace_text start cuts)) lines_are are.out
+    out_end : IsOut before now (trace_text span start cuts) (last_text span start.rules start.geometry boot f.content ++ (outcome_text outcome ++ []))
+    out_end = subst (IsOut before now (trace_text span start cuts)) lines_are are.out
 
     module _ (mid : Option (List ℕ)) where
-      pub last_begun : AppendsPrefix now mid (last_text start.rules f.geometry boot f.content) → AppendsPrefix before mid (trace_text start cuts)
-      last_begun p = out_prefix before now mid _ (last_text start.rules start.geometry boot f.content) _ out_end
-          (subst (λ g. AppendsPrefix now mid (last_text start.rules g boot f.content)) are.layout p)
+      pub last_begun : AppendsPrefix now mid (last_text span start.rules f.geometry boot f.content) → AppendsPrefix before mid (trace_text span start cuts)
+      last_begun p = out_prefix before now mid _ (last_text span start.rules start.geometry boot f.content) _ out_end
+          (subst (λ g. AppendsPrefix now mid (last_text span start.rules g boot f.content)) are.layout p)
 
-      module _ (last : Appends now mid (last_text start.rules f.geometry boot f.content)) (new : Option (List ℕ)) where
-        out_last : IsOut before mid (trace_text start cuts) (outcome_text outcome ++ [])
-        out_last = out_more before now mid _ (last_text start.rules start.geometry boot f.content) _ out_end (subst (λ g. Appends now mid (last_text start.rules g boot f.content)) are.layout last)
+      module _ (last : Appends now mid (last_text span start.rules f.geometry boot f.content)) (new : Option (List ℕ)) where
+        out_last : IsOut before mid (trace_text span start cuts) (outcome_text outcome ++ [])
+        out_last = out_more before now mid _ (last_text span start.rules start.geometry boot f.content) _ out_end
+            (subst (λ g. Appends now mid (last_text span start.rules g boot f.content)) are.layout last)
 
-        pub outcome_begun : AppendsPrefix mid new (outcome_text outcome) → AppendsPrefix before new (trace_text start cuts)
+        pub outcome_begun : AppendsPrefix mid new (outcome_text outcome) → AppendsPrefix before new (trace_text span start cuts)
         outcome_begun p = out_prefix before mid new _ (outcome_text outcome) [] out_last p
 
-        pub outcome_written : Appends mid new (outcome_text outcome) → Appends before new (trace_text start cuts)
+        pub outcome_written : Appends mid new (outcome_text outcome) → Appends before new (trace_text span start cuts)
         outcome_written p = out_all before new _ (out_more before mid new _ (outcome_text outcome) [] out_last p)
 
 -- Memory and a failed write are no refusals.

@@ -1,5 +1,5 @@
 -- Operations as they are printed: this project's own texts.
-use Rattle.std.specs.Prelude.{List, None, Option, Some, [], codes, decimal, if◌then◌else◌, nat_le, slice_get, take, ℕ, ⊤, ◌++◌, ◌+◌, ◌-◌, ◌/◌, ◌∷◌, ◌≡◌}
+use Rattle.std.specs.Prelude.{Bool, List, None, Option, Some, [], codes, decimal, if◌then◌else◌, nat_le, slice_get, take, ℕ, ⊤, ◌&&◌, ◌++◌, ◌+◌, ◌-◌, ◌/◌, ◌∷◌, ◌≡◌}
 use Rattle.hex.specs.Hex.{encode_lower}
 use Rattle.mc_boot.specs.Outcome.{Report, outcome_of, outcome_text}
 use Rattle.mc_boot.specs.Plan.{PowerOn, plan, power_on}
@@ -13,6 +13,7 @@ use Rattle.mc_flash.specs.declared.op.Slot.{Slot}
 use Rattle.mc_flash.specs.declared.op.Slot.TheVariants.{Primary, Secondary}
 use Rattle.mc_trace.specs.declared.error.TraceError.{TraceError}
 use Rattle.mc_trace.specs.declared.operation.Part.{Part}
+use Rattle.mc_trace.specs.declared.trace.Span.{Span}
 use Rattle.mc_trailer.specs.Tables.{type_text}
 use Rattle.mc_trailer.specs.declared.tables.Rules.{Rules}
 use Rattle.mc_trailer.specs.declared.tables.SwapType.{SwapType}
@@ -76,15 +77,23 @@ numbered_text g number op = decimal number ++ (codes " " ++ operation_text g op)
 
 -- A schedule of power cuts, traced boot by boot: this project's own text.
 
+-- A line is shown where the number of its operation lies in a span.
+abbrev pub is_in : Span → ℕ → Bool
+is_in span number = nat_le span.from number && nat_le number span.to
+
+abbrev pub shown : Span → ℕ → List ℕ → List ℕ
+shown span number line = if is_in span number then line else []
+
 -- An operation that can be applied has its line, and what comes after it. One that can't is refused, and nothing comes after it.
-abbrev pub first_operation_lines : Geometry → ℕ → Op → (Content → List ℕ) → Option Content → List ℕ
-first_operation_lines g number op beyond (Some t) = (numbered_text g number op ++ 10 ∷ []) ++ beyond t
-first_operation_lines g number op beyond None = (numbered_text g number op ++ codes " refused") ++ 10 ∷ []
+abbrev pub first_operation_lines : Span → Geometry → ℕ → Op → (Content → List ℕ) → Option Content → List ℕ
+first_operation_lines span g number op beyond (Some t) = shown span number (numbered_text g number op ++ codes "\n") ++ beyond t
+first_operation_lines span g number op beyond None = shown span number (numbered_text g number op ++ codes " refused\n")
 
 -- The lines of operations that are made one after another, from this number on.
-abbrev pub operation_lines : Geometry → ℕ → List Op → Content → List ℕ
-operation_lines g number [] s = []
-operation_lines g number (op ∷ ops) s = first_operation_lines g number op (λ t. operation_lines g (number + 1) ops t) (apply g op s)
+abbrev pub operation_lines : Span → Geometry → ℕ → List Op → Content → List ℕ
+operation_lines span g number [] s = []
+operation_lines span g number (op ∷ ops) s =
+    first_operation_lines span g number op (λ t. operation_lines span g (number + 1) ops t) (apply g op s)
 
 -- Up to a number, where there is one.
 abbrev pub up_to : Option ℕ → ℕ → List Op → List Op
@@ -101,26 +110,27 @@ cut_line g cut None = []
 cut_line g cut (Some op) = (codes "cut before " ++ numbered_text g cut op) ++ 10 ∷ []
 
 -- A boot that is cut: the operations of its plan before the cut, and the one there.
-abbrev pub cut_text : Rules → Geometry → ℕ → Content → ℕ → List ℕ
-cut_text r g boot s cut =
+abbrev pub cut_text : Span → Rules → Geometry → ℕ → Content → ℕ → List ℕ
+cut_text span r g boot s cut =
     let p = plan (power_on r g s) in
-    head_line boot p.kind ++ (operation_lines g 0 (take cut p.list) s ++ cut_line g cut (slice_get p.list cut))
+    head_line boot p.kind ++ (operation_lines span g 0 (take cut p.list) s ++ cut_line g cut (slice_get p.list cut))
 
 -- The last boot: all operations of its plan.
-abbrev pub last_text : Rules → Geometry → ℕ → Content → List ℕ
-last_text r g boot s = let p = plan (power_on r g s) in head_line boot p.kind ++ operation_lines g 0 p.list s
+abbrev pub last_text : Span → Rules → Geometry → ℕ → Content → List ℕ
+last_text span r g boot s = let p = plan (power_on r g s) in head_line boot p.kind ++ operation_lines span g 0 p.list s
 
 abbrev pub outcome_lines : Option Report → List ℕ
 outcome_lines None = []
 outcome_lines (Some outcome) = outcome_text outcome
 
 -- The boots of some cuts, each from what the one before it left, then the last boot and its outcome.
-abbrev pub boots_text : Rules → Geometry → ℕ → Content → List ℕ → List ℕ
-boots_text r g boot s [] = last_text r g boot s ++ outcome_lines (outcome_of (power_on r g s))
-boots_text r g boot s (cut ∷ cuts) = cut_text r g boot s cut ++ boots_text r g (boot + 1) (at_cut (power_on r g s) cut) cuts
+abbrev pub boots_text : Span → Rules → Geometry → ℕ → Content → List ℕ → List ℕ
+boots_text span r g boot s [] = last_text span r g boot s ++ outcome_lines (outcome_of (power_on r g s))
+boots_text span r g boot s (cut ∷ cuts) = cut_text span r g boot s cut ++ boots_text span r g (boot + 1) (at_cut (power_on r g s) cut) cuts
 
-abbrev pub trace_text : PowerOn → List ℕ → List ℕ
-trace_text start cuts = boots_text start.rules start.geometry 0 start.content cuts
+-- With those operations of each boot whose number lies in a span.
+abbrev pub trace_text : Span → PowerOn → List ℕ → List ℕ
+trace_text span start cuts = boots_text span start.rules start.geometry 0 start.content cuts
 
 -- What is refused of a schedule that is to be traced.
 

@@ -8,10 +8,11 @@ ghost use Rattle.mc_explore.specs.inner.OneRound.{most_of, at_cut};
 ghost use Rattle.mc_boot.specs.Plan.{powered};
 ghost use Rattle.mc_boot.specs.Outcome.{ops_of};
 ghost use Rattle.mc_trace.specs.inner.Boots.{CountsUpTo, GoesUpTo, WritesText};
-ghost use Rattle.mc_trace.specs.Trace.{numbered_text, operation_lines, up_to, head_line, cut_line, cut_text, last_text};
+ghost use Rattle.mc_trace.specs.Trace.{numbered_text, operation_lines, up_to, head_line, cut_line, cut_text, last_text, shown};
 
 use crate::error::TraceError;
 use crate::operation::Numbered;
+use crate::trace::Span;
 use mc_boot::Boot;
 use mc_flash::{Flash, FlashError};
 use mc_output::{Line, write_line};
@@ -31,14 +32,17 @@ fn head_line(boot: u32, kind: SwapType) -> Line
     line
 }
 
-// An operation, and what is said after it.
-fn line_with(numbered: &Numbered<'_>, end: &str) -> Line
+// An operation, and what is said after it, where its number lies in a span; else nothing.
+fn line_with(span: Span, numbered: &Numbered<'_>, end: &str) -> Line
     requires { length end.now ≤ 9 }
-    ensures { let o = numbered.now in result ≡ numbered_text o.layout.now o.number o.op ++ end.now }
+    ensures { let o = numbered.now in result
+        ≡ shown span o.number (numbered_text o.layout.now o.number o.op ++ end.now) }
 {
     let mut line = Line::new();
-    numbered.put_into(&mut line);
-    line.put(end);
+    if span.has(numbered.number) {
+        numbered.put_into(&mut line);
+        line.put(end);
+    }
     line
 }
 
@@ -53,11 +57,12 @@ fn cut_line(numbered: &Numbered<'_>) -> Line
     line
 }
 
-// Makes the operations of a boot up to a number, or all that are left, and writes a line for each.
+// Makes the operations of a boot up to a number, or all that are left, and writes a line for each whose number lies in a span.
 fn write_operations<F: Flash, W: Write>(
     flash: &mut F,
     boot: &mut Boot,
     until: Option<u32>,
+    span: Span,
     writer: &mut W,
 ) -> Result<(), TraceError>
     requires layout { IsBootOf (F.seen flash.old).geometry boot.old }
@@ -65,8 +70,8 @@ fn write_operations<F: Flash, W: Write>(
     requires room { let f = F.seen flash.old in Allows (left_of f.geometry (progress boot.old)) f }
     ensures written { let p = progress boot.old in WritesText result
         (W.contents writer.old) (W.contents writer.new)
-        (operation_lines (F.seen flash.old).geometry p.count (up_to until p.count p.to_come)
-        (F.seen flash.old).content) }
+        (operation_lines span (F.seen flash.old).geometry p.count
+        (up_to until p.count p.to_come) (F.seen flash.old).content) }
     ensures goes { GoesUpTo until boot.old (F.seen flash.old) boot.new (F.seen flash.new) }
     ensures end { OnOk result ((to_come boot.new ≡ [])
         ⊎ IfSome until (λ n. (progress boot.new).count ≡ n)) }
@@ -85,8 +90,11 @@ fn write_operations<F: Flash, W: Write>(
             op,
         };
         match boot.step(flash) {
-            Ok(()) => write_line(writer, &line_with(&numbered, "\n"))?,
-            Err(FlashError::NotErased) => write_line(writer, &line_with(&numbered, " refused\n"))?,
+            Ok(()) => write_line(writer, &line_with(span, &numbered, "\n"))?,
+            Err(FlashError::NotErased) => write_line(
+                writer,
+                &line_with(span, &numbered, " refused\n"),
+            )?,
             Err(FlashError::Memory) => return Err(TraceError::Memory),
         }
     }
@@ -103,16 +111,17 @@ pub fn write_cut_boot<F: Flash, W: Write>(
     rules: Rules,
     boot: u32,
     cut: u32,
+    span: Span,
     writer: &mut W,
 ) -> Result<(), TraceError>
     requires inside { cut < length (ops_of (powered rules (F.seen flash.old))) }
     requires room { let f = F.seen flash.old in Allows (most_of rules f.geometry) f }
     ensures whole { let f = F.seen flash.old in OnOk result
         (Appends (W.contents writer.old) (W.contents writer.new)
-        (cut_text rules f.geometry boot f.content cut)) }
+        (cut_text span rules f.geometry boot f.content cut)) }
     ensures prefix { let f = F.seen flash.old in OnErr result
         (AppendsPrefix (W.contents writer.old) (W.contents writer.new)
-        (cut_text rules f.geometry boot f.content cut)) }
+        (cut_text span rules f.geometry boot f.content cut)) }
     ensures left { let x = powered rules (F.seen flash.old) in OnOk result
         ((F.seen flash.new).content ≡ at_cut x cut) }
     ensures layout { (F.seen flash.new).geometry ≡ (F.seen flash.old).geometry }
@@ -123,7 +132,7 @@ pub fn write_cut_boot<F: Flash, W: Write>(
     let layout = *flash.layout();
     let mut machine = Boot::cold(flash, rules);
     write_line(writer, &head_line(boot, machine.kind()))?;
-    write_operations(flash, &mut machine, Some(cut), writer)?;
+    write_operations(flash, &mut machine, Some(cut), span, writer)?;
     if let Some(op) = machine.peek() {
         let numbered = Numbered {
             layout: &layout,
@@ -144,20 +153,21 @@ pub fn write_last_boot<F: Flash, W: Write>(
     flash: &mut F,
     rules: Rules,
     boot: u32,
+    span: Span,
     writer: &mut W,
 ) -> Result<(), TraceError>
     requires { let f = F.seen flash.old in Allows (most_of rules f.geometry) f }
     ensures whole { let f = F.seen flash.old in OnOk result
         (Appends (W.contents writer.old) (W.contents writer.new)
-        (last_text rules f.geometry boot f.content)) }
+        (last_text span rules f.geometry boot f.content)) }
     ensures prefix { let f = F.seen flash.old in OnErr result
         (AppendsPrefix (W.contents writer.old) (W.contents writer.new)
-        (last_text rules f.geometry boot f.content)) }
+        (last_text span rules f.geometry boot f.content)) }
     ensures counts { let f = F.seen flash.old in
         CountsUpTo (most_of rules f.geometry) f result (F.seen flash.new) }
     ensures err { IfErr result (λ e. (e ≡ TraceError.Memory) ⊎ (e ≡ TraceError.Write)) }
 {
     let mut machine = Boot::cold(flash, rules);
     write_line(writer, &head_line(boot, machine.kind()))?;
-    write_operations(flash, &mut machine, None, writer)
+    write_operations(flash, &mut machine, None, span, writer)
 }

@@ -2,6 +2,7 @@
 #![tactic(auto)]
 
 mod boots;
+mod cells;
 mod error;
 mod layout;
 mod operation;
@@ -9,8 +10,9 @@ mod sectors;
 mod slots;
 mod trace;
 
+pub use cells::Words;
 pub use error::TraceError;
 pub use layout::write_layout;
-pub use sectors::write_sectors;
+pub use sectors::{Moment, View, write_sectors};
 pub use slots::write_slots;
-pub use trace::write_trace;
+pub use trace::{Span, write_trace};

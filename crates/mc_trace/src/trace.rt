@@ -4,7 +4,7 @@ ghost use Rattle.std.specs.Io.KnownBytes.{Appends};
 ghost use Rattle.mc_output.specs.Text.{AppendsPrefix};
 ghost use Rattle.mc_explore.specs.Schedules.{CanOccur};
 ghost use Rattle.mc_start.specs.Start.{begun};
-ghost use Rattle.mc_trace.specs.Trace.{trace_text, outcome_lines, boots_text, RefusesTrace};
+ghost use Rattle.mc_trace.specs.Trace.{trace_text, RefusesTrace, is_in};
 
 use crate::boots::{write_cut_boot, write_last_boot};
 use crate::error::TraceError;
@@ -14,9 +14,31 @@ use mc_output::{Line, write_line};
 use std::alloc::Global;
 use std::io::Write;
 
-/// Writes what happens of a schedule: a line for each boot with its number, counted from 0, and its type; its operations, a line
-/// each, with the number that a cut counts; at a cut the operation that did not happen; and at the end the outcome of the last
-/// boot.
+/// From which number of a boot's operations to which they are shown.
+#[derive(Clone, Copy, Debug, PartialEq, Eq)]
+pub struct Span {
+    pub from: u32,
+    pub to: u32,
+}
+
+impl Span {
+    /// All operations.
+    pub const ALL: Span = Span {
+        from: 0,
+        to: u32::MAX,
+    };
+
+    /// Whether a number lies in it.
+    pub fn has(self, number: u32) -> bool
+        ensures { result ≡ is_in self number }
+    {
+        self.from <= number && number <= self.to
+    }
+}
+
+/// Writes what happens of a schedule: a line for each boot with its number, counted from 0, and its type; those of its operations that
+/// lie in a span, a line each, with the number that a cut counts; at a cut the operation that did not happen; and at the end the
+/// outcome of the last boot.
 ///
 /// # Errors
 ///
@@ -26,12 +48,13 @@ pub fn write_trace<F: Flash + Drop, W: Write>(
     alloc: Global,
     start: &Start,
     schedule: &Schedule,
+    span: Span,
     writer: &mut W,
 ) -> Result<(), TraceError>
     ensures written { OnOk result (Appends (W.contents writer.old) (W.contents writer.new)
-        (trace_text (begun start.now) schedule.now)) }
+        (trace_text span (begun start.now) schedule.now)) }
     ensures prefix { OnErr result (AppendsPrefix (W.contents writer.old) (W.contents writer.new)
-        (trace_text (begun start.now) schedule.now)) }
+        (trace_text span (begun start.now) schedule.now)) }
     ensures refused { IfErr result (RefusesTrace (begun start.now) schedule.now writer.old
         writer.new) }
     ensures occurs { OnOk result (CanOccur (begun start.now) schedule.now) }
@@ -52,10 +75,10 @@ pub fn write_trace<F: Flash + Drop, W: Write>(
     )?;
     let mut boot = 0;
     'boots: for cut in cuts {
-        write_cut_boot(&mut flash, rules, boot, *cut, writer)?;
+        write_cut_boot(&mut flash, rules, boot, *cut, span, writer)?;
         boot += 1;
     }
-    write_last_boot(&mut flash, rules, boot, writer)?;
+    write_last_boot(&mut flash, rules, boot, span, writer)?;
     let mut line = Line::new();
     outcome.put_into(&mut line);
     write_line(writer, &line)?;

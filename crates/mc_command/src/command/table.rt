@@ -69,7 +69,8 @@ impl Group {
             Group::Rules => &RULES,
             Group::Output => &OUTPUT,
             Group::Replay => &REPLAY,
-            Group::Trace | Group::Sectors => &SCHEDULE_IF_ANY,
+            Group::Trace => &TRACE,
+            Group::Sectors => &SECTORS,
             Group::Exploration => &EXPLORATION,
             Group::Rounds => &ROUNDS,
             Group::Verdict => &VERDICT,
@@ -335,12 +336,44 @@ static REPLAY: [Word; 3] = [
 ];
 
 /// A schedule, of no cut where none is given.
-static SCHEDULE_IF_ANY: [Word; 1] = [Word {
+const SCHEDULE_IF_ANY: Word = Word {
     name: "schedule",
     default: Some("-"),
     help: "Cuts joined by points, as 9.4; - for none",
     ..SCHEDULE
-}];
+};
+
+/// What gives a trace.
+static TRACE: [Word; 3] = [
+    SCHEDULE_IF_ANY,
+    Word {
+        name: "from",
+        help: "Leave out each boot's operations before that number, 0 to 4294967295",
+        ..NUMBER
+    },
+    Word {
+        name: "to",
+        help: "Leave out each boot's operations after that number, 0 to 4294967295",
+        ..NUMBER
+    },
+];
+
+/// What gives a picture of the sectors.
+static SECTORS: [Word; 3] = [
+    SCHEDULE_IF_ANY,
+    Word {
+        name: "end",
+        help: "Show what the last boot leaves, and not the flash at the last cut",
+        ..FLAG
+    },
+    Word {
+        name: "words",
+        takes: Takes::OneOf("W", &["plain", "all"]),
+        default: Some("plain"),
+        help: "Words for what is neither blank nor of the start",
+        ..FLAG
+    },
+];
 
 /// As many rows as a page can have.
 const ALL: Word = Word {
@@ -533,14 +566,17 @@ happens has a line, with the number that a cut counts:
   1 write primary 984 swap-info 02ffffffffffffff
   6 copy primary 0 to primary 256 length 128
 `cut before` shows the operation at which power fails, and ` refused` one that meets bytes that are not
-erased. Six lines with the outcome of the last boot come at the end.";
+erased. Six lines with the outcome of the last boot come at the end. --from and --to leave out
+operations of each boot, and nothing else.";
 
 const AFTER_SECTORS: &str = "\
 A line for each slot, a word for each sector: `-` where it is blank, `aN` or `bN` where it holds what
 sector N of the primary or of the secondary held at the start (the first such), `*` where it holds
 something else:
   primary a0 - * *
-  secondary b0 - -";
+  secondary b0 - -
+With --words all there is `t` in place of `*` where that sector is the trailer's, and `aN~` or
+`bN~` where it begins as sector N did and is blank then: a copy that is not done.";
 
 const AFTER_EXPLORE: &str = "\
 A row is: SCHEDULE RESULT TYPE OPS PRIMARY SECONDARY NEXT

@@ -14,7 +14,7 @@ use mc_boot::Outcome;
 use mc_campaign::{Campaign, Round, replay_campaign, start_of_second};
 use mc_explore::{Schedule, Start, flash_at_cut};
 use mc_flash::JournalFlash;
-use mc_trace::{write_sectors, write_trace};
+use mc_trace::{Span, View, write_sectors, write_trace};
 use std::alloc::Global;
 use std::io::Write;
 use std::rt::Files;
@@ -119,10 +119,10 @@ pub fn replay<F: Files, O: Write>(
 /// What is printed of a round.
 #[derive(Clone, Copy)]
 pub enum RoundText {
-    /// The operations of its boots, and its outcome.
-    Operations,
-    /// What lies in each sector when its last cut falls, by what lay there at its start.
-    Sectors,
+    /// The operations of its boots in that span, and its outcome.
+    Operations(Span),
+    /// What lies in each sector, by what lay there at its start.
+    Sectors(View),
 }
 
 /// Prints that of the round from a start whose cuts those are.
@@ -138,8 +138,12 @@ fn write_round<O: Write>(
     out: &mut O,
 ) -> Result<(), Refusal> {
     match text {
-        RoundText::Operations => write_trace::<JournalFlash, O>(alloc, start, cuts, out)?,
-        RoundText::Sectors => write_sectors::<JournalFlash, O>(alloc, start, cuts, out)?,
+        RoundText::Operations(span) => {
+            write_trace::<JournalFlash, O>(alloc, start, cuts, span, out)?;
+        }
+        RoundText::Sectors(view) => {
+            write_sectors::<JournalFlash, O>(alloc, start, cuts, view, out)?;
+        }
     }
     Ok(())
 }

@@ -8,7 +8,7 @@ use mc_explore::{Cursor, Explorer, Kind, Row, Schedule, Start, flash_at_cut, rep
 use mc_fixtures::image_of;
 use mc_flash::{Flash, JournalFlash, Layout, Slot, SnapFlash};
 use mc_image::Version;
-use mc_trace::write_sectors;
+use mc_trace::{Moment, View, Words, write_sectors};
 use mc_trailer::SwapType;
 use std::alloc::Global;
 use std::process::Abort;
@@ -169,7 +169,11 @@ fn the_sectors_of_large_images_are_shown(rt: HostRuntime) {
     let start = large(&rt, rt.alloc(), Kind::Test);
     let mut out = Vec::new(rt.alloc());
     let schedule = Schedule::read(ZEROS).expect(&rt, "a text");
-    write_sectors::<SnapFlash, Vec<u8>>(rt.alloc(), &start, &schedule, &mut out).expect(
+    let view = View {
+        moment: Moment::AtCut,
+        words: Words::All,
+    };
+    write_sectors::<SnapFlash, Vec<u8>>(rt.alloc(), &start, &schedule, view, &mut out).expect(
         &rt,
         "a picture",
     );

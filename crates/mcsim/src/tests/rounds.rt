@@ -59,6 +59,8 @@ $ replay WORKED --kind test IMAGES --rounds 2 --schedule 1.18
 ! mcsim: E53 CannotOccur at 0; exit 1
 $ trace WORKED --kind test IMAGES --rounds 2 --schedule 1.17,2.23
 ! mcsim: E53 CannotOccur at 1; exit 1
+$ sectors WORKED --kind test IMAGES --rounds 2 --end
+round 1; primary b0 a0 - *; secondary a0 - -; round 2; primary a1 a0 - *; secondary a0 - -
 $ sectors WORKED --kind test IMAGES --rounds 2 --schedule 9.4
 ! mcsim: E62 CampaignSyntax; exit 2
 $ sectors WORKED --kind test IMAGES --confirm

@@ -50,6 +50,22 @@ boot 2 test
 3 write primary 920 entry 5 01ffffffffffffff
 4 write primary 992 copy-done 01ffffffffffffff
 result boot; type test; ops 5; SWAPPED; next revert
+$ trace WORKED --kind test IMAGES --schedule 9 --from 8 --to 8
+boot 0 test
+8 write primary 880 entry 0 01ffffffffffffff
+cut before 9 erase primary 0
+boot 1 test
+8 write primary 992 copy-done 01ffffffffffffff
+result boot; type test; ops 9; SWAPPED; next revert
+$ trace WORKED --kind test IMAGES --from 17
+boot 0 test
+17 write primary 992 copy-done 01ffffffffffffff
+result boot; type test; ops 18; SWAPPED; next revert
+$ trace WORKED --kind test IMAGES --from 9 --to 8
+boot 0 test
+result boot; type test; ops 18; SWAPPED; next revert
+$ trace WORKED --kind test IMAGES --to 0x100000000
+! mcsim: --to takes a number from 0 to 4294967295; exit 2
 $ trace WORKED --flash in < BEGUN,976=50000000,984=02,920=01,993=00
 boot 0 test
 0 write primary 992 copy-done 01ffffffffffffff refused
@@ -63,6 +79,14 @@ result boot; type test; ops 18; SWAPPED; next revert
 => 1792 bytes
 $ verify in < out
 good FIRST
+$ sectors WORKED --kind test IMAGES --schedule 9.4 --words all
+primary b0 a0 - t; secondary b0 - -
+$ sectors WORKED --kind test IMAGES --schedule 9.4 --end
+primary b0 a0 - *; secondary a0 - -
+$ sectors WORKED --kind test IMAGES --end --words plain
+primary b0 a0 - *; secondary a0 - -
+$ sectors WORKED --kind test IMAGES --end --schedule 9.9
+! mcsim: E53 CannotOccur at 1; exit 1
 $ sectors WORKED --kind test IMAGES
 primary a0 - - -; secondary b0 - b2
 $ sectors WORKED --kind test IMAGES --schedule 9
@@ -92,6 +116,10 @@ boot 0 test
 4 write primary 1016 magic 3552500f2cb67980
 5 erase secondary 2
 ...
+$ sectors WORKED --kind test IMAGES --grain unit --schedule 9 --words all
+primary a0 a0~ - t; secondary b0 - -
+$ sectors WORKED --kind test IMAGES --grain unit --schedule 9
+primary a0 * - *; secondary b0 - -
 ";
 
 /// The flash of each kind of start. Images are placed without the bytes after them, and a flash as it is.

@@ -10,17 +10,17 @@ pub returns-in_err-write_line-clause-prefix : goal.returns-in_err-write_line-cla
 returns-in_err-write_line-clause-prefix g c =
     let f = g.F.Flash.seen c.args.flash.now in
     let failed = err_from_is_err_and c.from_residual.result c.from_residual.ensures.1 in
-    rw failed.1 (head_begun (powered c.args.rules f) (progress c.cold-machine.result) c.cold-machine.ensures.cold.boot c.args.boot c.kind.result c.kind.ensures _ _ _
+    rw failed.1 (head_begun c.args.span (powered c.args.rules f) (progress c.cold-machine.result) c.cold-machine.ensures.cold.boot c.args.boot c.kind.result c.kind.ensures _ _ _
     (rw c.head_line.ensures at c.in_err-write_line.ensures.prefix))
 
 pub returns-clause-whole : goal.returns-clause-whole
 returns-clause-whole g c =
     let f = g.F.Flash.seen c.args.flash.now in
-    on_ok c.write_operations.result _ _ (last_out (powered c.args.rules f) (progress c.cold-machine.result) c.cold-machine.ensures.cold.boot c.args.boot c.kind.result c.kind.ensures
+    on_ok c.write_operations.result _ _ (last_out c.args.span (powered c.args.rules f) (progress c.cold-machine.result) c.cold-machine.ensures.cold.boot c.args.boot c.kind.result c.kind.ensures
     _ _ (rw c.head_line.ensures at c.in_ok-write_line.ensures.whole) _) (writes_ok c.write_operations.result _ _ _ c.write_operations.ensures.written)
 
 pub returns-clause-prefix : goal.returns-clause-prefix
 returns-clause-prefix g c =
     let f = g.F.Flash.seen c.args.flash.now in
-    on_err c.write_operations.result _ _ (last_begun (powered c.args.rules f) (progress c.cold-machine.result) c.cold-machine.ensures.cold.boot c.args.boot c.kind.result
+    on_err c.write_operations.result _ _ (last_begun c.args.span (powered c.args.rules f) (progress c.cold-machine.result) c.cold-machine.ensures.cold.boot c.args.boot c.kind.result
     c.kind.ensures _ _ (rw c.head_line.ensures at c.in_ok-write_line.ensures.whole) _) (writes_err c.write_operations.result _ _ _ c.write_operations.ensures.written)

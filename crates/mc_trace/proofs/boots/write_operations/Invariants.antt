@@ -7,8 +7,8 @@ use Rattle.mc_trace.proofs.boots.write_operations.Given as goal
 
 abbrev pub invariant-operations : goal.invariant-operations
 invariant-operations g l = record {
-  out : IsOut (g.W.Write.contents l.fn.writer) (g.W.Write.contents l.writer) (left_to_write l.until (g.F.Flash.seen l.fn.flash) (progress l.fn.boot))
-      (left_to_write l.until (g.F.Flash.seen l.flash) (progress l.boot));
+  out : IsOut (g.W.Write.contents l.fn.writer) (g.W.Write.contents l.writer) (left_to_write l.span l.until (g.F.Flash.seen l.fn.flash) (progress l.fn.boot))
+      (left_to_write l.span l.until (g.F.Flash.seen l.flash) (progress l.boot));
   goes : GoesUpTo l.until l.fn.boot (g.F.Flash.seen l.fn.flash) l.boot (g.F.Flash.seen l.flash);
   counts : CountsOn (progress l.fn.boot) (progress l.boot) (g.F.Flash.seen l.fn.flash) (g.F.Flash.seen l.flash);
   limits : (g.F.Flash.seen l.flash).usage.limits ≡ (g.F.Flash.seen l.fn.flash).usage.limits;

@@ -11,11 +11,10 @@ loop-sector-preserved c =
     let n = sectors_of start.geometry c.args.slot in
     let end = ap (λ (g : Geometry). sectors_of g c.args.slot) c.layout-layout.ensures.value in
     record {
-      written = grew start.geometry start.content c.args.bytes.now c.loop-sector.sector n (string_bytes c.loop-sector.text) (string_bytes c.push_str-in-loop-sector.new.self)
-          (string_bytes c.push_str-in-loop-sector-2.new.self) _
+      written = grew c.args.words start.geometry start.content c.args.slot c.args.bytes.now c.loop-sector.sector n (string_bytes c.loop-sector.text)
+          (string_bytes c.push_str-in-loop-sector.new.self) _
           (omega (arith, c.loop-sector-test.true, c.sectors-sector-end.ensures.value, end))
-          c.in_ok-push_str-2.ensures.bytes
-          (cc (c.in_ok-push_str-3.ensures.bytes, c.as_str.ensures.value, c.in_ok-word.ensures, c.sector_of.ensures, c.layout-layout.ensures.value))
+          (cc (c.in_ok-push_str-2.ensures.bytes, c.as_str-in-loop-sector.ensures, c.next_word-word.ensures, c.sector_of-bytes.ensures.value, c.layout-layout.ensures.value))
           c.loop-sector.invariant.written;
     }
 
@@ -24,7 +23,7 @@ returns c =
     let start = c.args.start.now in
     let n = sectors_of start.geometry c.args.slot in
     let end = ap (λ (g : Geometry). sectors_of g c.args.slot) c.layout-layout.ensures.value in
-    ended start.geometry start.content c.args.bytes.now c.loop-sector.sector n (string_bytes c.args.text.now) (slot_text c.args.slot) (string_bytes c.loop-sector.text) _
-    (sector_words start.geometry start.content c.args.bytes.now 0 n)
+    ended c.args.words start.geometry start.content c.args.slot c.args.bytes.now c.loop-sector.sector n (string_bytes c.args.text.now) (slot_text c.args.slot) (string_bytes c.loop-sector.text) _
+    (sector_words c.args.words start.geometry start.content c.args.slot c.args.bytes.now 0 n)
     (omega (arith, c.loop-sector-test.false, c.sectors-sector-end.ensures.value, end))
-    c.loop-sector.invariant.written c.in_ok-push_str-4.ensures.bytes
+    c.loop-sector.invariant.written c.in_ok-push_str-3.ensures.bytes

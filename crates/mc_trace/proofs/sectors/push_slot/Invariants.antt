@@ -5,6 +5,6 @@ use Rattle.mc_trace.proofs.sectors.push_slot.Given as goal
 
 abbrev pub invariant-loop-sector : goal.invariant-loop-sector
 invariant-loop-sector l = record {
-  written : string_bytes l.text ++ sector_words l.start.geometry l.start.content l.bytes l.sector (sectors_of l.start.geometry l.slot - l.sector)
-      ≡ (string_bytes l.fn.text ++ slot_text l.slot) ++ sector_words l.start.geometry l.start.content l.bytes 0 (sectors_of l.start.geometry l.slot);
+  written : string_bytes l.text ++ sector_words l.words l.start.geometry l.start.content l.slot l.bytes l.sector (sectors_of l.start.geometry l.slot - l.sector)
+      ≡ (string_bytes l.fn.text ++ slot_text l.slot) ++ sector_words l.words l.start.geometry l.start.content l.slot l.bytes 0 (sectors_of l.start.geometry l.slot);
 }

@@ -16,7 +16,7 @@ boots-init g c =
     let l = c.in_ok-flash.ensures.loads in
     let counts : (g.F.Flash.seen c.in_ok-flash.flash).usage.counts ≡ no_counts = ap (λ (x : Usage). x.counts) l.usage_is in
     record {
-      written = none_written (begun c.args.start.now) c.cuts-cuts.result.now _ (g.F.Flash.seen c.in_ok-flash.flash) (search rules) (l.geometry_is ∙ c.layout.ensures.value);
+      written = none_written c.args.span (begun c.args.start.now) c.cuts-cuts.result.now _ (g.F.Flash.seen c.in_ok-flash.flash) (search rules) (l.geometry_is ∙ c.layout.ensures.value);
       counts = record { entries = omega (arith, ap (λ (x : Counts). x.entries) counts); saved = omega (arith, ap (λ (x : Counts). x.saved) counts) };
       limits = refl;
     }
@@ -28,8 +28,9 @@ returns-in_err-write_cut_boot-clause-prefix g c =
     let same = c.cuts-cuts.ensures.value in
     let occurs = subst (λ (l : List ℕ). after start l ≡ Some r.cut) (sym same) r.occurs in
     let failed = err_from_is_err_and c.from_residual-in_err-write_cut_boot.result c.from_residual-in_err-write_cut_boot.ensures.1 in
-    let P : List ℕ → Type 0 = λ l. AppendsPrefix (g.W.Write.contents c.args.writer.now) (g.W.Write.contents c.write_cut_boot.new.writer) (trace_text start l) in
-    rw failed.1 (subst P same (one_begun start c.cuts-cuts.result.now (g.W.Write.contents c.args.writer.now) (g.W.Write.contents c.boots.writer) (g.W.Write.contents c.write_cut_boot.new.writer)
+    let P : List ℕ → Type 0 = λ l. AppendsPrefix (g.W.Write.contents c.args.writer.now) (g.W.Write.contents c.write_cut_boot.new.writer) (trace_text c.args.span start l) in
+    rw failed.1 (subst P same (one_begun c.args.span start c.cuts-cuts.result.now (g.W.Write.contents c.args.writer.now) (g.W.Write.contents c.boots.writer)
+    (g.W.Write.contents c.write_cut_boot.new.writer)
     c.boots.cut-index c.boots.boot (g.F.Flash.seen c.boots.flash) c.boots.invariant.written c.boots-test.true r.cut occurs (rw c.rules-rules.ensures at c.in_err-write_cut_boot.ensures.prefix)))
 
 pub returns-in_err-write_cut_boot-clause-refused : goal.returns-in_err-write_cut_boot-clause-refused
@@ -46,7 +47,8 @@ boots-preserved g c =
     let e = c.in_ok-write_cut_boot.ensures in
     let i = c.boots.invariant in
     record {
-      written = one_written start c.cuts-cuts.result.now (g.W.Write.contents c.args.writer.now) (g.W.Write.contents c.boots.writer) (g.W.Write.contents c.write_cut_boot.new.writer) c.boots.cut-index
+      written = one_written c.args.span start c.cuts-cuts.result.now (g.W.Write.contents c.args.writer.now) (g.W.Write.contents c.boots.writer)
+          (g.W.Write.contents c.write_cut_boot.new.writer) c.boots.cut-index
           c.boots.boot (g.F.Flash.seen c.boots.flash) i.written c.boots-test.true r.cut occurs (g.F.Flash.seen c.write_cut_boot.new.flash) (rw c.rules-rules.ensures at e.whole)
           (rw c.rules-rules.ensures at e.left) e.layout;
       counts = one_counted start.rules _ start.geometry _ c.rules-rules.ensures i.written.layout c.boots.cut-index _ i.counts (g.F.Flash.seen c.write_cut_boot.new.flash).usage.counts e.counts.counts;
@@ -60,8 +62,8 @@ returns-in_err-write_last_boot-clause-prefix g c =
     let same = c.cuts-cuts.ensures.value in
     let occurs = subst (λ (l : List ℕ). after start l ≡ Some r.cut) (sym same) r.occurs in
     let failed = err_from_is_err_and c.from_residual-in_err-write_last_boot.result c.from_residual-in_err-write_last_boot.ensures.1 in
-    let P : List ℕ → Type 0 = λ l. AppendsPrefix (g.W.Write.contents c.args.writer.now) (g.W.Write.contents c.write_last_boot.new.writer) (trace_text start l) in
-    rw failed.1 (subst P same (last_begun start c.cuts-cuts.result.now (g.W.Write.contents c.args.writer.now) (g.W.Write.contents c.boots.writer) c.boots.cut-index c.boots.boot
+    let P : List ℕ → Type 0 = λ l. AppendsPrefix (g.W.Write.contents c.args.writer.now) (g.W.Write.contents c.write_last_boot.new.writer) (trace_text c.args.span start l) in
+    rw failed.1 (subst P same (last_begun c.args.span start c.cuts-cuts.result.now (g.W.Write.contents c.args.writer.now) (g.W.Write.contents c.boots.writer) c.boots.cut-index c.boots.boot
     (g.F.Flash.seen c.boots.flash) c.boots.invariant.written c.boots-test.false r.cut occurs (shown c.in_ok-outcome.outcome) r.outcome_is _
     (rw c.rules-rules.ensures at c.in_err-write_last_boot.ensures.prefix)))
 
@@ -77,8 +79,8 @@ returns-in_err-write_line-clause-prefix g c =
     let same = c.cuts-cuts.ensures.value in
     let occurs = subst (λ (l : List ℕ). after start l ≡ Some r.cut) (sym same) r.occurs in
     let failed = err_from_is_err_and c.from_residual-in_err-write_line.result c.from_residual-in_err-write_line.ensures.1 in
-    let P : List ℕ → Type 0 = λ l. AppendsPrefix (g.W.Write.contents c.args.writer.now) (g.W.Write.contents c.write_line.new.writer) (trace_text start l) in
-    rw failed.1 (subst P same (outcome_begun start c.cuts-cuts.result.now (g.W.Write.contents c.args.writer.now) (g.W.Write.contents c.boots.writer) c.boots.cut-index c.boots.boot
+    let P : List ℕ → Type 0 = λ l. AppendsPrefix (g.W.Write.contents c.args.writer.now) (g.W.Write.contents c.write_line.new.writer) (trace_text c.args.span start l) in
+    rw failed.1 (subst P same (outcome_begun c.args.span start c.cuts-cuts.result.now (g.W.Write.contents c.args.writer.now) (g.W.Write.contents c.boots.writer) c.boots.cut-index c.boots.boot
     (g.F.Flash.seen c.boots.flash) c.boots.invariant.written c.boots-test.false r.cut occurs (shown c.in_ok-outcome.outcome) r.outcome_is _
     (rw c.rules-rules.ensures at c.in_ok-write_last_boot.ensures.whole) _ (rw (c.put_into.ensures.text, c.new-line.ensures) at c.in_err-write_line.ensures.prefix)))
 
@@ -88,8 +90,8 @@ returns-clause-written g c =
     let r = c.in_ok-outcome.ensures.replayed in
     let same = c.cuts-cuts.ensures.value in
     let occurs = subst (λ (l : List ℕ). after start l ≡ Some r.cut) (sym same) r.occurs in
-    let P : List ℕ → Type 0 = λ l. Appends (g.W.Write.contents c.args.writer.now) (g.W.Write.contents c.write_line.new.writer) (trace_text start l) in
-    subst P same (outcome_written start c.cuts-cuts.result.now (g.W.Write.contents c.args.writer.now) (g.W.Write.contents c.boots.writer) c.boots.cut-index c.boots.boot
+    let P : List ℕ → Type 0 = λ l. Appends (g.W.Write.contents c.args.writer.now) (g.W.Write.contents c.write_line.new.writer) (trace_text c.args.span start l) in
+    subst P same (outcome_written c.args.span start c.cuts-cuts.result.now (g.W.Write.contents c.args.writer.now) (g.W.Write.contents c.boots.writer) c.boots.cut-index c.boots.boot
     (g.F.Flash.seen c.boots.flash) c.boots.invariant.written c.boots-test.false r.cut occurs (shown c.in_ok-outcome.outcome) r.outcome_is _
     (rw c.rules-rules.ensures at c.in_ok-write_last_boot.ensures.whole) _ (rw (c.put_into.ensures.text, c.new-line.ensures) at c.in_ok-write_line.ensures.whole))
 

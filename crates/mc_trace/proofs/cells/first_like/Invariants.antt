@@ -1,7 +1,7 @@
 use Rattle.std.specs.Prelude.{◌≡◌, ◌-◌}
 use Rattle.mc_flash.specs.Flash.{sectors_of}
 use Rattle.mc_trace.specs.Sectors.{first_like}
-use Rattle.mc_trace.proofs.sectors.first_like.Given as goal
+use Rattle.mc_trace.proofs.cells.first_like.Given as goal
 
 abbrev pub invariant-loop-sector : goal.invariant-loop-sector
 invariant-loop-sector l = record {
