@@ -4,7 +4,7 @@ use Rattle.std.proofs.Common.{arith, inl, inr, sym, ap, subst, ◌∙◌}
 use Rattle.std.proofs.Math.Seq.{drop-append_seam}
 use Rattle.std.proofs.lemmas.Bool.{cases_lt}
 use Rattle.std.proofs.lemmas.List.{length-take-le, take_all, take_more}
-use Rattle.mc_tree.specs.Tree.{Tree, labelled, landed, RoundNode, first, second, label, labels}
+use Rattle.mc_tree.specs.Tree.{Tree, labelled, landed, RoundNode, round_one, round_two, label, labels}
 use Rattle.mc_tree.specs.facts.Order.{allowed-last, allowed_prefix, not_same, paths_in_order, pairs_in_order}
 use Rattle.mc_tree.specs.facts.Rounds.{inside, outside, pairs_precede}
 use Rattle.mc_flash.specs.Flash.{Content}
@@ -90,14 +90,14 @@ module _ (c : List (ℕ × ℕ)) (old : Walked TwoRounds) where
       (valid : IsLayout old.flash_tree.one_round.layout) where
     -- The node where it stands.
     abbrev here : RoundNode Content
-    here = landed tree (first (origin_of old.seen)) mid.path
+    here = landed tree (round_one (origin_of old.seen)) mid.path
 
     summary_here : AreSummaries old.flash_tree.one_round.rules old.flash_tree.one_round.layout old.flash_tree.confirms here summary
     summary_here =
-        let P : TwoRounds → Type 0 = λ b. AreSummaries b.one_round.rules b.one_round.layout b.confirms (landed (rounds b.one_round.rules b.one_round.layout b.confirms) (first (origin_of
+        let P : TwoRounds → Type 0 = λ b. AreSummaries b.one_round.rules b.one_round.layout b.confirms (landed (rounds b.one_round.rules b.one_round.layout b.confirms) (round_one (origin_of
         mid.seen)) mid.path) summary in
         let Q : Content → Type 0 = λ s. AreSummaries old.flash_tree.one_round.rules old.flash_tree.one_round.layout old.flash_tree.confirms
-        (landed (rounds old.flash_tree.one_round.rules old.flash_tree.one_round.layout old.flash_tree.confirms) (first s) mid.path) summary in
+        (landed (rounds old.flash_tree.one_round.rules old.flash_tree.one_round.layout old.flash_tree.confirms) (round_one s) mid.path) summary in
         subst Q a.same.origin (subst P a.same.flash_tree there.summary_is)
 
     abbrev named : ℕ → ℕ × ℕ
@@ -105,7 +105,7 @@ module _ (c : List (ℕ × ℕ)) (old : Walked TwoRounds) where
 
     is_child : (i : ℕ) → IsPathIn old (mid.path ++ i ∷ []) → named i ≡ get_or c n (0, 0) ↔ number ≡ Some i
     is_child i m =
-        child old.flash_tree.one_round.rules old.flash_tree.one_round.layout old.flash_tree.confirms here valid summary_here i (allowed-last tree (first (origin_of old.seen)) mid.path i m.1)
+        child old.flash_tree.one_round.rules old.flash_tree.one_round.layout old.flash_tree.confirms here valid summary_here i (allowed-last tree (round_one (origin_of old.seen)) mid.path i m.1)
 
     pub along_more : (i : ℕ) (went : Bool) (new : Walked TwoRounds) → number ≡ Some i → went ≡ true → GoesDown (kind_of mid.flash_tree) i mid went new
         → NoAllocationFailed mid.seen new.seen → IsAlong (n + 1) new
@@ -114,7 +114,7 @@ module _ (c : List (ℕ × ℕ)) (old : Walked TwoRounds) where
         let member = path_back kind_of old mid new.path a.same d.1 in
         let at = (is_child i (subst (IsPathIn old) d.0 member)).1 is in
         record {
-          cuts_are = ap cuts d.0 ∙ labelled-push tree name (first (origin_of old.seen)) mid.path i ∙ ap (λ z. z ++ named i ∷ []) a.cuts_are ∙ ap (λ z. take n c ++ z ∷ []) at
+          cuts_are = ap cuts d.0 ∙ labelled-push tree name (round_one (origin_of old.seen)) mid.path i ∙ ap (λ z. z ++ named i ∷ []) a.cuts_are ∙ ap (λ z. take n c ++ z ∷ []) at
               ∙ sym (take_more c n (0, 0) inside);
           member = member;
           same = record { flash_tree = d.2.flash_tree ∙ a.same.flash_tree; bound = d.2.bound ∙ a.same.bound; origin = d.2.origin ∙ a.same.origin };
@@ -132,17 +132,17 @@ module _ (c : List (ℕ × ℕ)) (old : Walked TwoRounds) where
         let p = path_of r g k s old.bound c m in
         let l : List ℕ = p.0 in
         let j : ℕ = get_or l n 0 in
-        let len : length l ≡ length c = sym (labelled-length tree name (first s) l) ∙ ap (λ z. length z) p.1.cuts_are in
+        let len : length l ≡ length c = sym (labelled-length tree name (round_one s) l) ∙ ap (λ z. length z) p.1.cuts_are in
         let below : n < length l = omega (arith, len, inside) in
         let prefix : take n l ≡ mid.path =
-        same_path (boots r g) (second_start r g k) (first s) (take n l) mid.path (labelled-take tree name (first s) l n ∙ ap (λ z. take n z) p.1.cuts_are ∙ sym a.cuts_are) in
+        same_path (boots r g) (second_start r g k) (round_one s) (take n l) mid.path (labelled-take tree name (round_one s) l n ∙ ap (λ z. take n z) p.1.cuts_are ∙ sym a.cuts_are) in
         let more : take (n + 1) l ≡ mid.path ++ j ∷ [] = take_more l n 0 below ∙ ap (λ z. z ++ j ∷ []) prefix in
         let at : cuts (take (n + 1) l) ≡ take n c ++ get_or c n (0, 0) ∷ [] =
-        labelled-take tree name (first s) l (n + 1) ∙ ap (λ z. take (n + 1) z) p.1.cuts_are ∙ take_more c n (0, 0) inside in
+        labelled-take tree name (round_one s) l (n + 1) ∙ ap (λ z. take (n + 1) z) p.1.cuts_are ∙ take_more c n (0, 0) inside in
         let both : take n c ++ named j ∷ [] ≡ take n c ++ get_or c n (0, 0) ∷ [] =
-        ap (λ z. z ++ named j ∷ []) (sym a.cuts_are) ∙ sym (labelled-push tree name (first s) mid.path j) ∙ ap cuts (sym more) ∙ at in
+        ap (λ z. z ++ named j ∷ []) (sym a.cuts_are) ∙ sym (labelled-push tree name (round_one s) mid.path j) ∙ ap cuts (sym more) ∙ at in
         let at_most : length (take (n + 1) l) ≤ old.bound = omega (arith, length-take-le (n + 1) l (omega (arith, below)), below, p.1.member.0) in
-        let member : IsPathIn old (mid.path ++ j ∷ []) = subst (IsPathIn old) more (at_most, allowed_prefix (rounds r g k) (first s) l (n + 1) p.1.member.1) in
+        let member : IsPathIn old (mid.path ++ j ∷ []) = subst (IsPathIn old) more (at_most, allowed_prefix (rounds r g k) (round_one s) l (n + 1) p.1.member.1) in
         (j, member, (is_child j member).0 (last_same (take n c) (named j) (get_or c n (0, 0)) both))
 
     pub none_there : number ≡ None → IsMember (begun_of old) old.flash_tree.confirms old.bound c → ⊥
@@ -164,10 +164,10 @@ module _ (c : List (ℕ × ℕ)) (old : Walked TwoRounds) where
 
 module _ (r : Rules) (g : Geometry) (confirms : Bool) (valid : IsLayout g) (summary : Both) where
   -- A child of the first round, and one of the second, by its label.
-  label_early : (s : Content) (i : ℕ) → i < length (ops_of (power_on r g s)) → label (boots r g) (second_start r g confirms) (first s) i ≡ (1, i)
+  label_early : (s : Content) (i : ℕ) → i < length (ops_of (power_on r g s)) → label (boots r g) (second_start r g confirms) (round_one s) i ≡ (1, i)
   label_early s i lt = ap (λ b. if b then (1, i) else (2, i - length (ops_of (power_on r g s)))) (inside (length (ops_of (power_on r g s))) i lt)
 
-  label_late : (s : Content) (i : ℕ) → length (ops_of (power_on r g s)) ≤ i → label (boots r g) (second_start r g confirms) (first s) i ≡ (2, i - length (ops_of (power_on r g s)))
+  label_late : (s : Content) (i : ℕ) → length (ops_of (power_on r g s)) ≤ i → label (boots r g) (second_start r g confirms) (round_one s) i ≡ (2, i - length (ops_of (power_on r g s)))
   label_late s i le = ap (λ b. if b then (1, i) else (2, i - length (ops_of (power_on r g s)))) (outside (length (ops_of (power_on r g s))) i le)
 
   pair_is : (cut : ℕ × ℕ) (n i : ℕ) → cut.0 ≡ n → cut.1 ≡ i → (n, i) ≡ cut
@@ -179,14 +179,14 @@ module _ (r : Rules) (g : Geometry) (confirms : Bool) (valid : IsLayout g) (summ
   module _ (p : RoundNode Content) (round : summary.round ≡ rounds_of.First) (t : AreSummaries r g confirms p summary) (cut : ℕ × ℕ) where
     -- It is a node of the first round, whose boot makes so many operations.
     abbrev IsFirst : Type 0
-    IsFirst = (s : Content) × (p ≡ first s) × (summary.first.outcome.ops ≡ length (ops_of (power_on r g s)))
+    IsFirst = (s : Content) × (p ≡ round_one s) × (summary.first.outcome.ops ≡ length (ops_of (power_on r g s)))
 
     is_first : IsFirst
     is_first = by p t
       where
-        by : (q : RoundNode Content) → AreSummaries r g confirms q summary → (s : Content) × (q ≡ first s) × (summary.first.outcome.ops ≡ length (ops_of (power_on r g s)))
-        by (first s) u = (s, refl, width_is r g summary.first s u.first_is)
-        by (second began s) u = absurd (let no : rounds_of.First ≡ rounds_of.Second = sym round ∙ u.round_is in cc)
+        by : (q : RoundNode Content) → AreSummaries r g confirms q summary → (s : Content) × (q ≡ round_one s) × (summary.first.outcome.ops ≡ length (ops_of (power_on r g s)))
+        by (round_one s) u = (s, refl, width_is r g summary.first s u.first_is)
+        by (round_two began s) u = absurd (let no : rounds_of.First ≡ rounds_of.Second = sym round ∙ u.round_is in cc)
 
     pub early : cut.0 ≡ 1 → cut.1 < summary.first.outcome.ops → HasChildOf r g confirms p cut (Some cut.1)
     early one lt =

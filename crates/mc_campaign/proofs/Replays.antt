@@ -4,7 +4,7 @@ use Rattle.std.specs.Prelude.{Bool, List, length, ℕ, ◌+◌, ◌≡◌}
 use Rattle.mc_boot.specs.Outcome.{Report}
 use Rattle.mc_boot.specs.Plan.{PowerOn, power_on}
 use Rattle.mc_boot.specs.Restart.{confirmed_if}
-use Rattle.mc_campaign.specs.Campaigns.{AreReplayed, CannotOccurLater, Refuses, in_round}
+use Rattle.mc_campaign.specs.Campaigns.{AreReplayed, CannotOccurLater, RefusesCampaign, in_round}
 use Rattle.mc_campaign.specs.declared.rounds.Both.{Both}
 use Rattle.mc_campaign.specs.declared.rounds.ChildBoot.{ChildBoot}
 use Rattle.mc_campaign.specs.declared.rounds.TwoRounds.{TwoRounds}
@@ -34,7 +34,7 @@ moved P r r' g g' p p' q q' l l' a b c d e h =
 module _ (start : PowerOn) (confirms : Bool) (c : List (ℕ × ℕ)) (r : Rules) (g : Geometry) (rules : r ≡ start.rules) (layout : g ≡ start.geometry) where
   -- The first cut that can't occur is one of the first round.
   pub refused_first : (p q cuts : List ℕ) (error : ReplayError) → p ≡ start.content.primary → q ≡ start.content.secondary → cuts ≡ in_round 1 c
-      → replays.Refuses (power_on r g (record { primary = p; secondary = q })) cuts error → Refuses start confirms c error
+      → replays.RefusesReplay (power_on r g (record { primary = p; secondary = q })) cuts error → RefusesCampaign start confirms c error
   refused_first p q cuts (errors.CannotOccur index) p_is q_is cuts_are refuses =
       inl (moved (λ a b x y l. CannotOccurAt (power_on a b (record { primary = x; secondary = y })) l index) r start.rules g start.geometry p start.content.primary q start.content.secondary cuts
       (in_round 1 c) rules layout p_is q_is cuts_are refuses)
@@ -56,12 +56,12 @@ module _ (start : PowerOn) (confirms : Bool) (c : List (ℕ × ℕ)) (r : Rules)
 
       -- The cut that can't occur is one of the second round.
       pub refused_later : (error : ReplayError) (later index : ℕ) → error ≡ errors.CannotOccur later → index ≡ later
-          → replays.Refuses (power_on r g (record { primary = p'; secondary = q' })) later_cuts error
+          → replays.RefusesReplay (power_on r g (record { primary = p'; secondary = q' })) later_cuts error
           → CannotOccurLater start confirms c (length cuts + index)
       refused_later error later index is at_index refuses =
           let m : Content = confirmed_if confirms start.geometry middle in
           let here : CannotOccurAt (power_on r g (record { primary = p'; secondary = q' })) later_cuts later = subst
-          (replays.Refuses (power_on r g (record { primary = p'; secondary = q' })) later_cuts) is refuses in
+          (replays.RefusesReplay (power_on r g (record { primary = p'; secondary = q' })) later_cuts) is refuses in
           record {
             one = one;
             middle = middle;

@@ -1,7 +1,7 @@
 -- The first child of a node of two rounds, and the next.
 use Rattle.std.specs.Prelude.{◌≡◌, ℕ, ◌+◌, ◌<◌, ◌≤◌, min, Bool, List, length, Some, Result, Ok, Err, IfOk, refl}
 use Rattle.std.proofs.Common.{arith, sym, ap, subst, ◌∙◌}
-use Rattle.mc_tree.specs.Tree.{RoundNode, first, second}
+use Rattle.mc_tree.specs.Tree.{RoundNode, round_one, round_two}
 use Rattle.mc_flash.specs.Flash.{Content}
 use Rattle.mc_flash.specs.Geometry.{Geometry, IsLayout}
 use Rattle.mc_flash.specs.Usage.{Counts, Limits, no_counts, Seen, Allows, LeaveRoom, plus, room_of}
@@ -47,56 +47,56 @@ module _ (r : Rules) (g : Geometry) (confirms : Bool) where
   pub begins_first : (p : RoundNode Content) (summary : Both) (seen : Seen) → summary.round ≡ rounds_of.First → 0 < summary.first.outcome.ops → AreSummaries r g confirms p summary
       → seen.content ≡ content_at p → seen.geometry ≡ g
       → IsAt (two_rounds_model r g confirms) p 0 (child_boots.First summary.first.boot summary.first.outcome.ops summary.second) seen
-  begins_first (first s) summary seen round some t content layout =
+  begins_first (round_one s) summary seen round some t content layout =
       let ops = width_is r g summary.first s t.first_is in
       at_first r g confirms s 0 summary.first.boot summary.first.outcome.ops summary.second seen
       (record { on_is = first_on r g s summary.first t.first_is; content_is = content ∙ at_zero (power_on r g s); layout_is = layout }) (omega (arith, some, ops)) ops t.second_is
-  begins_first (second began s) summary seen round some t content layout = let not_so : rounds_of.First ≡ rounds_of.Second = sym round ∙ t.round_is in absurd cc
+  begins_first (round_two began s) summary seen round some t content layout = let not_so : rounds_of.First ≡ rounds_of.Second = sym round ∙ t.round_is in absurd cc
 
   -- Where the first round has no operation its boot is over.
   pub begins_beyond : (p : RoundNode Content) (summary : Both) (old new : Seen) → summary.round ≡ rounds_of.First → summary.first.outcome.ops ≤ 0 → AreSummaries r g confirms p summary
       → old.content ≡ content_at p → old.geometry ≡ g
       → new.content ≡ confirmed_if confirms old.geometry old.content → new.geometry ≡ old.geometry → IsAt (two_rounds_model r g confirms) p 0 (child_boots.Second summary.second.boot) new
-  begins_beyond (first s) summary old new round none t content layout is same =
+  begins_beyond (round_one s) summary old new round none t content layout is same =
       let ops = width_is r g summary.first s t.first_is in
       let zero : 0 ≡ length (ops_of (power_on r g s)) = omega (arith, none, ops) in
-      at_begin r g confirms (first s) 0 summary.second new (omega (arith, zero)) (omega (arith, zero))
+      at_begin r g confirms (round_one s) 0 summary.second new (omega (arith, zero)) (omega (arith, zero))
       (between r g confirms s new.content old layout (content ∙ at_zero (power_on r g s) ∙ ap (at_cut (power_on r g s)) zero) is)
       (same ∙ layout) t.second_is
-  begins_beyond (second began s) summary old new round none t content layout is same = let not_so : rounds_of.First ≡ rounds_of.Second = sym round ∙ t.round_is in absurd cc
+  begins_beyond (round_two began s) summary old new round none t content layout is same = let not_so : rounds_of.First ≡ rounds_of.Second = sym round ∙ t.round_is in absurd cc
 
   pub begins_second : (p : RoundNode Content) (summary : Both) (seen : Seen) → summary.round ≡ rounds_of.Second → AreSummaries r g confirms p summary → seen.content ≡ content_at p → seen.geometry ≡ g
       → IsAt (two_rounds_model r g confirms) p 0 (child_boots.Second summary.second.boot) seen
-  begins_second (first s) summary seen round t content layout = let not_so : rounds_of.First ≡ rounds_of.Second = sym t.round_is ∙ round in absurd cc
-  begins_second (second began s) summary seen round t content layout = at_begin r g confirms (second began s) 0 summary.second seen tt refl content layout t.second_is
+  begins_second (round_one s) summary seen round t content layout = let not_so : rounds_of.First ≡ rounds_of.Second = sym t.round_is ∙ round in absurd cc
+  begins_second (round_two began s) summary seen round t content layout = at_begin r g confirms (round_two began s) 0 summary.second seen tt refl content layout t.second_is
 
   -- What is left then is no more than was owed.
   pub left_first : (p : RoundNode Content) (summary : Both) (old : Counts) → summary.round ≡ rounds_of.First → AreSummaries r g confirms p summary
       → LeaveRoom old (left_of_child_boot r g (child_boots.First summary.first.boot summary.first.outcome.ops summary.second)) (plus old (owed_at r g p))
-  left_first (first s) summary old round t =
+  left_first (round_one s) summary old round t =
       let one = first_left r g s summary.first t.first_is old in
       record { entries = omega (arith, one.entries); saved = omega (arith, one.saved) }
-  left_first (second began s) summary old round t = let not_so : rounds_of.First ≡ rounds_of.Second = sym round ∙ t.round_is in absurd cc
+  left_first (round_two began s) summary old round t = let not_so : rounds_of.First ≡ rounds_of.Second = sym round ∙ t.round_is in absurd cc
 
   pub left_beyond : (p : RoundNode Content) (summary : Both) (old new : Counts) → summary.round ≡ rounds_of.First → AreSummaries r g confirms p summary → LeaveRoom new no_counts (plus old one_write)
       → LeaveRoom new (left_of_child_boot r g (child_boots.Second summary.second.boot)) (plus old (owed_at r g p))
-  left_beyond (first s) summary old new round t more =
+  left_beyond (round_one s) summary old new round t more =
       let one = first_left r g (second_start r g confirms s) summary.second t.second_is old in
       record { entries = omega (arith, one.entries, more.entries); saved = omega (arith, one.saved, more.saved) }
-  left_beyond (second began s) summary old new round t more = let not_so : rounds_of.First ≡ rounds_of.Second = sym round ∙ t.round_is in absurd cc
+  left_beyond (round_two began s) summary old new round t more = let not_so : rounds_of.First ≡ rounds_of.Second = sym round ∙ t.round_is in absurd cc
 
   pub left_second : (p : RoundNode Content) (summary : Both) (old : Counts) → summary.round ≡ rounds_of.Second → AreSummaries r g confirms p summary
       → LeaveRoom old (left_of_child_boot r g (child_boots.Second summary.second.boot)) (plus old (owed_at r g p))
-  left_second (first s) summary old round t = let not_so : rounds_of.First ≡ rounds_of.Second = sym t.round_is ∙ round in absurd cc
-  left_second (second began s) summary old round t = first_left r g s summary.second t.second_is old
+  left_second (round_one s) summary old round t = let not_so : rounds_of.First ≡ rounds_of.Second = sym t.round_is ∙ round in absurd cc
+  left_second (round_two began s) summary old round t = first_left r g s summary.second t.second_is old
 
   -- ---- the next
 
   pub first_passes : (p : RoundNode Content) (i : ℕ) (boot : Boot) (ops : ℕ) (later : Summary) (seen : Seen) → IsAt (two_rounds_model r g confirms) p i (child_boots.First boot ops later) seen
       → Allows (left_of_child_boot r g (child_boots.First boot ops later)) seen → CanPass r g boot seen
-  first_passes (first s) i boot ops later seen at room =
+  first_passes (round_one s) i boot ops later seen at room =
       (s, i, first_at r g confirms s i boot ops later seen at, at.on_is.early, record { entries = omega (arith, room.entries); saved = omega (arith, room.saved) })
-  first_passes (second began s) i boot ops later seen at room = absurd at.on_is
+  first_passes (round_two began s) i boot ops later seen at room = absurd at.on_is
 
   pub second_passes : (p : RoundNode Content) (i : ℕ) (boot : Boot) (seen : Seen) → IsAt (two_rounds_model r g confirms) p i (child_boots.Second boot) seen → i < width r g confirms p
       → Allows (left_of_child_boot r g (child_boots.Second boot)) seen → CanPass r g boot seen
@@ -106,22 +106,22 @@ module _ (r : Rules) (g : Geometry) (confirms : Bool) where
   pub next_first : (p : RoundNode Content) (i : ℕ) (boot boot' : Boot) (ops : ℕ) (later : Summary) (old new : Seen) → IsAt (two_rounds_model r g confirms) p i (child_boots.First boot ops later) old
       → ((s : Content) (j : ℕ) → IsAt (one_round r g) s j boot old → j < length (ops_of (power_on r g s)) → IsAt (one_round r g) s (j + 1) boot' new) → boot'.done < ops
       → IsAt (two_rounds_model r g confirms) p (i + 1) (child_boots.First boot' ops later) new
-  next_first (first s) i boot boot' ops later old new at passes more =
+  next_first (round_one s) i boot boot' ops later old new at passes more =
       let there = passes s i (first_at r g confirms s i boot ops later old at) at.on_is.early in
       at_first r g confirms s (i + 1) boot' ops later new there (omega (arith, more, there.on_is.count_is, at.on_is.ops_is)) at.on_is.ops_is at.on_is.later_is
-  next_first (second began s) i boot boot' ops later old new at passes more = absurd at.on_is
+  next_first (round_two began s) i boot boot' ops later old new at passes more = absurd at.on_is
 
   pub next_between : (p : RoundNode Content) (i : ℕ) (boot boot' : Boot) (ops : ℕ) (later : Summary) (old mid new : Seen)
       → IsAt (two_rounds_model r g confirms) p i (child_boots.First boot ops later) old
       → ((s : Content) (j : ℕ) → IsAt (one_round r g) s j boot old → j < length (ops_of (power_on r g s)) → IsAt (one_round r g) s (j + 1) boot' mid) → ops ≤ boot'.done
       → new.content ≡ confirmed_if confirms mid.geometry mid.content → new.geometry ≡ mid.geometry → IsAt (two_rounds_model r g confirms) p (i + 1) (child_boots.Second later.boot) new
-  next_between (first s) i boot boot' ops later old mid new at passes over is same =
+  next_between (round_one s) i boot boot' ops later old mid new at passes over is same =
       let there = passes s i (first_at r g confirms s i boot ops later old at) at.on_is.early in
       let all : i + 1 ≡ length (ops_of (power_on r g s)) = omega (arith, over, there.on_is.count_is, at.on_is.ops_is, at.on_is.early) in
-      at_begin r g confirms (first s) (i + 1) later new (omega (arith, all)) (omega (arith, all))
+      at_begin r g confirms (round_one s) (i + 1) later new (omega (arith, all)) (omega (arith, all))
       (between r g confirms s new.content mid there.layout_is (there.content_is ∙ ap (at_cut (power_on r g s)) all) is)
       (same ∙ there.layout_is) at.on_is.later_is
-  next_between (second began s) i boot boot' ops later old mid new at passes over is same = absurd at.on_is
+  next_between (round_two began s) i boot boot' ops later old mid new at passes over is same = absurd at.on_is
 
   pub next_second : (p : RoundNode Content) (i : ℕ) (boot boot' : Boot) (old new : Seen) → IsAt (two_rounds_model r g confirms) p i (child_boots.Second boot) old
       → ((s : Content) (j : ℕ) → IsAt (one_round r g) s j boot old → j < length (ops_of (power_on r g s)) → IsAt (one_round r g) s (j + 1) boot' new) → i < width r g confirms p
@@ -139,10 +139,10 @@ module _ (r : Rules) (g : Geometry) (confirms : Bool) where
       → IsAt (two_rounds_model r g confirms) p i (child_boots.First boot ops later) seen
       → LeaveRoom mid (left_of g (progress boot')) (plus old (left_of g (progress boot))) → LeaveRoom new no_counts (plus mid one_write)
       → LeaveRoom new (left_of_child_boot r g (child_boots.Second later.boot)) (plus old (left_of_child_boot r g (child_boots.First boot ops later)))
-  counts_between (first s) i boot boot' ops later seen old mid new at c d =
+  counts_between (round_one s) i boot boot' ops later seen old mid new at c d =
       let one = first_left r g (second_start r g confirms s) later at.on_is.later_is old in
       record { entries = omega (arith, one.entries, c.entries, d.entries); saved = omega (arith, one.saved, c.saved, d.saved) }
-  counts_between (second began s) i boot boot' ops later seen old mid new at c d = absurd at.on_is
+  counts_between (round_two began s) i boot boot' ops later seen old mid new at c d = absurd at.on_is
 
   -- There is room for the write between the rounds.
   pub room_between : (boot boot' : Boot) (ops : ℕ) (later : Summary) (old mid : Seen) → Allows (left_of_child_boot r g (child_boots.First boot ops later)) old
@@ -156,15 +156,15 @@ module _ (r : Rules) (g : Geometry) (confirms : Bool) where
   pub parent_first : (p : RoundNode Content) (i : ℕ) (boot : Boot) (ops : ℕ) (later : Summary) (parent : Both) (seen : Seen)
       → IsAt (two_rounds_model r g confirms) p i (child_boots.First boot ops later) seen
       → AreSummaries r g confirms p parent → IsChild (one_round r g) boot parent.first seen
-  parent_first (first s) i boot ops later parent seen at t = (s, i, first_at r g confirms s i boot ops later seen at, at.on_is.early, t.first_is)
-  parent_first (second began s) i boot ops later parent seen at t = absurd at.on_is
+  parent_first (round_one s) i boot ops later parent seen at t = (s, i, first_at r g confirms s i boot ops later seen at, at.on_is.early, t.first_is)
+  parent_first (round_two began s) i boot ops later parent seen at t = absurd at.on_is
 
   -- Where the outcome of the first round follows from that of the boot that was cut, so does that of the second.
   pub summary_alike : (p : RoundNode Content) (i : ℕ) (boot : Boot) (ops : ℕ) (later one : Summary) (parent : Both) (seen : Seen)
       → IsAt (two_rounds_model r g confirms) p i (child_boots.First boot ops later) seen
       → AreSummaries r g confirms p parent → IsChildSummary (one_round r g) boot parent.first seen one → LeavesAlike r g boot parent.first seen
       → AreSummaries r g confirms (child r g confirms p i) (record { round = rounds_of.First; first = one; second = parent.second })
-  summary_alike (first s) i boot ops later one parent seen at t gives alike =
+  summary_alike (round_one s) i boot ops later one parent seen at t gives alike =
       let here = first_at r g confirms s i boot ops later seen at in
       let same = same_start r g confirms s (at_cut (power_on r g s) i) (alike s i here at.on_is.early t.first_is) in
       subst (λ q. AreSummaries r g confirms q (record { round = rounds_of.First; first = one; second = parent.second })) (sym (first_child r g confirms s i at.on_is.early))
@@ -173,19 +173,19 @@ module _ (r : Rules) (g : Geometry) (confirms : Bool) where
         first_is = gives s i here at.on_is.early t.first_is;
         second_is = subst (λ x. IsSummary (power_on r g x) parent.second) (sym same) t.second_is;
       })
-  summary_alike (second began s) i boot ops later one parent seen at t gives alike = absurd at.on_is
+  summary_alike (round_two began s) i boot ops later one parent seen at t gives alike = absurd at.on_is
 
   -- Else both are run.
   summary_run : (p : RoundNode Content) (i : ℕ) (boot : Boot) (ops : ℕ) (later : Summary) (seen : Seen) (both : Both) → IsAt (two_rounds_model r g confirms) p i (child_boots.First boot ops later) seen
-      → AreSummaries r g confirms (first seen.content) both → AreSummaries r g confirms (child r g confirms p i) both
-  summary_run (first s) i boot ops later seen both at t =
+      → AreSummaries r g confirms (round_one seen.content) both → AreSummaries r g confirms (child r g confirms p i) both
+  summary_run (round_one s) i boot ops later seen both at t =
       subst (λ q. AreSummaries r g confirms q both) (sym (first_child r g confirms s i at.on_is.early))
-      (subst (λ x. AreSummaries r g confirms (first x) both) (first_at r g confirms s i boot ops later seen at).content_is t)
-  summary_run (second began s) i boot ops later seen both at t = absurd at.on_is
+      (subst (λ x. AreSummaries r g confirms (round_one x) both) (first_at r g confirms s i boot ops later seen at).content_is t)
+  summary_run (round_two began s) i boot ops later seen both at t = absurd at.on_is
 
   pub summary_children : {E : Type 0} (child_boot : ChildBoot) (boot : Boot) (ops : ℕ) (later : Summary) (parent : Both) (seen : Seen) (result : Result Both E)
       → child_boot ≡ child_boots.First boot ops later
-      → IfOk result (AreSummaries r g confirms (first seen.content)) → IfOk result (IsChildSummary (two_rounds_model r g confirms) child_boot parent seen)
+      → IfOk result (AreSummaries r g confirms (round_one seen.content)) → IfOk result (IsChildSummary (two_rounds_model r g confirms) child_boot parent seen)
   summary_children child_boot boot ops later parent seen (Ok both) is t = λ p i at early summary. summary_run p i boot ops later seen both (subst (λ w. IsAt (two_rounds_model r g confirms)
       p i w seen) is at) t
   summary_children child_boot boot ops later parent seen (Err e) is t = tt
@@ -206,7 +206,7 @@ module _ (r : Rules) (g : Geometry) (confirms : Bool) where
   pub both_outcomes : (old mid new : Seen) (one two : Summary) → old.geometry ≡ g → mid.geometry ≡ old.geometry → IsSummary (power_on r g old.content) one
       → left_by (power_on r g old.content) ≡ Some mid.content
       → new.content ≡ confirmed_if confirms mid.geometry mid.content → IsSummary (power_on r g new.content) two
-      → AreSummaries r g confirms (first old.content) (record { round = rounds_of.First; first = one; second = two })
+      → AreSummaries r g confirms (round_one old.content) (record { round = rounds_of.First; first = one; second = two })
   both_outcomes old mid new one two layout same a left is b = record {
     round_is = refl;
     first_is = a;
@@ -218,7 +218,7 @@ module _ (r : Rules) (g : Geometry) (confirms : Bool) where
   pub width_first : (p : RoundNode Content) (summary : Both) (n : ℕ) → IsLayout g → summary.round ≡ rounds_of.First → AreSummaries r g confirms p summary
       → n ≡ min (summary.first.outcome.ops + summary.second.outcome.ops) 4294967295
       → n ≡ width r g confirms p
-  width_first (first s) summary n valid round t is =
+  width_first (round_one s) summary n valid round t is =
       omega (
         arith,
         is,
@@ -228,8 +228,8 @@ module _ (r : Rules) (g : Geometry) (confirms : Bool) where
         few_ops (power_on r g (second_start r g confirms s)) valid,
         few_operations r.grain g valid,
       )
-  width_first (second began s) summary n valid round t is = let not_so : rounds_of.First ≡ rounds_of.Second = sym round ∙ t.round_is in absurd cc
+  width_first (round_two began s) summary n valid round t is = let not_so : rounds_of.First ≡ rounds_of.Second = sym round ∙ t.round_is in absurd cc
 
   pub width_second : (p : RoundNode Content) (summary : Both) → summary.round ≡ rounds_of.Second → AreSummaries r g confirms p summary → summary.second.outcome.ops ≡ width r g confirms p
-  width_second (first s) summary round t = let not_so : rounds_of.First ≡ rounds_of.Second = sym t.round_is ∙ round in absurd cc
-  width_second (second began s) summary round t = width_is r g summary.second s t.second_is
+  width_second (round_one s) summary round t = let not_so : rounds_of.First ≡ rounds_of.Second = sym t.round_is ∙ round in absurd cc
+  width_second (round_two began s) summary round t = width_is r g summary.second s t.second_is

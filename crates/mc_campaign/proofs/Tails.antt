@@ -27,7 +27,7 @@ use Rattle.mc_flash.specs.Flash.{Content}
 use Rattle.mc_flash.specs.Geometry.{Geometry}
 use Rattle.mc_flash.specs.Usage.{Seen}
 use Rattle.mc_trailer.specs.declared.tables.Rules.{Rules}
-use Rattle.mc_tree.specs.Tree.{RoundNode, first, landed, second}
+use Rattle.mc_tree.specs.Tree.{RoundNode, round_one, landed, round_two}
 use Rattle.mc_tree.specs.facts.Rounds.{child_first, child_second}
 use Rattle.mc_tree.specs.facts.Weighed.{from_alike, path_shared}
 use Rattle.mc_tree.specs.inner.Weights.{IsShared, WeighAlike, from, path_tree, weight}
@@ -40,8 +40,8 @@ module _ (r : Rules) (g : Geometry) (confirms : Bool) where
 
   module _ (parent child_summary : Both) (seen : Seen) (i : ℕ) where
     pub first_child_of : (p : RoundNode Content) (boot : Boot) (ops : ℕ) (later : Summary) → IsChildOf (two_rounds_model r g confirms) p i (child_boots.First boot ops later) parent child_summary seen
-        → (s : Content) × (p ≡ first s) × IsChildOf (one_round r g) s i boot parent.first child_summary.first seen
-    first_child_of (first s) boot ops later is = (
+        → (s : Content) × (p ≡ round_one s) × IsChildOf (one_round r g) s i boot parent.first child_summary.first seen
+    first_child_of (round_one s) boot ops later is = (
       s,
       refl,
       record {
@@ -51,7 +51,7 @@ module _ (r : Rules) (g : Geometry) (confirms : Bool) where
         child_is = subst (λ q. IsSummary (power_on r g (began_at q)) child_summary.first) (first_child r g confirms s i is.at_is.on_is.early) is.child_is.first_is;
       },
     )
-    first_child_of (second began s) boot ops later is = absurd is.at_is.on_is
+    first_child_of (round_two began s) boot ops later is = absurd is.at_is.on_is
 
     pub later_child_of : (p : RoundNode Content) (boot : Boot) → IsChildOf (two_rounds_model r g confirms) p i (child_boots.Second boot) parent child_summary seen
         → IsChildOf (one_round r g) (later_from r g confirms p) (later_number r g confirms p i) boot parent.second child_summary.second seen
@@ -75,14 +75,14 @@ module _ (r : Rules) (g : Geometry) (confirms : Bool) where
 
     -- Nodes of the second round weigh the same where the first rounds have the same result.
     same_second : (a b : Content) → (report_from r g a).result ≡ (report_from r g b).result → (k : ℕ) (v : Content)
-        → weight totals (rounds r g confirms) own k (second a v) ≡ weight totals (rounds r g confirms) own k (second b v)
+        → weight totals (rounds r g confirms) own k (round_two a v) ≡ weight totals (rounds r g confirms) own k (round_two b v)
     same_second a b same zero v = ap (λ (x : BootResult). report_totals (judged e (record (report_from r g v) { result = end_result x (report_from r g v).result }))) same
     same_second a b same (suc k) v =
-        let here : own (second a v) ≡ own (second b v) = ap (λ (x : BootResult). report_totals (judged e (record (report_from r g v) { result = end_result x (report_from r g v).result }))) same in
-        let below = from_alike totals totals_weigh (λ i. weight totals (rounds r g confirms) own k (second a (at_cut (power_on r g v) i)))
-        (λ i. weight totals (rounds r g confirms) own k (second b (at_cut (power_on r g v) i))) (length (ops_of (power_on r g v))) 0 (λ i le lt. same_second a b same k (at_cut (power_on r g v) i)) in
-        ap (λ (x : Totals). totals.merged x (from totals (λ i. weight totals (rounds r g confirms) own k (second a (at_cut (power_on r g v) i))) (length (ops_of (power_on r g v))) 0)) here
-        ∙ ap (totals.merged (own (second b v))) below
+        let here : own (round_two a v) ≡ own (round_two b v) = ap (λ (x : BootResult). report_totals (judged e (record (report_from r g v) { result = end_result x (report_from r g v).result }))) same in
+        let below = from_alike totals totals_weigh (λ i. weight totals (rounds r g confirms) own k (round_two a (at_cut (power_on r g v) i)))
+        (λ i. weight totals (rounds r g confirms) own k (round_two b (at_cut (power_on r g v) i))) (length (ops_of (power_on r g v))) 0 (λ i le lt. same_second a b same k (at_cut (power_on r g v) i)) in
+        ap (λ (x : Totals). totals.merged x (from totals (λ i. weight totals (rounds r g confirms) own k (round_two a (at_cut (power_on r g v) i))) (length (ops_of (power_on r g v))) 0)) here
+        ∙ ap (totals.merged (own (round_two b v))) below
 
     same_node : (p q : RoundNode Content) → p ≡ q → Alike p q
     same_node p q is k = ap (weight totals (rounds r g confirms) own k) is
@@ -98,28 +98,28 @@ module _ (r : Rules) (g : Geometry) (confirms : Bool) where
       there : next u ≡ next s
       there = same_start r g confirms s u goes.left
 
-      early : (j : ℕ) → j < x.erases → Alike (child r g confirms (first u) j) (child r g confirms (first s) (index_in_parent x j))
+      early : (j : ℕ) → j < x.erases → Alike (child r g confirms (round_one u) j) (child r g confirms (round_one s) (index_in_parent x j))
       early j lt =
           let inside : j < length (ops_of (power_on r g u)) = omega (arith, lt, goes.shared.at_most) in
-          same_node _ _ (child_first (boots r g) next u j inside ∙ ap (λ (v : Content). first v) (placed_at r g s u x goes.shared j inside)
+          same_node _ _ (child_first (boots r g) next u j inside ∙ ap (λ (v : Content). round_one v) (placed_at r g s u x goes.shared j inside)
           ∙ sym (child_first (boots r g) next s (index_in_parent x j) (goes.shared.within j inside)))
 
-      late : (j : ℕ) → x.erases ≤ j → Alike (child r g confirms (first u) j) (child r g confirms (first s) (x.kept + j))
+      late : (j : ℕ) → x.erases ≤ j → Alike (child r g confirms (round_one u) j) (child r g confirms (round_one s) (x.kept + j))
       late j le = elim (cases_lt j (length (ops_of (power_on r g u)))) [
         | inl inside ↦
-            same_node _ _ (child_first (boots r g) next u j inside ∙ ap (λ (v : Content). first v) (placed_late r g s u x goes.shared j le inside)
+            same_node _ _ (child_first (boots r g) next u j inside ∙ ap (λ (v : Content). round_one v) (placed_late r g s u x goes.shared j le inside)
             ∙ sym (child_first (boots r g) next s (x.kept + j) (omega (arith, inside, goes.shared.width))))
         | inr outside ↦ λ k.
             let number : j - length (ops_of (power_on r g u)) ≡ x.kept + j - length (ops_of (power_on r g s)) = omega (arith, outside, goes.shared.width) in
-            same_node _ _ (child_second (boots r g) next u j outside ∙ ap (λ (n : ℕ). second u (at_cut (power_on r g (next u)) n)) number
-            ∙ ap (λ (v : Content). second u (at_cut (power_on r g v) (x.kept + j - length (ops_of (power_on r g s))))) there) k
+            same_node _ _ (child_second (boots r g) next u j outside ∙ ap (λ (n : ℕ). round_two u (at_cut (power_on r g (next u)) n)) number
+            ∙ ap (λ (v : Content). round_two u (at_cut (power_on r g v) (x.kept + j - length (ops_of (power_on r g s))))) there) k
             ∙ same_second u s same k (at_cut (power_on r g (next s)) (x.kept + j - length (ops_of (power_on r g s))))
             ∙ same_node _ _ (sym (child_second (boots r g) next s (x.kept + j) (omega (arith, outside, goes.shared.width)))) k
       ]
 
-      pub first_shared : i < length (ops_of (power_on r g s)) → IsShared totals (rounds r g confirms) own (first s) (child r g confirms (first s) i) x.kept x.erases (index_in_parent x)
+      pub first_shared : i < length (ops_of (power_on r g s)) → IsShared totals (rounds r g confirms) own (round_one s) (child r g confirms (round_one s) i) x.kept x.erases (index_in_parent x)
       first_shared lt =
-          subst (λ p. IsShared totals (rounds r g confirms) own (first s) p x.kept x.erases (index_in_parent x)) (sym (first_child r g confirms s i lt)) (record {
+          subst (λ p. IsShared totals (rounds r g confirms) own (round_one s) p x.kept x.erases (index_in_parent x)) (sym (first_child r g confirms s i lt)) (record {
             width = omega (arith, goes.shared.width, ap (λ v. length (ops_of (power_on r g v))) there);
             at_most = omega (arith, goes.shared.at_most);
             within = λ j lt. omega (arith, goes.shared.within j (omega (arith, lt, goes.shared.at_most)));
@@ -133,35 +133,35 @@ module _ (r : Rules) (g : Geometry) (confirms : Bool) where
       abbrev w : Content
       w = at_cut (power_on r g v) i
 
-      pub second_shared : (began : Content) → IsShared totals (rounds r g confirms) own (second began v) (second began w) x.kept x.erases (index_in_parent x)
+      pub second_shared : (began : Content) → IsShared totals (rounds r g confirms) own (round_two began v) (round_two began w) x.kept x.erases (index_in_parent x)
       second_shared began = record {
         width = goes.shared.width;
         at_most = goes.shared.at_most;
         within = λ j lt. goes.shared.within j (omega (arith, lt, goes.shared.at_most));
-        early = λ j lt. same_node _ _ (ap (λ (z : Content). second began z) (placed_at r g v w x goes.shared j (omega (arith, lt, goes.shared.at_most))));
-        late = λ j le lt. same_node _ _ (ap (λ (z : Content). second began z) (placed_late r g v w x goes.shared j le lt));
+        early = λ j lt. same_node _ _ (ap (λ (z : Content). round_two began z) (placed_at r g v w x goes.shared j (omega (arith, lt, goes.shared.at_most))));
+        late = λ j le lt. same_node _ _ (ap (λ (z : Content). round_two began z) (placed_late r g v w x goes.shared j le lt));
       }
 
       pub moved_shared : (s : Content) (y : SharedTail) → v ≡ second_start r g confirms s → IsMovedBy (length (ops_of (power_on r g s))) x y
-          → IsShared totals (rounds r g confirms) own (first s) (second s w) y.kept y.erases (index_in_parent y)
+          → IsShared totals (rounds r g confirms) own (round_one s) (round_two s w) y.kept y.erases (index_in_parent y)
       moved_shared s y is moved =
           let first_count : ℕ = length (ops_of (power_on r g s)) in
-          let far : (n : ℕ) → child r g confirms (first s) (n + first_count) ≡ second s (at_cut (power_on r g v) n) =
+          let far : (n : ℕ) → child r g confirms (round_one s) (n + first_count) ≡ round_two s (at_cut (power_on r g v) n) =
           λ n.
           let back : n + first_count - first_count ≡ n = omega arith in
-          child_second (boots r g) (second_start r g confirms) s (n + first_count) (omega arith) ∙ ap (λ (m : ℕ). second s (at_cut (power_on r g (second_start r g confirms s)) m)) back
-          ∙ ap (λ (z : Content). second s (at_cut (power_on r g z) n)) (sym is) in
+          child_second (boots r g) (second_start r g confirms) s (n + first_count) (omega arith) ∙ ap (λ (m : ℕ). round_two s (at_cut (power_on r g (second_start r g confirms s)) m)) back
+          ∙ ap (λ (z : Content). round_two s (at_cut (power_on r g z) n)) (sym is) in
           record {
             width = omega (arith, goes.shared.width, moved.kept_is, ap (λ z. length (ops_of (power_on r g z))) is);
             at_most = omega (arith, goes.shared.at_most, moved.erases_is);
             within = λ j lt.
                 omega (arith, moved.index_is j, goes.shared.within j (omega (arith, lt, goes.shared.at_most, moved.erases_is)), ap (λ z. length (ops_of (power_on r g z))) is);
-            early = λ j lt. same_node _ _ (ap (λ (z : Content). second s z) (placed_at r g v w x goes.shared j (omega (arith, lt, goes.shared.at_most, moved.erases_is)))
-                ∙ sym (far (index_in_parent x j)) ∙ ap (child r g confirms (first s)) (sym (moved.index_is j)));
+            early = λ j lt. same_node _ _ (ap (λ (z : Content). round_two s z) (placed_at r g v w x goes.shared j (omega (arith, lt, goes.shared.at_most, moved.erases_is)))
+                ∙ sym (far (index_in_parent x j)) ∙ ap (child r g confirms (round_one s)) (sym (moved.index_is j)));
             late = λ j le lt.
                 let number : x.kept + j + first_count ≡ y.kept + j = omega (arith, moved.kept_is) in
-                same_node _ _ (ap (λ (z : Content). second s z) (placed_late r g v w x goes.shared j (omega (arith, le, moved.erases_is)) lt)
-                ∙ sym (far (x.kept + j)) ∙ ap (child r g confirms (first s)) number);
+                same_node _ _ (ap (λ (z : Content). round_two s z) (placed_late r g v w x goes.shared j (omega (arith, le, moved.erases_is)) lt)
+                ∙ sym (far (x.kept + j)) ∙ ap (child r g confirms (round_one s)) number);
           }
 
   -- As nodes at the ends of paths.
@@ -169,14 +169,14 @@ module _ (r : Rules) (g : Geometry) (confirms : Bool) where
     -- Of a child that is on that way, what lies below it is placed so.
     abbrev pub AreTails : ChildBoot → SharedTail → Type 0
     AreTails at x =
-        (e : Expectation) (c : Content) (path : List ℕ) (i : ℕ) → IsChildOf (two_rounds_model r g confirms) (landed (rounds r g confirms) (first c) path) i at parent child_summary seen
-        → IsTailOf (path_tree (rounds r g confirms) (first c)) (λ l. end_from r g confirms (landed (rounds r g confirms) (first c) l)) e path i x
+        (e : Expectation) (c : Content) (path : List ℕ) (i : ℕ) → IsChildOf (two_rounds_model r g confirms) (landed (rounds r g confirms) (round_one c) path) i at parent child_summary seen
+        → IsTailOf (path_tree (rounds r g confirms) (round_one c)) (λ l. end_from r g confirms (landed (rounds r g confirms) (round_one c) l)) e path i x
 
-    by_node : (e : Expectation) (c : Content) (path : List ℕ) (i : ℕ) (x : SharedTail) (p : RoundNode Content) → landed (rounds r g confirms) (first c) path ≡ p
+    by_node : (e : Expectation) (c : Content) (path : List ℕ) (i : ℕ) (x : SharedTail) (p : RoundNode Content) → landed (rounds r g confirms) (round_one c) path ≡ p
         → IsShared totals (rounds r g confirms) (own e) p (child r g confirms p i) x.kept x.erases (index_in_parent x)
-        → IsTailOf (path_tree (rounds r g confirms) (first c)) (λ l. end_from r g confirms (landed (rounds r g confirms) (first c) l)) e path i x
+        → IsTailOf (path_tree (rounds r g confirms) (round_one c)) (λ l. end_from r g confirms (landed (rounds r g confirms) (round_one c) l)) e path i x
     by_node e c path i x p is shared =
-        path_shared totals totals_weigh (rounds r g confirms) (first c) (own e) path i x.kept x.erases (index_in_parent x)
+        path_shared totals totals_weigh (rounds r g confirms) (round_one c) (own e) path i x.kept x.erases (index_in_parent x)
         (subst (λ q. IsShared totals (rounds r g confirms) (own e) q (child r g confirms q i) x.kept x.erases (index_in_parent x)) (sym is) shared)
 
     pub tails_first : (boot : Boot) (ops : ℕ) (later : Summary) (found : Option SharedTail) → child_summary.first.outcome.result ≡ parent.first.outcome.result
@@ -184,11 +184,11 @@ module _ (r : Rules) (g : Geometry) (confirms : Bool) where
         → IfSome found (AreTails (child_boots.First boot ops later))
     tails_first boot ops later None same tails = tt
     tails_first boot ops later (Some x) same tails = λ e c path i here.
-        let at = first_child_of parent child_summary seen i (landed (rounds r g confirms) (first c) path) boot ops later here in
+        let at = first_child_of parent child_summary seen i (landed (rounds r g confirms) (round_one c) path) boot ops later here in
         let is = at.2 in
         let result = ap (λ (o : Report). o.result) (report_is (at_cut (power_on r g at.0) i) child_summary.first is.child_is) ∙ same ∙ sym (ap (λ (o : Report). o.result) (report_is at.0 parent.first
         is.parent_is)) in
-        by_node e c path i x (first at.0) at.1 (first_shared e at.0 i x (tails at.0 i is) result is.some)
+        by_node e c path i x (round_one at.0) at.1 (first_shared e at.0 i x (tails at.0 i is) result is.some)
 
     pub tails_later : (boot : Boot) (x : SharedTail) (found : Option SharedTail)
         → ((s : Content) (i : ℕ) → IsChildOf (one_round r g) s i boot parent.second child_summary.second seen → GoesOnIn (power_on r g s) i x)
@@ -197,21 +197,21 @@ module _ (r : Rules) (g : Geometry) (confirms : Bool) where
         → IfSome found (AreTails (child_boots.Second boot))
     tails_later boot x None goes moved same = tt
     tails_later boot x (Some y) goes moved same = λ e c path i here.
-        by e c i (landed (rounds r g confirms) (first c) path) here path refl
+        by e c i (landed (rounds r g confirms) (round_one c) path) here path refl
       where
         by : (e : Expectation) (c : Content) (i : ℕ) (p : RoundNode Content) → IsChildOf (two_rounds_model r g confirms) p i (child_boots.Second boot) parent child_summary seen → (path : List ℕ)
-            → landed (rounds r g confirms) (first c) path ≡ p
-            → IsTailOf (path_tree (rounds r g confirms) (first c)) (λ l. end_from r g confirms (landed (rounds r g confirms) (first c) l)) e path i y
-        by e c i (first s) here path is =
-            let at = later_child_of parent child_summary seen i (first s) boot here in
+            → landed (rounds r g confirms) (round_one c) path ≡ p
+            → IsTailOf (path_tree (rounds r g confirms) (round_one c)) (λ l. end_from r g confirms (landed (rounds r g confirms) (round_one c) l)) e path i y
+        by e c i (round_one s) here path is =
+            let at = later_child_of parent child_summary seen i (round_one s) boot here in
             let v : Content = second_start r g confirms s in
-            let number : ℕ = later_number r g confirms (first s) i in
-            by_node e c path i y (first s) is
-            (subst (λ q. IsShared totals (rounds r g confirms) (own e) (first s) q y.kept y.erases (index_in_parent y)) (sym (later_child r g confirms (first s) i here.at_is.on_is.0))
+            let number : ℕ = later_number r g confirms (round_one s) i in
+            by_node e c path i y (round_one s) is
+            (subst (λ q. IsShared totals (rounds r g confirms) (own e) (round_one s) q y.kept y.erases (index_in_parent y)) (sym (later_child r g confirms (round_one s) i here.at_is.on_is.0))
             (moved_shared e v number x (goes v number at) s y refl (moved s here.parent_is.first_is here.parent_is.round_is)))
-        by e c i (second began v) here path is =
-            let at = later_child_of parent child_summary seen i (second began v) boot here in
+        by e c i (round_two began v) here path is =
+            let at = later_child_of parent child_summary seen i (round_two began v) boot here in
             let unmoved : y ≡ x = some_same y x (same here.parent_is.round_is) in
-            by_node e c path i y (second began v) is
-            (subst (λ z. IsShared totals (rounds r g confirms) (own e) (second began v) (second began (at_cut (power_on r g v) i)) z.kept z.erases (index_in_parent z)) (sym unmoved)
+            by_node e c path i y (round_two began v) is
+            (subst (λ z. IsShared totals (rounds r g confirms) (own e) (round_two began v) (round_two began (at_cut (power_on r g v) i)) z.kept z.erases (index_in_parent z)) (sym unmoved)
             (second_shared e v i x (goes v i at) began))

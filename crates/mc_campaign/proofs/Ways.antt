@@ -1,7 +1,7 @@
 -- From one node of two rounds to another.
 use Rattle.std.specs.Prelude.{◌≡◌, ℕ, ◌+◌, ◌<◌, Bool, length, Option, Some, refl}
 use Rattle.std.proofs.Common.{arith, sym, ap, subst, ◌∙◌}
-use Rattle.mc_tree.specs.Tree.{RoundNode, first, second, two_rounds_child, two_rounds_width}
+use Rattle.mc_tree.specs.Tree.{RoundNode, round_one, round_two, two_rounds_child, two_rounds_width}
 use Rattle.mc_tree.specs.facts.Rounds.{child_first, child_second}
 use Rattle.mc_flash.specs.Flash.{Content}
 use Rattle.mc_flash.specs.Geometry.{Geometry}
@@ -29,10 +29,10 @@ module _ (r : Rules) (g : Geometry) (confirms : Bool) where
 
   -- ---- a child in the first round
 
-  pub first_child : (s : Content) (i : ℕ) → i < length (ops_of (power_on r g s)) → child (first s) i ≡ first (at_cut (power_on r g s) i)
+  pub first_child : (s : Content) (i : ℕ) → i < length (ops_of (power_on r g s)) → child (round_one s) i ≡ round_one (at_cut (power_on r g s) i)
   first_child s i lt = child_first (boots r g) (second_start r g confirms) s i lt
 
-  pub first_at : (s : Content) (i : ℕ) (boot : Boot) (ops : ℕ) (later : Summary) (seen : Seen) → IsAt (two_rounds_model r g confirms) (first s) i (child_boots.First boot ops later) seen
+  pub first_at : (s : Content) (i : ℕ) (boot : Boot) (ops : ℕ) (later : Summary) (seen : Seen) → IsAt (two_rounds_model r g confirms) (round_one s) i (child_boots.First boot ops later) seen
       → IsAt (one_round r g) s i boot seen
   first_at s i boot ops later seen at = record {
     on_is = at.on_is.made;
@@ -42,7 +42,7 @@ module _ (r : Rules) (g : Geometry) (confirms : Bool) where
 
   pub at_first : (s : Content) (i : ℕ) (boot : Boot) (ops : ℕ) (later : Summary) (seen : Seen) → IsAt (one_round r g) s i boot seen → i < length (ops_of (power_on r g s))
       → ops ≡ length (ops_of (power_on r g s))
-      → IsSummary (power_on r g (second_start r g confirms s)) later → IsAt (two_rounds_model r g confirms) (first s) i (child_boots.First boot ops later) seen
+      → IsSummary (power_on r g (second_start r g confirms s)) later → IsAt (two_rounds_model r g confirms) (round_one s) i (child_boots.First boot ops later) seen
   at_first s i boot ops later seen at early same summary = record {
     on_is = record { early = early; made = at.on_is; ops_is = same; later_is = summary };
     content_is = at.content_is ∙ sym (ap content_at (first_child s i early));
@@ -51,9 +51,9 @@ module _ (r : Rules) (g : Geometry) (confirms : Bool) where
 
   -- ---- a child in the second
 
-  pub later_child : (p : RoundNode Content) (i : ℕ) → IsLater r g confirms p i → child p i ≡ second (began_at p) (at_cut (power_on r g (later_from r g confirms p)) (later_number r g confirms p i))
-  later_child (first s) i le = child_second (boots r g) (second_start r g confirms) s i le
-  later_child (second began s) i le = refl
+  pub later_child : (p : RoundNode Content) (i : ℕ) → IsLater r g confirms p i → child p i ≡ round_two (began_at p) (at_cut (power_on r g (later_from r g confirms p)) (later_number r g confirms p i))
+  later_child (round_one s) i le = child_second (boots r g) (second_start r g confirms) s i le
+  later_child (round_two began s) i le = refl
 
   pub later_at : (p : RoundNode Content) (i : ℕ) (boot : Boot) (seen : Seen) → IsAt (two_rounds_model r g confirms) p i (child_boots.Second boot) seen
       → IsAt (one_round r g) (later_from r g confirms p) (later_number r g confirms p i) boot seen
@@ -72,16 +72,16 @@ module _ (r : Rules) (g : Geometry) (confirms : Bool) where
   }
 
   pub later_early : (p : RoundNode Content) (i : ℕ) → IsLater r g confirms p i → i < width p → later_number r g confirms p i < length (ops_of (power_on r g (later_from r g confirms p)))
-  later_early (first s) i le lt = omega (arith, le, lt)
-  later_early (second began s) i le lt = lt
+  later_early (round_one s) i le lt = omega (arith, le, lt)
+  later_early (round_two began s) i le lt = lt
 
   later_goes_on : (p : RoundNode Content) (i : ℕ) → IsLater r g confirms p i → IsLater r g confirms p (i + 1)
-  later_goes_on (first s) i le = omega (arith, le)
-  later_goes_on (second began s) i le = tt
+  later_goes_on (round_one s) i le = omega (arith, le)
+  later_goes_on (round_two began s) i le = tt
 
   later_next : (p : RoundNode Content) (i : ℕ) → IsLater r g confirms p i → later_number r g confirms p i + 1 ≡ later_number r g confirms p (i + 1)
-  later_next (first s) i le = omega (arith, le)
-  later_next (second began s) i le = refl
+  later_next (round_one s) i le = omega (arith, le)
+  later_next (round_two began s) i le = refl
 
   pub at_next : (p : RoundNode Content) (i : ℕ) (boot : Boot) (seen : Seen) → IsLater r g confirms p i → IsAt (one_round r g) (later_from r g confirms p) (later_number r g confirms p i + 1) boot seen
       → IsAt (two_rounds_model r g confirms) p (i + 1) (child_boots.Second boot) seen

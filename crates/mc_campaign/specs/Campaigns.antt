@@ -82,6 +82,6 @@ pub record CannotOccurLater (x : PowerOn) (confirms : Bool) (c : List (ℕ × �
   pub index_is : index ≡ length (in_round 1 c) + later
 
 -- What is refused: the first cut that can't occur, by its number among those of both rounds, unless memory ran out.
-abbrev pub Refuses : PowerOn → Bool → List (ℕ × ℕ) → ReplayError → Type 0
-Refuses x confirms c (errors.CannotOccur index) = CannotOccurAt x (in_round 1 c) index ⊎ CannotOccurLater x confirms c index
-Refuses x confirms c errors.Memory = ⊤
+abbrev pub RefusesCampaign : PowerOn → Bool → List (ℕ × ℕ) → ReplayError → Type 0
+RefusesCampaign x confirms c (errors.CannotOccur index) = CannotOccurAt x (in_round 1 c) index ⊎ CannotOccurLater x confirms c index
+RefusesCampaign x confirms c errors.Memory = ⊤

@@ -11,7 +11,7 @@ ghost use Rattle.mc_explore.specs.Schedules as replays;
 ghost use Rattle.mc_start.specs.Start.{begun};
 ghost use Rattle.mc_explore.specs.inner.View.{begun_with};
 ghost use Rattle.mc_boot.specs.Plan.{again};
-ghost use Rattle.mc_campaign.specs.Campaigns.{AreReplayed, BeginsSecond, Refuses};
+ghost use Rattle.mc_campaign.specs.Campaigns.{AreReplayed, BeginsSecond, RefusesCampaign};
 ghost use Rattle.mc_campaign.specs.Rows.{Restarts};
 
 use crate::campaign::{Campaign, Round};
@@ -37,7 +37,7 @@ fn replay_round<F: Flash>(
     ensures replayed { let s = begun_with one_round.now primary.now secondary.now in MatchResult
         result
         (λ done. replays.IsReplayed s cuts.now (shown done.0) (F.seen done.1).content)
-        (λ e. replays.Refuses s cuts.now e) }
+        (λ e. replays.RefusesReplay s cuts.now e) }
     ensures geometry { IfOk result (λ done. (F.seen done.1).geometry ≡ one_round.now.layout) }
     ensures exact { IfOk result (λ done. F.counted ≡ true → (F.seen done.1).usage.limits
         ≡ limits_for one_round.now.rules.grain one_round.now.layout boots) }
@@ -86,7 +86,7 @@ pub fn start_of_second<F: Flash>(
 ) -> Result<Start, ReplayError>
     ensures { let s = begun start.now in MatchResult result
         (λ then. BeginsSecond s confirms cuts.now (begun then))
-        (λ e. replays.Refuses s cuts.now e) }
+        (λ e. replays.RefusesReplay s cuts.now e) }
 {
     let one_round = OneRound {
         rules: start.rules(),
@@ -141,7 +141,7 @@ pub fn replay_campaign<F: Flash>(
     ensures replayed { let s = begun start.now in MatchResult result
         (λ done. AreReplayed s confirms campaign.now (shown done.0) (shown done.1)
         (F.seen done.2).content)
-        (λ e. Refuses s confirms campaign.now e) }
+        (λ e. RefusesCampaign s confirms campaign.now e) }
     ensures geometry { IfOk result (λ done. (F.seen done.2).geometry ≡ start.now.geometry) }
     // A flash that counts has room for exactly so many boots.
     ensures exact { IfOk result (λ done. F.counted ≡ true → (F.seen done.2).usage.limits

@@ -1,6 +1,6 @@
 //! The laws of campaigns, as the contracts of functions that do nothing.
 ghost use Rattle.std.specs.Prelude.{◌≡◌, ◌<◌, ◌↔◌, ℕ, Bool, false, List, ◌∷◌, ◌++◌, length, take, All, []};
-ghost use Rattle.mc_tree.specs.Tree.{JoinUp, first};
+ghost use Rattle.mc_tree.specs.Tree.{JoinUp, round_one};
 ghost use Rattle.mc_tree.specs.Tree as tree;
 ghost use Rattle.mc_campaign.specs.Page.{Chain, last_campaign, state_past};
 ghost use Rattle.mc_campaign.specs.Rows.{IsRest, after_key, State, ShownRow, moved_to};
@@ -14,7 +14,7 @@ pub fn campaigns_are_paths()
     ensures paths { (x : PowerOn) (confirms : Bool) (bound : ℕ) (c : List (ℕ × ℕ))
         → IsMember x confirms bound c ↔ ((path : List ℕ) × IsPathOf x confirms bound path c) }
     ensures all { (x : PowerOn) (confirms : Bool) (bound : ℕ) (path : List ℕ)
-        → tree.IsMember (rounds x.rules x.geometry confirms) (first x.content) bound path
+        → tree.IsMember (rounds x.rules x.geometry confirms) (round_one x.content) bound path
         → (c : List (ℕ × ℕ)) × IsPathOf x confirms bound path c }
     ensures order { (x : PowerOn) (confirms : Bool) (bound : ℕ) (path other : List ℕ)
         (c d : List (ℕ × ℕ)) → IsPathOf x confirms bound path c → IsPathOf x confirms bound other d

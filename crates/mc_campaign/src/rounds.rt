@@ -1,6 +1,6 @@
 //! Two rounds of boots, one after the other.
 ghost use Rattle.std.specs.Prelude.{◌≡◌, ◌+◌, IfOk, IfErr, OnOk};
-ghost use Rattle.mc_tree.specs.Tree.{first};
+ghost use Rattle.mc_tree.specs.Tree.{round_one};
 ghost use Rattle.mc_flash.specs.Usage.{no_counts, Keeps, Allows, HasRoom, LeaveRoom, Spends, Stays, plus};
 ghost use Rattle.mc_boot.specs.Restart.{confirmed_if, one_write};
 
@@ -73,7 +73,7 @@ impl TwoRounds {
             (F.seen flash.old) }
         ensures summary { IfOk result (AreSummaries self.now.one_round.rules
             self.now.one_round.layout
-            self.now.confirms (first (F.seen flash.old).content)) }
+            self.now.confirms (round_one (F.seen flash.old).content)) }
         ensures keeps { Keeps (F.seen flash.old) (F.seen flash.new) }
         ensures spends { Spends (most_of_both self.now.one_round.rules
             self.now.one_round.layout).entries
@@ -105,7 +105,7 @@ impl TwoRounds {
             (F.seen flash.old) }
         ensures summary { IfOk result (AreSummaries self.now.one_round.rules
             self.now.one_round.layout
-            self.now.confirms (first (F.seen flash.old).content)) }
+            self.now.confirms (round_one (F.seen flash.old).content)) }
         ensures stays { OnOk result (Stays (F.seen flash.old) (F.seen flash.new)) }
         ensures spends { Spends (most_of_both self.now.one_round.rules
             self.now.one_round.layout).entries

@@ -54,7 +54,7 @@ impl FlashTree for TwoRounds {
         }
     }
 
-    fn first<F: Flash>(self, flash: &mut F, summary: &Both) -> Result<ChildBoot, FlashError> {
+    fn first_child<F: Flash>(self, flash: &mut F, summary: &Both) -> Result<ChildBoot, FlashError> {
         let later = summary.second;
         match summary.round {
             Round::First => {
@@ -131,12 +131,12 @@ impl FlashTree for TwoRounds {
 }
 
 impl Ending for TwoRounds {
-    ghost use Rattle.mc_tree.specs.Tree.{first, landed};
+    ghost use Rattle.mc_tree.specs.Tree.{landed, round_one};
     ghost use Rattle.mc_campaign.specs.inner.TwoRounds.{rounds};
     ghost use Rattle.mc_campaign.specs.facts.Listed.{end_from};
 
     ghost report_of = { λ t c path. end_from t.one_round.rules t.one_round.layout t.confirms
-        (landed (rounds t.one_round.rules t.one_round.layout t.confirms) (first c) path) };
+        (landed (rounds t.one_round.rules t.one_round.layout t.confirms) (round_one c) path) };
 
     fn ended(summary: &Both) -> Outcome {
         end_by(&summary.first.outcome, &summary.second.outcome)

@@ -19,7 +19,7 @@ use Rattle.mc_boot.specs.facts.Run.{come_begun, come_left, come_ops}
 use Rattle.mc_boot.specs.facts.Steps.{refused_here, step_counts, step_ran_out, step_spends, stepped_here}
 use Rattle.mc_boot.specs.declared.boot.Boot.{Boot}
 use Rattle.mc_boot.specs.declared.outcome.Outcome.{Outcome}
-use Rattle.mc_walk.specs.TreeModel.{IsAt, IsChildOf, HasNext, GoesOn}
+use Rattle.mc_walk.specs.TreeModel.{IsAt, IsChildOf, HasNext, ReachesNext}
 use Rattle.mc_explore.specs.inner.OneRound.{at_cut, CanPass, GoesOnIn, IsBegun, IsSummary, Passes, most_of, one_round}
 use Rattle.mc_explore.specs.Schedules.{EndsWith}
 use Rattle.mc_explore.specs.declared.one_round.Summary.{Summary}
@@ -139,7 +139,7 @@ module _ (r : Rules) (g : Geometry) where
   pub can_pass : (b : Boot) (seen : Seen) → HasNext (one_round r g) b seen → CanPass r g b seen
   can_pass b seen has = (has.0, has.1, has.2, omega (arith, has.3), has.4)
 
-  pub goes_on : (b b' : Boot) (old new : Seen) (result : Result (Unit {0}) FlashError) → Passes r g b old result b' new → GoesOn (one_round r g) b old result b' new
+  pub goes_on : (b b' : Boot) (old new : Seen) (result : Result (Unit {0}) FlashError) → Passes r g b old result b' new → ReachesNext (one_round r g) b old result b' new
   goes_on b b' old new (Ok v) p = (λ s i at more. p.0 s i at (omega (arith, more)), p.1)
   goes_on b b' old new (Err e) p = tt
 

@@ -4,7 +4,7 @@ use Rattle.std.proofs.Math.Nat.{mul-le-mul_right}
 use Rattle.std.proofs.lemmas.List.{length-take-le}
 use Rattle.std.specs.Prelude.{Bool, List, None, Option, Some, [], false, is_some, length, refl, suc, take, true, ℕ, ◌*◌, ◌++◌, ◌+◌, ◌∷◌, ◌≡◌, ◌≤◌}
 use Rattle.mc_boot.specs.Boot.{HasCome, Progress, left_of, progress}
-use Rattle.mc_boot.specs.Outcome.{after, ops_of, shown}
+use Rattle.mc_boot.specs.Outcome.{after, shown}
 use Rattle.mc_boot.specs.Plan.{PowerOn, again, power_on}
 use Rattle.mc_boot.specs.facts.Bounds.{few_ops}
 use Rattle.mc_boot.specs.facts.Run.{come_begun, come_left}

@@ -23,7 +23,7 @@ failure_of tours.Failed = errors.Failed
 module _ {E : Type 0} (usage_of : E → Usage) (IsLost : E → Type 0) where
   -- The limits of the flash never change. An allocation failed only where the flash does not count, and was refused some. An
   -- explorer that has failed says so and stays as it is, and no other says so.
-  pub record GoesOn {A : Type 0} (counted : Bool) (old : E) (result : Result A ExploreError) (new : E) : Type 0 where
+  pub record LeavesExplorer {A : Type 0} (counted : Bool) (old : E) (result : Result A ExploreError) (new : E) : Type 0 where
     pub limits : (usage_of new).limits ≡ (usage_of old).limits
     pub cause : IsErrOf result errors.Memory → RanOut counted (usage_of new).failed
     pub stays_lost : IsLost old → IsErrOf result errors.Failed
@@ -32,5 +32,5 @@ module _ {E : Type 0} (usage_of : E → Usage) (IsLost : E → Type 0) where
 
   -- Besides, after an error it has failed.
   pub record ExploresOn {A : Type 0} (counted : Bool) (old : E) (result : Result A ExploreError) (new : E) : Type 0 where
-    pub goes : GoesOn counted old result new
+    pub goes : LeavesExplorer counted old result new
     pub lost : OnErr result (IsLost new)

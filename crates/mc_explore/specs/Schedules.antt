@@ -47,9 +47,9 @@ pub record CannotOccurAt (x : PowerOn) (cuts : List ℕ) (index : ℕ) : Type 0 
   pub not_there : after x (take (index + 1) cuts) ≡ None
 
 -- What is refused: the first cut that can't occur, unless memory ran out.
-abbrev pub Refuses : PowerOn → List ℕ → ReplayError → Type 0
-Refuses x cuts (errors.CannotOccur index) = CannotOccurAt x cuts index
-Refuses x cuts errors.Memory = ⊤
+abbrev pub RefusesReplay : PowerOn → List ℕ → ReplayError → Type 0
+RefusesReplay x cuts (errors.CannotOccur index) = CannotOccurAt x cuts index
+RefusesReplay x cuts errors.Memory = ⊤
 
 -- The outcome of the boot after the cuts: the named image in the primary, the other in the secondary. Where no swap is asked
 -- for there is no operation at all: it makes none, and none came before it, so that nothing was cut.

@@ -164,16 +164,16 @@ module _ {C K R U : Type 0} (x : Subject C K R U) (start : PowerOn) (choice : C)
 
   -- Why it is refused: another start; else other rules, or another choice; else another bound; else its key is none of those to go
   -- through. An allocation failed only for a cursor that names them all.
-  abbrev pub Refuses : ExploreError → Type 0
-  Refuses errors.OtherStart = c.digest ≢ start_digest start
-  Refuses errors.OtherRules = (c.digest ≡ start_digest start) × ((c.rules ≢ start.rules) ⊎ (c.choice ≢ choice))
-  Refuses errors.OtherBound = (c.digest ≡ start_digest start) × (c.rules ≡ start.rules) × (c.choice ≡ choice) × (c.bound ≢ bound)
-  Refuses errors.CannotOccur = Names × (x.IsListed start choice bound c.key → ⊥)
-  Refuses errors.Memory = Names
-  Refuses errors.Failed = ⊥
-  Refuses errors.Write = ⊥
+  abbrev pub RefusesCursor : ExploreError → Type 0
+  RefusesCursor errors.OtherStart = c.digest ≢ start_digest start
+  RefusesCursor errors.OtherRules = (c.digest ≡ start_digest start) × ((c.rules ≢ start.rules) ⊎ (c.choice ≢ choice))
+  RefusesCursor errors.OtherBound = (c.digest ≡ start_digest start) × (c.rules ≡ start.rules) × (c.choice ≡ choice) × (c.bound ≢ bound)
+  RefusesCursor errors.CannotOccur = Names × (x.IsListed start choice bound c.key → ⊥)
+  RefusesCursor errors.Memory = Names
+  RefusesCursor errors.Failed = ⊥
+  RefusesCursor errors.Write = ⊥
 
   -- An explorer that goes on after the cursor's key, or the first reason why there is none.
   abbrev pub Resumes : Result (Explored C K) ExploreError → Type 0
   Resumes (Ok explorer) = Names × x.IsListed start choice bound c.key × (explorer.state ≡ after_key start choice bound c.key)
-  Resumes (Err e) = Refuses e
+  Resumes (Err e) = RefusesCursor e

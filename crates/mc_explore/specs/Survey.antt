@@ -162,7 +162,7 @@ IsLastRow text last = (found : List (List ℕ)) × HasRows text found × IsOfLas
 
 -- Those rows are whole in the torn page, and with the rows of the whole list after the last of them they are those that were to
 -- come when the page began.
-pub record GoesOn (state : State) (rows : List ShownRow) (torn l : List ℕ) : Type 0 where
+pub record ContinuesAfter (state : State) (rows : List ShownRow) (torn l : List ℕ) : Type 0 where
   pub whole : List ShownRow
   pub later : List ShownRow
   pub lines : HasRows torn (map row_text whole)
@@ -171,6 +171,6 @@ pub record GoesOn (state : State) (rows : List ShownRow) (torn l : List ℕ) : T
 
 -- One goes on after the last whole row. Where there is none, the page is torn within its first row, and its own start serves.
 abbrev pub Continues : State → List ShownRow → List ShownRow → List ℕ → Option (List ℕ) → Type 0
-Continues state rows page torn (Some l) = GoesOn state rows torn l
+Continues state rows page torn (Some l) = ContinuesAfter state rows torn l
 Continues state rows page torn None =
     HasRows torn [] × ((row : ShownRow) (more : List ShownRow) → page ≡ row ∷ more → length torn < length (row_line row))

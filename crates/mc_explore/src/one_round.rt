@@ -180,7 +180,7 @@ impl FlashTree for OneRound {
         summary.outcome.ops
     }
 
-    fn first<F: Flash>(self, _flash: &mut F, summary: &Summary) -> Result<Boot, FlashError> {
+    fn first_child<F: Flash>(self, _flash: &mut F, summary: &Summary) -> Result<Boot, FlashError> {
         Ok(summary.boot)
     }
 

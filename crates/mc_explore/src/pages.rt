@@ -4,7 +4,7 @@ ghost use Rattle.mc_tree.specs.Tree.{Lost};
 ghost use Rattle.mc_explore.specs.Rows.{most_for_row};
 ghost use Rattle.mc_explore.specs.Page.{PageIsOut, PageBegan, ShownIsOut, ShownBegan};
 ghost use Rattle.mc_explore.specs.Pages as pages;
-ghost use Rattle.mc_explore.specs.Explores.{ExploresOn, GoesOn};
+ghost use Rattle.mc_explore.specs.Explores.{ExploresOn, LeavesExplorer};
 ghost use Rattle.mc_explore.specs.Subject.{Explores};
 
 use crate::error::ExploreError;
@@ -31,7 +31,7 @@ fn write_lines<S: RowSource, W: Write>(
         (S.state source.old) limit (W.contents writer.old) (W.contents writer.new)) }
     ensures applied { OnOk result ((S.usage source.new).applied ≤ (S.usage source.old).applied
         + limit * S.most_for_row (S.state source.old)) }
-    ensures goes { GoesOn S.usage (λ e. S.listing.position (S.state e) ≡ Lost) S.counted
+    ensures goes { LeavesExplorer S.usage (λ e. S.listing.position (S.state e) ≡ Lost) S.counted
         source.old result source.new }
     ensures failed { (IsErrOf result ExploreError.Failed → writer.new ≡ writer.old)
         × IfErr result (λ e. (e ≡ ExploreError.Memory) ⊎ (e ≡ ExploreError.Failed)

@@ -5,7 +5,7 @@ ghost use Rattle.mc_boot.specs.Outcome.{shown, after};
 ghost use Rattle.mc_walk.specs.inner.Stack.{most_at};
 ghost use Rattle.mc_walk.specs.Walks.{IsThere};
 ghost use Rattle.mc_explore.specs.inner.OneRound.{one_round, begun_of};
-ghost use Rattle.mc_explore.specs.Schedules.{IsReplayed, Refuses, Restarts};
+ghost use Rattle.mc_explore.specs.Schedules.{IsReplayed, RefusesReplay, Restarts};
 ghost use Rattle.mc_start.specs.Start.{begun};
 ghost use Rattle.mc_explore.specs.inner.View.{Followed, IsLoaded};
 
@@ -53,7 +53,7 @@ fn follow<F: Flash>(
         (one_round at.0.flash_tree.rules at.0.flash_tree.layout) at.0 at.1) }
     ensures limits { IfOk result
         (λ at. at.0.seen.usage.limits ≡ walk.seen.usage.limits) }
-    ensures refused { IfErr result (Refuses (begun_of walk) cuts.now) }
+    ensures refused { IfErr result (RefusesReplay (begun_of walk) cuts.now) }
     ensures cause { IsErrOf result ReplayError.Memory → F.counted ≡ false }
 {
     walk.begin(start)?;
@@ -79,7 +79,7 @@ pub fn replay_on<F: Flash>(
     requires at_most { length cuts.now ≤ 16 }
     ensures replayed { let s = begun_of walk in MatchResult result
         (λ done. IsReplayed s cuts.now (shown done.0) (F.seen done.1).content)
-        (λ e. Refuses s cuts.now e) }
+        (λ e. RefusesReplay s cuts.now e) }
     ensures geometry { IfOk result
         (λ done. (F.seen done.1).geometry ≡ (begun_of walk).geometry) }
     ensures limits { IfOk result
@@ -110,7 +110,7 @@ pub fn replay<F: Flash>(
 ) -> Result<(Outcome, F), ReplayError>
     ensures replayed { MatchResult result
         (λ done. IsReplayed (begun start.now) schedule.now (shown done.0) (F.seen done.1).content)
-        (λ e. Refuses (begun start.now) schedule.now e) }
+        (λ e. RefusesReplay (begun start.now) schedule.now e) }
     ensures geometry { IfOk result (λ done. (F.seen done.1).geometry ≡ start.now.geometry) }
     // A flash that counts has room for exactly so many boots.
     ensures exact { IfOk result (λ done. F.counted ≡ true → (F.seen done.1).usage.limits
@@ -139,7 +139,7 @@ pub fn flash_at_cut<F: Flash>(
 ) -> Result<F, ReplayError>
     ensures cut { MatchResult result
         (λ flash. after (begun start.now) schedule.now ≡ Some (F.seen flash).content)
-        (λ e. Refuses (begun start.now) schedule.now e) }
+        (λ e. RefusesReplay (begun start.now) schedule.now e) }
     ensures geometry { IfOk result (λ flash. (F.seen flash).geometry ≡ start.now.geometry) }
     // A flash that counts has room for exactly so many boots.
     ensures exact { IfOk result (λ flash. F.counted ≡ true → (F.seen flash).usage.limits

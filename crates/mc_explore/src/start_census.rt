@@ -59,7 +59,7 @@ struct End {
     tail: Option<SharedTail>,
 }
 
-// The same, and looks at it.
+// Goes to that child, and tells how the path ends there.
 fn visit_child<F: Flash, X: Ending>(
     walk: &mut Walk<F, X>,
     number: u32,

@@ -3,7 +3,7 @@ ghost use Rattle.std.specs.Prelude.{◌≡◌, ◌+◌, ◌≤◌, true, IfOk, I
 ghost use Rattle.mc_flash.specs.Usage.{limits_for};
 ghost use Rattle.mc_start.specs.Start.{begun};
 ghost use Rattle.mc_explore.specs.inner.Exploring.{IsLoaded};
-ghost use Rattle.mc_explore.specs.Subject.{Names, Refuses};
+ghost use Rattle.mc_explore.specs.Subject.{Names, RefusesCursor};
 
 use crate::error::ExploreError;
 use crate::subject::{Fields, Subject};
@@ -53,7 +53,7 @@ pub fn check_cursor<X: Subject>(
     fields: &Fields<X::Choice, X::Key>,
 ) -> Result<(), ExploreError>
     ensures names { OnOk result (Names X.subject (begun start.now) choice bound fields.now) }
-    ensures refused { IfErr result (λ e. Refuses X.subject (begun start.now) choice bound fields.now
+    ensures refused { IfErr result (λ e. RefusesCursor X.subject (begun start.now) choice bound fields.now
         e) }
 {
     if fields.digest != start.digest() {

@@ -101,15 +101,15 @@ WithFile None P _ = ⊥
 WithFile (Some bytes) P why = P bytes why
 
 -- Why it can't happen.
-abbrev pub Refuses : List Named → Standing → Event → EventError → Type 0
-Refuses files d (events.Download file count) why = WithFile (file_of files file.now) (λ bytes. RefusesDownload d bytes count) why
-Refuses files d (events.Request request) why = RefusesRequest d request why
-Refuses files d (events.Store file) why = WithFile (file_of files file.now) (RefusesStore d) why
-Refuses files d (events.Erase sector) why = RefusesErase d sector why
-Refuses files d events.Confirm why = RefusesConfirm d why
-Refuses files d (events.Mark bytes) why = RefusesMark d bytes why
-Refuses files d (events.Boot cuts) why = RefusesCuts (powered d.rules d.seen) cuts why
-Refuses files d (events.Cut count) why = RefusesCuts (powered d.rules d.seen) (count ∷ []) why
+abbrev pub RefusesEvent : List Named → Standing → Event → EventError → Type 0
+RefusesEvent files d (events.Download file count) why = WithFile (file_of files file.now) (λ bytes. RefusesDownload d bytes count) why
+RefusesEvent files d (events.Request request) why = RefusesRequest d request why
+RefusesEvent files d (events.Store file) why = WithFile (file_of files file.now) (RefusesStore d) why
+RefusesEvent files d (events.Erase sector) why = RefusesErase d sector why
+RefusesEvent files d events.Confirm why = RefusesConfirm d why
+RefusesEvent files d (events.Mark bytes) why = RefusesMark d bytes why
+RefusesEvent files d (events.Boot cuts) why = RefusesCuts (powered d.rules d.seen) cuts why
+RefusesEvent files d (events.Cut count) why = RefusesCuts (powered d.rules d.seen) (count ∷ []) why
 
 -- A script replayed line by line.
 
@@ -136,7 +136,7 @@ Replays files number d (line ∷ more) count e text =
 -- A line is refused: it states no event, or one that can't happen.
 abbrev pub RefusesLine : List Named → List ℕ → Standing → EventError → Type 0
 RefusesLine files line d errors.Syntax = (e : Event) → IsEvent e → line ≡ event_text e → ⊥
-RefusesLine files line d why = (e : Event) × IsEvent e × (line ≡ event_text e) × Refuses files d e why
+RefusesLine files line d why = (e : Event) × IsEvent e × (line ≡ event_text e) × RefusesEvent files d e why
 
 -- A prefix of the lines was replayed, and led to e: these lines are left.
 pub record ReplayedUpTo (files : List Named) (start : Started) (script : List ℕ) (rest : List (List ℕ)) (count : ℕ) (e : Standing) (text : List ℕ) : Type 0 where

@@ -3,7 +3,7 @@ ghost use Rattle.std.specs.Prelude.{◌≡◌, ◌<◌, ◌≤◌, ◌^◌, Opti
 ghost use Rattle.mc_boot.specs.Life.{IsDelivered, LivesOn};
 ghost use Rattle.mc_boot.specs.Outcome.{shown, Report};
 ghost use Rattle.mc_flash.specs.Flash.{Content};
-ghost use Rattle.mc_life.specs.Replay.{Ends, Refuses, happenings, operations, FailsLife, FailsLine, Happens, IsReplayed, RefusesLine, life_error, line_text};
+ghost use Rattle.mc_life.specs.Replay.{Ends, RefusesEvent, happenings, operations, FailsLife, FailsLine, Happens, IsReplayed, RefusesLine, life_error, line_text};
 ghost use Rattle.mc_life.specs.Script.{file_of, is_skipped};
 ghost use Rattle.std.specs.Io.KnownBytes.{Appends};
 ghost use Rattle.mc_life.specs.Device.{Goes, moment};
@@ -72,7 +72,7 @@ fn happen<F: Flash>(
     ensures goes { OnOk result (Goes device.old (happenings files.now device.old event.now)
         (operations device.old event.now) device.new) }
     ensures ends { IfOk result (λ o. Ends device.old event.now (option_map shown o)) }
-    ensures refused { IfErr result (Refuses files.now device.old event.now) }
+    ensures refused { IfErr result (RefusesEvent files.now device.old event.now) }
 {
     match event {
         Event::Download(file, bytes) => device.download(alloc, held(files, file)?, *bytes)?,

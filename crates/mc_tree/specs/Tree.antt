@@ -125,28 +125,28 @@ pub record JoinUp {R : Type 0} (whole rows : List R) (ended : Bool) : Type 0 whe
 
 -- A node of the first round; or one of the second, with the node of the first after which its round began.
 pub data RoundNode (N : Type 0) : Type 0 where
-  first : (s : N) → RoundNode N
-  second : (began s : N) → RoundNode N
+  round_one : (s : N) → RoundNode N
+  round_two : (began s : N) → RoundNode N
 
 module _ {N : Type 0} (t : Tree N) (next : N → N) where
   -- The children of a node of the first round are those of its round, and then those of the node that `next` gives, where the
   -- second round after it begins. Those of a node of the second round are of the second round.
   abbrev pub two_rounds_width : RoundNode N → ℕ
-  two_rounds_width (first s) = t.width s + t.width (next s)
-  two_rounds_width (second began s) = t.width s
+  two_rounds_width (round_one s) = t.width s + t.width (next s)
+  two_rounds_width (round_two began s) = t.width s
 
   abbrev pub two_rounds_child : RoundNode N → ℕ → RoundNode N
-  two_rounds_child (first s) i =
-      if nat_lt i (t.width s) then first (t.child s i) else second s (t.child (next s) (i - t.width s))
-  two_rounds_child (second began s) i = second began (t.child s i)
+  two_rounds_child (round_one s) i =
+      if nat_lt i (t.width s) then round_one (t.child s i) else round_two s (t.child (next s) (i - t.width s))
+  two_rounds_child (round_two began s) i = round_two began (t.child s i)
 
   abbrev pub two_rounds : Tree (RoundNode N)
   two_rounds = record { width = two_rounds_width; child = two_rounds_child }
 
   -- A child by its round and its number there.
   abbrev pub label : RoundNode N → ℕ → ℕ × ℕ
-  label (first s) i = if nat_lt i (t.width s) then (1, i) else (2, i - t.width s)
-  label (second began s) i = (2, i)
+  label (round_one s) i = if nat_lt i (t.width s) then (1, i) else (2, i - t.width s)
+  label (round_two began s) i = (2, i)
 
   abbrev pub labels : RoundNode N → List ℕ → List (ℕ × ℕ)
   labels = labelled two_rounds label

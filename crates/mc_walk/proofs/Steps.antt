@@ -8,7 +8,7 @@ use Rattle.mc_flash.specs.Flash.{Content}
 use Rattle.mc_flash.specs.Usage.{Counts, Limits, Checkpoint, Seen, Keeps, no_checkpoint, checkpoint_of, went_back, marked, Spent, Spends, Stays, HasRoom, LeaveRoom, plus, room_of}
 use Rattle.mc_flash.specs.facts.Spends.{ran_out_later, spent_back, spent_both, spent_marked, spent_more}
 use Rattle.mc_flash.specs.declared.flash.FlashError.{FlashError}
-use Rattle.mc_walk.specs.TreeModel.{TreeModel, owed_there, summary_cost, IsAt, IsNode, IsParent, HasNext, GoesOn, CanReach, Reaches}
+use Rattle.mc_walk.specs.TreeModel.{TreeModel, owed_there, summary_cost, IsAt, IsNode, IsParent, HasNext, ReachesNext, CanReach, Reaches}
 use Rattle.mc_walk.specs.inner.Stack.{path_of, most_at, AreSpent, IsLastOpen, AreFrames, Stacked, node_of, Stands, Comes, CanGoOn, IsLeft, IsOneOn, IsRoomy}
 use Rattle.mc_walk.specs.Walks.{walked, origin_of, IsFresh, Begins, IsThere, IsGoing, IsLastStep, IsPath, GoesDown, Climbs}
 use Rattle.mc_walk.specs.declared.frame.Frame.{Frame}
@@ -139,7 +139,7 @@ module _ {N A T : Type 0} (k : TreeModel N A T) where
 
   -- It goes on to the next child.
   pub went_on : (origin : Content) (seen new : Seen) (fs : List (Frame A T)) (f : Frame A T) (at : A) → Comes k origin seen fs f → f.number + 1 < k.tree.width (node_of k origin fs)
-      → Keeps seen new → GoesOn k {E = FlashError} f.at seen (Ok tt) at new → Comes k origin new fs (record { at = at; number = f.number + 1; parent = f.parent })
+      → Keeps seen new → ReachesNext k {E = FlashError} f.at seen (Ok tt) at new → Comes k origin new fs (record { at = at; number = f.number + 1; parent = f.parent })
   went_on origin seen new fs f at c lt keeps goes =
       let before : IsAt k (node_of k origin fs) f.number f.at seen = record { on_is = c.frame.on_is; content_is = c.frame.content_is; layout_is = c.layout_is } in
       let here = goes.0 (node_of k origin fs) f.number before lt in
@@ -164,7 +164,7 @@ module _ {N A T : Type 0} (k : TreeModel N A T) where
 
   -- From the child of the last frame it went on to the next one.
   module _ (seen mid : Seen) (all : List (Frame A T)) (c : CanGoOn k (origin_of seen) seen all) (f : Frame A T) (f_is : f ≡ c.frame) (at : A) (keeps : Keeps seen mid)
-      (goes : GoesOn k {E = FlashError} f.at seen (Ok tt) at mid) (spent : Spent k.step seen mid) where
+      (goes : ReachesNext k {E = FlashError} f.at seen (Ok tt) at mid) (spent : Spent k.step seen mid) where
     abbrev pub next_on : Frame A T
     next_on = record { at = at; number = f.number + 1; parent = f.parent }
 

@@ -74,11 +74,11 @@ module _ {N A T : Type 0} (k : TreeModel N A T) where
   abbrev pub HasNext : A → Seen → Type 0
   HasNext at seen = (n : N) × (i : ℕ) × IsAt n i at seen × (i + 1 < k.tree.width n) × Allows (k.left at) seen
 
-  abbrev pub GoesOn : {E : Type 0} → A → Seen → Result (Unit {0}) E → A → Seen → Type 0
-  GoesOn at old (Ok _) at' new =
+  abbrev pub ReachesNext : {E : Type 0} → A → Seen → Result (Unit {0}) E → A → Seen → Type 0
+  ReachesNext at old (Ok _) at' new =
       ((n : N) (i : ℕ) → IsAt n i at old → i + 1 < k.tree.width n → IsAt n (i + 1) at' new)
       × LeaveRoom new.usage.counts (k.left at') (plus old.usage.counts (k.left at))
-  GoesOn at old (Err _) at' new = Unit {0}
+  ReachesNext at old (Err _) at' new = Unit {0}
 
   -- The flash has the layout of the tree.
   abbrev pub IsRoot : Seen → Type 0

@@ -42,7 +42,7 @@ pub(crate) fn go_to_child<F: Flash, B: FlashTree>(
         (F.seen flash.new) }
     ensures err { IfErr result (λ e. e ≡ FlashError.Memory) }
 {
-    let mut at = flash_tree.first(flash, summary)?;
+    let mut at = flash_tree.first_child(flash, summary)?;
     for _i in 0..number {
         flash_tree.next(flash, &mut at)?;
     }

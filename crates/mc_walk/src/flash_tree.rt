@@ -6,7 +6,7 @@ use mc_flash::{Flash, FlashError};
 pub trait FlashTree: Copy {
     ghost use Rattle.std.specs.Prelude.{◌≡◌, ℕ, IfOk, IfErr, OnOk};
     ghost use Rattle.mc_flash.specs.Usage.{Keeps, HasRoom, Spends, Stays};
-    ghost use Rattle.mc_walk.specs.TreeModel.{TreeModel, CanReach, Reaches, HasNext, GoesOn, IsRoot, IsRootSummary, IsChild, IsChildSummary, HasWidth, owed_there, summary_cost};
+    ghost use Rattle.mc_walk.specs.TreeModel.{TreeModel, CanReach, Reaches, HasNext, ReachesNext, IsRoot, IsRootSummary, IsChild, IsChildSummary, HasWidth, owed_there, summary_cost};
 
     ghost Node: { Type 0 };
 
@@ -35,7 +35,7 @@ pub trait FlashTree: Copy {
         ensures { HasWidth (model self) summary.now result };
 
     /// Goes from a node, with that summary, to its first child.
-    fn first<F: Flash>(
+    fn first_child<F: Flash>(
         self,
         flash: &mut F,
         summary: &Self::Summary,
@@ -50,7 +50,7 @@ pub trait FlashTree: Copy {
     /// Goes from a child to the next.
     fn next<F: Flash>(self, flash: &mut F, at: &mut Self::Child) -> Result<(), FlashError>
         requires { HasNext (model self) at.old (F.seen flash.old) }
-        ensures goes_on { GoesOn (model self) at.old (F.seen flash.old) result at.new
+        ensures goes_on { ReachesNext (model self) at.old (F.seen flash.old) result at.new
             (F.seen flash.new) }
         ensures keeps { OnOk result (Keeps (F.seen flash.old) (F.seen flash.new)) }
         ensures spends { Spends (model self).step (F.seen flash.old) result (F.seen flash.new) }

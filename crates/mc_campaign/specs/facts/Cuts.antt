@@ -3,7 +3,7 @@ use Rattle.std.specs.Prelude.{◌≡◌, ℕ, zero, suc, ◌+◌, ◌-◌, ◌<�
 use Rattle.std.proofs.Common.{arith, inl, inr, sym, ap, subst, ◌∙◌, length-append}
 use Rattle.std.proofs.lemmas.Bool.{cases_lt}
 use Rattle.std.proofs.lemmas.List.{length-map}
-use Rattle.mc_tree.specs.Tree.{Tree, RoundNode, first, second, labels, pairs}
+use Rattle.mc_tree.specs.Tree.{Tree, RoundNode, round_one, round_two, labels, pairs}
 use Rattle.mc_campaign.specs.Campaigns.{AscendFrom, IsInOrder, in_round}
 
 pub pairs_length : (prefix later : List ℕ) → length (pairs prefix later) ≡ length prefix + length later
@@ -85,16 +85,16 @@ last_ordered n (x ∷ l) cut o = let rest = last_ordered x.0 l cut o.2 in (omega
 
 module _ {N : Type 0} (t : Tree N) (next : N → N) where
   abbrev round_of : RoundNode N → ℕ
-  round_of (first s) = 1
-  round_of (second began s) = 2
+  round_of (round_one s) = 1
+  round_of (round_two began s) = 2
 
   -- Those of a node of the second round are of that round.
   pub along_ordered : (p : RoundNode N) (path : List ℕ) → AscendFrom (round_of p) (labels t next p path)
   along_ordered p [] = tt
-  along_ordered (second began s) (i ∷ path) = (omega arith, omega arith, along_ordered (second began (t.child s i)) path)
-  along_ordered (first s) (i ∷ path) = by (nat_lt i (t.width s)) (λ p. along_ordered p path)
+  along_ordered (round_two began s) (i ∷ path) = (omega arith, omega arith, along_ordered (round_two began (t.child s i)) path)
+  along_ordered (round_one s) (i ∷ path) = by (nat_lt i (t.width s)) (λ p. along_ordered p path)
     where
       by : (b : Bool) → ((p : RoundNode N) → AscendFrom (round_of p) (labels t next p path))
-          → AscendFrom 1 ((if b then (1, i) else (2, i - t.width s)) ∷ labels t next (if b then first (t.child s i) else second s (t.child (next s) (i - t.width s))) path)
-      by true rest = (omega arith, omega arith, rest (first (t.child s i)))
-      by false rest = (omega arith, omega arith, rest (second s (t.child (next s) (i - t.width s))))
+          → AscendFrom 1 ((if b then (1, i) else (2, i - t.width s)) ∷ labels t next (if b then round_one (t.child s i) else round_two s (t.child (next s) (i - t.width s))) path)
+      by true rest = (omega arith, omega arith, rest (round_one (t.child s i)))
+      by false rest = (omega arith, omega arith, rest (round_two s (t.child (next s) (i - t.width s))))

@@ -1,7 +1,7 @@
 -- Campaigns are the paths of the tree of two rounds.
 use Rattle.std.specs.Prelude.{◌≡◌, ◌≤◌, ◌+◌, ◌*◌, ℕ, Bool, refl}
 use Rattle.std.proofs.Common.{arith, ap}
-use Rattle.mc_tree.specs.Tree.{first}
+use Rattle.mc_tree.specs.Tree.{round_one}
 use Rattle.mc_flash.specs.Flash.{Content}
 use Rattle.mc_flash.specs.Geometry.{Geometry}
 use Rattle.mc_flash.specs.Usage.{Seen, Usage, most_operations, most_saved}
@@ -17,7 +17,7 @@ use Rattle.mc_campaign.specs.declared.rounds.TwoRounds.{TwoRounds}
 use Rattle.mc_campaign.specs.facts.Paths.{listed_along, path_of, same_order}
 
 module _ (t : TwoRounds) (c : Content) where
-  pub are_campaigns : AreKeys campaigns (rounds t.one_round.rules t.one_round.layout t.confirms) (first c) (begins t.one_round c) t.confirms
+  pub are_campaigns : AreKeys campaigns (rounds t.one_round.rules t.one_round.layout t.confirms) (round_one c) (begins t.one_round c) t.confirms
       (λ path. cuts_along t.one_round.rules t.one_round.layout t.confirms c path)
   are_campaigns =
       let r = t.one_round.rules in

@@ -1,7 +1,7 @@
 -- The rows of campaigns are listed as those of the tree of two rounds.
 use Rattle.std.specs.Prelude.{◌≡◌, ℕ, Bool, List, map}
 use Rattle.std.proofs.Common.{refl, sym, ap, subst, ◌∙◌}
-use Rattle.mc_tree.specs.Tree.{IsMember, RoundNode, landed, first}
+use Rattle.mc_tree.specs.Tree.{IsMember, RoundNode, landed, round_one}
 use Rattle.mc_tree.specs.facts.Existence as existence
 use Rattle.mc_tree.specs.facts.Existence.{AreRows, all_from, all_rest}
 use Rattle.mc_tree.specs.facts.Order.{pairs_in_order}
@@ -60,7 +60,7 @@ module _ (start : PowerOn) (confirms : Bool) where
 
   -- The row of a path: its campaign, and what the boots come to from the node at its end.
   abbrev pub node_at : List ℕ → RoundNode Content
-  node_at path = landed (rounds start.rules start.geometry confirms) (first start.content) path
+  node_at path = landed (rounds start.rules start.geometry confirms) (round_one start.content) path
 
   abbrev pub row_at : List ℕ → ShownRow
   row_at path = record {
@@ -69,12 +69,12 @@ module _ (start : PowerOn) (confirms : Bool) where
     second = report_from start.rules start.geometry (later_from start.rules start.geometry confirms (node_at path));
   }
 
-  has_outcomes : (bound : ℕ) (path : List ℕ) → IsMember (rounds start.rules start.geometry confirms) (first start.content) bound path → HasOutcomes start confirms (row_at path)
+  has_outcomes : (bound : ℕ) (path : List ℕ) → IsMember (rounds start.rules start.geometry confirms) (round_one start.content) bound path → HasOutcomes start confirms (row_at path)
   has_outcomes bound path m =
       replayed_at start.rules start.geometry confirms start.content bound path (row_at path).campaign (row_at path).first (row_at path).second (record { member = m; cuts_are = refl })
       (outcome_defined (again start (began_at (node_at path)))).1 (outcome_defined (again start (later_from start.rules start.geometry confirms (node_at path)))).1
 
-  are_rows : (bound : ℕ) → AreRows Precedes pairs_in_order (λ row. row.campaign) (IsRow start confirms bound) (rounds start.rules start.geometry confirms) (first start.content) bound row_at
+  are_rows : (bound : ℕ) → AreRows Precedes pairs_in_order (λ row. row.campaign) (IsRow start confirms bound) (rounds start.rules start.geometry confirms) (round_one start.content) bound row_at
   are_rows bound =
       let r = start.rules in
       let g = start.geometry in
@@ -88,14 +88,14 @@ module _ (start : PowerOn) (confirms : Bool) where
       }
 
   -- The rows from the start, as those of all paths.
-  pub all_rows : (bound : ℕ) → IsRest (at_start start confirms bound) (map row_at (all_from (rounds start.rules start.geometry confirms) bound (first start.content)))
+  pub all_rows : (bound : ℕ) → IsRest (at_start start confirms bound) (map row_at (all_from (rounds start.rules start.geometry confirms) bound (round_one start.content)))
   all_rows bound =
-      all_rest Precedes pairs_in_order (λ row. row.campaign) (IsRow start confirms bound) (rounds start.rules start.geometry confirms) (first start.content) bound row_at (are_rows bound)
+      all_rest Precedes pairs_in_order (λ row. row.campaign) (IsRow start confirms bound) (rounds start.rules start.geometry confirms) (round_one start.content) bound row_at (are_rows bound)
 
 pub some_rest : (state : State) → (rows : List ShownRow) × IsRest state rows
 some_rest state =
     existence.some_rest Precedes pairs_in_order (λ row. row.campaign) (IsRow state.start state.choice state.bound) (rounds state.start.rules state.start.geometry state.choice)
-    (first state.start.content) state.bound (row_at state.start state.choice) (are_rows state.start state.choice state.bound) state.position
+    (round_one state.start.content) state.bound (row_at state.start state.choice) (are_rows state.start state.choice state.bound) state.position
 
 pub campaigns_are_lawful : IsLawful (rows_of campaigns)
 campaigns_are_lawful = are_lawful campaigns pairs_in_order some_rest

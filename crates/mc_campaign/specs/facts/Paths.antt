@@ -1,7 +1,7 @@
 -- Campaigns as paths in the tree of two rounds.
 use Rattle.std.specs.Prelude.{◌≡◌, ◌↔◌, ℕ, ◌≤◌, Bool, is_some, List, length, refl, Option, Some}
 use Rattle.std.proofs.Common.{arith, sym, ap, subst, ◌∙◌}
-use Rattle.mc_tree.specs.Tree.{landed, Allowed, RoundNode, first, second, in_both, pairs, PairsPrecede}
+use Rattle.mc_tree.specs.Tree.{landed, Allowed, RoundNode, round_one, round_two, in_both, pairs, PairsPrecede}
 use Rattle.mc_tree.specs.Tree as tree
 use Rattle.mc_tree.specs.facts.Rounds.{both_allowed, both_first, both_labels, both_length, both_second, first_of, pairs_precede, parts, paths_precede, second_of}
 use Rattle.mc_flash.specs.Geometry.{Geometry}
@@ -89,7 +89,7 @@ module _ (r : Rules) (g : Geometry) (confirms : Bool) where
         )
 
     -- Each path is that of the cuts along it, round by round.
-    pub listed_along : (bound : ℕ) (path : List ℕ) → tree.IsMember (rounds r g confirms) (first s) bound path
+    pub listed_along : (bound : ℕ) (path : List ℕ) → tree.IsMember (rounds r g confirms) (round_one s) bound path
         → IsMember (power_on r g s) confirms bound (cuts_along r g confirms s path)
         × (path ≡ in_both (boots r g) (second_start r g confirms) s (in_round 1 (cuts_along r g confirms s path)) (in_round 2 (cuts_along r g confirms s path)))
     listed_along bound path m =
@@ -111,30 +111,30 @@ module _ (r : Rules) (g : Geometry) (confirms : Bool) where
         → Precedes c d ↔ tree.Precedes path other
     same_order bound path other c d p q = (
       λ before.
-          paths_precede (boots r g) (second_start r g confirms) (first s) path other
+          paths_precede (boots r g) (second_start r g confirms) (round_one s) path other
           (subst (λ x. PairsPrecede x (cuts_along r g confirms s other)) (sym p.cuts_are) (subst (PairsPrecede c) (sym q.cuts_are) before)),
       λ before.
           subst (PairsPrecede c) q.cuts_are
-          (subst (λ x. PairsPrecede x (cuts_along r g confirms s other)) p.cuts_are (pairs_precede (boots r g) (second_start r g confirms) (first s) path other before)),
+          (subst (λ x. PairsPrecede x (cuts_along r g confirms s other)) p.cuts_are (pairs_precede (boots r g) (second_start r g confirms) (round_one s) path other before)),
     )
 
     -- And those of a path are what the boots come to from the node at its end.
     ended_at : (p : RoundNode Content) → (began_at p ≡ first_of (boots r g) (second_start r g confirms) p) × (later_from r g confirms p ≡ second_of (boots r g) (second_start r g confirms) p)
-    ended_at (first s) = (refl, refl)
-    ended_at (second began s) = (refl, refl)
+    ended_at (round_one s) = (refl, refl)
+    ended_at (round_two began s) = (refl, refl)
 
     pub replayed_at : (bound : ℕ) (path : List ℕ) (c : List (ℕ × ℕ)) (one two : Report) → IsPathOf (power_on r g s) confirms bound path c
-        → outcome_of (power_on r g (began_at (landed (rounds r g confirms) (first s) path))) ≡ Some one
-        → outcome_of (power_on r g (later_from r g confirms (landed (rounds r g confirms) (first s) path))) ≡ Some two → (z : Content) × AreReplayed (power_on r g s) confirms c one two z
+        → outcome_of (power_on r g (began_at (landed (rounds r g confirms) (round_one s) path))) ≡ Some one
+        → outcome_of (power_on r g (later_from r g confirms (landed (rounds r g confirms) (round_one s) path))) ≡ Some two → (z : Content) × AreReplayed (power_on r g s) confirms c one two z
     replayed_at bound path c one two p one_is two_is =
         let along = listed_along bound path p.member in
         let d = cuts_along r g confirms s path in
-        let end : RoundNode Content = landed (rounds r g confirms) (first s) (in_both (boots r g) (second_start r g confirms) s (in_round 1 d) (in_round 2 d)) in
-        let there : landed (rounds r g confirms) (first s) path ≡ end = ap (landed (rounds r g confirms) (first s)) along.1 in
+        let end : RoundNode Content = landed (rounds r g confirms) (round_one s) (in_both (boots r g) (second_start r g confirms) s (in_round 1 d) (in_round 2 d)) in
+        let there : landed (rounds r g confirms) (round_one s) path ≡ end = ap (landed (rounds r g confirms) (round_one s)) along.1 in
         let allowed = first_allowed d along.0.1 in
-        let at_one : began_at (landed (rounds r g confirms) (first s) path) ≡ landed (boots r g) s (in_round 1 d) =
+        let at_one : began_at (landed (rounds r g confirms) (round_one s) path) ≡ landed (boots r g) s (in_round 1 d) =
         ap began_at there ∙ (ended_at end).0 ∙ both_first (boots r g) (second_start r g confirms) s (in_round 1 d) (in_round 2 d) allowed in
-        let at_two : later_from r g confirms (landed (rounds r g confirms) (first s) path) ≡ landed (boots r g) (second_start r g confirms (landed (boots r g) s (in_round 1 d))) (in_round 2 d) =
+        let at_two : later_from r g confirms (landed (rounds r g confirms) (round_one s) path) ≡ landed (boots r g) (second_start r g confirms (landed (boots r g) s (in_round 1 d))) (in_round 2 d) =
         ap (later_from r g confirms) there ∙ (ended_at end).1 ∙ both_second (boots r g) (second_start r g confirms) s (in_round 1 d) (in_round 2 d) allowed in
         subst (λ d. (z : Content) × AreReplayed (power_on r g s) confirms d one two z) p.cuts_are
         (are_replayed d along.0.1 one two (ap (λ u. outcome_of (power_on r g u)) (sym at_one) ∙ one_is) (ap (λ u. outcome_of (power_on r g u)) (sym at_two) ∙ two_is))

@@ -40,8 +40,8 @@ module _ {K R : Type 0} (Before : K → K → Type 0) (order : IsOrder Before) (
   past_page page = After (last_key key no_key page)
 
   -- A chain goes on past a page.
-  abbrev GoesOn : List ℕ → List R → Bool → List R → Type 0
-  GoesOn limits page ended more = Chain Before key no_key IsRow (past_page page) limits ended more
+  abbrev FollowsPage : List ℕ → List R → Bool → List R → Type 0
+  FollowsPage limits page ended more = Chain Before key no_key IsRow (past_page page) limits ended more
 
   -- Past a full page the others are to come.
   pub rest_past : (limit : ℕ) (position : Position K) (rows : List R) → 0 < limit → length (take limit rows) ≡ limit
@@ -62,8 +62,8 @@ module _ {K R : Type 0} (Before : K → K → Type 0) (order : IsOrder Before) (
       let first : page ≡ take limit whole = is_page.first ∙ ap (take limit) (one_rest Before order key IsRow position is_page.all whole is_page.rest rest) in
       by (pages_join limits (past_page page) (drop limit whole) more ended (All-tail (λ n. 0 < n) limit limits some)) on first
     where
-      by : (IsRest Before key IsRow (past_page page) (drop limit whole) → GoesOn limits page ended more → JoinUp (drop limit whole) more ended)
-          → ((length page ≡ limit) × GoesOn limits page ended more) ⊎ ((length page < limit) × (limits ≡ []) × (ended ≡ true) × (more ≡ []))
+      by : (IsRest Before key IsRow (past_page page) (drop limit whole) → FollowsPage limits page ended more → JoinUp (drop limit whole) more ended)
+          → ((length page ≡ limit) × FollowsPage limits page ended more) ⊎ ((length page < limit) × (limits ≡ []) × (ended ≡ true) × (more ≡ []))
           → page ≡ take limit whole → JoinUp whole rows ended
       by go (inr last) first = short_page limit whole page more rows ended joined first last.0 last.3
       by go (inl next) first =

@@ -4,7 +4,7 @@ use Rattle.mc_flash.specs.Usage.{limits_for}
 use Rattle.mc_trailer.specs.declared.tables.Rules.{Rules}
 use Rattle.mc_boot.specs.Outcome.{shown}
 use Rattle.mc_start.specs.Start.{begun}
-use Rattle.mc_campaign.specs.Campaigns.{Refuses}
+use Rattle.mc_campaign.specs.Campaigns.{RefusesCampaign}
 use Rattle.mc_campaign.proofs.Loaded.{room_for_one}
 use Rattle.mc_campaign.proofs.CutsInRounds.{in_round_few}
 use Rattle.mc_campaign.proofs.Replays.{refused_first, refused_later, replayed_both}
@@ -84,4 +84,4 @@ returns-in_err-one-clause-replayed g c =
     let refused = refused_first (begun c.args.start.now) c.args.confirms c.args.campaign.now c.rules.result c.layout.result.now c.rules.ensures c.layout.ensures.value
     c.primary-primary.result.now c.secondary-secondary.result.now c.cuts-first.result.now c.in_err-one.field-0.0
     c.primary-primary.ensures.value c.secondary-secondary.ensures.value (c.cuts-first.ensures.value ∙ c.schedule-firsts.ensures) c.in_err-one.ensures.replayed in
-    rw q.1 (subst (Refuses (begun c.args.start.now) c.args.confirms c.args.campaign.now) (sym q.2) refused)
+    rw q.1 (subst (RefusesCampaign (begun c.args.start.now) c.args.confirms c.args.campaign.now) (sym q.2) refused)

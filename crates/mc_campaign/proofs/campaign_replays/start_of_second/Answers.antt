@@ -21,4 +21,4 @@ returns g c =
     (λ then is. begins_second start c.args.confirms c.rules.result c.layout.result.now c.rules.ensures c.layout.ensures.value c.primary-primary.result.now c.secondary-secondary.result.now
     c.args.cuts.now (shown c.in_ok-_one._one) middle.content left.content middle.geometry c.primary-primary.ensures.value c.secondary-secondary.ensures.value
     (rw (sym c.cuts-cuts.ensures.value) c.in_ok-_one.ensures.replayed) c.in_ok-_one.ensures.geometry c.in_ok-settle.ensures.content (begun then) is)
-    (λ e is. subst (λ e. replays.Refuses start c.args.cuts.now e) (sym is) tt)
+    (λ e is. subst (λ e. replays.RefusesReplay start c.args.cuts.now e) (sym is) tt)

@@ -1,6 +1,6 @@
 use Rattle.std.proofs.Common.{ℕ, ◌<◌, List, [], ◌∷◌, ◌++◌, length, take, drop, sym, ap, subst, ◌∙◌, arith, ◌+◌, ◌≡◌}
 use Rattle.std.proofs.lemmas.List.{length-take-le, take-append-drop}
-use Rattle.mc_tree.specs.Tree.{first, label}
+use Rattle.mc_tree.specs.Tree.{round_one, label}
 use Rattle.mc_explore.specs.inner.OneRound.{boots}
 use Rattle.mc_campaign.specs.inner.TwoRounds.{cuts_along, rounds, second_start}
 use Rattle.mc_campaign.specs.Campaigns.{IsInOrder}
@@ -23,7 +23,7 @@ below g c =
     let b = w.flash_tree in
     let tree = rounds b.one_round.rules b.one_round.layout b.confirms in
     let name = label (boots b.one_round.rules b.one_round.layout) (second_start b.one_round.rules b.one_round.layout b.confirms) in
-    omega (arith, taken_within (all g c) c.cuts.step (c.in-Some.round, c.in-Some.index) c.in-Some.ensures, labelled-length tree name (first (begun_of w).content) w.path)
+    omega (arith, taken_within (all g c) c.cuts.step (c.in-Some.round, c.in-Some.index) c.in-Some.ensures, labelled-length tree name (round_one (begun_of w).content) w.path)
 
 more : (g : Over) (c : In-Some g) → take (c.cuts.step + 1) (all g c) ≡ take c.cuts.step (all g c) ++ (c.in-Some.round, c.in-Some.index) ∷ []
 more g c = taken_more (all g c) c.cuts.step (c.in-Some.round, c.in-Some.index) c.in-Some.ensures
@@ -40,7 +40,7 @@ push-requires-clause-order g c =
     let w = c.args.walk.now in
     let prefix = ordered_prefix 1 (take (c.cuts.step + 1) (all g a)) (drop (c.cuts.step + 1) (all g a))
     (subst IsInOrder (sym (take-append-drop (c.cuts.step + 1) (all g a))) (along_ordered (boots w.flash_tree.one_round.rules w.flash_tree.one_round.layout) (second_start w.flash_tree.one_round.rules
-    w.flash_tree.one_round.layout w.flash_tree.confirms) (first (begun_of w).content) w.path)) in
+    w.flash_tree.one_round.layout w.flash_tree.confirms) (round_one (begun_of w).content) w.path)) in
     subst IsInOrder (more g a ∙ ap (λ z. z ++ (c.in-Some.round, c.in-Some.index) ∷ []) (sym c.cuts.invariant)) prefix
 
 pub overflow_add-step : goal.overflow_add-step

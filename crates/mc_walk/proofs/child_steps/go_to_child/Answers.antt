@@ -5,8 +5,8 @@ use Rattle.mc_flash.specs.facts.Spends.{keeps_both, ran_out_later, spent_both, s
 use Rattle.mc_walk.specs.TreeModel.{IsAt}
 use Rattle.mc_walk.proofs.child_steps.go_to_child.Goals as goal
 
-pub first-requires : goal.first-requires
-first-requires g c = (c.requires.0, c.requires.1, omega (arith, c.requires.2), c.requires.3)
+pub first_child-requires : goal.first_child-requires
+first_child-requires g c = (c.requires.0, c.requires.1, omega (arith, c.requires.2), c.requires.3)
 
 pub loop-i-init : goal.loop-i-init
 loop-i-init g c = record {

@@ -5,7 +5,7 @@ use Rattle.mc_campaign.proofs.Replays.{kind_of}
 use Rattle.mc_campaign.specs.declared.rounds.TwoRounds.{TwoRounds}
 use Rattle.mc_campaign.specs.inner.TwoRounds.{cuts_along, rounds}
 use Rattle.mc_explore.specs.inner.OneRound.{begins}
-use Rattle.mc_tree.specs.Tree.{IsMember, first}
+use Rattle.mc_tree.specs.Tree.{IsMember, round_one}
 use Rattle.mc_tree.specs.facts.Order.{allowed_prefix}
 use Rattle.mc_flash.specs.Flash.{Content}
 use Rattle.mc_walk.specs.Walks.{Follows, IsSame, Walked, origin_of}
@@ -19,12 +19,12 @@ short path old new false root f =
 
 -- And along the whole path, where that is one of the tree.
 whole : (path : List ℕ) (old new : Walked TwoRounds) (went : Bool) (bound : ℕ) → old.path ≡ [] → length path ≤ old.bound
-    → IsMember (rounds old.flash_tree.one_round.rules old.flash_tree.one_round.layout old.flash_tree.confirms) (first (origin_of old.seen)) bound path
+    → IsMember (rounds old.flash_tree.one_round.rules old.flash_tree.one_round.layout old.flash_tree.confirms) (round_one (origin_of old.seen)) bound path
     → Follows (kind_of old.flash_tree) path old went new → new.path ≡ path
 whole path old new true bound root room m f = f.0 ∙ ap (λ (l : List ℕ). l ++ path) root
 whole path old new false bound root room m f =
-    let prefix = allowed_prefix (rounds old.flash_tree.one_round.rules old.flash_tree.one_round.layout old.flash_tree.confirms) (first (origin_of old.seen)) path (f.steps + 1) m.1 in
-    absurd (f.no_child (subst (λ l. IsMember (rounds old.flash_tree.one_round.rules old.flash_tree.one_round.layout old.flash_tree.confirms) (first (origin_of old.seen)) old.bound
+    let prefix = allowed_prefix (rounds old.flash_tree.one_round.rules old.flash_tree.one_round.layout old.flash_tree.confirms) (round_one (origin_of old.seen)) path (f.steps + 1) m.1 in
+    absurd (f.no_child (subst (λ l. IsMember (rounds old.flash_tree.one_round.rules old.flash_tree.one_round.layout old.flash_tree.confirms) (round_one (origin_of old.seen)) old.bound
     (l ++ take (f.steps + 1) path)) (sym root) (omega (arith, room, f.inside, length-take-le (f.steps + 1) path (omega (arith, f.inside))), prefix)))
 
 -- The cuts along a path are those of its start and its choice.
@@ -34,10 +34,10 @@ same_cuts t b s c path start choice =
     ap (λ (x : PowerOn). cuts_along x.rules x.geometry t.confirms x.content path) start ∙ ap (λ (k : Bool). cuts_along b.one_round.rules b.one_round.layout k c path) choice
 
 same_member : (t b : TwoRounds) (s c : Content) (bound : ℕ) (path : List ℕ) → begins t.one_round s ≡ begins b.one_round c → t.confirms ≡ b.confirms
-    → IsMember (rounds b.one_round.rules b.one_round.layout b.confirms) (first c) bound path → IsMember (rounds t.one_round.rules t.one_round.layout t.confirms) (first s) bound path
+    → IsMember (rounds b.one_round.rules b.one_round.layout b.confirms) (round_one c) bound path → IsMember (rounds t.one_round.rules t.one_round.layout t.confirms) (round_one s) bound path
 same_member t b s c bound path start choice m =
-    subst (λ (x : PowerOn). IsMember (rounds x.rules x.geometry t.confirms) (first x.content) bound path) (sym start)
-    (subst (λ (k : Bool). IsMember (rounds b.one_round.rules b.one_round.layout k) (first c) bound path) (sym choice) m)
+    subst (λ (x : PowerOn). IsMember (rounds x.rules x.geometry t.confirms) (round_one x.content) bound path) (sym start)
+    (subst (λ (k : Bool). IsMember (rounds b.one_round.rules b.one_round.layout k) (round_one c) bound path) (sym choice) m)
 
 went_same : (path : List ℕ) (old new : Walked TwoRounds) (went : Bool) → Follows (kind_of old.flash_tree) path old went new → IsSame old new
 went_same path old new true f = f.2
@@ -60,7 +60,7 @@ returns-clause-key g c = λ b s bound start choice member.
     ap (λ (t : TwoRounds). begins t.one_round (origin_of old.seen)) begun.same.flash_tree ∙ ap (begins c.in_ok-walk.walk.flash_tree.one_round) begun.same.origin ∙ loaded.start_is ∙ sym start in
     let chosen : old.flash_tree.confirms ≡ b.confirms = ap (λ (t : TwoRounds). t.confirms) begun.same.flash_tree ∙ loaded.choice_is ∙ sym choice in
     let there = same_member old.flash_tree b (origin_of old.seen) s bound path origin chosen
-    (subst (IsMember (rounds b.one_round.rules b.one_round.layout b.confirms) (first s) bound) (sym value) member) in
+    (subst (IsMember (rounds b.one_round.rules b.one_round.layout b.confirms) (round_one s) bound) (sym value) member) in
     let room : length path ≤ old.bound = omega (arith, begun.same.bound, loaded.bound_is, c.cuts-cuts.ensures.at_most) in
     let went = whole path old new c.in_ok-follow.field-0 bound begun.path room there c.in_ok-follow.ensures.step in
     c.campaign_at.ensures

@@ -1,5 +1,5 @@
 use Rattle.mc_campaign.proofs.Steps.{begins_beyond, begins_first, begins_second, left_beyond, left_first, left_second}
-use Rattle.mc_campaign.proofs.two_rounds.TwoRoundsFlashTree.first.Goals as goal
+use Rattle.mc_campaign.proofs.two_rounds.TwoRoundsFlashTree.first_child.Goals as goal
 
 pub returns-then-ops-gt0-clause-reaches : goal.returns-then-ops-gt0-clause-reaches
 returns-then-ops-gt0-clause-reaches g c =
