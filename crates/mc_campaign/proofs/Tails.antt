@@ -78,9 +78,12 @@ module _ (r : Rules) (g : Geometry) (confirms : Bool) where
         → weight totals (rounds r g confirms) own k (round_two a v) ≡ weight totals (rounds r g confirms) own k (round_two b v)
     same_second a b same zero v = ap (λ (x : BootResult). report_totals (judged e (record (report_from r g v) { result = end_result x (report_from r g v).result }))) same
     same_second a b same (suc k) v =
-        let here : own (round_two a v) ≡ own (round_two b v) = ap (λ (x : BootResult). report_totals (judged e (record (report_from r g v) { result = end_result x (report_from r g v).result }))) same in
-        let below = from_alike totals totals_weigh (λ i. weight totals (rounds r g confirms) own k (round_two a (at_cut (power_on r g v) i)))
-        (λ i. weight totals (rounds r g confirms) own k (round_two b (at_cut (power_on r g v) i))) (length (ops_of (power_on r g v))) 0 (λ i le lt. same_second a b same k (at_cut (power_on r g v) i)) in
+        let here : own (round_two a v) ≡ own (round_two b v) =
+        ap (λ (x : BootResult). report_totals (judged e (record (report_from r g v) { result = end_result x (report_from r g v).result }))) same in
+        let below =
+        from_alike totals totals_weigh (λ i. weight totals (rounds r g confirms) own k (round_two a (at_cut (power_on r g v) i)))
+        (λ i. weight totals (rounds r g confirms) own k (round_two b (at_cut (power_on r g v) i)))
+        (length (ops_of (power_on r g v))) 0 (λ i le lt. same_second a b same k (at_cut (power_on r g v) i)) in
         ap (λ (x : Totals). totals.merged x (from totals (λ i. weight totals (rounds r g confirms) own k (round_two a (at_cut (power_on r g v) i))) (length (ops_of (power_on r g v))) 0)) here
         ∙ ap (totals.merged (own (round_two b v))) below
 

@@ -12,6 +12,7 @@ use Rattle.mc_explore.specs.declared.rights.RightsOf.{RightsOf}
 use Rattle.mc_image.specs.Valid.{Identity}
 use Rattle.mc_command.specs.Arguments.{IsFlag}
 use Rattle.mc_command.specs.declared.verdict.Asked.{Asked}
+use Rattle.mc_command.specs.declared.verdict.Ends.{Ends}
 use Rattle.mc_command.specs.declared.refusal.Refusal.{Refusal}
 use Rattle.mc_explore.specs.declared.expectation.Wanted.TheVariants as wanted
 use Rattle.mc_command.specs.declared.refusal.Refusal.TheVariants as refusals
@@ -54,6 +55,22 @@ abbrev pub IsExpectation : Asked → Option (Identity × Identity) → Result (O
 IsExpectation a named (Ok None) = is_of_slots a ≡ false
 IsExpectation a named (Ok (Some e)) = (is_of_slots a ≡ true) × (expectation_of a named ≡ Some e)
 IsExpectation a named (Err refusal) = (refusal ≡ refusals.Expectation) × (is_of_slots a ≡ true) × (expectation_of a named ≡ None)
+
+-- The arguments give what the slots hold at the end.
+pub record GivesEnds (found : Found) (e : Ends) : Type 0 where
+  pub primary : MayGiveWanted found (codes "expect-primary") e.primary
+  pub secondary : MayGiveWanted found (codes "expect-secondary") e.secondary
+
+-- What is wanted of a slot: what is given; else the image that is to lie there, where it is known; else anything.
+abbrev pub wanted_or_any : Option Wanted → Option Identity → Wanted
+wanted_or_any (Some w) id = w
+wanted_or_any None (Some id) = wanted.Digest id.digest
+wanted_or_any None None = wanted.Anything
+
+-- What is right of a start with those images, the named one and the other.
+abbrev pub expected_ends : Ends → Option (Identity × Identity) → Expectation
+expected_ends e None = record { primary = wanted_or_any e.primary None; secondary = wanted_or_any e.secondary None }
+expected_ends e (Some ids) = record { primary = wanted_or_any e.primary (Some ids.0); secondary = wanted_or_any e.secondary (Some ids.1) }
 
 -- What was counted of some rows of what is explored, if that was asked for.
 abbrev pub AreCounted : {C K R U : Type 0} → Subject C K R U → Expectation → List R → Option (RightsOf K) → Type 0

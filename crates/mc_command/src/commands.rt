@@ -11,6 +11,7 @@ pub mod explore;
 mod infile;
 pub mod layout;
 pub mod life;
+pub mod picture;
 pub mod replay;
 pub mod rounds;
 mod schedule;

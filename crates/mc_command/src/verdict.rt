@@ -5,7 +5,7 @@ ghost use Rattle.clap.specs.Matches.{found_of};
 ghost use Rattle.mc_boot.specs.Plan.{identity_of};
 ghost use Rattle.mc_explore.specs.declared.expectation.Expectation.{Expectation as Expected};
 ghost use Rattle.mc_explore.specs.Right.{AllEndRight};
-ghost use Rattle.mc_command.specs.Verdicts.{AreCounted, IsExpectation, MayGiveWanted, GivesAsked, is_of_slots, lines_of, verdict_of, wanted_of};
+ghost use Rattle.mc_command.specs.Verdicts.{AreCounted, IsExpectation, MayGiveWanted, GivesAsked, GivesEnds, expected_ends, is_of_slots, lines_of, verdict_of, wanted_of, wanted_or_any};
 
 use crate::refusal::Refusal;
 use clap::ArgMatches;
@@ -49,6 +49,55 @@ fn wanted_of(given: Option<Wanted>, all_right: bool, image: Option<ImageId>) -> 
         (None, Some(id)) if all_right => Some(Wanted::Digest(id.digest)),
         (None, None) if all_right => None,
         (None, _) => Some(Wanted::Anything),
+    }
+}
+
+/// What the words say that the slots hold at the end.
+#[derive(Clone, Copy, Debug)]
+pub struct Ends {
+    pub primary: Option<Wanted>,
+    pub secondary: Option<Wanted>,
+}
+
+/// What is wanted of a slot: what is given; else the image that is to lie there at the end, where it is known; else anything.
+fn wanted_or_any(given: Option<Wanted>, image: Option<ImageId>) -> Wanted
+    ensures { result ≡ wanted_or_any given (option_map identity_of image) }
+{
+    match (given, image) {
+        (Some(wanted), _) => wanted,
+        (None, Some(id)) => Wanted::Digest(id.digest),
+        (None, None) => Wanted::Anything,
+    }
+}
+
+impl Ends {
+    /// What the words say.
+    ///
+    /// # Errors
+    ///
+    /// Those of `wanted_option`.
+    pub fn read(arguments: &ArgMatches<'_>) -> Result<Ends, Refusal>
+        ensures { IfOk result (GivesEnds (found_of arguments.now)) }
+    {
+        Ok(Ends {
+            primary: wanted_option(arguments, "expect-primary")?,
+            secondary: wanted_option(arguments, "expect-secondary")?,
+        })
+    }
+
+    /// What is right of a start whose images lie so at the end, where they are known: the first in the primary.
+    pub fn expectation(&self, images: Option<(ImageId, ImageId)>) -> Expectation
+        ensures { result ≡ expected_ends self.now
+            (option_map (λ p. (identity_of p.0, identity_of p.1)) images) }
+    {
+        let (named, other) = match images {
+            Some((named, other)) => (Some(named), Some(other)),
+            None => (None, None),
+        };
+        Expectation {
+            primary: wanted_or_any(self.primary, named),
+            secondary: wanted_or_any(self.secondary, other),
+        }
     }
 }
 

@@ -1,19 +1,20 @@
 -- A walk that passes the nodes below a node, child by child.
-use Rattle.std.proofs.Common.{Bool, IfSome, List, None, Option, Some, [], ap, append-nil, append_assoc, arith, false, length, length-append, refl, subst, suc, sym, true, zero, ℕ, ◌++◌, ◌+◌, ◌<◌, ◌∙◌, ◌∷◌, ◌≡◌, ◌≤◌}
+use Rattle.std.proofs.Common.{Bool, IfSome, List, None, Option, Some, [], ap, append-nil, append_assoc, arith, false, refl, subst, suc, sym, true, zero, ℕ, ◌++◌, ◌+◌, ◌∙◌, ◌∷◌, ◌≡◌, ◌≤◌}
 use Rattle.mc_boot.specs.Outcome.{Report}
 use Rattle.mc_boot.specs.declared.shared_tail.SharedTail.{SharedTail}
 use Rattle.mc_explore.proofs.Counting.{Census}
-use Rattle.mc_explore.proofs.Rowing.{last_alike, same_last}
 use Rattle.mc_explore.specs.Right.{judged}
 use Rattle.mc_explore.specs.declared.expectation.Expectation.{Expectation}
-use Rattle.mc_explore.specs.inner.Table.{CanPass, HasSameLimits, HasWeights, IsTailOf, Passed, PassesBelow, ReachesChild, own_totals, paths_of, weigh}
+use Rattle.std.proofs.lemmas.List.{same_from_push}
+use Rattle.mc_explore.specs.facts.Children.{HasCome, child_here, IsAtChild, here_too, there_too}
+use Rattle.mc_explore.specs.inner.Table.{HasWeights, IsTailOf, PassesBelow, ReachesChild, own_totals, paths_of, weigh}
 use Rattle.mc_explore.specs.inner.Totals.{cut_off, report_totals}
 use Rattle.mc_flash.specs.Flash.{Content}
 use Rattle.mc_tree.specs.Tree.{Allowed, Beyond, landed}
-use Rattle.mc_tree.specs.facts.Order.{HasPassed, allowed-push, landed-push, next_child, passed_all, some_child}
+use Rattle.mc_tree.specs.facts.Order.{HasPassed, next_child, passed_all, some_child}
 use Rattle.mc_tree.specs.inner.Weights.{path_tree}
-use Rattle.mc_walk.specs.TreeModel.{HasWidth, IsChildOf, TreeModel}
-use Rattle.mc_walk.specs.Walks.{Climbs, IsLastStep, IsPath, IsSame, IsThere, Walked, origin_of, root_of}
+use Rattle.mc_walk.specs.TreeModel.{IsChildOf, TreeModel}
+use Rattle.mc_walk.specs.Walks.{Climbs, IsLastStep, IsSame, IsThere, Walked, origin_of, root_of}
 use Rattle.mc_walk.specs.declared.frame.Frame.{Frame}
 
 module _ {N A T B : Type 0} (k : TreeModel N A T) where
@@ -29,15 +30,6 @@ module _ {N A T B : Type 0} (k : TreeModel N A T) where
       let P : ℕ → Type 0 = λ m. Allowed k.tree (root_of k old) (l ++ m ∷ []) in
       absurd (some_child k.tree (root_of k old) l n old.path passed (subst P one listed.1) climbs.0)
 
-  pub child_here : (w : Walked B) (f : Frame A T) (summary : T) → IsThere k w summary → (step : IsLastStep k w f)
-      → IsChildOf k (landed k.tree (root_of k w) step.before) f.number f.at f.parent summary w.seen
-  child_here w f summary there step = record {
-    at_is = step.at_is;
-    some = step.some;
-    parent_is = step.parent_is;
-    child_is = subst (λ n. k.IsSummary n summary) (ap (landed k.tree (root_of k w)) step.path_is ∙ landed-push k.tree (root_of k w) step.before f.number) there.summary_is;
-  }
-
   -- Where what lies below it lies among what lies below its parent.
   pub tail_at : (w : Walked B) (f : Frame A T) (summary : T) (report_of : Content → List ℕ → Report) → IsThere k w summary → IsLastStep k w f → (found : Option SharedTail)
       → IfSome found (λ x. (e : Expectation) (c : Content) (path : List ℕ) (i : ℕ) → IsChildOf k (landed k.tree (k.root c) path) i f.at f.parent summary w.seen
@@ -45,10 +37,9 @@ module _ {N A T B : Type 0} (k : TreeModel N A T) where
       → IfSome found (λ x. (e : Expectation) (l : List ℕ) (number : ℕ) → w.path ≡ l ++ number ∷ [] → IsTailOf (paths_of k w) (report_of (origin_of w.seen)) e l number x)
   tail_at w f summary report_of there step None found = tt
   tail_at w f summary report_of there step (Some x) found = λ e l number is.
-      let split : step.before ++ f.number ∷ [] ≡ l ++ number ∷ [] = sym step.path_is ∙ is in
-      let at = subst (λ p. IsChildOf k (landed k.tree (root_of k w) p) f.number f.at f.parent summary w.seen) (last_alike step.before l f.number number split) (child_here w f summary there step) in
-      found e (origin_of w.seen) l number
-      (subst (λ i. IsChildOf k (landed k.tree (root_of k w) l) i f.at f.parent summary w.seen) (same_last step.before l f.number number split) at)
+      let same = same_from_push step.before l f.number number (sym step.path_is ∙ is) in
+      let at = subst (λ p. IsChildOf k (landed k.tree (root_of k w) p) f.number f.at f.parent summary w.seen) same.0 (child_here k w f summary there step) in
+      found e (origin_of w.seen) l number (subst (λ i. IsChildOf k (landed k.tree (root_of k w) l) i f.at f.parent summary w.seen) same.1 at)
 
 -- The children of the node where a walk stood, one after another.
 module _ {N A T B : Type 0} (model : B → TreeModel N A T) (old : Walked B) where
@@ -58,70 +49,8 @@ module _ {N A T B : Type 0} (model : B → TreeModel N A T) (old : Walked B) whe
   abbrev root : N
   root = root_of k old
 
-  pub width_here : (b : B) (summary : T) (width : ℕ) → b ≡ old.flash_tree → IsThere k old summary → HasWidth (model b) summary width → width ≡ k.tree.width (landed k.tree root old.path)
-  width_here b summary width same there has = subst (λ b. HasWidth (model b) summary width) same has (landed k.tree root old.path) there.summary_is
-
-  -- The walk has passed so many of them.
-  pub record HasCome (number : ℕ) (now : Walked B) : Type 0 where
-    pub same : IsSame old now
-    pub limits : HasSameLimits old now
-    pub stands : now.stands ≡ true
-    pub passed : HasPassed k.tree root old.path number now.path
-
-  -- It stands at that one.
-  pub record IsAtChild (number : ℕ) (at : Walked B) : Type 0 where
-    pub path : at.path ≡ old.path ++ number ∷ []
-    pub same : IsSame old at
-    pub limits : HasSameLimits old at
-    pub stands : at.stands ≡ true
-
-  -- What holds of the same walk elsewhere.
-  module _ (now : Walked B) (same : IsSame old now) (P : B → Content → Type 0) where
-    there_too : P old.flash_tree (origin_of old.seen) → P now.flash_tree (origin_of now.seen)
-    there_too p = subst (P now.flash_tree) (sym same.origin) (subst (λ b. P b (origin_of old.seen)) (sym same.flash_tree) p)
-
-    here_too : P now.flash_tree (origin_of now.seen) → P old.flash_tree (origin_of old.seen)
-    here_too p = subst (λ b. P b (origin_of old.seen)) same.flash_tree (subst (P now.flash_tree) same.origin p)
-
-  module _ (listed : IsPath k old old.path) (number : ℕ) (some : number < k.tree.width (landed k.tree root old.path)) (deep : length old.path < old.bound) where
-    pub child_listed : IsPath k old (old.path ++ number ∷ [])
-    child_listed = (omega (arith, deep, length-append old.path (number ∷ [])), allowed-push k.tree root old.path number listed.1 some)
-
-    module _ (now : Walked B) (come : HasCome number now) where
-      passed_now : Passed (model now.flash_tree) old.path number now
-      passed_now = there_too now come.same (λ b c. HasPassed (model b).tree ((model b).root c) old.path number now.path) come.passed
-
-      listed_now : IsPath (model now.flash_tree) now (old.path ++ number ∷ [])
-      listed_now = (omega (arith, child_listed.0, come.same.bound), there_too now come.same (λ b c. Allowed (model b).tree ((model b).root c) (old.path ++ number ∷ [])) child_listed.1)
-
-      pub can_pass : CanPass (model now.flash_tree) number now
-      can_pass = record { path = old.path; passed = passed_now; listed = listed_now }
-
-      pub reached : (at : Walked B) → ReachesChild (model now.flash_tree) number now at → HasSameLimits now at → IsAtChild number at
-      reached at reaches limits =
-          let there = reaches old.path passed_now listed_now in
-          record {
-            path = there.0;
-            same = record {
-              flash_tree = there.1.flash_tree ∙ come.same.flash_tree;
-              bound = there.1.bound ∙ come.same.bound;
-              origin = there.1.origin ∙ come.same.origin;
-            };
-            limits = limits ∙ come.limits;
-            stands = there.2;
-          }
-
-    pub listed_there : (at : Walked B) → IsAtChild number at → IsPath (model at.flash_tree) at at.path
-    listed_there at here =
-        let allowed = there_too at here.same (λ b c. Allowed (model b).tree ((model b).root c) (old.path ++ number ∷ [])) child_listed.1 in
-        subst (IsPath (model at.flash_tree) at) (sym here.path) (omega (arith, child_listed.0, here.same.bound), allowed)
-
-  module _ (number : ℕ) (at : Walked B) (here : IsAtChild number at) where
-    -- One child more was reached, and what lies below it is not gone through, or was.
-    pub come_on : HasCome (suc number) at
-    come_on = record { same = here.same; limits = here.limits; stands = here.stands; passed = ([], here.path, λ m allowed beyond. subst (λ (l : List ℕ). Beyond l m) here.path beyond) }
-
-    pub come_below : (now : Walked B) → PassesBelow (model at.flash_tree) at now → HasCome (suc number) now
+  module _ (number : ℕ) (at : Walked B) (here : IsAtChild model old number at) where
+    pub come_below : (now : Walked B) → PassesBelow (model at.flash_tree) at now → HasCome model old (suc number) now
     come_below now below = record {
       same = record {
         flash_tree = below.same.flash_tree ∙ here.same.flash_tree;
@@ -133,7 +62,7 @@ module _ {N A T B : Type 0} (model : B → TreeModel N A T) (old : Walked B) whe
       passed = (
         below.more,
         below.path_is ∙ ap (λ (l : List ℕ). l ++ below.more) here.path ∙ append_assoc old.path (number ∷ []) below.more,
-        λ m allowed beyond. subst (λ (l : List ℕ). Beyond l m) here.path (below.beyond m (there_too at here.same (λ b c. Allowed (model b).tree ((model b).root c) m) allowed) beyond),
+        λ m allowed beyond. subst (λ (l : List ℕ). Beyond l m) here.path (below.beyond m (there_too model old at here.same (λ b c. Allowed (model b).tree ((model b).root c) m) allowed) beyond),
       );
     }
 
@@ -141,18 +70,18 @@ module _ {N A T B : Type 0} (model : B → TreeModel N A T) (old : Walked B) whe
     module _ (report_of : B → Content → List ℕ → Report) (e : Expectation) where
       pub tail_there : (x : SharedTail) → IsTailOf (paths_of (model at.flash_tree) at) (report_of at.flash_tree (origin_of at.seen)) e old.path number x
           → IsTailOf (paths_of k old) (report_of old.flash_tree (origin_of old.seen)) e old.path number x
-      tail_there x tail = here_too at here.same (λ b c. IsTailOf (path_tree (model b).tree ((model b).root c)) (report_of b c) e old.path number x) tail
+      tail_there x tail = here_too model old at here.same (λ b c. IsTailOf (path_tree (model b).tree ((model b).root c)) (report_of b c) e old.path number x) tail
 
       pub weights_there : (bound : ℕ) (column : List Census) → HasWeights (paths_of (model at.flash_tree) at) (report_of at.flash_tree (origin_of at.seen)) e at.path bound column
           → HasWeights (paths_of k old) (report_of old.flash_tree (origin_of old.seen)) e (old.path ++ number ∷ []) bound column
       weights_there bound column weights =
           subst (λ l. HasWeights (paths_of k old) (report_of old.flash_tree (origin_of old.seen)) e l bound column) here.path
-          (here_too at here.same (λ b c. HasWeights (path_tree (model b).tree ((model b).root c)) (report_of b c) e at.path bound column) weights)
+          (here_too model old at here.same (λ b c. HasWeights (path_tree (model b).tree ((model b).root c)) (report_of b c) e at.path bound column) weights)
 
       pub own_there : (report : Report) (own : Census) → report ≡ report_of at.flash_tree (origin_of at.seen) at.path → own ≡ cut_off (report_totals (judged e report))
           → own ≡ cut_off (own_totals (paths_of k old) (report_of old.flash_tree (origin_of old.seen)) e (old.path ++ number ∷ []))
       own_there report own is own_is =
-          let is_here : report ≡ report_of old.flash_tree (origin_of old.seen) at.path = here_too at here.same (λ b c. report ≡ report_of b c at.path) is in
+          let is_here : report ≡ report_of old.flash_tree (origin_of old.seen) at.path = here_too model old at here.same (λ b c. report ≡ report_of b c at.path) is in
           own_is ∙ ap (λ o. cut_off (report_totals (judged e o))) (is_here ∙ ap (report_of old.flash_tree (origin_of old.seen)) here.path)
 
   -- At the root of the walk.
@@ -160,7 +89,7 @@ module _ {N A T B : Type 0} (model : B → TreeModel N A T) (old : Walked B) whe
       → census ≡ cut_off (weigh (paths_of (model now.flash_tree) now) (report_of now.flash_tree (origin_of now.seen)) e bound now.path)
       → census ≡ cut_off (weigh (path_tree k.tree root) (report_of old.flash_tree (origin_of old.seen)) e bound [])
   root_weighs now report_of e bound census same none is =
-      here_too now same (λ b c. census ≡ cut_off (weigh (path_tree (model b).tree ((model b).root c)) (report_of b c) e bound now.path)) is
+      here_too model old now same (λ b c. census ≡ cut_off (weigh (path_tree (model b).tree ((model b).root c)) (report_of b c) e bound now.path)) is
       ∙ ap (λ l. cut_off (weigh (path_tree k.tree root) (report_of old.flash_tree (origin_of old.seen)) e bound l)) none
 
   -- The walk has passed all that lies below the node, also where it goes nowhere.
@@ -174,7 +103,7 @@ module _ {N A T B : Type 0} (model : B → TreeModel N A T) (old : Walked B) whe
     beyond = λ m allowed beyond. beyond;
   }
 
-  pub passes_all : (number : ℕ) (now : Walked B) → number ≡ k.tree.width (landed k.tree root old.path) → HasCome number now → PassesBelow k old now
+  pub passes_all : (number : ℕ) (now : Walked B) → number ≡ k.tree.width (landed k.tree root old.path) → HasCome model old number now → PassesBelow k old now
   passes_all number now all come = record {
     same = come.same;
     limits = come.limits;

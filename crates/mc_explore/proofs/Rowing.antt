@@ -2,6 +2,7 @@
 use Rattle.std.proofs.Common.{add-one, ap, arith, inl, inr, length-append, subst, sym, ◌∙◌}
 use Rattle.std.proofs.lemmas.Option.{slice_get_cases, slice_get_within}
 use Rattle.std.specs.Prelude.{Bool, IfSome, IsSomeAnd, List, None, Option, Some, [], false, is_some, option_map, length, refl, slice_get, suc, true, zero, ℕ, ◌++◌, ◌+◌, ◌<◌, ◌^◌, ◌∷◌, ◌≡◌, ◌≢◌, ◌≤◌}
+use Rattle.std.proofs.lemmas.List.{same_from_push}
 use Rattle.mc_boot.specs.Boot.{begun, progress}
 use Rattle.mc_boot.specs.Joins.{IsCut}
 use Rattle.mc_boot.specs.Outcome.{Report, ops_of, outcome_of, shown}
@@ -56,26 +57,6 @@ module _ (from : PowerOn) where
       ∙ sym (ap (λ l. outcome_of (again from (flash_at from l))) path ∙ ap (λ s. outcome_of (again from s)) (flash_twice of last)) ∙ summary in
       subst (AreAtCuts from of) (sym is) (each_more (λ i p. outcome_of (again from (at_cut (again from (flash_at from of)) i)) ≡ Some (shown p)) outcomes o are here)
 
--- The last element of a list, and those before it.
-pub last_alike : (xs ys : List ℕ) (x y : ℕ) → xs ++ x ∷ [] ≡ ys ++ y ∷ [] → xs ≡ ys
-last_alike [] [] x y e = refl
-last_alike [] (y' ∷ []) x y e = absurd cc
-last_alike [] (y' ∷ z ∷ ys) x y e = absurd cc
-last_alike (x' ∷ []) [] x y e = absurd cc
-last_alike (x' ∷ z ∷ xs) [] x y e = absurd cc
-last_alike (x' ∷ xs) (y' ∷ ys) x y e =
-    let rest = last_alike xs ys x y (cc) in
-    let first : x' ≡ y' = cc in
-    cc
-
-pub same_last : (xs ys : List ℕ) (x y : ℕ) → xs ++ x ∷ [] ≡ ys ++ y ∷ [] → x ≡ y
-same_last [] [] x y e = cc
-same_last [] (y' ∷ []) x y e = absurd cc
-same_last [] (y' ∷ z ∷ ys) x y e = absurd cc
-same_last (x' ∷ []) [] x y e = absurd cc
-same_last (x' ∷ z ∷ xs) [] x y e = absurd cc
-same_last (x' ∷ xs) (y' ∷ ys) x y e = same_last xs ys x y cc
-
 -- A walk stands after a cut, with that summary.
 module _ (w : Walked OneRound) (f : Frame Boot Summary) (summary : Summary) (of path : List ℕ) (last : ℕ) (step : IsLastStep (one_round w.flash_tree.rules w.flash_tree.layout) w f)
     (there : IsThere (one_round w.flash_tree.rules w.flash_tree.layout) w summary) (path_is : path ≡ w.path) (split : path ≡ of ++ last ∷ []) where
@@ -89,7 +70,7 @@ module _ (w : Walked OneRound) (f : Frame Boot Summary) (summary : Summary) (of 
   before = flash_at (power_on r g (origin_of w.seen)) of
 
   before_is : flash_at (power_on r g (origin_of w.seen)) step.before ≡ before
-  before_is = ap (flash_at (power_on r g (origin_of w.seen))) (last_alike step.before of f.number last (sym step.path_is ∙ sym path_is ∙ split))
+  before_is = ap (flash_at (power_on r g (origin_of w.seen))) (same_from_push step.before of f.number last (sym step.path_is ∙ sym path_is ∙ split)).0
 
   here_is : flash_at (power_on r g (origin_of w.seen)) path ≡ at_cut (power_on r g before) f.number
   here_is =

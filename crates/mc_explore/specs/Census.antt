@@ -50,9 +50,9 @@ key_or_none text (Some key) = text key
 -- Six lines of numbers.
 abbrev pub counts_text : {K : Type 0} → CensusOf K → List ℕ
 counts_text c =
-    (codes "schedules " ++ (count_text c.schedules ++ (codes "\nboot " ++ (count_text c.boot ++ (codes "\nnone " ++ (count_text c.none ++ codes "\n"))))))
-    ++ (codes "panic " ++ (count_text c.panic ++ (codes "\nfault " ++ (count_text c.fault ++ (codes "\nmost-ops " ++ (decimal c.most_operations ++ codes "\n"))))))
+    codes "schedules " ++ (count_text c.schedules ++ (codes "\nboot " ++ (count_text c.boot ++ (codes "\nnone " ++ (count_text c.none
+    ++ (codes "\npanic " ++ (count_text c.panic ++ (codes "\nfault " ++ (count_text c.fault ++ (codes "\nmost-ops " ++ (decimal c.most_operations ++ codes "\n")))))))))))
 
 -- And the first row that does not end in a boot.
 abbrev pub census_text : {C K R U : Type 0} → Subject C K R U → CensusOf K → List ℕ
-census_text x c = (counts_text c ++ codes "first-not-boot ") ++ (key_or_none x.key_text c.first_not_boot ++ codes "\n")
+census_text x c = counts_text c ++ (codes "first-not-boot " ++ (key_or_none x.key_text c.first_not_boot ++ codes "\n"))

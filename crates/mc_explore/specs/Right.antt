@@ -98,7 +98,7 @@ SurveysRight = SurveysRows subject
 
 -- Two lines.
 abbrev pub rights_text : {C K R U : Type 0} → Subject C K R U → RightsOf K → List ℕ
-rights_text x r = (codes "right " ++ (count_text r.right ++ codes "\nfirst-not-right ")) ++ (key_or_none x.key_text r.first_not_right ++ codes "\n")
+rights_text x r = codes "right " ++ (count_text r.right ++ (codes "\nfirst-not-right " ++ (key_or_none x.key_text r.first_not_right ++ codes "\n")))
 
 -- How a row counts where only a right outcome is to count as a boot: any other boot counts as none.
 abbrev pub judged : Expectation → Report → Report

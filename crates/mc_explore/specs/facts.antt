@@ -8,3 +8,4 @@ pub mod Listings
 pub mod Whole
 pub mod Tails
 pub mod Totals
+pub mod Children

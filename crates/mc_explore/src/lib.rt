@@ -32,7 +32,7 @@ mod tree_loading;
 
 pub use ahead::RowsAhead;
 pub use census::{Census, CensusOf, each_boots};
-pub use census_text::write_census;
+pub use census_text::{census_line, write_census};
 pub use countable::{Countable, Ending};
 pub use error::ExploreError;
 pub use expectation::{Expectation, Wanted};
@@ -50,11 +50,11 @@ pub use one_round::{OneRound, Summary};
 pub use output::write_text;
 pub use pages::{write_page, write_page_until, write_rows};
 pub use replays::{ReplayError, flash_at_cut, replay, replay_on};
-pub use rights::{Rights, RightsOf, all_right, write_rights};
+pub use rights::{Rights, RightsOf, all_right, rights_line, write_rights};
 pub use row::Row;
 pub use row_text::{put_outcome, put_slots};
 pub use source::RowSource;
-pub use start_census::{take_census, take_rights};
+pub use start_census::{go_to_child, take_census, take_rights};
 pub use subject::{Fields, Subject};
 pub use tally::{
     Tally, TallyOf, all_boot, survey, survey_right, survey_rows, survey_until, write_tally,

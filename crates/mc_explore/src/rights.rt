@@ -1,17 +1,18 @@
 //! How many schedules of power cuts come to what is right, and the first that does not.
-ghost use Rattle.std.specs.Prelude.{◌≡◌, ◌↔◌, true, List, IfErr, OnOk};
+ghost use Rattle.std.specs.Prelude.{◌≡◌, ◌↔◌, ◌≤◌, length, true, List, IfErr, OnErr, OnOk};
 ghost use Rattle.std.specs.Io.KnownBytes.{Appends};
 ghost use Rattle.mc_boot.specs.Outcome.{shown};
+ghost use Rattle.mc_output.specs.Text.{AppendsPrefix};
 ghost use Rattle.mc_explore.specs.Right.{AllEndRight, no_rights, one_judged_more, rights_by, rights_text};
 ghost use Rattle.mc_explore.specs.declared.expectation.Expectation.{Expectation as Expected};
 
-use crate::census_text::Count;
+use crate::census_text::{put_count, put_first};
 use crate::error::ExploreError;
 use crate::expectation::Expectation;
-use crate::output::write_first;
+use crate::output::write_text;
 use crate::subject::Subject;
 use mc_boot::Outcome;
-use mc_start::Schedule;
+use mc_start::{Line, Schedule};
 use std::io::Write;
 
 /// How many rows come to what is right, cut off at the largest `u128`, and the key of the first of them that does not.
@@ -58,8 +59,20 @@ pub fn all_right<X: Subject>(rights: &RightsOf<X::Key>) -> bool
     rights.first_not_right.is_none()
 }
 
-/// Writes two lines: how many rows are right, and the key of the first that is not, or `none`. A number that was cut off has `>=`
-/// before it.
+/// Two lines: how many rows are right, and the key of the first that is not, or `none`. A number that was cut off has `>=` before it.
+pub fn rights_line<X: Subject>(rights: &RightsOf<X::Key>) -> Line
+    ensures text { result ≡ rights_text X.subject rights.now }
+    ensures length { length result ≤ 273 }
+{
+    let mut line = Line::new();
+    line.put("right ");
+    put_count(&mut line, rights.right);
+    line.put("\nfirst-not-right ");
+    put_first::<X>(&mut line, &rights.first_not_right);
+    line
+}
+
+/// Writes what is right as `rights_line` puts it, or a beginning of it.
 ///
 /// # Errors
 ///
@@ -70,11 +83,9 @@ pub fn write_rights<X: Subject, W: Write>(
 ) -> Result<(), ExploreError>
     ensures whole { OnOk result (Appends (W.contents writer.old) (W.contents writer.new)
         (rights_text X.subject rights.now)) }
+    ensures prefix { OnErr result (AppendsPrefix (W.contents writer.old) (W.contents writer.new)
+        (rights_text X.subject rights.now)) }
     ensures err { IfErr result (λ e. e ≡ ExploreError.Write) }
 {
-    let right = Count(rights.right);
-    if write!(writer, "right {right}\nfirst-not-right ").is_err() {
-        return Err(ExploreError::Write);
-    }
-    write_first::<X, W>(&rights.first_not_right, writer)
+    write_text(writer, rights_line::<X>(rights).as_str().as_bytes())
 }

@@ -21,8 +21,12 @@ use mc_start::Start;
 use mc_walk::Walk;
 use std::alloc::Global;
 
-// Goes to the child of that number of a node, where the walk has passed those before it.
-fn go_to_child<F: Flash, X: Ending>(
+/// Goes to the child of that number of a node, where the walk has passed those before it.
+///
+/// # Errors
+///
+/// `Memory` where the flash was refused memory, which one that counts never is.
+pub fn go_to_child<F: Flash, X: Ending>(
     walk: &mut Walk<F, X>,
     number: u32,
     start: &Start,

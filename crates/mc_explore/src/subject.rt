@@ -217,7 +217,7 @@ pub trait Subject: FlashTree<Known = Start> {
     ghost costs: { (b : Self) (c : Content) → (Self.model b).step + (Self.model b).all.entries
         ≤ subject.most_for_row (begins b c).rules (begins b c).geometry };
 
-    ghost few_more: { (1 ≤ MORE) × (MORE ≤ 16) };
+    ghost few_more: { (1 ≤ MORE) × (MORE ≤ 15) };
 
     ghost clear: { (b : Self) (counted : Bool) (c : Content) (bound : ℕ) (f : Seen)
         → LoadsFor counted (begins b c) (bound + MORE) f → IsClear (Self.model b) bound f };

@@ -23,7 +23,7 @@ pub fn load_walk<F: Flash, X: Subject>(
     bound: u8,
     choice: X::Choice,
 ) -> Result<Walk<F, X>, FlashError>
-    requires { bound ≤ 16 }
+    requires { bound ≤ 17 }
     ensures loaded { IfOk result (IsLoaded X.model X.begins X.choice F.counted (begun start.now)
         choice bound) }
     ensures exact { IfOk result (λ walk. F.counted ≡ true → walk.seen.usage.limits
@@ -53,8 +53,8 @@ pub fn check_cursor<X: Subject>(
     fields: &Fields<X::Choice, X::Key>,
 ) -> Result<(), ExploreError>
     ensures names { OnOk result (Names X.subject (begun start.now) choice bound fields.now) }
-    ensures refused { IfErr result (λ e. RefusesCursor X.subject (begun start.now) choice bound fields.now
-        e) }
+    ensures refused { IfErr result (λ e. RefusesCursor X.subject (begun start.now) choice bound
+        fields.now e) }
 {
     if fields.digest != start.digest() {
         return Err(ExploreError::OtherStart);

@@ -3,4 +3,9 @@ mod CutBoots
 mod Tracing
 mod Pictured
 mod Used
+mod BootRows
+mod Writing
+mod Headed
+mod Drawn
+mod SlotCells
 pub mod Out

@@ -1,4 +1,5 @@
 pub mod Trace
 pub mod LayoutText
 pub mod Sectors
+pub mod Picture
 pub mod inner

@@ -1,11 +1,17 @@
 //! What power cuts do to a boot, traced operation by operation; what lies in each sector and slot then; and a layout in numbers.
 #![tactic(auto)]
 
+mod boot_rows;
 mod boots;
 mod cells;
 mod error;
 mod layout;
 mod operation;
+mod page;
+mod picture;
+mod picture_rows;
+mod runs;
+mod sections;
 mod sectors;
 mod slots;
 mod trace;
@@ -13,6 +19,7 @@ mod trace;
 pub use cells::Words;
 pub use error::TraceError;
 pub use layout::write_layout;
+pub use picture::write_picture;
 pub use sectors::{Moment, View, write_sectors};
 pub use slots::write_slots;
 pub use trace::{Span, write_trace};

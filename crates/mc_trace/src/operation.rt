@@ -1,7 +1,7 @@
 //! Operations as text.
 ghost use Rattle.std.specs.Prelude.{◌≡◌, ◌+◌, ◌≤◌, ◌++◌, length};
 ghost use Rattle.mc_flash.specs.Geometry.{Geometry};
-ghost use Rattle.mc_trace.specs.Trace.{part_at, part_text, erase_text, write_text, source_text, target_text, numbered_text};
+ghost use Rattle.mc_trace.specs.Trace.{operation_text, part_at, part_text, erase_text, write_text, source_text, target_text, numbered_text};
 
 use mc_flash::{Layout, Op, Slot};
 use mc_output::{Line, MOST_LINE};
@@ -113,6 +113,25 @@ fn put_target(line: &mut Line, to: Slot, offset: u32, len: u32)
     line.put_number(len);
 }
 
+/// Adds an operation on a flash of that layout to a line: at most 76 bytes.
+pub fn put_operation(line: &mut Line, layout: &Layout, op: Op)
+    requires { length line.old + 76 ≤ MOST_LINE }
+    ensures text { line.new ≡ line.old ++ operation_text layout.now op }
+    ensures length { length line.new ≤ length line.old + 76 }
+{
+    match op {
+        Op::Erase(slot, sector) => put_erase(line, slot, sector),
+        Op::Program(slot, start, bytes) => {
+            let part = part_at(layout, slot, start);
+            put_write(line, slot, start, part, bytes.bytes());
+        }
+        Op::Copy(from, start, to, offset, len) => {
+            put_source(line, from, start);
+            put_target(line, to, offset, len);
+        }
+    }
+}
+
 /// An operation on a flash of a layout, with its number in its boot: the one that a cut counts.
 #[derive(Clone, Copy)]
 pub struct Numbered<'a> {
@@ -131,16 +150,6 @@ impl Numbered<'_> {
     {
         line.put_number(self.number);
         line.put(" ");
-        match self.op {
-            Op::Erase(slot, sector) => put_erase(line, slot, sector),
-            Op::Program(slot, start, bytes) => {
-                let part = part_at(self.layout, slot, start);
-                put_write(line, slot, start, part, bytes.bytes());
-            }
-            Op::Copy(from, start, to, offset, len) => {
-                put_source(line, from, start);
-                put_target(line, to, offset, len);
-            }
-        }
+        put_operation(line, self.layout, self.op);
     }
 }

@@ -33,7 +33,7 @@ module _ (t : TwoRounds) (c : Content) where
       ≤ most_for_row (begins t.one_round c).rules (begins t.one_round c).geometry
   campaign_costs = omega arith
 
-pub three_more : (1 ≤ 3) × (3 ≤ 16)
+pub three_more : (1 ≤ 3) × (3 ≤ 15)
 three_more = (omega arith, omega arith)
 
 -- A boot makes some operation at most.

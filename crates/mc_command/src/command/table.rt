@@ -25,6 +25,7 @@ pub enum Group {
     Replay,
     Trace,
     Sectors,
+    Picture,
     Exploration,
     Rounds,
     Verdict,
@@ -48,6 +49,7 @@ impl Group {
             Group::Replay => Some("Replay"),
             Group::Trace => Some("Trace"),
             Group::Sectors => Some("Sectors"),
+            Group::Picture => Some("Picture"),
             Group::Exploration | Group::Campaign => Some("Exploration"),
             Group::Rounds => Some("Rounds"),
             Group::Verdict => Some("Verdict"),
@@ -71,6 +73,7 @@ impl Group {
             Group::Replay => &REPLAY,
             Group::Trace => &TRACE,
             Group::Sectors => &SECTORS,
+            Group::Picture => &PICTURE,
             Group::Exploration => &EXPLORATION,
             Group::Rounds => &ROUNDS,
             Group::Verdict => &VERDICT,
@@ -450,6 +453,20 @@ const EXPECTED: Word = Word {
     ..FLAG
 };
 
+/// What the primary is to hold at the end.
+const EXPECT_PRIMARY: Word = Word {
+    name: "expect-primary",
+    help: "The primary's image at the end: a version, a digest, or none",
+    ..EXPECTED
+};
+
+/// What the secondary is to hold.
+const EXPECT_SECONDARY: Word = Word {
+    name: "expect-secondary",
+    help: "The secondary's image at the end: a version, a digest, or none",
+    ..EXPECTED
+};
+
 /// What is asked of all rows that `explore` and `campaign` list, and that `survey` and `census` count.
 static VERDICT: [Word; 4] = [
     Word {
@@ -462,17 +479,12 @@ static VERDICT: [Word; 4] = [
         help: "Refuse, after the counts, where the images are not those expected",
         ..FLAG
     },
-    Word {
-        name: "expect-primary",
-        help: "The primary's image at the end: a version, a digest, or none",
-        ..EXPECTED
-    },
-    Word {
-        name: "expect-secondary",
-        help: "The secondary's image at the end: a version, a digest, or none",
-        ..EXPECTED
-    },
+    EXPECT_PRIMARY,
+    EXPECT_SECONDARY,
 ];
+
+/// What gives a page that shows the boots of a schedule.
+static PICTURE: [Word; 3] = [SCHEDULE_IF_ANY, EXPECT_PRIMARY, EXPECT_SECONDARY];
 
 /// What gives a census.
 static CENSUS: [Word; 1] = [CUTS];
@@ -578,6 +590,14 @@ something else:
 With --words all there is `t` in place of `*` where that sector is the trailer's, and `aN~` or
 `bN~` where it begins as sector N did and is blank then: a copy that is not done.";
 
+const AFTER_PICTURE: &str = "\
+One HTML file with no script, for any browser: first what all schedules of at most 16 cuts come to and
+how many of them are right; then for each boot a row for each operation, with the sectors before it, what
+a cut there comes to and whether that is right; the outcome last. Right is a boot with both images where
+they belong; from a flash, with those that are expected, or any.
+Example:
+  mcsim picture [LAYOUT] [SOURCE] --schedule 9.4 > swap.html";
+
 const AFTER_EXPLORE: &str = "\
 A row is: SCHEDULE RESULT TYPE OPS PRIMARY SECONDARY NEXT
   9.4 boot test 5 2.0.0+0/80 1.0.0+0/80 revert
@@ -644,7 +664,7 @@ pub fn commands() -> &'static [Subcommand] {
     &COMMANDS
 }
 
-static COMMANDS: [Subcommand; 15] = [
+static COMMANDS: [Subcommand; 16] = [
     Subcommand {
         name: "create",
         aliases: &["sign"],
@@ -736,6 +756,14 @@ static COMMANDS: [Subcommand; 15] = [
             Group::Sectors,
             Group::Rounds,
         ],
+    },
+    Subcommand {
+        name: "picture",
+        aliases: &[],
+        about: "Draw the boots of a schedule, operation by operation, as a page for a browser",
+        usage: Some("mcsim picture <LAYOUT> <SOURCE> [OPTIONS]"),
+        after_help: Some(AFTER_PICTURE),
+        groups: &[Group::Layout, Group::Source, Group::Rules, Group::Picture],
     },
     Subcommand {
         name: "explore",

@@ -22,7 +22,7 @@ are_schedules o c = record {
 pub schedule_costs : (o : OneRound) (c : Content) → (one_round o.rules o.layout).step + (one_round o.rules o.layout).all.entries ≤ most_for_row (begins o c).rules (begins o c).geometry
 schedule_costs o c = omega arith
 
-pub one_more : (1 ≤ 1) × (1 ≤ 16)
+pub one_more : (1 ≤ 1) × (1 ≤ 15)
 one_more = (omega arith, omega arith)
 
 -- A flash that was loaded for one boot more than there are cuts serves for a walk.

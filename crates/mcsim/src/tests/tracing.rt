@@ -1,4 +1,4 @@
-//! `trace` and `sectors` at the worked layout, and the flashes of starts. The operations are those that a model which shares no
+//! `trace`, `sectors` and `picture` at the worked layout, and the flashes of starts. The operations are those that a model which shares no
 //! code with this repository prints.
 use super::support::{Table, all_play};
 
@@ -141,7 +141,71 @@ result none; type none; ops 0; primary none; secondary none; next none
 => 1792:0=zeros,441=first,521=zeros,962=second,1042=counted,1134=zeros,1575=plain
 ";
 
-static TABLES: [Table; 3] = [(TRACES, &[], "-"), (UNITS, &[], "-"), (STARTS, &[], "-")];
+/// Pages of the same boots: a row at a cut, the numbers and the outcome; one of units, half copied; one of a board, with runs of cells,
+/// worked out by hand; and of flashes of which nothing, or something else, is expected.
+const PAGES: &str = "\
+$ picture WORKED --kind test IMAGES --schedule 9.4
+...<span class=\"r c\"><b>9</b><i class=\"a x\" style=\"flex:1\">a0</i><i class=\"a\" style=\"flex:1\">a0</i><i class=\"n\" style=\"flex:1\">-</i>\
+<i class=\"t\" style=\"flex:1\">t</i><u></u><i class=\"b\" style=\"flex:1\">b0</i><i class=\"n\" style=\"flex:1\">-</i><i class=\"n\" style=\"flex:1\">-</i>\
+<span>erase primary 0</span><em class=\"y\">boot test 9 2.0.0+0/80 1.0.0+0/80 revert</em></span>
+</summary>
+</details>
+</section>
+<section><h2>boot 1 test, 9 operations</h2>
+<details open><summary><span class=\"r\"><b>0</b>...<pre class=\"y\">result boot; type test; ops 5; SWAPPED; next revert
+</pre>
+</section>
+</html>
+$ picture WORKED --kind test IMAGES
+...<h1>schedule -</h1>
+<pre class=\"y\">right 44166610515609
+first-not-right none
+schedules 44166610515609
+boot 44166610515609
+none 0...<pre class=\"y\">result boot; type test; ops 18; SWAPPED; next revert
+</pre>
+</section>
+</html>
+$ picture WORKED --kind test IMAGES --schedule 9.9
+! mcsim: E53 CannotOccur at 1; exit 1
+$ picture WORKED --kind test IMAGES --expect-primary x
+! mcsim: E15 Syntax; exit 2
+$ picture WORKED --kind test IMAGES --grain unit --schedule 9
+...<span class=\"r c\"><b>9</b><i class=\"a\" style=\"flex:1\">a0</i><i class=\"a h x\" style=\"flex:1\">a0~</i><i class=\"n\" style=\"flex:1\">-</i>...
+</html>
+$ picture --sector 4096 --unit 4 --max-sectors 128 --chunk 1024 --primary 118 --secondary 117 --kind test IMAGES
+...<details><summary><span class=\"r\"><b>0</b><i class=\"a\" style=\"flex:1\">a0</i><i class=\"n\" style=\"flex:116\">-&times;116</i>\
+<i class=\"n x\" style=\"flex:1\">-</i><u></u><i class=\"b\" style=\"flex:1\">b0</i><i class=\"n\" style=\"flex:115\">-&times;115</i>\
+<i class=\"b\" style=\"flex:1\">b116</i><span>erase primary 117</span>...
+</html>
+$ picture WORKED --flash in < BEGUN,976=50000000,984=02,920=01,993=00
+...<pre class=\"z\">right 0
+first-not-right -
+schedules 1
+boot 0
+none 0
+panic 0
+fault 1...<section><h2>boot 0 test, 0 operations</h2>
+</section>
+<section><h2>outcome</h2>
+<pre class=\"z\">result fault; type test; ops 0; primary none; secondary none; next test
+</pre>
+</section>
+</html>
+$ picture WORKED --kind test IMAGES --expect-primary 1.0.0+0
+...<pre class=\"z\">right 0
+first-not-right -...<pre class=\"z\">result boot; type test; ops 18; SWAPPED; next revert
+</pre>
+</section>
+</html>
+";
+
+static TABLES: [Table; 4] = [
+    (TRACES, &[], "-"),
+    (UNITS, &[], "-"),
+    (PAGES, &[], "-"),
+    (STARTS, &[], "-"),
+];
 
 #[test]
 fn shows_operations_and_flashes(rt: HostRuntime) {

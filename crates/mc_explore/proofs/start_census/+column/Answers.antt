@@ -1,7 +1,8 @@
 use Rattle.std.proofs.Common.{List, Some, [], ap, arith, length, length-append, refl, subst, suc, sym, ℕ, ◌++◌, ◌+◌, ◌-◌, ◌∙◌, ◌∷◌, ◌≡◌}
 use Rattle.mc_boot.specs.Outcome.{shown}
 use Rattle.mc_explore.proofs.Counting.{Census, each_more, is_joined, weigh_is}
-use Rattle.mc_explore.proofs.Passing.{HasCome, IsAtChild, can_pass, come_below, come_on, listed_there, own_there, passes_all, passes_none, reached, tail_there, weights_there, width_here}
+use Rattle.mc_explore.proofs.Passing.{come_below, own_there, passes_all, passes_none, tail_there, weights_there}
+use Rattle.mc_explore.specs.facts.Children.{HasCome, IsAtChild, can_pass, come_on, listed_there, reached, width_here}
 use Rattle.mc_explore.specs.Right.{judged}
 use Rattle.mc_explore.specs.declared.table.Below.{Below}
 use Rattle.mc_explore.specs.declared.table.Position.{Position}

@@ -1,5 +1,5 @@
 use Rattle.std.proofs.Common.{◌≡◌, length}
-use Rattle.mc_explore.proofs.Passing.{HasCome}
+use Rattle.mc_explore.specs.facts.Children.{HasCome}
 use Rattle.mc_explore.specs.inner.Table.{ArePositions, paths_of, weigh_below}
 use Rattle.mc_walk.specs.Walks.{origin_of}
 use Rattle.mc_explore.proofs.start_census.+column.Given as goal

@@ -1,4 +1,5 @@
-use Rattle.mc_explore.proofs.Passing.{child_here, tail_at}
+use Rattle.mc_explore.proofs.Passing.{tail_at}
+use Rattle.mc_explore.specs.facts.Children.{child_here}
 use Rattle.mc_tree.specs.Tree.{landed}
 use Rattle.mc_walk.specs.TreeModel.{HasChild}
 use Rattle.mc_walk.specs.Walks.{root_of}

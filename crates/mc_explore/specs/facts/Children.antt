@@ -1,0 +1,101 @@
+-- A walk that goes to the children of a node, one after another.
+use Rattle.std.proofs.Common.{List, [], ap, arith, length, length-append, subst, suc, sym, true, ℕ, ◌++◌, ◌<◌, ◌∙◌, ◌∷◌, ◌≡◌}
+use Rattle.std.proofs.lemmas.List.{same_from_push}
+use Rattle.mc_explore.specs.inner.Table.{CanPass, HasSameLimits, Passed, ReachesChild}
+use Rattle.mc_flash.specs.Flash.{Content}
+use Rattle.mc_tree.specs.Tree.{Allowed, Beyond, landed}
+use Rattle.mc_tree.specs.facts.Order.{HasPassed, allowed-push, landed-push}
+use Rattle.mc_walk.specs.TreeModel.{HasWidth, IsChildOf, TreeModel}
+use Rattle.mc_walk.specs.Walks.{IsLastStep, IsPath, IsSame, IsThere, Walked, origin_of, root_of}
+use Rattle.mc_walk.specs.declared.frame.Frame.{Frame}
+
+module _ {N A T B : Type 0} (k : TreeModel N A T) where
+  -- At the end of its path the flash stands at a child, with both summaries.
+  pub child_here : (w : Walked B) (f : Frame A T) (summary : T) → IsThere k w summary → (step : IsLastStep k w f)
+      → IsChildOf k (landed k.tree (root_of k w) step.before) f.number f.at f.parent summary w.seen
+  child_here w f summary there step = record {
+    at_is = step.at_is;
+    some = step.some;
+    parent_is = step.parent_is;
+    child_is = subst (λ n. k.IsSummary n summary) (ap (landed k.tree (root_of k w)) step.path_is ∙ landed-push k.tree (root_of k w) step.before f.number) there.summary_is;
+  }
+
+-- The children of the node where a walk stood, one after another.
+module _ {N A T B : Type 0} (model : B → TreeModel N A T) (old : Walked B) where
+  abbrev k : TreeModel N A T
+  k = model old.flash_tree
+
+  abbrev root : N
+  root = root_of k old
+
+  pub width_here : (b : B) (summary : T) (width : ℕ) → b ≡ old.flash_tree → IsThere k old summary → HasWidth (model b) summary width → width ≡ k.tree.width (landed k.tree root old.path)
+  width_here b summary width same there has = subst (λ b. HasWidth (model b) summary width) same has (landed k.tree root old.path) there.summary_is
+
+  -- The walk has passed so many of them.
+  pub record HasCome (number : ℕ) (now : Walked B) : Type 0 where
+    pub same : IsSame old now
+    pub limits : HasSameLimits old now
+    pub stands : now.stands ≡ true
+    pub passed : HasPassed k.tree root old.path number now.path
+
+  -- It stands at that one.
+  pub record IsAtChild (number : ℕ) (at : Walked B) : Type 0 where
+    pub path : at.path ≡ old.path ++ number ∷ []
+    pub same : IsSame old at
+    pub limits : HasSameLimits old at
+    pub stands : at.stands ≡ true
+
+  -- What holds of the same walk elsewhere.
+  module _ (now : Walked B) (same : IsSame old now) (P : B → Content → Type 0) where
+    pub there_too : P old.flash_tree (origin_of old.seen) → P now.flash_tree (origin_of now.seen)
+    there_too p = subst (P now.flash_tree) (sym same.origin) (subst (λ b. P b (origin_of old.seen)) (sym same.flash_tree) p)
+
+    pub here_too : P now.flash_tree (origin_of now.seen) → P old.flash_tree (origin_of old.seen)
+    here_too p = subst (λ b. P b (origin_of old.seen)) same.flash_tree (subst (P now.flash_tree) same.origin p)
+
+  module _ (listed : IsPath k old old.path) (number : ℕ) (some : number < k.tree.width (landed k.tree root old.path)) (deep : length old.path < old.bound) where
+    pub child_listed : IsPath k old (old.path ++ number ∷ [])
+    child_listed = (omega (arith, deep, length-append old.path (number ∷ [])), allowed-push k.tree root old.path number listed.1 some)
+
+    module _ (now : Walked B) (come : HasCome number now) where
+      passed_now : Passed (model now.flash_tree) old.path number now
+      passed_now = there_too now come.same (λ b c. HasPassed (model b).tree ((model b).root c) old.path number now.path) come.passed
+
+      listed_now : IsPath (model now.flash_tree) now (old.path ++ number ∷ [])
+      listed_now = (omega (arith, child_listed.0, come.same.bound), there_too now come.same (λ b c. Allowed (model b).tree ((model b).root c) (old.path ++ number ∷ [])) child_listed.1)
+
+      pub can_pass : CanPass (model now.flash_tree) number now
+      can_pass = record { path = old.path; passed = passed_now; listed = listed_now }
+
+      pub reached : (at : Walked B) → ReachesChild (model now.flash_tree) number now at → HasSameLimits now at → IsAtChild number at
+      reached at reaches limits =
+          let there = reaches old.path passed_now listed_now in
+          record {
+            path = there.0;
+            same = record {
+              flash_tree = there.1.flash_tree ∙ come.same.flash_tree;
+              bound = there.1.bound ∙ come.same.bound;
+              origin = there.1.origin ∙ come.same.origin;
+            };
+            limits = limits ∙ come.limits;
+            stands = there.2;
+          }
+
+    pub listed_there : (at : Walked B) → IsAtChild number at → IsPath (model at.flash_tree) at at.path
+    listed_there at here =
+        let allowed = there_too at here.same (λ b c. Allowed (model b).tree ((model b).root c) (old.path ++ number ∷ [])) child_listed.1 in
+        subst (IsPath (model at.flash_tree) at) (sym here.path) (omega (arith, child_listed.0, here.same.bound), allowed)
+
+  -- One child more was reached, and what lies below it is not gone through, or was.
+  pub come_on : (number : ℕ) (at : Walked B) → IsAtChild number at → HasCome (suc number) at
+  come_on number at here = record { same = here.same; limits = here.limits; stands = here.stands; passed = ([], here.path, λ m allowed beyond. subst (λ (l : List ℕ). Beyond l m) here.path beyond) }
+
+  -- What a walk is given there is given of that child.
+  pub child_there : (number : ℕ) (at : Walked B) (f : Frame A T) (summary : T) → IsAtChild number at → IsThere (model at.flash_tree) at summary
+      → IsLastStep (model at.flash_tree) at f → IsChildOf k (landed k.tree root old.path) number f.at f.parent summary at.seen
+  child_there number at f summary here there step =
+      let same = same_from_push step.before old.path f.number number (sym step.path_is ∙ here.path) in
+      let P : List ℕ → ℕ → Type 0 = λ l i. IsChildOf k (landed k.tree root l) i f.at f.parent summary at.seen in
+      let is : P step.before f.number = here_too at here.same (λ b c. IsChildOf (model b) (landed (model b).tree ((model b).root c) step.before) f.number f.at f.parent summary at.seen)
+      (child_here (model at.flash_tree) at f summary there step) in
+      subst (P old.path) same.1 (subst (λ l. P l f.number) same.0 is)

@@ -1,0 +1,151 @@
+-- The operation at which a boot is on its way, and the rows of a boot.
+use Rattle.std.specs.Prelude.{◌≡◌, ℕ, suc, ◌+◌, ◌<◌, ◌≤◌, ◌||◌, Bool, true, false, if◌then◌else◌, IfSome, List, [], ◌∷◌, ◌++◌, length, refl, take, drop, get_or, slice_get, Option, Some, None}
+use Rattle.std.specs.Io.KnownBytes.{Appends}
+use Rattle.std.proofs.Common.{arith, sym, ap, subst, append-nil, ◌∙◌}
+use Rattle.std.proofs.Math.ListN.{drop_of_length-le}
+use Rattle.std.proofs.Math.Nat.{min-le_left}
+use Rattle.std.proofs.Math.Seq.{drop-cons, get_or-append_seam}
+use Rattle.std.proofs.lemmas.List.{get_or-take, length-append, length-take, length-take-le, same_from_push}
+use Rattle.std.proofs.lemmas.Option.{get_or_from_slice_get, slice_get-get_or}
+use Rattle.mc_boot.specs.Boot.{HasCome, Progress}
+use Rattle.mc_boot.specs.Outcome.{Report, first_then, happening, ops_of, outcome_of, shown}
+use Rattle.mc_boot.specs.Plan.{PowerOn, again, plan, power_on}
+use Rattle.mc_boot.specs.facts.Run.{come_count, come_ops, come_prefix}
+use Rattle.mc_explore.specs.inner.OneRound.{at_cut, boots}
+use Rattle.mc_flash.specs.Flash.{Content, apply}
+use Rattle.mc_flash.specs.Geometry.{Geometry}
+use Rattle.mc_flash.specs.declared.op.Op.{Op}
+use Rattle.mc_output.specs.Text.{AppendsPrefix}
+use Rattle.mc_output.specs.facts.Prefixes.{IsOut, out_all, out_begun, out_more, out_prefix}
+use Rattle.mc_trace.specs.Picture.{Shown, boot_row, boot_rows, group_end, grouped_text, is_erase, row_of, rows_text, up_to_cut}
+use Rattle.mc_trace.specs.declared.picture_rows.Look.{Look}
+use Rattle.mc_trace.specs.declared.picture_rows.Row.{Row}
+use Rattle.mc_trace.specs.inner.Rows.{IsRowHere, IsRowOf, boot_at, length_to, model_of, row_shown}
+use Rattle.mc_explore.specs.declared.one_round.OneRound.{OneRound}
+use Rattle.mc_explore.specs.facts.Children.{IsAtChild, here_too}
+use Rattle.mc_tree.specs.Tree.{landed}
+use Rattle.mc_walk.specs.Walks.{Walked}
+
+-- The first of the operations that happen is the first of all.
+first_happening : (g : Geometry) (ops : List Op) (t : Content) (op : Op) → slice_get ops 0 ≡ Some op → 0 < length (happening g ops t) → (rest : List Op) × (happening g ops t ≡ op ∷ rest)
+first_happening g [] t op is some = absurd (omega (arith, some))
+first_happening g (o ∷ ops) t op is some = by (apply g o t) some
+  where
+    by : (r : Option Content) → 0 < length (first_then o (λ u. happening g ops u) r) → (rest : List Op) × (first_then o (λ u. happening g ops u) r ≡ op ∷ rest)
+    by None lt = absurd (omega (arith, lt))
+    by (Some u) lt = let same : o ≡ op = cc in (happening g ops u, ap (λ (a : Op). a ∷ happening g ops u) same)
+
+module _ (x : PowerOn) (p : Progress) (t : Content) (come : HasCome x p t) (more : p.count < length (ops_of x)) where
+  -- One more is to come.
+  pub one_to_come : p.to_come ≡ [] → ⊥
+  one_to_come none = absurd (omega (arith, more, come_ops x p t come none))
+
+  to_come_is : (b : Bool) → p.faulted ≡ b → (op : Op) → slice_get p.to_come 0 ≡ Some op → slice_get (drop p.count (plan x).list) 0 ≡ Some op
+  to_come_is true is op first = let none : p.to_come ≡ [] = come.rest ∙ ap (λ (b : Bool). if b then [] else drop p.count (plan x).list) is in absurd (one_to_come none)
+  to_come_is false is op first =
+      let left : p.to_come ≡ drop p.count (plan x).list = come.rest ∙ ap (λ (b : Bool). if b then [] else drop p.count (plan x).list) is in
+      subst (λ (l : List Op). slice_get l 0 ≡ Some op) left first
+
+  -- It is that of the number to which the boot has come.
+  pub op_here : (op : Op) → slice_get p.to_come 0 ≡ Some op → slice_get (ops_of x) p.count ≡ Some op
+  op_here op first =
+      let made : List Op = take p.count (plan x).list in
+      let left : List Op = happening x.geometry (drop p.count (plan x).list) t in
+      let count : length made ≡ p.count = come_count x p t come in
+      let all : ops_of x ≡ made ++ left = come_prefix x p t come in
+      let some : 0 < length left = omega (arith, more, ap (λ (l : List Op). length l) all, length-append made left, count) in
+      let next = first_happening x.geometry (drop p.count (plan x).list) t op (to_come_is p.faulted refl op first) some in
+      let whole : ops_of x ≡ made ++ op ∷ next.0 = all ∙ ap (λ (l : List Op). made ++ l) next.1 in
+      let here : get_or (ops_of x) p.count op ≡ op =
+      ap (λ (l : List Op). get_or l p.count op) whole ∙ ap (λ n. get_or (made ++ op ∷ next.0) n op) (sym count) ∙ get_or-append_seam made op next.0 op in
+      slice_get-get_or (ops_of x) p.count op more ∙ ap (λ (o : Op). Some o) here
+
+-- The rows of a boot, one after another.
+
+module _ (list : List Op) (cut : Option ℕ) where
+  -- How many they are.
+  pub long : IfSome cut (λ n. n < length list) → length (up_to_cut cut list) ≡ length_to cut (length list)
+  long inside = by cut inside
+    where
+      by : (cut : Option ℕ) → IfSome cut (λ n. n < length list) → length (up_to_cut cut list) ≡ length_to cut (length list)
+      by None inside = refl
+      by (Some n) inside = length-take-le (n + 1) list (omega (arith, inside))
+
+  pub within : IfSome cut (λ n. n < length list) → length_to cut (length list) ≤ length list
+  within inside = by cut inside
+    where
+      by : (cut : Option ℕ) → IfSome cut (λ n. n < length list) → length_to cut (length list) ≤ length list
+      by None inside = omega arith
+      by (Some n) inside = omega (arith, inside)
+
+  -- Each is that of the operation of its number.
+  pub next_shown : (number : ℕ) (op : Op) → slice_get list number ≡ Some op → number < length (up_to_cut cut list)
+      → drop number (up_to_cut cut list) ≡ op ∷ drop (number + 1) (up_to_cut cut list)
+  next_shown number op is more =
+      let one : suc number ≡ number + 1 = omega arith in
+      let here : get_or (up_to_cut cut list) number op ≡ op = by cut more ∙ get_or_from_slice_get list number op op is in
+      drop-cons (up_to_cut cut list) number op more ∙ ap (λ (o : Op). o ∷ drop (suc number) (up_to_cut cut list)) here
+      ∙ ap (λ n. op ∷ drop n (up_to_cut cut list)) one
+    where
+      by : (cut : Option ℕ) → number < length (up_to_cut cut list) → get_or (up_to_cut cut list) number op ≡ get_or list number op
+      by None lt = refl
+      by (Some n) lt = get_or-take (n + 1) list number op (omega (arith, lt, length-take (n + 1) list, min-le_left (n + 1) (length list)))
+
+module _ (look : Look) (start : Content) (x : PowerOn) (cut : Option ℕ) where
+  abbrev list : List Op
+  list = up_to_cut cut (ops_of x)
+
+  abbrev pub whole : List ℕ
+  whole = boot_rows look start x cut
+
+  -- What is still to come from that number on, inside a group or not.
+  abbrev pub left : Bool → ℕ → List ℕ
+  left inside number = rows_text look start x cut inside number (drop number list)
+
+  pub rows_begun : (before : Option (List ℕ)) → IsOut before before whole (left false 0)
+  rows_begun before = out_begun before whole
+
+  module _ (inside : Bool) (number : ℕ) (s : Content) (row : Row) (is : IsRowOf x cut s row) (here : row.number ≡ number) (more : number < length list) where
+    next_row : left inside number ≡ grouped_text look x.geometry start inside (row_shown row s) ++ left (inside || is_erase row.op) (number + 1)
+    next_row =
+        let op_is : slice_get (ops_of x) number ≡ Some row.op = subst (λ n. slice_get (ops_of x) n ≡ Some row.op) here is.op_is in
+        let content : s ≡ at_cut x number = is.content_is ∙ ap (at_cut x) here in
+        let report : outcome_of (again x (at_cut x number)) ≡ Some (shown row.outcome) = sym (ap (λ (t : Content). outcome_of (again x t)) content) ∙ is.outcome_is in
+        let shows : row_of x cut number row.op (shown row.outcome) ≡ row_shown row s = sym shown_is in
+        ap (λ (ops : List Op). rows_text look start x cut inside number ops) (next_shown (ops_of x) cut number row.op op_is more)
+        ∙ ap (λ (o : Option Report). boot_row look start x cut inside number row.op o ++ left (inside || is_erase row.op) (number + 1)) report
+        ∙ ap (λ (r : Shown). grouped_text look x.geometry start inside r ++ left (inside || is_erase row.op) (number + 1)) shows
+      where
+        shown_is : row_shown row s ≡ row_of x cut number row.op (shown row.outcome)
+        shown_is = let content : s ≡ at_cut x number = is.content_is ∙ ap (at_cut x) here in rw (is.cut_is, content, here) refl
+
+    module _ (before mid new : Option (List ℕ)) (out : IsOut before mid whole (left inside number)) where
+      pub row_out : Appends mid new (grouped_text look x.geometry start inside (row_shown row s)) → IsOut before new whole (left (inside || is_erase row.op) (number + 1))
+      row_out p = out_more before mid new whole _ _ (subst (IsOut before mid whole) next_row out) p
+
+      pub row_begun : AppendsPrefix mid new (grouped_text look x.geometry start inside (row_shown row s)) → AppendsPrefix before new whole
+      row_begun p = out_prefix before mid new whole _ _ (subst (IsOut before mid whole) next_row out) p
+
+  -- The end.
+  module _ (inside : Bool) (number : ℕ) (before mid new : Option (List ℕ)) (out : IsOut before mid whole (left inside number)) (end : length list ≤ number) where
+    last : left inside number ≡ group_end inside ++ []
+    last = ap (λ (ops : List Op). rows_text look start x cut inside number ops) (drop_of_length-le list end) ∙ sym (append-nil (group_end inside))
+
+    pub end_out : Appends mid new (group_end inside) → Appends before new whole
+    end_out p = out_all before new whole (out_more before mid new whole (group_end inside) [] (subst (IsOut before mid whole) last out) p)
+
+    pub end_begun : AppendsPrefix mid new (group_end inside) → AppendsPrefix before new whole
+    end_begun p = out_prefix before mid new whole (group_end inside) [] (subst (IsOut before mid whole) last out) p
+
+-- The row of the child at which a walk stands is that of the boot of the node where it stood.
+module _ (old at : Walked OneRound) (number : ℕ) (here : IsAtChild model_of old number at) (cut : Option ℕ) (row : Row) (is : IsRowHere at cut row) where
+  same : (is.0 ≡ old.path) × (row.number ≡ number)
+  same = same_from_push is.0 old.path row.number number (sym is.1 ∙ here.path)
+
+  pub number_is : row.number ≡ number
+  number_is = same.1
+
+  pub row_is : IsRowOf (boot_at old old.path) cut at.seen.content row
+  row_is =
+      let P : OneRound → Content → Type 0 = λ t s. IsRowOf (power_on t.rules t.layout (landed (boots t.rules t.layout) s is.0)) cut at.seen.content row in
+      subst (λ (l : List ℕ). IsRowOf (boot_at old l) cut at.seen.content row) same.0 (here_too model_of old at here.same P is.2)

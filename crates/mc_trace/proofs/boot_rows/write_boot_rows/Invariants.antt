@@ -1,0 +1,16 @@
+use Rattle.std.specs.Prelude.{◌≡◌, ℕ, suc}
+use Rattle.mc_explore.specs.facts.Children.{HasCome, IsAtChild}
+use Rattle.mc_output.specs.facts.Prefixes.{IsOut}
+use Rattle.mc_trace.proofs.BootRows.{left, whole}
+use Rattle.mc_trace.specs.inner.Rows.{boot_at, model_of}
+use Rattle.mc_trace.proofs.boot_rows.write_boot_rows.Given as goal
+
+abbrev pub invariant-loop-number : goal.invariant-loop-number
+invariant-loop-number g l =
+    let old = l.fn.walk in
+    let x = boot_at old old.path in
+    record {
+      at : (n : ℕ) → l.number ≡ suc n → IsAtChild model_of old n l.walk;
+      come : HasCome model_of old l.number l.walk;
+      out : IsOut (g.W.Write.contents l.fn.writer) (g.W.Write.contents l.writer) (whole l.look l.start.content x l.cut) (left l.look l.start.content x l.cut l.inside l.number);
+    }
