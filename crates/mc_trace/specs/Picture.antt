@@ -215,7 +215,7 @@ boot_rows look start x cut = rows_text look start x cut false 0 (up_to_cut cut (
 
 -- A boot has its number, counted from 0, its type, and how many operations it makes uncut.
 abbrev pub heading_text : ℕ → Report → List ℕ
-heading_text boot o = codes "<section><h2>boot " ++ (decimal boot ++ (codes " " ++ (type_text o.kind ++ (codes ", " ++ (decimal o.ops ++ codes " operations</h2>\n")))))
+heading_text boot o = codes "<section><h2>boot " ++ (decimal boot ++ (codes " " ++ (type_text o.kind ++ (codes ", ops " ++ (decimal o.ops ++ codes "</h2>\n")))))
 
 abbrev pub heading_of : ℕ → Option Report → List ℕ
 heading_of boot None = []

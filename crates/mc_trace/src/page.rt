@@ -20,7 +20,7 @@ details[open]>summary:before{content:\"\\25be\"}
 .r{display:flex;align-items:center;margin-left:1.2em;font:11px/1.5 ui-monospace,monospace}
 .r b{flex:none;width:5ch;color:var(--m);font-weight:400;text-align:right;padding-right:1ch}
 .r i,.l i{font-style:normal;min-width:0;height:1.5em;overflow:hidden;white-space:nowrap;text-align:center;color:#fff;background:var(--o);box-shadow:inset 0 0 0 .5px var(--p)}
-.l i{display:inline-block;padding:0 .6em}
+.l i{display:inline-block;vertical-align:middle;padding:0 .6em}
 i.n{background:var(--n);color:var(--m)}i.a{background:var(--a)}i.b{background:var(--b);color:#000}i.t{background:var(--t)}
 i.h{background-image:repeating-linear-gradient(45deg,#0005 0 4px,#0000 4px 9px)}
 i.x{box-shadow:inset 0 0 0 2px var(--x)}

@@ -26,9 +26,9 @@ fn heading(boot: u32, outcome: &Outcome) -> Line
     line.put_number(boot);
     line.put(" ");
     line.put(outcome.kind.name());
-    line.put(", ");
+    line.put(", ops ");
     line.put_number(outcome.ops);
-    line.put(" operations</h2>\n");
+    line.put("</h2>\n");
     line
 }
 

@@ -151,7 +151,7 @@ $ picture WORKED --kind test IMAGES --schedule 9.4
 </summary>
 </details>
 </section>
-<section><h2>boot 1 test, 9 operations</h2>
+<section><h2>boot 1 test, ops 9</h2>
 <details open><summary><span class=\"r\"><b>0</b>...<pre class=\"y\">result boot; type test; ops 5; SWAPPED; next revert
 </pre>
 </section>
@@ -185,7 +185,7 @@ schedules 1
 boot 0
 none 0
 panic 0
-fault 1...<section><h2>boot 0 test, 0 operations</h2>
+fault 1...<section><h2>boot 0 test, ops 0</h2>
 </section>
 <section><h2>outcome</h2>
 <pre class=\"z\">result fault; type test; ops 0; primary none; secondary none; next test
