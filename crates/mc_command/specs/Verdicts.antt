@@ -22,16 +22,20 @@ abbrev pub MayGiveWanted : Found → List ℕ → Option Wanted → Type 0
 MayGiveWanted found name None = first_value found name ≡ None
 MayGiveWanted found name (Some w) = (text : List ℕ) × (first_value found name ≡ Some text) × Wants text w
 
+-- The arguments give what the slots hold at the end.
+pub record GivesEnds (found : Found) (e : Ends) : Type 0 where
+  pub primary : MayGiveWanted found (codes "expect-primary") e.primary
+  pub secondary : MayGiveWanted found (codes "expect-secondary") e.secondary
+
 -- The arguments give what each row is to be.
 pub record GivesAsked (found : Found) (a : Asked) : Type 0 where
-  pub primary : MayGiveWanted found (codes "expect-primary") a.primary
-  pub secondary : MayGiveWanted found (codes "expect-secondary") a.secondary
+  pub ends : GivesEnds found a.ends
   pub all_right : IsFlag found (codes "all-right") a.all_right
   pub all_boot : IsFlag found (codes "all-boot") a.all_boot
 
 -- Something is asked of the slots.
 abbrev pub is_of_slots : Asked → Bool
-is_of_slots a = is_some a.primary || is_some a.secondary || a.all_right
+is_of_slots a = is_some a.ends.primary || is_some a.ends.secondary || a.all_right
 
 -- What is wanted of a slot: what is known of it; else, where each row is to be right, the image that is to lie there at the end.
 abbrev pub wanted_of : Option Wanted → Bool → Option Identity → Option Wanted
@@ -47,19 +51,14 @@ both None s = None
 
 -- What is asked of both slots of a start with those images, the named one and the other. Nothing where that is not known of a slot.
 abbrev pub expectation_of : Asked → Option (Identity × Identity) → Option Expectation
-expectation_of a None = both (wanted_of a.primary a.all_right None) (wanted_of a.secondary a.all_right None)
-expectation_of a (Some ids) = both (wanted_of a.primary a.all_right (Some ids.0)) (wanted_of a.secondary a.all_right (Some ids.1))
+expectation_of a None = both (wanted_of a.ends.primary a.all_right None) (wanted_of a.ends.secondary a.all_right None)
+expectation_of a (Some ids) = both (wanted_of a.ends.primary a.all_right (Some ids.0)) (wanted_of a.ends.secondary a.all_right (Some ids.1))
 
 -- The expectation, where one is asked for; it is refused where it is not known of a slot.
 abbrev pub IsExpectation : Asked → Option (Identity × Identity) → Result (Option Expectation) Refusal → Type 0
 IsExpectation a named (Ok None) = is_of_slots a ≡ false
 IsExpectation a named (Ok (Some e)) = (is_of_slots a ≡ true) × (expectation_of a named ≡ Some e)
 IsExpectation a named (Err refusal) = (refusal ≡ refusals.Expectation) × (is_of_slots a ≡ true) × (expectation_of a named ≡ None)
-
--- The arguments give what the slots hold at the end.
-pub record GivesEnds (found : Found) (e : Ends) : Type 0 where
-  pub primary : MayGiveWanted found (codes "expect-primary") e.primary
-  pub secondary : MayGiveWanted found (codes "expect-secondary") e.secondary
 
 -- What is wanted of a slot: what is given; else the image that is to lie there, where it is known; else anything.
 abbrev pub wanted_or_any : Option Wanted → Option Identity → Wanted

@@ -13,13 +13,18 @@ use mc_boot::ImageId;
 use mc_explore::{Expectation, RightsOf, Subject, Wanted, all_right, write_rights};
 use std::io::Write;
 
+/// What the words say that the slots hold at the end, where they say it.
+#[derive(Clone, Copy, Debug)]
+pub struct Ends {
+    pub primary: Option<Wanted>,
+    pub secondary: Option<Wanted>,
+}
+
 /// What the words ask of each row that is counted.
 #[derive(Clone, Copy, Debug)]
 pub struct Asked {
-    /// What the primary is to hold at the end, where it is given.
-    pub primary: Option<Wanted>,
-    /// What the secondary is to hold, where it is given.
-    pub secondary: Option<Wanted>,
+    /// What the slots are to hold at the end.
+    pub ends: Ends,
     /// Whether the command is refused where a row is not right.
     pub all_right: bool,
     /// Whether it is refused where a row does not end in a boot.
@@ -50,13 +55,6 @@ fn wanted_of(given: Option<Wanted>, all_right: bool, image: Option<ImageId>) -> 
         (None, None) if all_right => None,
         (None, _) => Some(Wanted::Anything),
     }
-}
-
-/// What the words say that the slots hold at the end.
-#[derive(Clone, Copy, Debug)]
-pub struct Ends {
-    pub primary: Option<Wanted>,
-    pub secondary: Option<Wanted>,
 }
 
 /// What is wanted of a slot: what is given; else the image that is to lie there at the end, where it is known; else anything.
@@ -106,13 +104,12 @@ impl Asked {
     ///
     /// # Errors
     ///
-    /// Those of `wanted_option`.
+    /// Those of `Ends::read`.
     pub fn read(arguments: &ArgMatches<'_>) -> Result<Asked, Refusal>
         ensures { IfOk result (GivesAsked (found_of arguments.now)) }
     {
         Ok(Asked {
-            primary: wanted_option(arguments, "expect-primary")?,
-            secondary: wanted_option(arguments, "expect-secondary")?,
+            ends: Ends::read(arguments)?,
             all_right: arguments.get_flag("all-right"),
             all_boot: arguments.get_flag("all-boot"),
         })
@@ -122,7 +119,7 @@ impl Asked {
     fn is_of_slots(&self) -> bool
         ensures { result ≡ is_of_slots self.now }
     {
-        self.primary.is_some() || self.secondary.is_some() || self.all_right
+        self.ends.primary.is_some() || self.ends.secondary.is_some() || self.all_right
     }
 
     /// Whether anything is asked.
@@ -152,8 +149,8 @@ impl Asked {
             Some((named, other)) => (Some(named), Some(other)),
             None => (None, None),
         };
-        let primary = wanted_of(self.primary, self.all_right, named);
-        let secondary = wanted_of(self.secondary, self.all_right, other);
+        let primary = wanted_of(self.ends.primary, self.all_right, named);
+        let secondary = wanted_of(self.ends.secondary, self.all_right, other);
         match (primary, secondary) {
             (Some(primary), Some(secondary)) => Ok(Some(Expectation { primary, secondary })),
             _ => Err(Refusal::Expectation),

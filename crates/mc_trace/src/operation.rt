@@ -1,6 +1,5 @@
 //! Operations as text.
 ghost use Rattle.std.specs.Prelude.{◌≡◌, ◌+◌, ◌≤◌, ◌++◌, length};
-ghost use Rattle.mc_flash.specs.Geometry.{Geometry};
 ghost use Rattle.mc_trace.specs.Trace.{operation_text, part_at, part_text, erase_text, write_text, source_text, target_text, numbered_text};
 
 use mc_flash::{Layout, Op, Slot};

@@ -12,8 +12,8 @@ use crate::page::{HEAD, LEGEND};
 use crate::picture_rows::Look;
 use crate::sections::{pre_begin, write_sections};
 use mc_explore::{
-    Census, Expectation, ExploreError, OneRound, Rights, Schedule, Start, census_line, load_walk,
-    replay, rights_line, take_census, take_rights,
+    Census, Expectation, OneRound, Rights, Schedule, Start, census_line, load_walk, replay,
+    rights_line, take_census, take_rights,
 };
 use mc_flash::{Flash, Layout, Slot};
 use mc_output::{Line, write_line, write_text};
