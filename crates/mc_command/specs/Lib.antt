@@ -4,3 +4,4 @@ pub mod Statuses
 pub mod Verdicts
 pub mod Sources
 pub mod Sessions
+pub mod Vectors

@@ -17,6 +17,7 @@ pub mod rounds;
 mod schedule;
 pub mod trace;
 pub mod trailers;
+pub mod vectors;
 pub mod verify;
 
 use mc_explore::ExploreError;

@@ -371,7 +371,7 @@ static EXPLORATIONS: [Explanation; 13] = [
     },
 ];
 
-static COMMANDS: [Explanation; 15] = [
+static COMMANDS: [Explanation; 17] = [
     Explanation {
         number: 70,
         name: "SourceOptions",
@@ -476,5 +476,19 @@ static COMMANDS: [Explanation; 15] = [
         status: 2,
         when: "With --all-right and --flash: what a slot is to hold at the end is not told.",
         remedy: "Give --expect-primary and --expect-secondary: a version, a digest, or none.",
+    },
+    Explanation {
+        number: 86,
+        name: "InUse",
+        status: 2,
+        when: "The folder that is to be written is there, and not an empty folder.",
+        remedy: "Give a path where nothing is, or an empty folder. Nothing was touched.",
+    },
+    Explanation {
+        number: 87,
+        name: "MoreCuts",
+        status: 1,
+        when: "With --cuts all: flashes that 16 power cuts leave may lead to more.",
+        remedy: "Give a number of cuts.",
     },
 ];

@@ -101,6 +101,7 @@ fn run_boots<F: Files, O: Write>(
         "type" => commands::trailers::run(files, alloc, arguments, out),
         "boot" => commands::replay::boot(files, alloc, arguments, out),
         "picture" => commands::picture::run(files, alloc, arguments, out),
+        "vectors" => commands::vectors::run(files, alloc, arguments, out),
         "replay" | "trace" | "sectors" => run_schedule(files, alloc, name, arguments, out),
         _ => run_exploration(files, alloc, name, arguments, out),
     }

@@ -10,6 +10,7 @@ use mc_image::{ImageError, VersionError};
 use mc_imgtool::ToolError;
 use mc_life::{EventError, LifeError, ScriptError};
 use mc_trace::TraceError;
+use mc_vectors::VectorsError;
 use std::io::Write;
 use thiserror::Error;
 
@@ -91,6 +92,12 @@ pub enum Refusal {
     /// The file that is to be written is one that is read.
     #[error("E75 SameFile")]
     SameFile,
+    /// The folder that is to be written is there, and not an empty folder.
+    #[error("E86 InUse")]
+    InUse,
+    /// Of all numbers of cuts: flashes that 16 cuts leave may lead to more.
+    #[error("E87 MoreCuts")]
+    MoreCuts,
     /// A file cannot be opened or made.
     #[error("E71 Open")]
     Open,
@@ -100,6 +107,17 @@ pub enum Refusal {
     /// There is no memory to read the command line.
     #[error("E26 Memory")]
     Memory,
+}
+
+impl From<VectorsError> for Refusal {
+    ghost use Rattle.mc_command.specs.declared.refusal.Refusal.TheVariants.{Explore};
+    ghost use Rattle.mc_explore.specs.declared.error.ExploreError.TheVariants as errors;
+
+    ghost from_gives = { λ _ refusal. refusal ≡ Explore errors.Memory };
+
+    fn from(_: VectorsError) -> Self {
+        Refusal::Explore(ExploreError::Memory)
+    }
 }
 
 impl From<ExploreError> for Refusal {
@@ -130,11 +148,12 @@ impl Refusal {
             | Refusal::Device
             | Refusal::Expectation
             | Refusal::SameFile
+            | Refusal::InUse
             | Refusal::Layout(_)
             | Refusal::Schedule(_)
             | Refusal::Campaign(_)
             | Refusal::Cursor(_) => 2,
-            Refusal::NotAllBoot | Refusal::NotAllRight | Refusal::NotWhole => 1,
+            Refusal::NotAllBoot | Refusal::NotAllRight | Refusal::NotWhole | Refusal::MoreCuts => 1,
             Refusal::Script(error) => script_status(*error),
             Refusal::Life(error) => life_status(*error),
             Refusal::Start(error) => start_status(*error),

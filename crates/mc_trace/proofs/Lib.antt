@@ -8,4 +8,6 @@ mod Writing
 mod Headed
 mod Drawn
 mod SlotCells
+mod PatchLines
+mod Patched
 pub mod Out

@@ -58,8 +58,8 @@ fn first_like(layout: &Layout, slot: Slot, bytes: &[u8], wanted: &[u8]) -> Optio
     None
 }
 
-// The first sector of the start that begins with these bytes.
-fn origin_of(start: &Start, wanted: &[u8]) -> Option<(Slot, u32)>
+/// The first sector of the start that begins with these bytes.
+pub(crate) fn origin_of(start: &Start, wanted: &[u8]) -> Option<(Slot, u32)>
     requires { length wanted.now ≤ start.now.geometry.sector }
     ensures { result ≡ origin_of start.now.geometry start.now.content wanted.now }
 {

@@ -1,4 +1,5 @@
-//! What power cuts do to a boot, traced operation by operation; what lies in each sector and slot then; and a layout in numbers.
+//! What power cuts do to a boot, traced operation by operation; what lies in each sector and slot then, and how that differs
+//! from the start; and a layout in numbers.
 #![tactic(auto)]
 
 mod boot_rows;
@@ -8,6 +9,7 @@ mod error;
 mod layout;
 mod operation;
 mod page;
+mod patch;
 mod picture;
 mod picture_rows;
 mod runs;
@@ -19,6 +21,7 @@ mod trace;
 pub use cells::Words;
 pub use error::TraceError;
 pub use layout::write_layout;
+pub use patch::write_patch;
 pub use picture::write_picture;
 pub use sectors::{Moment, View, write_sectors};
 pub use slots::write_slots;

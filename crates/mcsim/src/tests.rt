@@ -14,5 +14,6 @@ mod sixteen;
 mod support;
 mod texts;
 mod tracing;
+mod vectors;
 mod verification;
 mod words;

@@ -26,6 +26,7 @@ pub enum Group {
     Trace,
     Sectors,
     Picture,
+    Vectors,
     Exploration,
     Rounds,
     Verdict,
@@ -50,6 +51,7 @@ impl Group {
             Group::Trace => Some("Trace"),
             Group::Sectors => Some("Sectors"),
             Group::Picture => Some("Picture"),
+            Group::Vectors => Some("Vectors"),
             Group::Exploration | Group::Campaign => Some("Exploration"),
             Group::Rounds => Some("Rounds"),
             Group::Verdict => Some("Verdict"),
@@ -74,6 +76,7 @@ impl Group {
             Group::Trace => &TRACE,
             Group::Sectors => &SECTORS,
             Group::Picture => &PICTURE,
+            Group::Vectors => &VECTORS,
             Group::Exploration => &EXPLORATION,
             Group::Rounds => &ROUNDS,
             Group::Verdict => &VERDICT,
@@ -486,6 +489,28 @@ static VERDICT: [Word; 4] = [
 /// What gives a page that shows the boots of a schedule.
 static PICTURE: [Word; 3] = [SCHEDULE_IF_ANY, EXPECT_PRIMARY, EXPECT_SECONDARY];
 
+/// Which flashes are written, and where.
+static VECTORS: [Word; 3] = [
+    Word {
+        name: "cuts",
+        takes: Takes::Value("K"),
+        required: true,
+        help: "Most power cuts in a schedule, 0 to 16, or all for any number",
+        ..FLAG
+    },
+    Word {
+        name: "dir",
+        takes: Takes::Value("DIR"),
+        help: "Write the table and the flashes into this folder; made, or empty",
+        ..FLAG
+    },
+    Word {
+        name: "patches",
+        help: "Write each flash as its differences from the start's",
+        ..FLAG
+    },
+];
+
 /// What gives a census.
 static CENSUS: [Word; 1] = [CUTS];
 
@@ -598,6 +623,20 @@ they belong; from a flash, with those that are expected, or any.
 Example:
   mcsim picture [LAYOUT] [SOURCE] --schedule 9.4 > swap.html";
 
+const AFTER_VECTORS: &str = "\
+Most schedules leave a flash that a shorter one leaves too. This lists each distinct flash once, with the
+first schedule that leaves it (the shortest, and of those the first), so that a boot loader of your own can
+be tried on all of them: scripts/conform does that. The table has tabs between its fields:
+  schedule flash result type ops primary secondary next left
+flash and left are digests: of the flash at the last cut, and of the one that the boot from there leaves.
+A digest is the SHA-256 of the SHA-256s of the sectors, the primary's first.
+With --dir: cases.tsv, and flash/DIGEST.bin for each of them, both slots, the primary first. With --patches
+start.bin, and flash/DIGEST.patch: a line for each sector that is not what it was in start.bin:
+  SLOT SECTOR blank, SLOT SECTOR SLOT SECTOR (what that one held in start.bin), or SLOT SECTOR HEX
+Then: how many flashes, and whether no number of cuts leaves another (all yes).
+Example:
+  mcsim vectors [LAYOUT] [SOURCE] --cuts all --dir cases --patches";
+
 const AFTER_EXPLORE: &str = "\
 A row is: SCHEDULE RESULT TYPE OPS PRIMARY SECONDARY NEXT
   9.4 boot test 5 2.0.0+0/80 1.0.0+0/80 revert
@@ -664,7 +703,7 @@ pub fn commands() -> &'static [Subcommand] {
     &COMMANDS
 }
 
-static COMMANDS: [Subcommand; 16] = [
+static COMMANDS: [Subcommand; 17] = [
     Subcommand {
         name: "create",
         aliases: &["sign"],
@@ -764,6 +803,14 @@ static COMMANDS: [Subcommand; 16] = [
         usage: Some("mcsim picture <LAYOUT> <SOURCE> [OPTIONS]"),
         after_help: Some(AFTER_PICTURE),
         groups: &[Group::Layout, Group::Source, Group::Rules, Group::Picture],
+    },
+    Subcommand {
+        name: "vectors",
+        aliases: &[],
+        about: "Write each distinct flash that power cuts leave, to try a boot loader on",
+        usage: Some("mcsim vectors <LAYOUT> <SOURCE> --cuts <K> [OPTIONS]"),
+        after_help: Some(AFTER_VECTORS),
+        groups: &[Group::Layout, Group::Source, Group::Rules, Group::Vectors],
     },
     Subcommand {
         name: "explore",

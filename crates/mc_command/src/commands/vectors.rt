@@ -1,0 +1,275 @@
+//! `vectors`: each distinct flash that power cuts leave, for a boot loader to be tried on.
+ghost use Rattle.std.specs.Prelude.{◌≡◌, ◌<◌, length, IfOk};
+ghost use Rattle.std.specs.Io.KnownBytes.{Appends};
+ghost use Rattle.clap.specs.Matches.{found_of};
+ghost use Rattle.mc_start.specs.Start.{begun};
+ghost use Rattle.mc_command.specs.Vectors.{GivesCuts, IsAsked, IsFew};
+ghost use Rattle.mc_vectors.specs.Cases.{AreCases};
+ghost use Rattle.mc_vectors.specs.Table.{cases_text};
+
+use super::{finish, in_blocks};
+use crate::options::{census_options, flash_options, required};
+use crate::refusal::Refusal;
+use crate::source::read_start;
+use clap::ArgMatches;
+use mc_explore::{Line, Start, flash_at_cut, replay};
+use mc_flash::{Flash, JournalFlash};
+use mc_trace::{write_patch, write_slots};
+use mc_vectors::{Case, Found, find_cases, write_cases};
+use std::alloc::Global;
+use std::fs;
+use std::io::{ErrorKind, Write};
+use std::rt::Files;
+
+/// How many cuts are asked for.
+#[derive(Clone, Copy, Debug)]
+enum Cuts {
+    /// At most so many.
+    AtMost(u8),
+    /// Any number.
+    Any,
+}
+
+impl Cuts {
+    /// The cuts that the words ask for.
+    ///
+    /// # Errors
+    ///
+    /// `Number` where the text is neither `all` nor a number from 0 to 16; `Argument` where it is missing.
+    fn read(arguments: &ArgMatches<'_>) -> Result<Cuts, Refusal>
+        ensures given { IfOk result (GivesCuts (found_of arguments.now)) }
+        ensures range { IfOk result (λ cuts. IsFew cuts) }
+    {
+        if required(arguments, "cuts")? == "all" {
+            return Ok(Cuts::Any);
+        }
+        Ok(Cuts::AtMost(census_options(arguments)?))
+    }
+}
+
+/// The flashes that such schedules leave.
+///
+/// # Errors
+///
+/// `MoreCuts` where any number is asked for, and flashes that 16 cuts leave may lead to more; `Memory`.
+fn find(alloc: Global, start: &Start, cuts: Cuts) -> Result<Found, Refusal>
+    requires { IsFew cuts }
+    ensures { IfOk result (λ found. AreCases (begun start.now) (IsAsked cuts) found.cases.items) }
+{
+    match cuts {
+        Cuts::AtMost(bound) => Ok(find_cases::<JournalFlash>(alloc, start, bound)?),
+        Cuts::Any => {
+            let found = find_cases::<JournalFlash>(alloc, start, 16)?;
+            if found.whole {
+                Ok(found)
+            } else {
+                Err(Refusal::MoreCuts)
+            }
+        }
+    }
+}
+
+/// Writes the table, and gives back the writer that has it.
+///
+/// # Errors
+///
+/// `Explore` for want of memory; `Write`.
+fn print_table<O: Write + Drop>(alloc: Global, cases: &[Case], out: O) -> Result<O, Refusal>
+    ensures { IfOk result (λ written. Appends (O.contents out) (O.contents written)
+        (cases_text cases.now)) }
+{
+    let mut blocks = in_blocks(alloc, out)?;
+    write_cases(cases, &mut blocks).map_err(|_| Refusal::Write)?;
+    match finish(blocks) {
+        Ok(out) => Ok(out),
+        Err(_) => Err(Refusal::Write),
+    }
+}
+
+/// Whether the flash that the boot of the case of that number leaves is none of the cases' and none that an earlier one leaves.
+fn is_new_left(cases: &[Case], index: usize) -> bool
+    requires { index < length cases.now }
+{
+    let case = &cases[index];
+    // Where the boot goes on with a shorter one's, it leaves what that one leaves.
+    !case.joins
+        && cases.iter().all(|other| other.digest != case.left)
+        && cases[..index].iter().all(|other| other.left != case.left)
+}
+
+/// The folder that the flashes are written into.
+#[derive(Drop)]
+struct Folder<'f, 'p, F: Files> {
+    files: &'f F,
+    alloc: Global,
+    path: &'p str,
+    /// Whether a flash is written as a patch of the start's.
+    patches: bool,
+}
+
+impl<F: Files> Folder<'_, '_, F> {
+    /// Makes it, or takes it where it is there and empty, and makes the folder of flashes in it.
+    ///
+    /// # Errors
+    ///
+    /// `InUse` where it is there and not an empty folder; `Open` where it cannot be made; `Memory`.
+    fn make(&self) -> Result<(), Refusal> {
+        if let Err(error) = fs::create_dir(self.files, self.path) {
+            if error.kind() != ErrorKind::AlreadyExists {
+                return Err(Refusal::Open);
+            }
+            if !self.is_empty() {
+                return Err(Refusal::InUse);
+            }
+        }
+        let flashes = self.inside("flash")?;
+        fs::create_dir(self.files, flashes.as_str()).map_err(|_| Refusal::Open)
+    }
+
+    /// Whether it is an empty folder.
+    fn is_empty(&self) -> bool {
+        match fs::read_dir(&(self.files, self.alloc), self.path) {
+            Ok(mut entries) => entries.next().is_none(),
+            Err(_) => false,
+        }
+    }
+
+    /// The path of a name in it.
+    ///
+    /// # Errors
+    ///
+    /// `Memory`.
+    fn inside(&self, name: &str) -> Result<String, Refusal> {
+        format!(in self.alloc; "{}/{name}", self.path).map_err(|_| Refusal::Memory)
+    }
+
+    /// Makes a file in it.
+    ///
+    /// # Errors
+    ///
+    /// `Open` where it cannot be made; `Memory`.
+    fn create(&self, name: &str) -> Result<F::File, Refusal> {
+        let path = self.inside(name)?;
+        fs::create(self.files, path.as_str()).map_err(|_| Refusal::Open)
+    }
+
+    /// Writes a flash in a file with its digest's name.
+    ///
+    /// # Errors
+    ///
+    /// Those of `create`; `Trace` and `Write` where a write fails.
+    fn write_flash<S: Flash>(
+        &self,
+        start: &Start,
+        digest: &[u8; 32],
+        flash: &S,
+    ) -> Result<(), Refusal>
+        requires { (S.seen flash.now).geometry ≡ start.now.geometry }
+    {
+        let mut name = Line::new();
+        name.put("flash/");
+        name.put_hex(digest);
+        name.put(if self.patches { ".patch" } else { ".bin" });
+        let mut blocks = in_blocks(self.alloc, self.create(name.as_str())?)?;
+        if self.patches {
+            write_patch(start, flash, &mut blocks)?;
+        } else {
+            write_slots(flash, &mut blocks)?;
+        }
+        let _ = finish(blocks).map_err(|_| Refusal::Write)?;
+        Ok(())
+    }
+
+    /// Writes the flashes that cuts leave, and those that the boots from there leave, each once.
+    ///
+    /// # Errors
+    ///
+    /// Those of `write_flash`; `Replay` for want of memory.
+    fn write_flashes(&self, start: &Start, cases: &[Case]) -> Result<(), Refusal> {
+        for index in 0..cases.len() {
+            let case = &cases[index];
+            let flash: JournalFlash = flash_at_cut(self.alloc, start, &case.schedule)?;
+            self.write_flash(start, &case.digest, &flash)?;
+            if is_new_left(cases, index) {
+                let (_, left) = replay::<JournalFlash>(self.alloc, start, &case.schedule)?;
+                self.write_flash(start, &case.left, &left)?;
+            }
+        }
+        Ok(())
+    }
+
+    /// Writes all of it: the start's flash where the others are patches of that, the flashes, and the table last.
+    ///
+    /// # Errors
+    ///
+    /// Those of `write_flashes` and `print_table`.
+    fn write(&self, start: &Start, cases: &[Case]) -> Result<(), Refusal> {
+        if self.patches {
+            let mut file = self.create("start.bin")?;
+            file.write_all(start.primary()).map_err(|_| Refusal::Write)?;
+            file.write_all(start.secondary())
+                .map_err(|_| Refusal::Write)?;
+        }
+        self.write_flashes(start, cases)?;
+        let _ = print_table(self.alloc, cases, self.create("cases.tsv")?)?;
+        Ok(())
+    }
+}
+
+/// The folder that the words name, if they name one.
+///
+/// # Errors
+///
+/// `Argument` where patches are asked for without a folder.
+fn folder_named<'f, 'p, F: Files>(
+    files: &'f F,
+    alloc: Global,
+    arguments: &ArgMatches<'p>,
+) -> Result<Option<Folder<'f, 'p, F>>, Refusal> {
+    let patches = arguments.get_flag("patches");
+    match arguments.get_str("dir") {
+        Some(path) => Ok(Some(Folder {
+            files,
+            alloc,
+            path,
+            patches,
+        })),
+        None if patches => Err(Refusal::Argument),
+        None => Ok(None),
+    }
+}
+
+/// Prints each distinct flash that schedules of so many cuts leave as a row of a table: the first schedule that leaves it, its digest,
+/// the outcome of the boot from there, and the digest of the flash that this boot leaves. With `--dir` the table and the flashes are
+/// written into a folder, and how many flashes there are is printed. The words are checked before a file is touched, and the folder is
+/// made before the search begins.
+///
+/// # Errors
+///
+/// `Source`, `Layout` and the numbers of the words; what `read_start` refuses; those of `find`; `InUse`, `Open` and `Write` of the
+/// folder and the output.
+pub fn run<F: Files, O: Write>(
+    files: &F,
+    alloc: Global,
+    arguments: &ArgMatches<'_>,
+    out: &mut O,
+) -> Result<(), Refusal> {
+    let options = match flash_options(arguments) {
+        Ok(options) => options,
+        Err(refusal) => return Err(refusal),
+    };
+    let cuts = Cuts::read(arguments)?;
+    let folder = folder_named(files, alloc, arguments)?;
+    let start = read_start(files, alloc, &options)?;
+    if let Some(folder) = &folder {
+        folder.make()?;
+    }
+    let found = find(alloc, &start, cuts)?;
+    let Some(folder) = folder else {
+        let _ = print_table(alloc, &found.cases, &mut *out)?;
+        return Ok(());
+    };
+    folder.write(&start, &found.cases)?;
+    let all = if found.whole { "yes" } else { "no" };
+    write!(out, "flashes {}\nall {all}\n", found.cases.len()).map_err(|_| Refusal::Write)
+}

@@ -1,0 +1,115 @@
+//! `vectors`: the distinct flashes that cuts leave. Tables and patch are those of a boot loader that shares no code with this repository,
+//! stopped after each operation.
+use super::support::{Table, all_play, same_at, shown_of};
+use mc_fixtures::named;
+use std::alloc::Global;
+use std::process::Abort;
+use std::rt::Files;
+use std::{env, fs, process};
+
+/// The lines of a table, and its digest: of whole calls and of units, of a flash that a swap has left, of no cut; and what is refused.
+const TABLES_TOLD: &str = "\
+$ vectors WORKED --kind test IMAGES --cuts all
+lines 14 8c3f8c82f5adfa3179202ff06db9a1ae0d07de8c637c4b407da10829bd85119f
+$ vectors WORKED --kind test IMAGES --cuts 1
+lines 14 8c3f8c82f5adfa3179202ff06db9a1ae0d07de8c637c4b407da10829bd85119f
+$ vectors WORKED --kind test IMAGES --cuts all --grain unit
+lines 42 a87b55478f2b92d5d1e0c0bd2a0d84f1855e16650aad00e4a9a71a943add54e7
+$ vectors WORKED --kind perm IMAGES --cuts 16
+lines 15 d1e8b771bc8598038ad8d41c64b81d49c2f237d9b179398e62ef7a276de4bc99
+$ vectors WORKED --kind none IMAGES --cuts all
+lines 2 e9f6b1c7ec5c41fbf3fb8b1f939dcb5c02e676ffb37140f96ed06fa5c7ecbd60
+$ boot WORKED --kind test IMAGES --out out
+result boot; type test; ops 18; SWAPPED; next revert
+=> 1792 bytes
+$ vectors WORKED --flash in --cuts all --grain unit < out
+lines 91 de8e93c9eed5395bb44359937afb8fc1433a700f1597e96eb2ad2b16732bd483
+$ vectors WORKED --kind test IMAGES --cuts 17
+! mcsim: --cuts takes a number from 0 to 16; exit 2
+$ vectors WORKED --kind test IMAGES --cuts all --patches
+! mcsim: an argument is missing or out of its range; exit 2
+$ vectors WORKED --kind test IMAGES --cuts all --dir none
+! mcsim: E71 Open; exit 3
+";
+
+static TABLES: [Table; 1] = [(TABLES_TOLD, &[], "-")];
+
+#[test]
+fn lists_each_flash_once(rt: HostRuntime) {
+    all_play(&rt, rt.alloc(), &TABLES)
+}
+
+/// The words of a folder of patches, but for its path and those of the images.
+const FOLDER: &str =
+    "vectors --sector 256 --unit 8 --max-sectors 4 --chunk 128 --primary 4 --secondary 3 --kind test --cuts all --patches";
+
+/// How the flash after the first nine operations differs from the start's: a sector that was moved, and both trailers.
+const PATCH: &str = "\
+primary 1 primary 0
+primary 3 ffffffffffffffffffffffffffffffffffffffffffffffffffffffffffffffffffffffffffffffffffffffffffffffffffffffffffffffffffffffffffffffffffffffffffffffffffffffffffffffffffffffffffff\
+ffffffffffffffffffffffffffffffffffffffffffffffffffff01ffffffffffffffffffffffffffffffffffffffffffffffffffffffffffffffffffffffffffffffffffffffffffffffffffffffffffffffffffff\
+ffffffffffffffffffffffffffffffffffffffffffffffffffffffffffffffffffffffffff50000000ffffffff02ffffffffffffffffffffffffffffffffffffffffffffff77c295f360d2ef7f3552500f2cb67980
+secondary 2 blank
+";
+
+/// A path of this test alone in a folder.
+fn path_in(rt: &impl Abort, alloc: Global, folder: &str, id: u32, name: &str) -> String {
+    format!(in alloc; "{folder}/mcsim-{id}-{name}").expect(rt, "memory")
+}
+
+/// Writes an image that has a name.
+fn write_named<H: Abort + Files>(rt: &H, path: &str, name: &str) {
+    fs::write(rt, path, named(name).unwrap_or_default()).expect(rt, "a file")
+}
+
+/// Looks what a command line prints over the real files.
+fn prints<H: Abort + Files>(rt: &H, alloc: Global, line: &str, want: &str) {
+    let text = shown_of(rt, alloc, line, &[]);
+    same_at(rt, &line, &text.as_str(), &want)
+}
+
+/// Looks what the patch after nine operations is.
+fn holds_patch<H: Abort + Files + Alloc>(rt: &H, alloc: Global, folder: &str) {
+    let path = format!(in alloc;
+        "{folder}/flash/f199133647f56ba34636a0976484e63d53ae9d6b27ef910e5e245ee2d3d753c6.patch"
+    ).expect(rt, "memory");
+    let text = fs::read_to_string(rt, path.as_str()).expect(rt, "a file");
+    same_at(rt, &path.as_str(), &text.as_str(), &PATCH)
+}
+
+/// Writes a folder, and refuses to write it again.
+fn writes_once<H: Abort + Files + Alloc>(
+    rt: &H,
+    alloc: Global,
+    first: &str,
+    second: &str,
+    folder: &str,
+) {
+    let line = format!(in alloc;
+        "{FOLDER} --image-a {first} --image-b {second} --dir {folder}"
+    ).expect(rt, "memory");
+    prints(rt, alloc, line.as_str(), "flashes 13\nall yes\n");
+    holds_patch(rt, alloc, folder);
+    prints(rt, alloc, line.as_str(), "! mcsim: E86 InUse\nexit 2\n");
+    fs::remove_dir_all(rt, folder).expect(rt, "a folder")
+}
+
+#[test]
+fn writes_a_folder_once(rt: HostRuntime) {
+    let temporary = env::temp_dir(&rt).expect(&rt, "a folder");
+    let id = process::id(rt.process());
+    let first = path_in(&rt, rt.alloc(), temporary.as_str(), id, "first");
+    let second = path_in(&rt, rt.alloc(), temporary.as_str(), id, "second");
+    let folder = path_in(&rt, rt.alloc(), temporary.as_str(), id, "cases");
+    write_named(&rt, first.as_str(), "first");
+    write_named(&rt, second.as_str(), "second");
+    writes_once(
+        &rt,
+        rt.alloc(),
+        first.as_str(),
+        second.as_str(),
+        folder.as_str(),
+    );
+    fs::remove_file(&rt, first.as_str()).expect(&rt, "a file");
+    fs::remove_file(&rt, second.as_str()).expect(&rt, "a file")
+}
