@@ -10,7 +10,6 @@ use mc_image::{ImageError, VersionError};
 use mc_imgtool::ToolError;
 use mc_life::{EventError, LifeError, ScriptError};
 use mc_trace::TraceError;
-use mc_vectors::VectorsError;
 use std::io::Write;
 use thiserror::Error;
 
@@ -107,17 +106,6 @@ pub enum Refusal {
     /// There is no memory to read the command line.
     #[error("E26 Memory")]
     Memory,
-}
-
-impl From<VectorsError> for Refusal {
-    ghost use Rattle.mc_command.specs.declared.refusal.Refusal.TheVariants.{Explore};
-    ghost use Rattle.mc_explore.specs.declared.error.ExploreError.TheVariants as errors;
-
-    ghost from_gives = { λ _ refusal. refusal ≡ Explore errors.Memory };
-
-    fn from(_: VectorsError) -> Self {
-        Refusal::Explore(ExploreError::Memory)
-    }
 }
 
 impl From<ExploreError> for Refusal {

@@ -92,10 +92,10 @@ at_child x path w at number here some deep child = record {
   listed = listed_there model_of w here.listed number some deep at child;
 }
 
--- Its boot goes on with the one that was cut, where that is told.
+-- Its boot goes on with the one that was cut, where that is known.
 module _ (w : Walked OneRound) (f : Frame Boot Summary) (step : IsLastStep (model_of w.flash_tree) w f) (summary : Summary) (there : IsThere (model_of w.flash_tree) w summary) where
-  told : (tail : SharedTail) → ((s : Content) (i : ℕ) → IsChildOf (model_of w.flash_tree) s i f.at f.parent summary w.seen → GoesOnIn (begins w.flash_tree s) i tail) → GoesOnAt (begun_of w) w
-  told tail goes = (
+  goes_by : (tail : SharedTail) → ((s : Content) (i : ℕ) → IsChildOf (model_of w.flash_tree) s i f.at f.parent summary w.seen → GoesOnIn (begins w.flash_tree s) i tail) → GoesOnAt (begun_of w) w
+  goes_by tail goes = (
     step.before,
     f.number,
     tail,
@@ -108,7 +108,7 @@ module _ (w : Walked OneRound) (f : Frame Boot Summary) (step : IsLastStep (mode
       → IfSome found (λ tail. (s : Content) (i : ℕ) → IsChildOf (model_of flash_tree) s i f.at f.parent summary seen → GoesOnIn (begins flash_tree s) i tail)
       → is_some found ≡ true → GoesOnAt (begun_of w) w
   goes_on flash_tree seen same here None goes some = absurd cc
-  goes_on flash_tree seen same here (Some tail) goes some = told tail (rw (sym same, sym here) goes)
+  goes_on flash_tree seen same here (Some tail) goes some = goes_by tail (rw (sym same, sym here) goes)
 
 -- As many children as the boot from there makes operations.
 pub width_at : (x : PowerOn) (path : List ℕ) (w : Walked OneRound) → IsAt x path w → (u : Content) → after x path ≡ Some u

@@ -21,13 +21,13 @@ concat_more m xs i x inside is =
     append_assoc m (concat (take i xs)) x
     ∙ ap (λ y. m ++ y) (sym (ap (λ (ys : List (List ℕ)). concat ys) next ∙ concat-append (take i xs) (x ∷ []) ∙ ap (λ y. concat (take i xs) ++ y) last))
 
-module _ (size : ℕ) (s : SlotDigests) (told : AreDigests size s) where
+module _ (size : ℕ) (s : SlotDigests) (kept : AreDigests size s) where
   pub digest_at : (number : ℕ) (d : List ℕ) → number < length s.digests.items → get_or s.digests.items number d ≡ sector_digest size s.bytes.items number
   digest_at number d inside =
       let count = length-map-range_with_len (sector_digest size s.bytes.items) 0 (length s.bytes.items / size) in
-      ap (λ (l : List (List ℕ)). get_or l number d) told.digests_are
+      ap (λ (l : List (List ℕ)). get_or l number d) kept.digests_are
       ∙ get_or-map-range_with_len (sector_digest size s.bytes.items) 0 (length s.bytes.items / size) number number d
-      (omega (arith, inside, ap (λ (l : List (List ℕ)). length l) told.digests_are, count)) (omega arith)
+      (omega (arith, inside, ap (λ (l : List (List ℕ)). length l) kept.digests_are, count)) (omega arith)
 
 -- Those of all sectors of these bytes were taken.
 pub made : (size : ℕ) (bytes : List ℕ) (s : SlotDigests) (number : ℕ) → 0 < size → IsWhole size bytes → s.bytes.items ≡ bytes → number ≡ length bytes / size

@@ -31,7 +31,7 @@ impl SlotDigests {
 
     // The digest of a sector of that size and number among other bytes.
     fn digest_of(&self, size: usize, number: usize, bytes: &[u8]) -> [u8; 32]
-        requires told { AreDigests size self.now }
+        requires kept { AreDigests size self.now }
         requires inside { number * size + size ≤ length bytes.now }
         ensures { result ≡ sector_digest size bytes.now number }
     {
@@ -46,9 +46,9 @@ impl SlotDigests {
     // Takes other bytes of the slot.
     fn renew(&mut self, alloc: Global, size: usize, bytes: &[u8]) -> Result<(), AllocError>
         requires some { 0 < size }
-        requires told { AreDigests size self.old }
+        requires kept { AreDigests size self.old }
         requires whole { IsWhole size bytes.now }
-        ensures told { OnOk result (AreDigests size self.new) }
+        ensures kept { OnOk result (AreDigests size self.new) }
         ensures bytes { OnOk result (self.new.bytes.items ≡ bytes.now) }
     {
         let count = bytes.len() / size;
@@ -102,7 +102,7 @@ impl Digests {
         requires { AreOfFlash (F.seen flash.now).geometry.sector self.old }
         ensures digest { IfOk result (λ digest. digest
             ≡ flash_digest (F.seen flash.now).geometry (F.seen flash.now).content) }
-        ensures told { OnOk result (AreOfFlash (F.seen flash.now).geometry.sector self.new) }
+        ensures kept { OnOk result (AreOfFlash (F.seen flash.now).geometry.sector self.new) }
     {
         let (primary, secondary) = (flash.read(Slot::Primary), flash.read(Slot::Secondary));
         self.digest_of(flash.layout(), primary, secondary)
@@ -119,12 +119,12 @@ impl Digests {
         primary: &[u8],
         secondary: &[u8],
     ) -> Result<[u8; 32], AllocError>
-        requires told { AreOfFlash layout.now.sector self.old }
+        requires kept { AreOfFlash layout.now.sector self.old }
         requires primary { length primary.now ≡ size_of layout.now Primary }
         requires secondary { length secondary.now ≡ size_of layout.now Secondary }
         ensures digest { IfOk result (λ digest. digest ≡ flash_digest layout.now
             (record { primary = primary.now; secondary = secondary.now })) }
-        ensures told { OnOk result (AreOfFlash layout.now.sector self.new) }
+        ensures kept { OnOk result (AreOfFlash layout.now.sector self.new) }
     {
         let size = layout.sector() as usize;
         self.primary.renew(self.alloc, size, primary)?;

@@ -6,6 +6,6 @@ mod digests;
 mod search;
 mod table;
 
-pub use case::{Case, Found, VectorsError};
+pub use case::{Case, Found};
 pub use search::find_cases;
 pub use table::write_cases;

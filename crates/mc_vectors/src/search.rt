@@ -7,10 +7,10 @@ ghost use Rattle.mc_vectors.specs.Cases.{AnyCuts, AreCases, AtMost};
 ghost use Rattle.mc_vectors.specs.inner.Digests.{AreOfFlash};
 ghost use Rattle.mc_vectors.specs.inner.Searching.{GoesOnAt, IsAt, IsBelow, IsCaseHere, IsDoneNext, IsExpanding, IsOwnCase, IsReady, IsSearch};
 
-use crate::case::{Case, Found, VectorsError};
+use crate::case::{Case, Found};
 use crate::digests::Digests;
 use mc_explore::{OneRound, Schedule, Start, go_to_child, load_walk, replay};
-use mc_flash::Flash;
+use mc_flash::{Flash, FlashError};
 use mc_walk::{FlashTree, Walk};
 use std::alloc::Global;
 use std::collections::BTreeSet;
@@ -20,12 +20,12 @@ fn walk_to<F: Flash>(
     alloc: Global,
     start: &Start,
     schedule: &Schedule,
-) -> Result<Walk<F, OneRound>, VectorsError>
+) -> Result<Walk<F, OneRound>, FlashError>
     requires few { length schedule.now < 16 }
     requires occurs { CanOccur (begun start.now) schedule.now }
     ensures at { IfOk result (IsAt (begun start.now) schedule.now) }
     ensures more { IfOk result (λ walk. length walk.path < walk.bound) }
-    ensures err { IfErr result (λ e. e ≡ VectorsError.Memory) }
+    ensures err { IfErr result (λ e. e ≡ FlashError.Memory) }
 {
     let cuts = schedule.cuts();
     let mut walk: Walk<F, OneRound> = load_walk(alloc, start, cuts.len() as u8 + 1, ())?;
@@ -55,14 +55,14 @@ fn own_case<F: Flash>(
     schedule: &Schedule,
     digest: [u8; 32],
     lefts: &mut Digests,
-) -> Result<Case, VectorsError>
+) -> Result<Case, FlashError>
     requires { AreOfFlash start.now.geometry.sector lefts.old }
     ensures case { IfOk result (λ case. IsOwnCase (begun start.now) schedule.now digest case) }
     ensures digests { OnOk result (AreOfFlash start.now.geometry.sector lefts.new) }
-    ensures err { IfErr result (λ e. e ≡ VectorsError.Memory) }
+    ensures err { IfErr result (λ e. e ≡ FlashError.Memory) }
 {
     let Ok((outcome, flash)) = replay::<F>(alloc, start, schedule) else {
-        return Err(VectorsError::Memory);
+        return Err(FlashError::Memory);
     };
     let left = lefts.digest(&flash)?;
     Ok(Case {
@@ -82,12 +82,12 @@ fn case_here<F: Flash>(
     start: &Start,
     digest: [u8; 32],
     lefts: &mut Digests,
-) -> Result<Case, VectorsError>
+) -> Result<Case, FlashError>
     requires digests { AreOfFlash start.now.geometry.sector lefts.old }
     requires at { IsAt (begun start.now) walk.now.path walk.now }
     ensures case { IfOk result (IsCaseHere (begun start.now) walk.now parent.now digest) }
     ensures digests { OnOk result (AreOfFlash start.now.geometry.sector lefts.new) }
-    ensures err { IfErr result (λ e. e ≡ VectorsError.Memory) }
+    ensures err { IfErr result (λ e. e ≡ FlashError.Memory) }
 {
     let outcome = walk.summary().outcome;
     let schedule = Schedule::of(&walk.path());
@@ -129,14 +129,14 @@ impl Search {
     }
 
     // Adds the case of the start.
-    fn begin<F: Flash>(&mut self, start: &Start) -> Result<(), VectorsError>
+    fn begin<F: Flash>(&mut self, start: &Start) -> Result<(), FlashError>
         requires ready { IsReady start.now.geometry.sector self.old }
         requires none { (self.old.cases.items ≡ []) × (self.old.known.keys ≡ []) }
         ensures ready { OnOk result (IsReady start.now.geometry.sector self.new) }
         ensures begun { OnOk result ((bound : ℕ)
             → IsSearch (begun start.now) bound self.new.cases.items 0
             × IsBelow self.new.cases.items 0) }
-        ensures err { IfErr result (λ e. e ≡ VectorsError.Memory) }
+        ensures err { IfErr result (λ e. e ≡ FlashError.Memory) }
     {
         let (primary, secondary) = (start.primary(), start.secondary());
         let digest = self.cuts.digest_of(start.layout(), primary, secondary)?;
@@ -153,7 +153,7 @@ impl Search {
         walk: &Walk<F, OneRound>,
         parent: &Case,
         start: &Start,
-    ) -> Result<(), VectorsError>
+    ) -> Result<(), FlashError>
         requires ready { IsReady start.now.geometry.sector self.old }
         requires at { IsAt (begun start.now) walk.now.path walk.now }
         ensures ready { OnOk result (IsReady start.now.geometry.sector self.new) }
@@ -162,8 +162,9 @@ impl Search {
             → IsExpanding (begun start.now) bound self.old.cases.items index number parent.now
             → IsExpanding (begun start.now) bound self.new.cases.items index (number + 1)
             parent.now) }
-        ensures err { IfErr result (λ e. e ≡ VectorsError.Memory) }
+        ensures err { IfErr result (λ e. e ≡ FlashError.Memory) }
     {
+        // The summary gives the prover where the flash stands.
         let _summary = walk.summary();
         let digest = self.cuts.digest(walk.flash())?;
         if !self.known.insert(digest)? {
@@ -175,7 +176,7 @@ impl Search {
     }
 
     // Adds the cases of the flashes that cuts of the boot from a case leave.
-    fn expand<F: Flash>(&mut self, start: &Start, case: &Case) -> Result<(), VectorsError>
+    fn expand<F: Flash>(&mut self, start: &Start, case: &Case) -> Result<(), FlashError>
         requires ready { IsReady start.now.geometry.sector self.old }
         requires few { length case.now.schedule < 16 }
         requires occurs { CanOccur (begun start.now) case.now.schedule }
@@ -183,12 +184,14 @@ impl Search {
         ensures expanded { OnOk result ((bound index : ℕ)
             → IsExpanding (begun start.now) bound self.old.cases.items index 0 case.now
             → IsDoneNext (begun start.now) bound self.new.cases.items index) }
-        ensures err { IfErr result (λ e. e ≡ VectorsError.Memory) }
+        ensures err { IfErr result (λ e. e ≡ FlashError.Memory) }
     {
         let mut walk = walk_to::<F>(self.alloc, start, &case.schedule)?;
         let count = walk.flash_tree().width(walk.summary());
         for number in 0..count {
-            go_to_child(&mut walk, number, start)?;
+            let Ok(()) = go_to_child(&mut walk, number, start) else {
+                return Err(FlashError::Memory);
+            };
             self.visit(&walk, case, start)?;
         }
         Ok(())
@@ -218,14 +221,14 @@ impl Search {
 /// # Errors
 ///
 /// `Memory` where an allocation failed.
-pub fn find_cases<F: Flash>(alloc: Global, start: &Start, bound: u8) -> Result<Found, VectorsError>
+pub fn find_cases<F: Flash>(alloc: Global, start: &Start, bound: u8) -> Result<Found, FlashError>
     requires { bound ≤ 16 }
     ensures cases { IfOk result (λ found. AreCases (begun start.now) (AtMost bound)
         found.cases.items) }
     // Where it is whole, no number of cuts leaves another flash.
     ensures whole { IfOk result (λ found. found.whole ≡ true
         → AreCases (begun start.now) AnyCuts found.cases.items) }
-    ensures err { IfErr result (λ e. e ≡ VectorsError.Memory) }
+    ensures err { IfErr result (λ e. e ≡ FlashError.Memory) }
 {
     let mut search = Search::new(alloc);
     search.begin::<F>(start)?;
@@ -238,5 +241,6 @@ pub fn find_cases<F: Flash>(alloc: Global, start: &Start, bound: u8) -> Result<F
             search.expand::<F>(start, &case)?;
         }
     }
-    Err(VectorsError::Memory)
+    // No memory holds so many cases.
+    Err(FlashError::Memory)
 }

@@ -1,5 +1,5 @@
 //! `vectors`: each distinct flash that power cuts leave, for a boot loader to be tried on.
-ghost use Rattle.std.specs.Prelude.{◌≡◌, ◌<◌, length, IfOk};
+ghost use Rattle.std.specs.Prelude.{◌≡◌, ◌<◌, length, IfOk, IsOk};
 ghost use Rattle.std.specs.Io.KnownBytes.{Appends};
 ghost use Rattle.clap.specs.Matches.{found_of};
 ghost use Rattle.mc_start.specs.Start.{begun};
@@ -12,13 +12,13 @@ use crate::options::{census_options, flash_options, required};
 use crate::refusal::Refusal;
 use crate::source::read_start;
 use clap::ArgMatches;
-use mc_explore::{Line, Start, flash_at_cut, replay};
+use mc_explore::{ExploreError, Line, Start, flash_at_cut, replay};
 use mc_flash::{Flash, JournalFlash};
 use mc_trace::{write_patch, write_slots};
 use mc_vectors::{Case, Found, find_cases, write_cases};
 use std::alloc::Global;
 use std::fs;
-use std::io::{ErrorKind, Write};
+use std::io::{Error, ErrorKind, Write};
 use std::rt::Files;
 
 /// How many cuts are asked for.
@@ -38,6 +38,7 @@ impl Cuts {
     /// `Number` where the text is neither `all` nor a number from 0 to 16; `Argument` where it is missing.
     fn read(arguments: &ArgMatches<'_>) -> Result<Cuts, Refusal>
         ensures given { IfOk result (GivesCuts (found_of arguments.now)) }
+        ensures taken { (cuts : Cuts) → GivesCuts (found_of arguments.now) cuts → IsOk result }
         ensures range { IfOk result (λ cuts. IsFew cuts) }
     {
         if required(arguments, "cuts")? == "all" {
@@ -51,21 +52,21 @@ impl Cuts {
 ///
 /// # Errors
 ///
-/// `MoreCuts` where any number is asked for, and flashes that 16 cuts leave may lead to more; `Memory`.
+/// `MoreCuts` where any number is asked for, and flashes that 16 cuts leave may lead to more; `Explore` for want of memory.
 fn find(alloc: Global, start: &Start, cuts: Cuts) -> Result<Found, Refusal>
     requires { IsFew cuts }
     ensures { IfOk result (λ found. AreCases (begun start.now) (IsAsked cuts) found.cases.items) }
 {
+    let bound = match cuts {
+        Cuts::AtMost(bound) => bound,
+        Cuts::Any => 16,
+    };
+    let Ok(found) = find_cases::<JournalFlash>(alloc, start, bound) else {
+        return Err(Refusal::Explore(ExploreError::Memory));
+    };
     match cuts {
-        Cuts::AtMost(bound) => Ok(find_cases::<JournalFlash>(alloc, start, bound)?),
-        Cuts::Any => {
-            let found = find_cases::<JournalFlash>(alloc, start, 16)?;
-            if found.whole {
-                Ok(found)
-            } else {
-                Err(Refusal::MoreCuts)
-            }
-        }
+        Cuts::Any if !found.whole => Err(Refusal::MoreCuts),
+        _ => Ok(found),
     }
 }
 
@@ -90,11 +91,17 @@ fn print_table<O: Write + Drop>(alloc: Global, cases: &[Case], out: O) -> Result
 fn is_new_left(cases: &[Case], index: usize) -> bool
     requires { index < length cases.now }
 {
-    let case = &cases[index];
-    // Where the boot goes on with a shorter one's, it leaves what that one leaves.
-    !case.joins
-        && cases.iter().all(|other| other.digest != case.left)
-        && cases[..index].iter().all(|other| other.left != case.left)
+    let left = cases[index].left;
+    cases[..index].iter().all(|earlier| earlier.left != left)
+        && cases.iter().all(|case| case.digest != left)
+}
+
+/// Why a folder cannot be read.
+fn unread(error: &Error) -> Refusal {
+    match error.kind() {
+        ErrorKind::OutOfMemory => Refusal::Memory,
+        _ => Refusal::Open,
+    }
 }
 
 /// The folder that the flashes are written into.
@@ -112,13 +119,13 @@ impl<F: Files> Folder<'_, '_, F> {
     ///
     /// # Errors
     ///
-    /// `InUse` where it is there and not an empty folder; `Open` where it cannot be made; `Memory`.
+    /// `InUse` where it is there and not an empty folder; `Open` where it cannot be made or read; `Memory`.
     fn make(&self) -> Result<(), Refusal> {
         if let Err(error) = fs::create_dir(self.files, self.path) {
             if error.kind() != ErrorKind::AlreadyExists {
                 return Err(Refusal::Open);
             }
-            if !self.is_empty() {
+            if !self.is_empty()? {
                 return Err(Refusal::InUse);
             }
         }
@@ -127,10 +134,19 @@ impl<F: Files> Folder<'_, '_, F> {
     }
 
     /// Whether it is an empty folder.
-    fn is_empty(&self) -> bool {
+    ///
+    /// # Errors
+    ///
+    /// `Open` where it cannot be read; `Memory`.
+    fn is_empty(&self) -> Result<bool, Refusal> {
         match fs::read_dir(&(self.files, self.alloc), self.path) {
-            Ok(mut entries) => entries.next().is_none(),
-            Err(_) => false,
+            Ok(mut entries) => match entries.next() {
+                None => Ok(true),
+                Some(Ok(_)) => Ok(false),
+                Some(Err(error)) => Err(unread(&error)),
+            },
+            Err(error) if error.kind() == ErrorKind::NotADirectory => Ok(false),
+            Err(error) => Err(unread(&error)),
         }
     }
 

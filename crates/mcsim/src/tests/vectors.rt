@@ -8,7 +8,7 @@ use std::rt::Files;
 use std::{env, fs, process};
 
 /// The lines of a table, and its digest: of whole calls and of units, of a flash that a swap has left, of no cut; and what is refused.
-const TABLES_TOLD: &str = "\
+const SESSIONS: &str = "\
 $ vectors WORKED --kind test IMAGES --cuts all
 lines 14 8c3f8c82f5adfa3179202ff06db9a1ae0d07de8c637c4b407da10829bd85119f
 $ vectors WORKED --kind test IMAGES --cuts 1
@@ -32,7 +32,7 @@ $ vectors WORKED --kind test IMAGES --cuts all --dir none
 ! mcsim: E71 Open; exit 3
 ";
 
-static TABLES: [Table; 1] = [(TABLES_TOLD, &[], "-")];
+static TABLES: [Table; 1] = [(SESSIONS, &[], "-")];
 
 #[test]
 fn lists_each_flash_once(rt: HostRuntime) {

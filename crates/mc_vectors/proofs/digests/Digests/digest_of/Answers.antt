@@ -12,4 +12,4 @@ returns-clause-digest c =
     let all = c.add_to-2.ensures (concat one.digests.items) first in
     c.finalize.ensures (concat one.digests.items ++ concat two.digests.items) all
     ∙ both c.args.layout.now c.sector-size.result one two c.args.primary.now c.args.secondary.now c.sector-size.ensures.value
-    c.in_ok-renew.ensures.told c.in_ok-renew-2.ensures.told c.in_ok-renew.ensures.bytes c.in_ok-renew-2.ensures.bytes
+    c.in_ok-renew.ensures.kept c.in_ok-renew-2.ensures.kept c.in_ok-renew.ensures.bytes c.in_ok-renew-2.ensures.bytes

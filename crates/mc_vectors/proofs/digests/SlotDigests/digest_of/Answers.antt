@@ -12,5 +12,5 @@ returns-then-eq c =
     let at : ℕ = c.args.number * size in
     let part : List ℕ → List ℕ = between at (at + size) in
     let same : part c.deref.result.now ≡ part c.args.bytes.now = (bytes_eq-Decides (part c.deref.result.now) (part c.args.bytes.now)).0 (sym (c.if-eq.ensures)) in
-    c.index.ensures ∙ digest_at size c.args.self.now c.requires.told c.args.number c.index.result.now (omega (arith, c.len.ensures, c.if-number-len.true))
+    c.index.ensures ∙ digest_at size c.args.self.now c.requires.kept c.args.number c.index.result.now (omega (arith, c.len.ensures, c.if-number-len.true))
     ∙ ap (λ (b : List ℕ). sha256 (part b)) (sym c.deref.ensures.value) ∙ ap sha256 same

@@ -23,7 +23,7 @@ returns-clause-ready g c =
     let put = subst (λ (d : List ℕ). Updates (slice_cmp nat_cmp) old new d true) (sym c.in_ok-case.ensures.case.digest_is) c.in_ok-insert.ensures.updates in
     record {
       known = subst (AreKnown new) (sym items) (known_put old new [] n put (known_none old c.requires.none.1));
-      cuts = subst (λ (k : Geometry). AreOfFlash k.sector c.digest_of.new.self) c.layout.ensures.value c.in_ok-digest.ensures.told;
+      cuts = subst (λ (k : Geometry). AreOfFlash k.sector c.digest_of.new.self) c.layout.ensures.value c.in_ok-digest.ensures.kept;
       lefts = c.in_ok-case.ensures.digests;
     }
 

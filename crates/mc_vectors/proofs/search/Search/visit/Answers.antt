@@ -22,7 +22,7 @@ returns-then-not-branch-clause-ready g c =
       known = known_kept old new c.args.self.now.cases.items (rw c.if-not-branch.true at c.in_ok-insert.ensures.unchanged) c.requires.ready.known;
       cuts = subst (λ (k : Geometry). AreOfFlash k.sector c.digest.new.self)
           (ap (λ (s : Seen). s.geometry) c.flash.ensures
-          ∙ geometry_is (begun c.args.start.now) c.args.walk.now.path c.args.walk.now c.requires.at c.summary-summary.result.now c.summary-summary.ensures) c.in_ok-digest.ensures.told;
+          ∙ geometry_is (begun c.args.start.now) c.args.walk.now.path c.args.walk.now c.requires.at c.summary-summary.result.now c.summary-summary.ensures) c.in_ok-digest.ensures.kept;
       lefts = c.requires.ready.lefts;
     }
 
@@ -50,7 +50,7 @@ returns-clause-ready g c =
       known = subst (AreKnown new) (sym c.in_ok-push.ensures.items) (known_put old new cases n put c.requires.ready.known);
       cuts = subst (λ (k : Geometry). AreOfFlash k.sector c.digest.new.self)
           (ap (λ (s : Seen). s.geometry) c.flash.ensures
-          ∙ geometry_is (begun c.args.start.now) c.args.walk.now.path c.args.walk.now c.requires.at c.summary-summary.result.now c.summary-summary.ensures) c.in_ok-digest.ensures.told;
+          ∙ geometry_is (begun c.args.start.now) c.args.walk.now.path c.args.walk.now c.requires.at c.summary-summary.result.now c.summary-summary.ensures) c.in_ok-digest.ensures.kept;
       lefts = c.in_ok-case.ensures.digests;
     }
 
