@@ -1,15 +1,16 @@
 -- What arguments give is given in one way.
-use Rattle.std.specs.Prelude.{◌≡◌, ℕ, List, true, false, Option, Some, None, Result, Ok, Err, codes}
-use Rattle.std.proofs.Common.{sym, ap, ◌∙◌, refl}
+use Rattle.std.specs.Prelude.{◌≡◌, ◌⊎◌, ℕ, List, true, false, Option, Some, None, Result, Ok, Err, codes}
+use Rattle.std.proofs.Common.{sym, ap, ◌∙◌, refl, inl, inr}
 use Rattle.clap.specs.declared.parser.matches.Found.{Found}
 use Rattle.mc_flash.specs.declared.layout.LayoutError.{LayoutError}
 use Rattle.clap.specs.Words.{first_value}
 use Rattle.mc_image.specs.declared.error.VersionError.{VersionError}
 use Rattle.mc_image.specs.declared.version.Version.{Version}
 use Rattle.mc_image.specs.VersionText.{Names}
-use Rattle.mc_command.specs.Numbers.{MayGiveNumber, SaysNumber, IsTaken, option_name}
-use Rattle.mc_command.specs.declared.numbers.NumberOption.{NumberOption}
-use Rattle.mc_command.specs.Arguments.{GivesSource, RefusesSource, is_source, Judges}
+use Rattle.mc_command.specs.Numbers.{GivesNoNumber}
+use Rattle.mc_command.specs.declared.numbers.NumberOption.TheVariants as numbers
+use Rattle.mc_trace.specs.declared.wear.Times.{Times}
+use Rattle.mc_command.specs.Arguments.{GivesSource, MayGiveTimes, RefusesSource, is_source, Judges}
 use Rattle.mc_command.specs.declared.options.Source.{Source}
 use Rattle.mc_command.specs.declared.options.Source.TheVariants as sources
 use Rattle.mc_command.specs.declared.refusal.Refusal.{Refusal}
@@ -18,13 +19,13 @@ use Rattle.mc_command.specs.declared.refusal.Refusal.TheVariants as refusals
 pub not_ok : false ≡ true → ⊥
 not_ok e = cc
 
--- A text that says no number which the option takes gives none, and the option is not left out.
-pub none_given : (found : Found) (option : NumberOption) (text : List ℕ) → first_value found (option_name option) ≡ Some text
-    → ((n : ℕ) → SaysNumber text n → IsTaken option n → ⊥) → (given : Option ℕ) → MayGiveNumber found option given → ⊥
-none_given found option text at none None left_out = let both : Some text ≡ None = sym at ∙ left_out in absurd (cc)
-none_given found option text at none (Some n) (other, at_other, says, taken) =
-    let same : other ≡ text = let both = sym at_other ∙ at in cc in
-    none n (rw (← same) says) taken
+-- Where a text of one of both times says no number, no times are given.
+pub no_times : {P : Type 0} (found : Found) (times : Option Times) → MayGiveTimes found times
+    → GivesNoNumber found numbers.EraseUs ⊎ GivesNoNumber found numbers.WriteUs → P
+no_times found None given (inl none) = absurd (none None given.0)
+no_times found None given (inr none) = absurd (none None given.1)
+no_times found (Some times) given (inl none) = absurd (none (Some times.erase_us) given.0)
+no_times found (Some times) given (inr none) = absurd (none (Some times.write_us) given.1)
 
 abbrev refused : VersionError → Result Version VersionError
 refused e = Err e

@@ -19,6 +19,7 @@ use Rattle.mc_trace.specs.declared.sectors.View.{View}
 use Rattle.mc_trace.specs.declared.cells.Words.{Words}
 use Rattle.mc_trace.specs.declared.cells.Words.TheVariants as words
 use Rattle.mc_trace.specs.declared.trace.Span.{Span}
+use Rattle.mc_trace.specs.declared.wear.Times.{Times}
 use Rattle.mc_command.specs.declared.options.ExploreOptions.{ExploreOptions}
 use Rattle.mc_command.specs.declared.options.FlashOptions.{FlashOptions}
 use Rattle.mc_command.specs.declared.options.RangeOptions.{RangeOptions}
@@ -52,6 +53,11 @@ pub record GivesCreate (found : Found) (o : CreateOptions) : Type 0 where
 -- what the image tool asks of options
 abbrev pub IsReady : CreateOptions → Type 0
 IsReady o = 32 ≤ o.header_size
+
+-- the arguments give how long a flash takes to erase a sector and to write a unit, or neither
+abbrev pub MayGiveTimes : Found → Option Times → Type 0
+MayGiveTimes found (Some times) = GivesNumber found numbers.EraseUs times.erase_us × GivesNumber found numbers.WriteUs times.write_us
+MayGiveTimes found None = MayGiveNumber found numbers.EraseUs None × MayGiveNumber found numbers.WriteUs None
 
 -- the arguments give the six numbers of a layout
 pub record GivesLayout (found : Found) (g : Geometry) : Type 0 where
@@ -163,3 +169,22 @@ pub record HasTexts {U K : Type 0} (IsCursor : U → Type 0) (IsKey : K → Type
   pub cursor : IfSome o.cursor IsCursor
   pub after : IfSome o.after IsKey
   pub until : IfSome o.until IsKey
+
+-- two options do not give one path
+abbrev pub AreApart : Found → List ℕ → List ℕ → Type 0
+AreApart found first second =
+    (path : List ℕ) → first_value found first ≡ Some path → first_value found second ≡ Some path → ⊥
+
+-- the path that an option gives is that of no image and no script that is read
+pub record IsKept (found : Found) (option : List ℕ) : Type 0 where
+  pub from_a : AreApart found option (codes "image-a")
+  pub from_b : AreApart found option (codes "image-b")
+  pub from_image : AreApart found option (codes "image")
+  pub from_script : AreApart found option (codes "SCRIPT")
+
+-- no path that is written is another that the options give, but the flash after the last boot may go where the flash is read
+pub record KeepsFiles (found : Found) : Type 0 where
+  pub out : IsKept found (codes "out")
+  pub cut : IsKept found (codes "at-cut")
+  pub cut_from_flash : AreApart found (codes "at-cut") (codes "flash")
+  pub cut_from_out : AreApart found (codes "at-cut") (codes "out")

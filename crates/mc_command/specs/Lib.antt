@@ -1,3 +1,4 @@
+pub mod Inspections
 pub mod Numbers
 pub mod Arguments
 pub mod Statuses

@@ -38,6 +38,8 @@ option_name numbers.Cuts = codes "cuts"
 option_name numbers.Limit = codes "limit"
 option_name numbers.From = codes "from"
 option_name numbers.To = codes "to"
+option_name numbers.EraseUs = codes "erase-us"
+option_name numbers.WriteUs = codes "write-us"
 
 -- the least and the largest number that it takes
 abbrev pub least_of : NumberOption → ℕ

@@ -9,6 +9,7 @@ pub mod dumpinfo;
 pub mod explain;
 pub mod explore;
 mod infile;
+pub mod inspect;
 pub mod layout;
 pub mod life;
 pub mod picture;

@@ -4,7 +4,7 @@ ghost use Rattle.clap.specs.Matches.{found_of};
 ghost use Rattle.clap.specs.Words.{first_value};
 ghost use Rattle.mc_imgtool.specs.Created.{created};
 ghost use Rattle.mc_imgtool.specs.Engines.{Answers};
-ghost use Rattle.mc_command.specs.Arguments.{GivesCreate, IsReady};
+ghost use Rattle.mc_command.specs.Arguments.{GivesCreate, IsFlag, IsReady};
 
 use crate::options::{create_options, required};
 use crate::refusal::Refusal;
@@ -19,6 +19,8 @@ pub struct Creation<'a> {
     options: CreateOptions,
     infile: &'a str,
     outfile: &'a str,
+    /// Whether OUTFILE stays as it was where the image is refused, or cannot be written.
+    keep: bool,
 }
 
 impl<'a> Creation<'a> {
@@ -34,11 +36,13 @@ impl<'a> Creation<'a> {
             ≡ Some c.infile.now) }
         ensures outfile { IfOk result (λ c. first_value (found_of arguments.now) (codes "OUTFILE")
             ≡ Some c.outfile.now) }
+        ensures keep { IfOk result (λ c. IsFlag (found_of arguments.now) (codes "keep") c.keep) }
     {
         Ok(Creation {
             options: create_options(arguments)?,
             infile: required(arguments, "INFILE")?,
             outfile: required(arguments, "OUTFILE")?,
+            keep: arguments.get_flag("keep"),
         })
     }
 
@@ -54,6 +58,13 @@ impl<'a> Creation<'a> {
         ensures { result.now ≡ self.now.outfile.now }
     {
         self.outfile
+    }
+
+    /// Whether OUTFILE stays as it was where the image is refused, or cannot be written.
+    pub fn keeps(&self) -> bool
+        ensures { result ≡ self.now.keep }
+    {
+        self.keep
     }
 
     /// Makes the image of these options and no others.

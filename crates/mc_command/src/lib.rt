@@ -3,13 +3,15 @@
 
 ghost use Rattle.std.specs.Prelude.{◌≤◌};
 
-mod command;
 mod commands;
 mod creation;
-mod explanations;
 mod explorable;
+mod layout_file;
+mod notes;
 mod numbers;
 mod options;
+mod outfile;
+mod reasons;
 mod refusal;
 mod same_file;
 mod source;
@@ -18,9 +20,13 @@ mod verdict;
 use clap::error::ErrorKind;
 use clap::{ArgMatches, Error};
 use commands::rounds::{RoundText, print as print_rounds};
+use layout_file::{asks_file, with_files};
 use mc_campaign::TwoRounds;
+use mc_cli::{WatchedFiles, parse};
 use mc_explore::OneRound;
+use notes::print_note;
 use options::{has_two_rounds, span_options, view_options};
+use reasons::{report_file, report_reason};
 pub use refusal::Refusal;
 use std::alloc::Global;
 use std::io::{Read, Write};
@@ -29,7 +35,8 @@ use std::rt::Files;
 /// Runs one command line, whose first word is the program's name, and returns the exit status: 0 where it is done, 1
 /// where a content is refused, 2 where the command line is refused, 3 where a file, a write or memory fails.
 ///
-/// A refusal is one line on `err`, or clap's own text. A failed write to `err` changes no status.
+/// A refusal is one line on `err`, or clap's own text; with `--verbose` a second line has its reason, where that is known. A failed
+/// write to `err` changes no status.
 pub fn run<F: Files, R: Read, O: Write, E: Write>(
     files: &F,
     alloc: Global,
@@ -40,14 +47,50 @@ pub fn run<F: Files, R: Read, O: Write, E: Write>(
 ) -> u8
     ensures { result ≤ 3 }
 {
-    let matches = match command::parse(alloc, words) {
+    let watched = WatchedFiles::new(files, alloc);
+    if !asks_file(words) {
+        return run_words(watched, alloc, words, input, out, err);
+    }
+    match with_files(&watched, alloc, words) {
+        Ok(words) => run_words(watched, alloc, words.as_slice(), input, out, err),
+        Err(refusal) => {
+            let status = refusal.report(err);
+            if words.iter().any(|word| word.as_str() == "--verbose") {
+                let _ = report_file(watched, err);
+            }
+            status
+        }
+    }
+}
+
+/// Runs one command line without `--layout`.
+fn run_words<F: Files, R: Read, O: Write, E: Write>(
+    files: WatchedFiles<'_, F>,
+    alloc: Global,
+    words: &[String],
+    input: &mut R,
+    out: &mut O,
+    err: &mut E,
+) -> u8
+    ensures { result ≤ 3 }
+{
+    let matches = match parse(alloc, words) {
         Ok(matches) => matches,
         Err(error) => return answer_of_clap(&error, out, err),
     };
-    match run_command(files, alloc, &matches, input, out) {
-        Ok(()) => 0,
-        Err(refusal) => refusal.report(err),
+    let Some((name, arguments)) = matches.subcommand() else {
+        return Refusal::Argument.report(err);
+    };
+    let Err(refusal) = run_command(&files, alloc, name, arguments, input, out) else {
+        // A note that cannot be written changes nothing.
+        let _ = print_note(&files, name, arguments, err);
+        return 0;
+    };
+    let status = refusal.report(err);
+    if arguments.get_flag("verbose") {
+        let _ = report_reason(files, alloc, arguments, &refusal, err);
     }
+    status
 }
 
 /// Prints clap's help, or its refusal of a command line, and returns the status.
@@ -67,19 +110,17 @@ fn answer_of_clap<O: Write, E: Write>(error: &Error, out: &mut O, err: &mut E) -
     }
 }
 
-/// Runs the command that was named.
+/// Runs the command of that name.
 fn run_command<F: Files, R: Read, O: Write>(
     files: &F,
     alloc: Global,
-    matches: &ArgMatches<'_>,
+    name: &str,
+    arguments: &ArgMatches<'_>,
     input: &mut R,
     out: &mut O,
 ) -> Result<(), Refusal> {
-    let Some((name, arguments)) = matches.subcommand() else {
-        return Err(Refusal::Argument);
-    };
     match name {
-        "create" => commands::create::run(files, alloc, arguments),
+        "create" => commands::create::run(files, alloc, arguments, input, out),
         "verify" => commands::verify::run(files, arguments, input, out),
         "dumpinfo" => commands::dumpinfo::run(files, alloc, arguments, input, out),
         "layout" => commands::layout::run(arguments, out),
@@ -102,6 +143,8 @@ fn run_boots<F: Files, O: Write>(
         "boot" => commands::replay::boot(files, alloc, arguments, out),
         "picture" => commands::picture::run(files, alloc, arguments, out),
         "vectors" => commands::vectors::run(files, alloc, arguments, out),
+        "inspect" => commands::inspect::run(files, alloc, arguments, out),
+        "locate" => commands::inspect::find(files, alloc, arguments, out),
         "replay" | "trace" | "sectors" => run_schedule(files, alloc, name, arguments, out),
         _ => run_exploration(files, alloc, name, arguments, out),
     }

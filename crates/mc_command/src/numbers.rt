@@ -28,6 +28,8 @@ pub enum NumberOption {
     Limit,
     From,
     To,
+    EraseUs,
+    WriteUs,
 }
 
 impl NumberOption {
@@ -50,6 +52,8 @@ impl NumberOption {
             NumberOption::Limit => "limit",
             NumberOption::From => "from",
             NumberOption::To => "to",
+            NumberOption::EraseUs => "erase-us",
+            NumberOption::WriteUs => "write-us",
         }
     }
 

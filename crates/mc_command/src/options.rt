@@ -4,7 +4,7 @@ ghost use Rattle.clap.specs.Matches.{found_of};
 ghost use Rattle.clap.specs.Words.{first_value};
 ghost use Rattle.mc_command.specs.Numbers.{GivesNumber, IsUnit};
 ghost use Rattle.mc_flash.specs.Geometry.{Geometry, refusal_of};
-ghost use Rattle.mc_command.specs.Arguments.{GivesCreate, GivesLayout, Judges, GivesSource, RefusesSource, is_source, kind_text, GivesRules, GivesFlash, GivesExtent, GivesRange, GivesSpan, GivesView, HasTexts, gives_both};
+ghost use Rattle.mc_command.specs.Arguments.{GivesCreate, GivesLayout, Judges, GivesSource, RefusesSource, is_source, kind_text, GivesRules, GivesFlash, GivesExtent, GivesRange, GivesSpan, GivesView, HasTexts, MayGiveTimes, gives_both};
 
 use crate::numbers::NumberOption;
 use crate::refusal::Refusal;
@@ -14,7 +14,7 @@ use mc_explore::{Cursor, Kind, Schedule};
 use mc_flash::{Grain, Layout};
 use mc_image::Version;
 use mc_imgtool::CreateOptions;
-use mc_trace::{Moment, Span, View, Words};
+use mc_trace::{Moment, Span, Times, View, Words};
 use mc_trailer::{Profile, Rules};
 
 /// The text of an argument that a command cannot do without.
@@ -94,6 +94,25 @@ pub fn layout_options(arguments: &ArgMatches<'_>) -> Result<Layout, Refusal>
     }
 }
 
+/// How long the flash takes to erase a sector and to write a unit, if the options say it.
+///
+/// # Errors
+///
+/// `Number` where a text says no number below 2^32; `Argument` where one of the two is missing.
+pub fn times_options(arguments: &ArgMatches<'_>) -> Result<Option<Times>, Refusal>
+    ensures given { IfOk result (MayGiveTimes (found_of arguments.now)) }
+    ensures taken { (times : Option Times) → MayGiveTimes (found_of arguments.now) times
+        → IsOk result }
+{
+    let erase = NumberOption::EraseUs.read(arguments)?;
+    let write = NumberOption::WriteUs.read(arguments)?;
+    match (erase, write) {
+        (Some(erase_us), Some(write_us)) => Ok(Some(Times { erase_us, write_us })),
+        (None, None) => Ok(None),
+        _ => Err(Refusal::Argument),
+    }
+}
+
 /// Where a flash comes from.
 #[derive(Debug, Drop)]
 pub enum Source<'a> {
@@ -114,6 +133,18 @@ fn kind_of(text: &str) -> Option<Kind>
         "perm" => Some(Kind::Perm),
         "revert" => Some(Kind::Revert),
         _ => None,
+    }
+}
+
+/// The name of a kind of a start.
+pub fn kind_name(kind: Kind) -> &'static str
+    ensures { result.now ≡ kind_text kind }
+{
+    match kind {
+        Kind::None => "none",
+        Kind::Test => "test",
+        Kind::Perm => "perm",
+        Kind::Revert => "revert",
     }
 }
 

@@ -97,6 +97,9 @@ pub enum Refusal {
     /// Of all numbers of cuts: flashes that 16 cuts leave may lead to more.
     #[error("E87 MoreCuts")]
     MoreCuts,
+    /// A file of a layout has a line that is none of its options.
+    #[error("E88 LayoutFile")]
+    LayoutFile,
     /// A file cannot be opened or made.
     #[error("E71 Open")]
     Open,
@@ -137,6 +140,7 @@ impl Refusal {
             | Refusal::Expectation
             | Refusal::SameFile
             | Refusal::InUse
+            | Refusal::LayoutFile
             | Refusal::Layout(_)
             | Refusal::Schedule(_)
             | Refusal::Campaign(_)

@@ -6,8 +6,12 @@ mod Used
 mod BootRows
 mod Writing
 mod Headed
+mod Hinted
 mod Drawn
 mod SlotCells
 mod PatchLines
 mod Patched
 pub mod Out
+mod SwapWork
+mod SwapWear
+mod Longest

@@ -1,5 +1,5 @@
 -- A layout in numbers: this project's own text.
-use Rattle.std.specs.Prelude.{ℕ, ◌-◌, ◌*◌, List, ◌++◌, codes, decimal}
+use Rattle.std.specs.Prelude.{ℕ, ◌-◌, ◌*◌, List, ◌++◌, Option, codes, decimal}
 use Rattle.mc_flash.specs.Geometry.{Geometry, trailer_bytes, trailer_sectors, greatest_sectors}
 use Rattle.mc_flash.specs.Largest.{largest_image}
 use Rattle.mc_flash.specs.Usage.{most_operations}
@@ -13,7 +13,9 @@ use Rattle.mc_trailer.specs.declared.places.Field.{Field}
 use Rattle.mc_trailer.specs.declared.places.Field.TheVariants as fields
 use Rattle.mc_boot.specs.WholeSwap.{swap_operations}
 use Rattle.mc_trace.specs.Trace.{part_text}
+use Rattle.mc_trace.specs.Wear.{wear_text}
 use Rattle.mc_trace.specs.declared.layout.PartLine.{PartLine}
+use Rattle.mc_trace.specs.declared.wear.Times.{Times}
 use Rattle.mc_trace.specs.declared.operation.Part.TheVariants as parts
 
 -- What a trailer takes of a slot, and the most that an image may have, in sectors and in bytes.
@@ -54,5 +56,9 @@ operations_text c g =
     grain_text c ++ (codes " swap-ops " ++ (decimal (swap_operations c g)
     ++ (codes "\n" ++ (grain_text c ++ (codes " most-ops " ++ (decimal (most_operations c g) ++ codes "\n"))))))
 
-abbrev pub layout_text : Geometry → List ℕ
-layout_text g = sizes_text g ++ (parts_text g ++ (operations_text grains.Call g ++ operations_text grains.Unit g))
+-- The operations by both grains, and what swaps ask of the flash.
+abbrev pub boots_text : Geometry → Option Times → List ℕ
+boots_text g times = operations_text grains.Call g ++ (operations_text grains.Unit g ++ wear_text g times)
+
+abbrev pub layout_text : Geometry → Option Times → List ℕ
+layout_text g times = sizes_text g ++ (parts_text g ++ boots_text g times)

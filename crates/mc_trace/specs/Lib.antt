@@ -1,6 +1,9 @@
 pub mod Trace
 pub mod LayoutText
+pub mod Wear
 pub mod Sectors
 pub mod Patch
+pub mod Hints
+pub mod Inspection
 pub mod Picture
 pub mod inner

@@ -1,12 +1,14 @@
-//! A layout in numbers: what the trailers take, how large an image may be, where each field stands, and how long a boot is.
+//! A layout in numbers: what the trailers take, how large an image may be, where each field stands, how long a boot is, and what
+//! swaps ask of the flash.
 ghost use Rattle.std.specs.Prelude.{◌≡◌, ◌<◌, ◌≤◌, ◌+◌, ◌*◌, ◌++◌, length, IfErr, OnOk, OnErr};
 ghost use Rattle.std.specs.Io.KnownBytes.{Appends};
 ghost use Rattle.mc_output.specs.Text.{AppendsPrefix};
-ghost use Rattle.mc_flash.specs.declared.flash.Grain.TheVariants.{Call, Unit};
-ghost use Rattle.mc_trace.specs.LayoutText.{sizes_text, line_of_field, line_of_entry, part_line, fields_text, parts_text, operations_text, layout_text};
+ghost use Rattle.mc_trace.specs.LayoutText.{sizes_text, line_of_field, line_of_entry, part_line, fields_text, parts_text, operations_text, boots_text, layout_text};
+ghost use Rattle.mc_trace.specs.Wear.{LongestLaw};
 
 use crate::error::TraceError;
 use crate::operation::Part;
+use crate::wear::{Times, put_wear};
 use mc_boot::swap_operations;
 use mc_flash::{Grain, Layout, Slot, most_operations};
 use mc_output::{Line, MOST_LINE, write_line};
@@ -121,33 +123,43 @@ fn put_operations(line: &mut Line, layout: &Layout, grain: Grain)
     line.put("\n");
 }
 
-// The operations by both grains.
-fn operations_line(layout: &Layout) -> Line
-    ensures { result ≡ operations_text Call layout.now ++ operations_text Unit layout.now }
+// The operations by both grains, and what swaps ask of the flash.
+fn boots_line(layout: &Layout, times: Option<Times>) -> Line
+    ensures { result ≡ boots_text layout.now times }
 {
     let mut line = Line::new();
     put_operations(&mut line, layout, Grain::Call);
     put_operations(&mut line, layout, Grain::Unit);
+    put_wear(&mut line, layout, times);
     line
 }
 
 /// Writes what follows from the numbers of a layout, a line each: the bytes and sectors of a trailer; the most sectors and bytes
 /// that an image may have, its header and areas included; the first byte of the first and the last status entry and of each
-/// field, by the words of a trace; and by each grain the operations of a whole swap for a test of the largest images, and the
-/// most operations that a boot may have. It takes no memory.
+/// field, by the words of a trace; by each grain the operations of a whole swap for a test of the largest images, and the most
+/// operations that a boot may have; and how often that swap erases one sector at most, of each slot, in its trailer and before it.
+/// Where the times of the flash are given, it also writes how long that swap takes, and how long the revert of the same images, which
+/// no boot takes longer than, in microseconds. It takes no memory.
 ///
 /// # Errors
 ///
 /// `Write`, where a write fails or takes no bytes: a beginning of the text is out.
-pub fn write_layout<W: Write>(layout: &Layout, writer: &mut W) -> Result<(), TraceError>
+#[tactic(auto, using(crate::proofs::Longest::longest))]
+pub fn write_layout<W: Write>(
+    layout: &Layout,
+    times: Option<Times>,
+    writer: &mut W,
+) -> Result<(), TraceError>
     ensures whole { OnOk result (Appends (W.contents writer.old) (W.contents writer.new)
-        (layout_text layout.now)) }
+        (layout_text layout.now times)) }
     ensures prefix { OnErr result (AppendsPrefix (W.contents writer.old) (W.contents writer.new)
-        (layout_text layout.now)) }
+        (layout_text layout.now times)) }
     ensures err { IfErr result (λ e. e ≡ TraceError.Write) }
+    // So no boot takes longer than the revert whose time is written.
+    ensures longest { LongestLaw }
 {
     write_line(writer, &sizes_line(layout))?;
     write_line(writer, &parts_line(layout))?;
-    write_line(writer, &operations_line(layout))?;
+    write_line(writer, &boots_line(layout, times))?;
     Ok(())
 }

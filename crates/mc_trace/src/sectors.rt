@@ -42,8 +42,8 @@ fn next_word(start: &Start, words: Words, at: (Slot, u32), bytes: &[u8]) -> Line
     word
 }
 
-// Appends the line of a slot that holds these bytes.
-fn push_slot(
+/// Appends the line of a slot that holds these bytes.
+pub fn push_slot(
     alloc: Global,
     text: &mut String,
     start: &Start,

@@ -6,3 +6,5 @@ mod Visited
 mod Known
 mod Arrived
 mod Tabled
+mod Differing
+mod Nearest

@@ -4,8 +4,6 @@ use Rattle.std.specs.Io.KnownBytes.{Appends}
 use Rattle.std.proofs.Common.{add-one, ap, append-nil, drop-cons, drop_of_length-le, subst, sym}
 use Rattle.mc_output.specs.Text.{AppendsPrefix}
 use Rattle.mc_output.specs.facts.Prefixes.{IsOut, out_all, out_begun, out_more, out_prefix}
-use Rattle.mc_vectors.specs.Table.{case_text, cases_text}
-use Rattle.mc_vectors.specs.declared.case.Case.{Case}
 
 -- A beginning of the first is one of both.
 pub first_begun : (before new : Option (List ℕ)) (a b : List ℕ) → AppendsPrefix before new a → AppendsPrefix before new (a ++ b)
@@ -17,25 +15,26 @@ then_begun before mid new a b p q =
     let o = out_more before before mid (a ++ b) a b (out_begun before (a ++ b)) p in
     out_prefix before mid new (a ++ b) b [] (rw (append-nil b) o) q
 
--- The lines of the cases from i on.
-abbrev pub left : List Case → ℕ → List ℕ
-left cases i = flat_map case_text (drop i cases)
+module _ {A : Type 0} (line_of : A → List ℕ) where
+  -- The lines of the items from i on.
+  abbrev pub left : List A → ℕ → List ℕ
+  left items i = flat_map line_of (drop i items)
 
-module _ (before mid : Option (List ℕ)) (cases : List Case) (i : ℕ) (o : IsOut before mid (cases_text cases) (left cases i)) where
-  -- None is left.
-  pub no_case : length cases ≤ i → Appends before mid (cases_text cases)
-  no_case end = out_all before mid (cases_text cases) (rw (drop_of_length-le cases end) at o)
+  module _ (text : List ℕ) (before mid : Option (List ℕ)) (items : List A) (i : ℕ) (o : IsOut before mid text (left items i)) where
+    -- None is left.
+    pub none_left : length items ≤ i → Appends before mid text
+    none_left end = out_all before mid text (rw (drop_of_length-le items end) at o)
 
-  module _ (new : Option (List ℕ)) (c : Case) (inside : i < length cases) (is : c ≡ get_or cases i c) where
-    next_is : left cases i ≡ case_text c ++ left cases (i + 1)
-    next_is = rw (add-one, drop-cons cases i c inside) (ap (λ (d : Case). case_text d ++ left cases (suc i)) (sym is))
+    module _ (new : Option (List ℕ)) (x d : A) (inside : i < length items) (is : x ≡ get_or items i d) where
+      next_is : left items i ≡ line_of x ++ left items (i + 1)
+      next_is = rw (add-one, drop-cons items i d inside) (ap (λ (y : A). line_of y ++ left items (suc i)) (sym is))
 
-    next_out : IsOut before mid (cases_text cases) (case_text c ++ left cases (i + 1))
-    next_out = subst (IsOut before mid (cases_text cases)) next_is o
+      next_out : IsOut before mid text (line_of x ++ left items (i + 1))
+      next_out = subst (IsOut before mid text) next_is o
 
-    -- The line of the next case comes out, or a beginning of it.
-    pub case_out : Appends mid new (case_text c) → IsOut before new (cases_text cases) (left cases (i + 1))
-    case_out p = out_more before mid new (cases_text cases) (case_text c) (left cases (i + 1)) next_out p
+      -- The line of the next item comes out, or a beginning of it.
+      pub line_out : Appends mid new (line_of x) → IsOut before new text (left items (i + 1))
+      line_out p = out_more before mid new text (line_of x) (left items (i + 1)) next_out p
 
-    pub case_begun : AppendsPrefix mid new (case_text c) → AppendsPrefix before new (cases_text cases)
-    case_begun p = out_prefix before mid new (cases_text cases) (case_text c) (left cases (i + 1)) next_out p
+      pub line_begun : AppendsPrefix mid new (line_of x) → AppendsPrefix before new text
+      line_begun p = out_prefix before mid new text (line_of x) (left items (i + 1)) next_out p

@@ -1,3 +1,4 @@
 pub mod Cases
+pub mod Locating
 pub mod Table
 pub mod inner

@@ -2,9 +2,21 @@
 #![tactic(auto)]
 
 use mc_command::{Refusal, run};
-use std::alloc::AllocError;
+use std::alloc::{AllocError, Global};
 use std::io;
+use std::io::IsTerminal;
 use std::process::ExitCode;
+
+/// The option that asks for the reason of a refusal.
+const VERBOSE: &str = "--verbose";
+
+/// Asks for the reason of a refusal too, where a person sees it and the words of a command do not ask for it.
+fn with_reasons(alloc: Global, words: &mut Vec<String>) -> Result<(), AllocError> {
+    if words.len() > 1 && words.iter().all(|word| word.as_str() != VERBOSE) {
+        words.insert(1, String::from_str(alloc, VERBOSE)?)?;
+    }
+    Ok(())
+}
 
 fn main(rt: HostRuntime) -> ExitCode {
     let alloc = rt.alloc();
@@ -15,9 +27,12 @@ fn main(rt: HostRuntime) -> ExitCode {
         }
         Err(_) => Err(AllocError),
     };
-    let Ok(words) = words else {
+    let Ok(mut words) = words else {
         return ExitCode::from(Refusal::Memory.report(&mut rt.stderr()));
     };
+    if rt.stderr().is_terminal() && with_reasons(alloc, &mut words).is_err() {
+        return ExitCode::from(Refusal::Memory.report(&mut rt.stderr()));
+    }
     let status = run(
         &rt,
         alloc,

@@ -1,28 +1,71 @@
 //! `create`: an image from a payload.
+ghost use Rattle.mc_command.specs.Arguments.{IsReady};
+
 use crate::creation::Creation;
+use crate::outfile::Outfile;
 use crate::refusal::Refusal;
 use crate::same_file::is_same_file;
 use clap::ArgMatches;
 use std::alloc::Global;
 use std::fs;
+use std::io::{Read, Write};
 use std::rt::Files;
 
-/// Makes the image of INFILE's payload in OUTFILE. The arguments are checked before a file is touched; INFILE is open
-/// before OUTFILE is made, or emptied.
+/// What stands for standard input and output.
+const STANDARD: &str = "-";
+
+/// Makes the image of INFILE's payload in OUTFILE, either of which may be `-`. The arguments are checked before a file is touched;
+/// INFILE is open before OUTFILE is made, or emptied. With `--keep` OUTFILE is as it was until the image is whole.
 ///
 /// # Errors
 ///
 /// What `Creation::read` refuses; `SameFile` where OUTFILE is INFILE, by whatever path; `Open` where one of the files
 /// cannot be opened or made; what the image tool refuses.
-pub fn run<F: Files>(files: &F, alloc: Global, arguments: &ArgMatches<'_>) -> Result<(), Refusal> {
+pub fn run<F: Files, R: Read, O: Write>(
+    files: &F,
+    alloc: Global,
+    arguments: &ArgMatches<'_>,
+    input: &mut R,
+    out: &mut O,
+) -> Result<(), Refusal> {
     let creation = Creation::read(arguments)?;
     let infile = creation.infile();
-    let outfile = creation.outfile();
-    if is_same_file(files, infile, outfile) {
+    if infile == STANDARD {
+        return make_from(files, alloc, &creation, input, out);
+    }
+    if is_same_file(files, infile, creation.outfile()) {
         return Err(Refusal::SameFile);
     }
-    let mut input = fs::open(files, infile).map_err(|_| Refusal::Open)?;
-    let mut output = fs::create(files, outfile).map_err(|_| Refusal::Open)?;
-    creation.make(alloc, &mut input, &mut output)?;
-    Ok(())
+    match fs::open(files, infile) {
+        Ok(mut file) => make_from(files, alloc, &creation, &mut file, out),
+        Err(_) => Err(Refusal::Open),
+    }
+}
+
+/// Makes the image of what is read.
+///
+/// # Errors
+///
+/// `Open` where OUTFILE cannot be made; what the image tool refuses.
+fn make_from<F: Files, R: Read, O: Write>(
+    files: &F,
+    alloc: Global,
+    creation: &Creation<'_>,
+    input: &mut R,
+    out: &mut O,
+) -> Result<(), Refusal>
+    requires { IsReady creation.now.options }
+{
+    let outfile = creation.outfile();
+    if outfile == STANDARD {
+        creation.make(alloc, input, out)?;
+        return Ok(());
+    }
+    let mut output = if creation.keeps() {
+        Outfile::beside(files, alloc, outfile)?
+    } else {
+        Outfile::in_place(files, outfile)?
+    };
+    let made = creation.make(alloc, input, &mut output.file);
+    output.end(made.map_err(Refusal::Tool))
 }

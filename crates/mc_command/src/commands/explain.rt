@@ -1,18 +1,18 @@
 //! `explain`: what a refusal means.
-use crate::explanations::explanation_of;
 use crate::options::required;
 use crate::refusal::Refusal;
 use clap::ArgMatches;
+use mc_cli::explanation_of;
 use std::io::Write;
 
-/// Prints what the refusal of a number means, which may be written as it is printed: `33` or `E33`.
+/// Prints what the refusal of a number means, which may be written as it is printed: `33`, `E33` or `e33`.
 ///
 /// # Errors
 ///
 /// `Unexplained` where no refusal has that number; `Write` where the output cannot be written.
 pub fn run<O: Write>(arguments: &ArgMatches<'_>, out: &mut O) -> Result<(), Refusal> {
     let text = required(arguments, "NUMBER")?;
-    let digits = text.strip_prefix('E').unwrap_or(text);
+    let digits = text.strip_prefix(['E', 'e']).unwrap_or(text);
     let Ok(number) = digits.parse::<u8>() else {
         return Err(Refusal::Unexplained);
     };

@@ -4,7 +4,7 @@ use clap::ArgMatches;
 use std::fs;
 use std::rt::Files;
 
-/// Opens INFILE, and returns nothing where it is left out.
+/// Opens INFILE, and returns nothing where it is left out or `-`.
 ///
 /// # Errors
 ///
@@ -14,10 +14,10 @@ pub fn open_infile<F: Files>(
     arguments: &ArgMatches<'_>,
 ) -> Result<Option<F::File>, Refusal> {
     match arguments.get_str("INFILE") {
+        None | Some("-") => Ok(None),
         Some(infile) => match fs::open(files, infile) {
             Ok(file) => Ok(Some(file)),
             Err(_) => Err(Refusal::Open),
         },
-        None => Ok(None),
     }
 }

@@ -2,6 +2,7 @@
 use super::replay::write_file;
 use crate::options::{layout_options, rules_options};
 use crate::refusal::Refusal;
+use crate::same_file::{check_outputs, is_same_file};
 use crate::source::{GREATEST_FLASH, GREATEST_IMAGE, read_file};
 use clap::ArgMatches;
 use mc_explore::{Kind, Start};
@@ -34,8 +35,8 @@ fn delivered(alloc: Global, layout: &Layout, image: &[u8]) -> Result<Start, Refu
 ///
 /// # Errors
 ///
-/// `Layout` and `Argument` of the words; `Device` where not one of `--flash` and `--image` is given; what is refused of the
-/// file.
+/// `Layout` and `Argument` of the words; `SameFile`; `Device` where not one of `--flash` and `--image` is given; what is refused of
+/// the file.
 fn read_device<F: Files>(
     files: &F,
     alloc: Global,
@@ -43,6 +44,7 @@ fn read_device<F: Files>(
 ) -> Result<Start, Refusal> {
     let layout = layout_options(arguments)?;
     let rules = rules_options(arguments)?;
+    check_outputs(files, arguments)?;
     let start = match (arguments.get_str("flash"), arguments.get_str("image")) {
         (Some(path), None) => {
             let bytes = read_file(files, alloc, path, GREATEST_FLASH)?;
@@ -84,15 +86,25 @@ fn add_file<F: Files>(
     shelf.push(file).map_err(|_| Refusal::Memory)
 }
 
-/// The files that a script names, each once.
+/// The files that a script names, each once. None of them is the file that is to be written.
 ///
 /// # Errors
 ///
-/// Those of `add_file`.
-fn read_shelf<F: Files>(files: &F, alloc: Global, script: &Script) -> Result<Vec<File>, Refusal> {
+/// `SameFile`; those of `add_file`.
+fn read_shelf<F: Files>(
+    files: &F,
+    alloc: Global,
+    script: &Script,
+    outfile: Option<&str>,
+) -> Result<Vec<File>, Refusal> {
     let names = script.names(alloc).map_err(|_| Refusal::Memory)?;
     let mut shelf = Vec::new(alloc);
     for name in &names {
+        if let Some(outfile) = outfile
+            && is_same_file(files, name, outfile)
+        {
+            return Err(Refusal::SameFile);
+        }
         add_file(files, alloc, name, &mut shelf)?;
     }
     Ok(shelf)
@@ -109,9 +121,10 @@ fn read_script<F: Files, R: Read>(
     arguments: &ArgMatches<'_>,
     input: &mut R,
 ) -> Result<Script, Refusal> {
-    let Some(path) = arguments.get_str("SCRIPT") else {
+    let path = arguments.get_str("SCRIPT").unwrap_or("-");
+    if path == "-" {
         return Ok(Script::read(alloc, input)?);
-    };
+    }
     let mut file = fs::open(files, path).map_err(|_| Refusal::Open)?;
     Ok(Script::read(alloc, &mut file)?)
 }
@@ -132,13 +145,13 @@ pub fn run<F: Files, R: Read, O: Write>(
 ) -> Result<(), Refusal> {
     let start = read_device(files, alloc, arguments)?;
     let script = read_script(files, alloc, arguments, input)?;
-    let shelf = read_shelf(files, alloc, &script)?;
+    let shelf = read_shelf(files, alloc, &script, arguments.get_str("out"))?;
     let device: Device<SnapFlash> = replay_life(alloc, &start, &script, &shelf, out)?;
     if arguments.get_flag("wear") {
         write_wear(device.wear(), out).map_err(|_| Refusal::Write)?;
     }
     if let Some(path) = arguments.get_str("out") {
-        write_file(files, path, device.flash())?;
+        write_file(files, alloc, path, device.flash())?;
     }
     Ok(())
 }

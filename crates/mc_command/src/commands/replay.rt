@@ -1,12 +1,12 @@
 //! `boot` and `replay`: what the boot after a schedule of power cuts does.
 use crate::commands::schedule::{Scheduled, read_schedule, schedule_from};
+use crate::outfile::Outfile;
 use crate::refusal::Refusal;
 use clap::ArgMatches;
 use mc_explore::{flash_at_cut, replay};
 use mc_flash::{Flash, JournalFlash};
 use mc_trace::write_slots;
 use std::alloc::Global;
-use std::fs;
 use std::io::Write;
 use std::rt::Files;
 
@@ -55,7 +55,7 @@ fn write_cut<F: Files>(
     given: &Scheduled,
 ) -> Result<(), Refusal> {
     let flash: JournalFlash = flash_at_cut(alloc, &given.start, &given.schedule)?;
-    write_file(files, path, &flash)
+    write_file(files, alloc, path, &flash)
 }
 
 // Prints the outcome of a schedule, after the flash that is left was written where `--out` names a file.
@@ -68,18 +68,23 @@ fn print_replay<F: Files, O: Write>(
 ) -> Result<(), Refusal> {
     let (outcome, flash) = replay::<JournalFlash>(alloc, &given.start, &given.schedule)?;
     if let Some(path) = arguments.get_str("out") {
-        write_file(files, path, &flash)?;
+        write_file(files, alloc, path, &flash)?;
     }
     write!(out, "{outcome}").map_err(|_| Refusal::Write)
 }
 
-/// Writes the bytes of both slots, the primary's first, to a file that is made, or emptied first.
+/// Writes the bytes of both slots, the primary's first, to a file, which is as it was until all are written.
 ///
 /// # Errors
 ///
-/// `Open` where it cannot be made; `Write`.
-pub fn write_file<F: Files, S: Flash>(files: &F, path: &str, flash: &S) -> Result<(), Refusal> {
-    let mut file = fs::create(files, path).map_err(|_| Refusal::Open)?;
-    write_slots(flash, &mut file)?;
-    Ok(())
+/// `Open` where it cannot be made; `Write`; `Memory`.
+pub fn write_file<F: Files, S: Flash>(
+    files: &F,
+    alloc: Global,
+    path: &str,
+    flash: &S,
+) -> Result<(), Refusal> {
+    let mut outfile = Outfile::beside(files, alloc, path)?;
+    let written = write_slots(flash, &mut outfile.file);
+    outfile.end(written.map_err(Refusal::Trace))
 }

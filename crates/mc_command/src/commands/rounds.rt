@@ -8,6 +8,7 @@ ghost use Rattle.mc_command.specs.Sessions.{GivesStart};
 use crate::commands::replay::write_file;
 use crate::options::{flash_options, required};
 use crate::refusal::Refusal;
+use crate::same_file::check_outputs;
 use crate::source::read_start;
 use clap::ArgMatches;
 use mc_boot::Outcome;
@@ -31,7 +32,7 @@ struct Campaigned {
 ///
 /// # Errors
 ///
-/// `Source`, `Layout` and `Campaign` of the words, in this order; what `read_start` refuses.
+/// `Source`, `Layout` and `Campaign` of the words, in this order; `SameFile`; what `read_start` refuses.
 fn read<F: Files>(
     files: &F,
     alloc: Global,
@@ -46,6 +47,7 @@ fn read<F: Files>(
         Err(refusal) => return Err(refusal),
     };
     let campaign = Campaign::read(required(arguments, "schedule")?)?;
+    check_outputs(files, arguments)?;
     Ok(Campaigned {
         start: read_start(files, alloc, &options)?,
         campaign,
@@ -88,7 +90,7 @@ impl Campaigned {
         } else {
             flash_at_cut(alloc, &self.second(alloc)?, &seconds)?
         };
-        write_file(files, path, &flash)
+        write_file(files, alloc, path, &flash)
     }
 }
 
@@ -111,7 +113,7 @@ pub fn replay<F: Files, O: Write>(
         campaigned.write_cut(files, alloc, path)?;
     }
     if let Some(path) = arguments.get_str("out") {
-        write_file(files, path, &flash)?;
+        write_file(files, alloc, path, &flash)?;
     }
     write!(out, "round 1\n{first}round 2\n{second}").map_err(|_| Refusal::Write)
 }

@@ -7,6 +7,7 @@ ghost use Rattle.mc_command.specs.Sessions.{GivesStart};
 
 use crate::options::{flash_options, required};
 use crate::refusal::Refusal;
+use crate::same_file::check_outputs;
 use crate::source::read_start;
 use clap::ArgMatches;
 use mc_explore::{Schedule, Start};
@@ -41,7 +42,7 @@ pub fn read_schedule<F: Files>(
 ///
 /// # Errors
 ///
-/// `Source`, `Layout` and `Schedule` of the words, in this order; what `read_start` refuses.
+/// `Source`, `Layout` and `Schedule` of the words, in this order; `SameFile` of the files to be written; what `read_start` refuses.
 pub fn schedule_from<F: Files>(
     files: &F,
     alloc: Global,
@@ -56,6 +57,7 @@ pub fn schedule_from<F: Files>(
         Err(refusal) => return Err(refusal),
     };
     let schedule = Schedule::read(schedule)?;
+    check_outputs(files, arguments)?;
     let start = read_start(files, alloc, &options)?;
     Ok(Scheduled { start, schedule })
 }

@@ -9,6 +9,7 @@ ghost use Rattle.mc_vectors.specs.Table.{cases_text};
 
 use super::{finish, in_blocks};
 use crate::options::{census_options, flash_options, required};
+use crate::outfile::Outfile;
 use crate::refusal::Refusal;
 use crate::source::read_start;
 use clap::ArgMatches;
@@ -159,21 +160,34 @@ impl<F: Files> Folder<'_, '_, F> {
         format!(in self.alloc; "{}/{name}", self.path).map_err(|_| Refusal::Memory)
     }
 
-    /// Makes a file in it.
+    /// Writes a flash, or the patch of the start's that gives it.
     ///
     /// # Errors
     ///
-    /// `Open` where it cannot be made; `Memory`.
-    fn create(&self, name: &str) -> Result<F::File, Refusal> {
-        let path = self.inside(name)?;
-        fs::create(self.files, path.as_str()).map_err(|_| Refusal::Open)
+    /// `Explore` for want of memory; `Trace` and `Write` where a write fails.
+    fn write_bytes<S: Flash, W: Write + Drop>(
+        &self,
+        start: &Start,
+        flash: &S,
+        out: W,
+    ) -> Result<(), Refusal>
+        requires { (S.seen flash.now).geometry ≡ start.now.geometry }
+    {
+        let mut blocks = in_blocks(self.alloc, out)?;
+        if self.patches {
+            write_patch(start, flash, &mut blocks)?;
+        } else {
+            write_slots(flash, &mut blocks)?;
+        }
+        let _ = finish(blocks).map_err(|_| Refusal::Write)?;
+        Ok(())
     }
 
     /// Writes a flash in a file with its digest's name.
     ///
     /// # Errors
     ///
-    /// Those of `create`; `Trace` and `Write` where a write fails.
+    /// `Open` where it cannot be made; `Memory`; those of `write_bytes`.
     fn write_flash<S: Flash>(
         &self,
         start: &Start,
@@ -186,14 +200,10 @@ impl<F: Files> Folder<'_, '_, F> {
         name.put("flash/");
         name.put_hex(digest);
         name.put(if self.patches { ".patch" } else { ".bin" });
-        let mut blocks = in_blocks(self.alloc, self.create(name.as_str())?)?;
-        if self.patches {
-            write_patch(start, flash, &mut blocks)?;
-        } else {
-            write_slots(flash, &mut blocks)?;
-        }
-        let _ = finish(blocks).map_err(|_| Refusal::Write)?;
-        Ok(())
+        let path = self.inside(name.as_str())?;
+        let mut outfile = Outfile::beside(self.files, self.alloc, path.as_str())?;
+        let written = self.write_bytes(start, flash, &mut outfile.file);
+        outfile.end(written)
     }
 
     /// Writes the flashes that cuts leave, and those that the boots from there leave, each once.
@@ -218,17 +228,32 @@ impl<F: Files> Folder<'_, '_, F> {
     ///
     /// # Errors
     ///
-    /// Those of `write_flashes` and `print_table`.
+    /// `Open` where a file cannot be made; those of `write_flashes` and `print_table`.
     fn write(&self, start: &Start, cases: &[Case]) -> Result<(), Refusal> {
         if self.patches {
-            let mut file = self.create("start.bin")?;
-            file.write_all(start.primary()).map_err(|_| Refusal::Write)?;
-            file.write_all(start.secondary())
-                .map_err(|_| Refusal::Write)?;
+            self.write_start(start)?;
         }
         self.write_flashes(start, cases)?;
-        let _ = print_table(self.alloc, cases, self.create("cases.tsv")?)?;
-        Ok(())
+        let path = self.inside("cases.tsv")?;
+        let mut outfile = Outfile::beside(self.files, self.alloc, path.as_str())?;
+        let written = match print_table(self.alloc, cases, &mut outfile.file) {
+            Ok(_) => Ok(()),
+            Err(refusal) => Err(refusal),
+        };
+        outfile.end(written)
+    }
+
+    /// Writes the flash of the start.
+    ///
+    /// # Errors
+    ///
+    /// `Open` where its file cannot be made; `Write`; `Memory`.
+    fn write_start(&self, start: &Start) -> Result<(), Refusal> {
+        let path = self.inside("start.bin")?;
+        let mut outfile = Outfile::beside(self.files, self.alloc, path.as_str())?;
+        let primary = outfile.file.write_all(start.primary());
+        let written = primary.and_then(|_| outfile.file.write_all(start.secondary()));
+        outfile.end(written.map_err(|_| Refusal::Write))
     }
 }
 

@@ -1,8 +1,8 @@
 //! `layout`, of the worked layout, of a board's and of refused ones; `type`, of flashes and of two images.
 use super::support::{Table, all_play};
 
-/// The worked layout, and slots of 118 sectors of 4096 bytes, worked out by hand; then one whose secondary is too small, and a word
-/// that is no number.
+/// The worked layout, and slots of 118 sectors of 4096 bytes, worked out by hand; then slots of 2^24 bytes, a secondary that is too
+/// small, and a word that is no number.
 const LAYOUTS: &str = "\
 $ layout WORKED
 trailer-bytes 144
@@ -25,6 +25,16 @@ call swap-ops 30
 call most-ops 36
 unit swap-ops 211
 unit most-ops 218
+primary erases 2
+secondary erases 1
+primary trailer-erases 1
+secondary trailer-erases 1
+$ layout WORKED --erase-us 1000 --write-us 10
+trailer-bytes 144...trailer-erases 1
+swap-us 10030
+revert-us 11080
+$ layout WORKED --erase-us 1000
+! mcsim: an argument is missing or out of its range; exit 2
 $ layout --sector 4096 --unit 4 --max-sectors 128 --chunk 1024 --primary 118 --secondary 118
 trailer-bytes 1584
 trailer-sectors 1
@@ -46,6 +56,12 @@ call swap-ops 2094
 call most-ops 2100
 unit swap-ops 357057
 unit most-ops 357066
+primary erases 2
+secondary erases 1
+primary trailer-erases 1
+secondary trailer-erases 1
+$ layout --sector 65536 --unit 8 --max-sectors 4 --chunk 128 --primary 256 --secondary 255
+trailer-bytes 144...! mcsim: note: --max-sectors 4 is less than --primary 256, so that MCUboot refuses to swap; exit 0
 $ layout --sector 4096 --unit 4 --max-sectors 128 --chunk 1024 --primary 118 --secondary 116
 ! mcsim: E33 Counts; exit 2
 $ layout --sector 4096 --unit 4 --max-sectors 128 --chunk 1024 --primary 118 --secondary x
@@ -187,11 +203,10 @@ const NUMBERS: &[&str] = &[
     "WHY",
 ];
 
-/// The least and the largest sector; a slot of 2^24 bytes; the most sectors of an image; room for one sector.
+/// The least and the largest sector; the most sectors of an image; room for one sector.
 const LIMITS: &str = "\
 64 1 4 32 4 3
 65536 8 1024 65536 3 3
-65536 8 4 128 256 255
 4096 8 1024 128 9 8
 256 8 4 128 3 2
 ";

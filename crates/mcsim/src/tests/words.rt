@@ -82,7 +82,7 @@ $ explain Counts
 ";
 
 /// What is reported where no command is.
-const NO_WORDS: &str = "! ...Usage: mcsim <COMMAND>...exit 2\n";
+const NO_WORDS: &str = "! ...Usage: mcsim [OPTIONS] <COMMAND>...exit 2\n";
 
 /// What a number, or a name, of a refusal means; and a line without a command.
 const EXPLANATIONS: &str = "\
@@ -99,7 +99,7 @@ E40 NotErased, exit status 1
 A write met bytes that are not 0xff.
 In a life: request once behind a download. In a boot the result is fault.
 $ 
-! ...Usage: mcsim <COMMAND>...exit 2
+! ...Usage: mcsim [OPTIONS] <COMMAND>...exit 2
 ";
 
 static TABLES: [Table; 3] = [
@@ -127,7 +127,7 @@ fn helps(rt: &impl Abort, alloc: Global, line: &str, want: &str) -> bool {
 
 /// Command lines that ask for help, and some words of it.
 static HELP: [(&str, &str); 8] = [
-    ("--help", "Usage: mcsim <COMMAND>"),
+    ("--help", "Usage: mcsim [OPTIONS] <COMMAND>"),
     ("create --help", "Usage: mcsim create "),
     ("verify -h", "Usage: mcsim verify "),
     ("dumpinfo -h", "Usage: mcsim dumpinfo "),

@@ -371,7 +371,7 @@ static EXPLORATIONS: [Explanation; 13] = [
     },
 ];
 
-static COMMANDS: [Explanation; 17] = [
+static COMMANDS: [Explanation; 18] = [
     Explanation {
         number: 70,
         name: "SourceOptions",
@@ -404,8 +404,8 @@ static COMMANDS: [Explanation; 17] = [
         number: 75,
         name: "SameFile",
         status: 2,
-        when: "OUTFILE is INFILE, by the same or another path; it would be emptied before it is read.",
-        remedy: "Choose another OUTFILE. Nothing was touched.",
+        when: "A file that is to be written is one that is read, or is to be written twice, by the same or another path.",
+        remedy: "Choose another file to write; --out may be the file of --flash. Nothing was touched.",
     },
     Explanation {
         number: 76,
@@ -490,5 +490,12 @@ static COMMANDS: [Explanation; 17] = [
         status: 1,
         when: "With --cuts all: flashes that 16 power cuts leave may lead to more.",
         remedy: "Give a number of cuts.",
+    },
+    Explanation {
+        number: 88,
+        name: "LayoutFile",
+        status: 2,
+        when: "A line of the file of --layout is none of the six options of a layout with its number.",
+        remedy: "Give a line for each, as --sector 4096; what follows a # is a comment.",
     },
 ];

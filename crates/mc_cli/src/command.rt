@@ -24,11 +24,24 @@ Signatures, encryption and hashes other than SHA-256 are not looked at.";
 ///
 /// clap's refusal of the words, the help or the version that they ask for, or that an allocation failed.
 pub fn parse<'a>(alloc: Global, words: &'a [String]) -> Result<ArgMatches<'a>, Error> {
-    let mut program = bare_program(alloc);
-    for subcommand in table::commands() {
-        program = program.subcommand(command(alloc, subcommand)?)?;
+    let mut program = bare_program(alloc).arg(verbose(alloc))?;
+    for part in table::commands() {
+        program = with_commands(alloc, program, part)?;
     }
     program.try_get_matches_from(words)
+}
+
+/// A program with some commands of the table.
+fn with_commands<'a>(
+    alloc: Global,
+    program: Command<'a>,
+    commands: &'static [Subcommand],
+) -> Result<Command<'a>, AllocError> {
+    let mut program = program;
+    for subcommand in commands {
+        program = program.subcommand(command(alloc, subcommand)?)?;
+    }
+    Ok(program)
 }
 
 /// The program without its commands.
@@ -39,7 +52,15 @@ fn bare_program<'a>(alloc: Global) -> Command<'a> {
         .after_help(AFTER_HELP)
         .subcommand_required(true)
         .arg_required_else_help(true)
-        .disable_help_subcommand(true)
+}
+
+/// The option that asks for the reason of a refusal.
+fn verbose<'a>(alloc: Global) -> Arg<'a> {
+    Arg::new(alloc, "verbose")
+        .long("verbose")
+        .action(ArgAction::SetTrue)
+        .global(true)
+        .help("Add a line with the reason to a refusal")
 }
 
 /// A command of the table.

@@ -18,6 +18,7 @@ pub enum Group {
     Creation,
     Slot,
     Layout,
+    Times,
     Source,
     Tables,
     Rules,
@@ -27,6 +28,7 @@ pub enum Group {
     Sectors,
     Picture,
     Vectors,
+    Dump,
     Exploration,
     Rounds,
     Verdict,
@@ -43,7 +45,8 @@ impl Group {
         match self {
             Group::Image | Group::Creation | Group::Refusal => None,
             Group::Slot => Some("Slot"),
-            Group::Layout => Some("Layout (all six)"),
+            Group::Layout => Some("Layout (all six, or --layout)"),
+            Group::Times => Some("Times of the flash (both)"),
             Group::Source => Some("Source (--flash, or the other three)"),
             Group::Tables | Group::Rules => Some("Boot loader"),
             Group::Output => Some("Output"),
@@ -52,6 +55,7 @@ impl Group {
             Group::Sectors => Some("Sectors"),
             Group::Picture => Some("Picture"),
             Group::Vectors => Some("Vectors"),
+            Group::Dump => Some("Dump"),
             Group::Exploration | Group::Campaign => Some("Exploration"),
             Group::Rounds => Some("Rounds"),
             Group::Verdict => Some("Verdict"),
@@ -68,6 +72,7 @@ impl Group {
             Group::Creation => &CREATION,
             Group::Slot => &SLOT,
             Group::Layout => &LAYOUT,
+            Group::Times => &TIMES,
             Group::Source => &SOURCE,
             Group::Tables => &TABLES,
             Group::Rules => &RULES,
@@ -77,6 +82,7 @@ impl Group {
             Group::Sectors => &SECTORS,
             Group::Picture => &PICTURE,
             Group::Vectors => &VECTORS,
+            Group::Dump => &DUMP,
             Group::Exploration => &EXPLORATION,
             Group::Rounds => &ROUNDS,
             Group::Verdict => &VERDICT,
@@ -153,17 +159,17 @@ static IMAGE: [Word; 1] = [Word {
 }];
 
 /// What gives an image.
-static CREATION: [Word; 6] = [
+static CREATION: [Word; 7] = [
     Word {
         name: "INFILE",
         required: true,
-        help: "The payload",
+        help: "The payload; - for standard input",
         ..PLACE
     },
     Word {
         name: "OUTFILE",
         required: true,
-        help: "The image; made, or emptied first",
+        help: "The image; made, or emptied first; - for standard output",
         ..PLACE
     },
     Word {
@@ -184,6 +190,11 @@ static CREATION: [Word; 6] = [
     Word {
         name: "pad-header",
         help: "INFILE is the bare payload; otherwise it begins with header-size zeros",
+        ..FLAG
+    },
+    Word {
+        name: "keep",
+        help: "Leave OUTFILE as it was until the image is whole",
         ..FLAG
     },
     Word {
@@ -227,8 +238,8 @@ static SLOT: [Word; 5] = [
     },
 ];
 
-/// The six numbers of a layout.
-static LAYOUT: [Word; 6] = [
+/// The six numbers of a layout, or a file that has them.
+static LAYOUT: [Word; 7] = [
     Word {
         name: "sector",
         required: true,
@@ -263,6 +274,26 @@ static LAYOUT: [Word; 6] = [
         name: "secondary",
         required: true,
         help: "Sectors of the secondary slot",
+        ..NUMBER
+    },
+    // The words of the file are put in its place before clap sees them.
+    Word {
+        name: "layout",
+        help: "The six from a file: these options, one a line, # before a comment",
+        ..FILE
+    },
+];
+
+/// How long a flash takes.
+static TIMES: [Word; 2] = [
+    Word {
+        name: "erase-us",
+        help: "Microseconds to erase a sector: print how long swaps take",
+        ..NUMBER
+    },
+    Word {
+        name: "write-us",
+        help: "Microseconds to write a unit",
         ..NUMBER
     },
 ];
@@ -378,6 +409,26 @@ static SECTORS: [Word; 3] = [
         default: Some("plain"),
         help: "Words for what is neither blank nor of the start",
         ..FLAG
+    },
+];
+
+/// A dump of a device, and the images that may lie in it.
+static DUMP: [Word; 3] = [
+    Word {
+        name: "flash",
+        required: true,
+        help: "A dump of both slots, primary first, with their trailers",
+        ..FILE
+    },
+    Word {
+        name: "known-a",
+        help: "The image that was in the primary before the swap",
+        ..FILE
+    },
+    Word {
+        name: "known-b",
+        help: "The image that was in the secondary before the swap",
+        ..FILE
     },
 ];
 
@@ -557,7 +608,7 @@ static DELIVERY: [Word; 2] = [
 static LIFE: [Word; 3] = [
     Word {
         name: "SCRIPT",
-        help: "The events, a line each; standard input if left out",
+        help: "The events, a line each; standard input if left out, or -",
         ..PLACE
     },
     Word {
@@ -582,7 +633,7 @@ static REFUSAL: [Word; 1] = [Word {
 
 const AFTER_CREATE: &str = "\
 INFILE and OUTFILE must be two files: OUTFILE is emptied before INFILE is read, and stays empty
-after a refusal. The trailer takes 3 * max-sectors * align + 48 bytes.
+after a refusal; with --keep it is as it was. The trailer takes 3 * max-sectors * align + 48 bytes.
 Example:
   mcsim create --version 1.2.3+4 --header-size 0x200 --pad-header --slot-size 483328 --align 4 \\
     app.bin app.img";
@@ -591,10 +642,13 @@ const AFTER_LAYOUT: &str = "\
 The sizes of a trailer and of the largest image, header and TLV area included; then the first byte of
 the first and last status entry and of each field, as trace names them; then, for cuts between write
 calls and between write units, the operations of a test swap of the largest images, and a bound for
-any boot:
+any boot; and how often that swap erases one sector at most, of those of an image and of the trailer:
   image-bytes 512
   primary 984 swap-info
-  call swap-ops 30";
+  call swap-ops 30
+  primary erases 2
+With the times of the flash also how long that swap takes, and the revert of such images, which no boot
+takes longer than, in microseconds.";
 
 const AFTER_TRACE: &str = "\
 Each boot begins with a line `boot` with its number, counted from 0, and its type. Each operation that
@@ -636,6 +690,24 @@ start.bin, and flash/DIGEST.patch: a line for each sector that is not what it wa
 Then: how many flashes, and whether no number of cuts leaves another (all yes).
 Example:
   mcsim vectors [LAYOUT] [SOURCE] --cuts all --dir cases --patches";
+
+const AFTER_INSPECT: &str = "\
+Lines: the trailers, and what they ask for, as type has them; where the layout does not fit, hint with
+the sector that ends in a magic, or with numbers by which the first status entry that is written
+would be the first of all; the image of each slot, or none and why; what lies in each sector, as
+sectors --words all has it: aN and bN are the sectors of the known images, where both are given, and
+else of the dump itself; the first operation of the boot from there, and its outcome; and what all
+schedules of at most 16 cuts from there come to, as census has it.";
+
+const AFTER_LOCATE: &str = "\
+Both known images are wanted. After which cuts of a swap of them does the dump occur? Lines: which
+swap (test, perm, or revert, which takes the test back), the first schedule that leaves the dump, or
+else the one whose flash differs from it in the fewest sectors, how many differ, and which; and
+whether no number of cuts leaves a nearer one (all yes), or 16 cuts are as far as was looked:
+  swap test
+  schedule 9.4
+  differs 0
+  all yes";
 
 const AFTER_EXPLORE: &str = "\
 A row is: SCHEDULE RESULT TYPE OPS PRIMARY SECONDARY NEXT
@@ -698,12 +770,43 @@ or settled, the secondary's image, and the type of the next boot:
 --wear adds a line for each slot: wear SLOT MOST SECTOR ALL: how often its most erased sector was erased,
 the first such sector, and how often all sectors were.";
 
-/// The commands, in the order of the help.
-pub fn commands() -> &'static [Subcommand] {
-    &COMMANDS
+/// The commands, in the order of the help, by parts.
+pub fn commands() -> [&'static [Subcommand]; 5] {
+    [
+        of_images(),
+        of_boots(),
+        of_flashes(),
+        of_explorations(),
+        of_others(),
+    ]
 }
 
-static COMMANDS: [Subcommand; 17] = [
+/// The commands on images.
+fn of_images() -> &'static [Subcommand] {
+    &IMAGES
+}
+
+/// The commands on a layout and the boots of a flash.
+fn of_boots() -> &'static [Subcommand] {
+    &BOOTS
+}
+
+/// The commands on what lies in a flash.
+fn of_flashes() -> &'static [Subcommand] {
+    &FLASHES
+}
+
+/// The commands on many schedules of power cuts.
+fn of_explorations() -> &'static [Subcommand] {
+    &EXPLORATIONS
+}
+
+/// The commands on the life of a device and on refusals.
+fn of_others() -> &'static [Subcommand] {
+    &OTHERS
+}
+
+static IMAGES: [Subcommand; 3] = [
     Subcommand {
         name: "create",
         aliases: &["sign"],
@@ -730,13 +833,16 @@ static COMMANDS: [Subcommand; 17] = [
         after_help: None,
         groups: &[Group::Image],
     },
+];
+
+static BOOTS: [Subcommand; 5] = [
     Subcommand {
         name: "layout",
         aliases: &[],
         about: "Print the sizes and places that follow from a layout, and how long its boots are",
-        usage: Some("mcsim layout <LAYOUT>"),
+        usage: Some("mcsim layout <LAYOUT> [OPTIONS]"),
         after_help: Some(AFTER_LAYOUT),
-        groups: &[Group::Layout],
+        groups: &[Group::Layout, Group::Times],
     },
     Subcommand {
         name: "type",
@@ -782,6 +888,9 @@ static COMMANDS: [Subcommand; 17] = [
             Group::Rounds,
         ],
     },
+];
+
+static FLASHES: [Subcommand; 5] = [
     Subcommand {
         name: "sectors",
         aliases: &[],
@@ -812,6 +921,25 @@ static COMMANDS: [Subcommand; 17] = [
         after_help: Some(AFTER_VECTORS),
         groups: &[Group::Layout, Group::Source, Group::Rules, Group::Vectors],
     },
+    Subcommand {
+        name: "inspect",
+        aliases: &[],
+        about: "Explain a dump of a device: trailers, images, sectors, what boots from there do",
+        usage: Some("mcsim inspect <LAYOUT> --flash <FILE> [OPTIONS]"),
+        after_help: Some(AFTER_INSPECT),
+        groups: &[Group::Layout, Group::Dump, Group::Rules],
+    },
+    Subcommand {
+        name: "locate",
+        aliases: &[],
+        about: "Find after which power cuts of a swap a dump occurs, or which sectors differ",
+        usage: Some("mcsim locate <LAYOUT> --flash <FILE> --known-a <FILE> --known-b <FILE>"),
+        after_help: Some(AFTER_LOCATE),
+        groups: &[Group::Layout, Group::Dump, Group::Rules],
+    },
+];
+
+static EXPLORATIONS: [Subcommand; 4] = [
     Subcommand {
         name: "explore",
         aliases: &[],
@@ -870,6 +998,9 @@ static COMMANDS: [Subcommand; 17] = [
             Group::Verdict,
         ],
     },
+];
+
+static OTHERS: [Subcommand; 2] = [
     Subcommand {
         name: "life",
         aliases: &[],

@@ -1,0 +1,98 @@
+//! Files that remember why one of them could not be opened.
+use std::alloc::{Allocator, Global};
+use std::cell::RefCell;
+use std::fs::{Metadata, OpenOptions, Permissions};
+use std::io;
+use std::path::PathBuf;
+use std::rt::Files;
+
+/// A file that could not be opened or made, and why.
+#[derive(Drop)]
+pub struct Unopened {
+    pub path: String,
+    pub error: io::Error,
+}
+
+/// The same files, with the last that could not be opened or made.
+#[derive(Drop)]
+pub struct WatchedFiles<'f, F: Files> {
+    files: &'f F,
+    alloc: Global,
+    unopened: RefCell<Option<Unopened>>,
+}
+
+impl<'f, F: Files> WatchedFiles<'f, F> {
+    /// None of them was opened yet.
+    pub fn new(files: &'f F, alloc: Global) -> WatchedFiles<'f, F> {
+        WatchedFiles {
+            files,
+            alloc,
+            unopened: RefCell::new(None),
+        }
+    }
+
+    /// The last that could not be opened or made, if there is one.
+    pub fn unopened(self) -> Option<Unopened> {
+        self.unopened.into_inner()
+    }
+
+    /// Hands on what a call on a path gave. Where it failed, that is remembered, if there is memory for the path.
+    fn note<T>(&self, path: &str, given: io::Result<T>) -> io::Result<T> {
+        if let Err(error) = &given
+            && let Ok(path) = String::from_str(self.alloc, path)
+            && let Ok(mut unopened) = self.unopened.try_borrow_mut()
+        {
+            *unopened = Some(Unopened {
+                path,
+                error: *error,
+            });
+        }
+        given
+    }
+}
+
+impl<F: Files> Files for WatchedFiles<'_, F> {
+    type File = F::File;
+
+    type Dir = F::Dir;
+
+    fn open_file(&self, how: &OpenOptions, path: &str) -> io::Result<F::File> {
+        self.note(path, self.files.open_file(how, path))
+    }
+
+    fn open_dir(&self, path: &str) -> io::Result<F::Dir> {
+        self.note(path, self.files.open_dir(path))
+    }
+
+    fn metadata(&self, path: &str) -> io::Result<Metadata> {
+        self.files.metadata(path)
+    }
+
+    fn symlink_metadata(&self, path: &str) -> io::Result<Metadata> {
+        self.files.symlink_metadata(path)
+    }
+
+    fn copy(&self, from: &str, to: &str) -> io::Result<u64> {
+        self.files.copy(from, to)
+    }
+
+    fn rename(&self, from: &str, to: &str) -> io::Result<()> {
+        self.note(to, self.files.rename(from, to))
+    }
+
+    fn remove_file(&self, path: &str) -> io::Result<()> {
+        self.files.remove_file(path)
+    }
+
+    fn create_dir(&self, path: &str) -> io::Result<()> {
+        self.note(path, self.files.create_dir(path))
+    }
+
+    fn remove_dir(&self, path: &str) -> io::Result<()> {
+        self.files.remove_dir(path)
+    }
+
+    fn remove_dir_all<B: Allocator>(&self, alloc: B, path: &str) -> io::Result<()> {
+        self.files.remove_dir_all(alloc, path)
+    }
+}

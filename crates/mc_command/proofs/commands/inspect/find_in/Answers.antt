@@ -1,0 +1,10 @@
+use Rattle.std.proofs.Common.{rules}
+use Rattle.mc_command.proofs.commands.inspect.find_in.Goals as goal
+
+pub returns : goal.returns
+returns c =
+    record {
+      start = c.in_ok-start.start;
+      swap = search rules;
+      nearest = rw (c.primary-primary.ensures.value, c.secondary-secondary.ensures.value) at c.in_ok-located.ensures.nearest;
+    }

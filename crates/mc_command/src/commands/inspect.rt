@@ -1,0 +1,221 @@
+//! `inspect` and `locate`: what a dump of a device is, and where it occurs in a swap of two images.
+ghost use Rattle.std.specs.Prelude.{◌≡◌, IfOk};
+ghost use Rattle.clap.specs.Matches.{found_of};
+ghost use Rattle.mc_command.specs.Arguments.{GivesLayout, GivesRules};
+ghost use Rattle.mc_command.specs.Inspections.{IsFound, IsSwapOf, first_of, second_of};
+
+use crate::options::{kind_name, layout_options, required, rules_options};
+use crate::refusal::Refusal;
+use crate::source::{GREATEST_FLASH, GREATEST_IMAGE, read_file};
+use clap::ArgMatches;
+use mc_explore::{Kind, OneRound, Start, take_census, write_census};
+use mc_flash::{JournalFlash, Layout};
+use mc_trace::write_inspection;
+use mc_trailer::Rules;
+use mc_vectors::{Located, locate, write_located};
+use std::alloc::Global;
+use std::io::Write;
+use std::rt::Files;
+
+/// The most cuts that are looked through.
+const MOST_CUTS: u8 = 16;
+
+/// What lies in two files of images.
+#[derive(Drop)]
+struct Images {
+    a: Vec<u8>,
+    b: Vec<u8>,
+}
+
+/// The image in the primary at the start of a swap of that kind, and the one in the secondary.
+fn in_order<'a>(kind: Kind, a: &'a [u8], b: &'a [u8]) -> (&'a [u8], &'a [u8])
+    ensures first { result.0.now ≡ first_of kind a.entry.now b.entry.now }
+    ensures second { result.1.now ≡ second_of kind a.entry.now b.entry.now }
+{
+    match kind {
+        Kind::Revert => (b, a),
+        Kind::None | Kind::Test | Kind::Perm => (a, b),
+    }
+}
+
+impl Images {
+    /// The images that the words name, if they name two.
+    ///
+    /// # Errors
+    ///
+    /// `Source` where they name one alone; what `read_file` refuses, of the first before the second.
+    fn read<F: Files>(
+        files: &F,
+        alloc: Global,
+        arguments: &ArgMatches<'_>,
+    ) -> Result<Option<Images>, Refusal> {
+        match (arguments.get_str("known-a"), arguments.get_str("known-b")) {
+            (Some(a), Some(b)) => Ok(Some(Images {
+                a: read_file(files, alloc, a, GREATEST_IMAGE)?,
+                b: read_file(files, alloc, b, GREATEST_IMAGE)?,
+            })),
+            (None, None) => Ok(None),
+            _ => Err(Refusal::Source),
+        }
+    }
+
+    /// The start of a swap of them. Of a revert it is the one that takes the test of the second back.
+    ///
+    /// # Errors
+    ///
+    /// `Start` with what is refused of the images.
+    fn start_of(
+        &self,
+        alloc: Global,
+        layout: &Layout,
+        rules: Rules,
+        kind: Kind,
+    ) -> Result<Start, Refusal>
+        ensures layout { IfOk result (λ start. start.geometry ≡ layout.now) }
+        ensures swap { IfOk result (IsSwapOf self.now layout.now rules kind) }
+    {
+        let (first, second) = in_order(kind, self.a.as_slice(), self.b.as_slice());
+        let start = Start::from_images(alloc, layout, kind, first, second)?;
+        Ok(start.with_rules(rules))
+    }
+}
+
+/// A dump: its file, its layout, and the rules of the boots from there.
+#[derive(Debug, Drop)]
+struct Dump<'a> {
+    path: &'a str,
+    layout: Layout,
+    rules: Rules,
+}
+
+impl<'a> Dump<'a> {
+    /// What the words say of it.
+    ///
+    /// # Errors
+    ///
+    /// `Layout` and `Argument` of the words.
+    fn named(arguments: &ArgMatches<'a>) -> Result<Dump<'a>, Refusal>
+        ensures layout { IfOk result (λ d. GivesLayout (found_of arguments.now) d.layout) }
+        ensures rules { IfOk result (λ d. GivesRules (found_of arguments.now) d.rules) }
+    {
+        let layout = layout_options(arguments)?;
+        let rules = rules_options(arguments)?;
+        Ok(Dump {
+            path: required(arguments, "flash")?,
+            layout,
+            rules,
+        })
+    }
+
+    /// The start from its bytes.
+    ///
+    /// # Errors
+    ///
+    /// What `read_file` refuses; `Start` where they are not as many as both slots have.
+    fn read<F: Files>(&self, files: &F, alloc: Global) -> Result<Start, Refusal>
+        ensures { IfOk result (λ start. start.geometry ≡ self.now.layout) }
+    {
+        let bytes = read_file(files, alloc, self.path, GREATEST_FLASH)?;
+        let start = Start::from_flash(alloc, &self.layout, bytes.as_slice())?;
+        Ok(start.with_rules(self.rules))
+    }
+}
+
+/// Explains a dump: its trailers, what its slots hold, its sectors by those of the known images if they are given, the boot from there, and
+/// what all schedules of at most 16 cuts come to. The words are checked before a file is touched.
+///
+/// # Errors
+///
+/// Those of `Dump::named`, `Images::read` and `Dump::read`; `Start` of the images; `Trace` and `Explore` for want of memory, or
+/// where the output fails.
+pub fn run<F: Files, O: Write>(
+    files: &F,
+    alloc: Global,
+    arguments: &ArgMatches<'_>,
+    out: &mut O,
+) -> Result<(), Refusal> {
+    let dump = match Dump::named(arguments) {
+        Ok(dump) => dump,
+        Err(refusal) => return Err(refusal),
+    };
+    let images = Images::read(files, alloc, arguments)?;
+    let start = dump.read(files, alloc)?;
+    match &images {
+        Some(images) => {
+            let named = images.start_of(alloc, &dump.layout, dump.rules, Kind::None)?;
+            write_inspection::<JournalFlash, O>(alloc, &start, &named, out)?;
+        }
+        None => write_inspection::<JournalFlash, O>(alloc, &start, &start, out)?,
+    }
+    let census = take_census::<JournalFlash, OneRound>(alloc, &start, MOST_CUTS, ())?;
+    Ok(write_census::<OneRound, O>(&census, out)?)
+}
+
+/// A swap, and where a flash occurs in it.
+#[derive(Drop)]
+struct Found {
+    kind: Kind,
+    located: Located,
+}
+
+/// Where a flash occurs in a swap of that kind.
+///
+/// # Errors
+///
+/// `Start` with what is refused of the images; `Flash` for want of memory.
+fn find_in(alloc: Global, flash: &Start, images: &Images, kind: Kind) -> Result<Found, Refusal>
+    ensures { IfOk result (IsFound images.now flash.now) }
+{
+    let start = images.start_of(alloc, flash.layout(), flash.rules(), kind)?;
+    let (primary, secondary) = (flash.primary(), flash.secondary());
+    let located = locate::<JournalFlash>(alloc, &start, primary, secondary, MOST_CUTS)?;
+    Ok(Found { kind, located })
+}
+
+/// That of two where fewer sectors differ; the first where as many do.
+fn nearer(first: Found, second: Found) -> Found {
+    if second.located.differs.len() < first.located.differs.len() {
+        second
+    } else {
+        first
+    }
+}
+
+/// Prints after which schedule of a swap of the known images a dump occurs, the first such, or which sectors differ from the nearest flash
+/// of these. A test is tried first, then a swap for good, then the revert of the test. The words are checked before a file is touched.
+///
+/// # Errors
+///
+/// Those of `Dump::named`, `Images::read` and `Dump::read`; `Source` where no images are given; those of `find_in`; `Write`.
+pub fn find<F: Files, O: Write>(
+    files: &F,
+    alloc: Global,
+    arguments: &ArgMatches<'_>,
+    out: &mut O,
+) -> Result<(), Refusal> {
+    let dump = match Dump::named(arguments) {
+        Ok(dump) => dump,
+        Err(refusal) => return Err(refusal),
+    };
+    let Some(images) = Images::read(files, alloc, arguments)? else {
+        return Err(Refusal::Source);
+    };
+    let flash = dump.read(files, alloc)?;
+    let test = find_in(alloc, &flash, &images, Kind::Test)?;
+    let perm = find_in(alloc, &flash, &images, Kind::Perm)?;
+    let revert = find_in(alloc, &flash, &images, Kind::Revert)?;
+    print_found(&nearer(nearer(test, perm), revert), out)
+}
+
+/// Prints a swap, and where a flash occurs in it.
+///
+/// # Errors
+///
+/// `Write`.
+fn print_found<O: Write>(found: &Found, out: &mut O) -> Result<(), Refusal> {
+    let all = if found.located.whole { "yes" } else { "no" };
+    let kind = kind_name(found.kind);
+    writeln!(out, "swap {kind}").map_err(|_| Refusal::Write)?;
+    write_located(&found.located, out).map_err(|_| Refusal::Write)?;
+    writeln!(out, "all {all}").map_err(|_| Refusal::Write)
+}

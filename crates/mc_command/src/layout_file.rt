@@ -1,0 +1,114 @@
+//! The numbers of a layout from a file: the same options, one a line.
+use crate::numbers::NumberOption;
+use crate::refusal::Refusal;
+use crate::source::read_file;
+use std::alloc::Global;
+use std::rt::Files;
+
+/// The most bytes of a file of a layout.
+const GREATEST_FILE: u32 = 65_536;
+
+/// The options that such a file may give.
+static OPTIONS: [NumberOption; 6] = [
+    NumberOption::Sector,
+    NumberOption::Unit,
+    NumberOption::MaxSectors,
+    NumberOption::Chunk,
+    NumberOption::Primary,
+    NumberOption::Secondary,
+];
+
+/// The option of a layout and its value that a line gives, as `--sector 4096` or `--sector=4096`, with blanks around it and `#` before
+/// a comment; nothing where it is blank.
+///
+/// # Errors
+///
+/// `LayoutFile` where it says anything else.
+fn setting_of(line: &str) -> Result<Option<(NumberOption, &str)>, Refusal> {
+    let (said, _comment) = line.split_once('#').unwrap_or((line, ""));
+    let said = said.trim();
+    if said.is_empty() {
+        return Ok(None);
+    }
+    let (name, value) = said
+        .split_once('=')
+        .or_else(|| said.split_once(char::is_whitespace))
+        .ok_or(Refusal::LayoutFile)?;
+    let name = name.strip_prefix("--").ok_or(Refusal::LayoutFile)?;
+    let option = OPTIONS.iter().find(|option| option.name() == name);
+    match option {
+        Some(option) => Ok(Some((*option, value.trim()))),
+        None => Err(Refusal::LayoutFile),
+    }
+}
+
+/// Adds the options that a text gives, each as one word.
+///
+/// # Errors
+///
+/// `LayoutFile` where a line says anything else; `Memory`.
+fn add_settings(alloc: Global, text: &str, words: &mut Vec<String>) -> Result<(), Refusal> {
+    for line in text.lines() {
+        if let Some((option, value)) = setting_of(line)? {
+            let word = format!(in alloc; "--{}={value}", option.name());
+            words
+                .push(word.map_err(|_| Refusal::Memory)?)
+                .map_err(|_| Refusal::Memory)?;
+        }
+    }
+    Ok(())
+}
+
+/// Adds the options that a file gives.
+///
+/// # Errors
+///
+/// What `read_file` refuses; `LayoutFile` where it is no text, or a line says anything else; `Memory`.
+fn add_file<F: Files>(
+    files: &F,
+    alloc: Global,
+    path: &str,
+    words: &mut Vec<String>,
+) -> Result<(), Refusal> {
+    let bytes = read_file(files, alloc, path, GREATEST_FILE)?;
+    let text = String::from_utf8(bytes).map_err(|_| Refusal::LayoutFile)?;
+    add_settings(alloc, text.as_str(), words)
+}
+
+/// Whether words ask for a layout from a file.
+pub fn asks_file(words: &[String]) -> bool {
+    words.iter().any(|word| word.as_str() == "--layout" || word.starts_with("--layout="))
+}
+
+/// The words of a command line with what the file gives in place of each `--layout FILE`. What stands after `--` stays.
+///
+/// # Errors
+///
+/// Those of `add_file`.
+pub fn with_files<F: Files>(
+    files: &F,
+    alloc: Global,
+    words: &[String],
+) -> Result<Vec<String>, Refusal> {
+    let mut whole = Vec::new(alloc);
+    let mut is_path = false;
+    let mut is_over = false;
+    for word in words {
+        let path = word.strip_prefix("--layout=");
+        if is_path && !is_over {
+            is_path = false;
+            add_file(files, alloc, word.as_str(), &mut whole)?;
+        } else if let Some(path) = path
+            && !is_over
+        {
+            add_file(files, alloc, path, &mut whole)?;
+        } else if word.as_str() == "--layout" && !is_over {
+            is_path = true;
+        } else {
+            is_over = is_over || word.as_str() == "--";
+            let word = word.clone().map_err(|_| Refusal::Memory)?;
+            whole.push(word).map_err(|_| Refusal::Memory)?;
+        }
+    }
+    Ok(whole)
+}

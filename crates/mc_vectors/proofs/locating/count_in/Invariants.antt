@@ -1,0 +1,7 @@
+use Rattle.std.specs.Prelude.{length, min, ◌≡◌}
+use Rattle.mc_vectors.specs.inner.Locating.{differing_first}
+use Rattle.mc_vectors.proofs.locating.count_in.Given as goal
+
+abbrev pub invariant-loop-number : goal.invariant-loop-number
+invariant-loop-number g l =
+    l.count ≡ min l.most (length (differing_first (g.F.Flash.seen l.flash).geometry (g.F.Flash.seen l.flash).content l.wanted l.slot l.number))

@@ -1,0 +1,144 @@
+//! Layouts from files, reasons of refusals, and what becomes of a file that is written.
+use super::support::{Table, all_play, in_full, same_at, shown_of, shows};
+use mc_fixtures::{PAYLOAD, PLAIN_IMAGE, named};
+use std::alloc::Global;
+use std::process::Abort;
+use std::rt::Files;
+use std::{env, fs, process};
+
+/// The worked layout as a file, and one with another option.
+const LAYOUT_FILE: &[u8] =
+    b"# worked\n--sector 256\n--unit=8 # bytes\n\n --max-sectors\t4\r\n--chunk 128\n--primary 4\n--secondary 3";
+
+const OTHER_FILE: &[u8] = b"--sector 256\n--kind test\n";
+
+#[test]
+fn reads_a_layout_from_a_file(rt: HostRuntime) {
+    let type_line = "type --layout in --kind test --image-a first --image-b second";
+    let trailers = in_full(
+        &rt,
+        rt.alloc(),
+        "primary UNSET\nsecondary magic=good image-ok=unset copy-done=unset swap-info=0xff swap-size=4294967295\nresume no\ntable test\n",
+    );
+    shows(&rt, rt.alloc(), type_line, LAYOUT_FILE, trailers.as_str());
+    let refused = "! mcsim: E88 LayoutFile\nexit 2\n";
+    shows(&rt, rt.alloc(), "layout --layout=in", OTHER_FILE, refused);
+    let missing = "! mcsim: E71 Open\nmcsim: nofile: entity not found\nexit 3\n";
+    shows(
+        &rt,
+        rt.alloc(),
+        "--verbose layout --layout nofile",
+        &[],
+        missing,
+    );
+    shows(
+        &rt,
+        rt.alloc(),
+        "layout --layout",
+        &[],
+        "! error: ...exit 2\n",
+    );
+}
+
+/// Refusals with their reasons, and notes on what is not refused.
+const REASONS: &str = "\
+$ layout --verbose --sector 256 --unit 8 --max-sectors 4 --chunk 128 --primary 5 --secondary 3
+! mcsim: E33 Counts; mcsim: --primary is 5, --secondary 3: it must be 3 or 4; exit 2
+$ layout --verbose --sector 256 --unit 3 --max-sectors 4 --chunk 128 --primary 4 --secondary 3
+! mcsim: E30 Unit; mcsim: --unit is 3: it must be 1, 2, 4 or 8; exit 2
+$ --verbose layout --sector 200 --unit 8 --max-sectors 4 --chunk 128 --primary 4 --secondary 3
+! mcsim: E31 Sector; mcsim: --sector is 200: it must be a power of two from 64 to 65536; exit 2
+$ boot WORKED --kind test --image-a first --image-b nofile --verbose
+! mcsim: E71 Open; mcsim: nofile: entity not found; exit 3
+$ boot --sector 64 --unit 1 --max-sectors 1 --chunk 32 --primary 4 --secondary 3 --kind test --image-a first --image-b second --verbose
+! mcsim: E50 DoesNotFit; mcsim: image A has 80 bytes... 64 fit; mcsim: image B has 80 bytes... 64 fit; exit 1
+$ boot WORKED --kind test --image-a first --image-b in --verbose < 80:0=first,79=00
+! mcsim: E12 WrongDigest in image B; mcsim: image B is in; exit 1
+$ create --verbose PADDING in out < 12:0=3a3031303230333034303530
+! mcsim: note: INFILE looks like Intel HEX, and create takes a binary (objcopy -O binary); exit 0
+=> 84 bytes
+$ help verify
+Check an image's structure...
+$ explain e71
+E71 Open, exit status 3
+A file cannot be opened or made.
+Check the path and your rights to it.
+$ verify - < counted
+good 1.2.3+4 92 4dcc5778bca9c831b86de779361dfbc68a9740b5fcc3297188767c3aa8cba2e4
+$ boot WORKED --kind test --image-a first --image-b second --out first
+! mcsim: E75 SameFile; exit 2
+$ replay WORKED --kind test --image-a first --image-b second --schedule 9.4 --at-cut out --out out
+! mcsim: E75 SameFile; exit 2
+$ replay WORKED --flash in --schedule 0 --at-cut in
+! mcsim: E75 SameFile; exit 2
+";
+
+const TABLES: [Table; 1] = [(REASONS, &[], "all")];
+
+#[test]
+fn gives_reasons_and_notes(rt: HostRuntime) {
+    all_play(&rt, rt.alloc(), &TABLES)
+}
+
+/// Looks what a command line prints over the real files.
+fn prints<H: Abort + Files>(rt: &H, alloc: Global, line: &str, want: &str) {
+    let text = shown_of(rt, alloc, line, &PAYLOAD);
+    same_at(rt, &line, &text.as_str(), &want)
+}
+
+/// Looks what a file holds.
+fn holds<H: Abort + Files + Alloc>(rt: &H, path: &str, want: &[u8]) {
+    let bytes = fs::read(rt, path).expect(rt, "a file");
+    same_at(rt, &path, &bytes.as_slice(), &want)
+}
+
+/// Makes an image in a file that is there: it keeps what it had where that is refused, and is the image where it is not.
+fn keeps_until_whole<H: Abort + Files + Alloc>(rt: &H, alloc: Global, path: &str) {
+    fs::write(rt, path, PLAIN_IMAGE.as_slice()).expect(rt, "a file");
+    let line = format!(in alloc; "create --keep --version 2 --header-size 32 - {path}");
+    let line = line.expect(rt, "memory");
+    prints(rt, alloc, line.as_str(), "! mcsim: E20 NotZeros\nexit 1\n");
+    holds(rt, path, &PLAIN_IMAGE);
+    let line = format!(in alloc; "create --keep --version 1.2.3+4 -H 32 --pad-header - {path}");
+    let line = line.expect(rt, "memory");
+    fs::write(rt, path, PAYLOAD.as_slice()).expect(rt, "a file");
+    prints(rt, alloc, line.as_str(), "");
+    holds(rt, path, &PLAIN_IMAGE);
+    let beside = format!(in alloc; "{path}.new0").expect(rt, "memory");
+    same_at(
+        rt,
+        &path,
+        &fs::exists(rt, beside.as_str()).unwrap_or(true),
+        &false,
+    )
+}
+
+/// Boots a flash in place, and refuses to write the flash at a cut there.
+fn boots_in_place<H: Abort + Files + Alloc>(rt: &H, alloc: Global, path: &str) {
+    let image = named("first").unwrap_or_default();
+    let mut bytes = Vec::new(alloc);
+    bytes.extend_from_slice(image).expect(rt, "memory");
+    bytes.resize(1792, 0xff).expect(rt, "memory");
+    fs::write(rt, path, bytes.as_slice()).expect(rt, "a file");
+    let line = format!(in alloc; "boot WORKED --flash {path} --out {path}").expect(rt, "memory");
+    let line = in_full(rt, alloc, line.as_str());
+    let want = in_full(
+        rt,
+        alloc,
+        "result boot; type none; ops 0; primary FIRST; secondary none; next none; ",
+    );
+    prints(rt, alloc, line.as_str(), want.as_str());
+    holds(rt, path, &bytes)
+}
+
+/// What is written takes the place of a plain file when it is whole, and not before.
+#[test]
+fn writes_beside_and_renames(rt: HostRuntime) {
+    let folder = env::temp_dir(&rt).expect(&rt, "a folder");
+    let id = process::id(rt.process());
+    let path = format!(in rt.alloc(); "{}/mcsim-{id}-outfile", folder.as_str());
+    let path = path.expect(&rt, "memory");
+    keeps_until_whole(&rt, rt.alloc(), path.as_str());
+    boots_in_place(&rt, rt.alloc(), path.as_str());
+    fs::remove_file(&rt, path.as_str()).expect(&rt, "a file")
+}
