@@ -27,9 +27,9 @@ use Rattle.mc_trace.specs.declared.sectors.Moment.TheVariants as moments
 use Rattle.mc_trace.specs.declared.sectors.View.{View}
 use Rattle.mc_trace.specs.declared.cells.Words.TheVariants as words
 use Rattle.mc_trace.specs.declared.trace.Span.{Span}
-use Rattle.mc_command.specs.Statuses.{status_of}
-use Rattle.mc_command.specs.declared.refusal.Refusal.{Refusal}
-use Rattle.mc_command.specs.declared.refusal.Refusal.TheVariants as refusals
+use Rattle.mc_options.specs.Statuses.{status_of}
+use Rattle.mc_options.specs.declared.refusal.Refusal.{Refusal}
+use Rattle.mc_options.specs.declared.refusal.Refusal.TheVariants as refusals
 use Rattle.mc_c.specs.declared.source.Origin.{Origin}
 use Rattle.mc_c.specs.declared.source.Origin.TheVariants as origins
 use Rattle.mc_c.specs.declared.source.Source.{Source}

@@ -3,7 +3,8 @@ ghost use Rattle.std.specs.Prelude.{◌≡◌, ◌≤◌, length};
 
 use crate::disk::Disk;
 use crate::put;
-use mc_command::{Refusal, run};
+use mc_command::run;
+use mc_options::Refusal;
 use std::alloc::{AllocError, Global};
 use std::cell::RefCell;
 

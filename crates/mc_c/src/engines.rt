@@ -7,12 +7,12 @@ ghost use Rattle.mc_c.specs.Exports.{Begins, IsCensusText, IsFlashAtCut, IsFlash
 
 use crate::source::Source;
 use mc_boot::Outcome;
-use mc_command::Refusal;
 use mc_explore::{
     Explorer, MOST_CUTS, OneRound, Schedule, Start, flash_at_cut, replay, take_census,
     write_census, write_page,
 };
 use mc_flash::JournalFlash;
+use mc_options::Refusal;
 use mc_output::{Line, write_line};
 use mc_trace::{Span, View, write_sectors, write_slots, write_trace};
 use std::alloc::Global;

@@ -6,7 +6,7 @@ ghost use Rattle.mc_c.specs.Exports.{Answer, IsCensusText, IsFlashAtCut, IsFlash
 use crate::engines::Rows;
 use crate::source::Source;
 use crate::{engines, put};
-use mc_command::Refusal;
+use mc_options::Refusal;
 use mc_trace::{Moment, Span, View, Words};
 use std::alloc::Global;
 

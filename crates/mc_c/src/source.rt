@@ -3,9 +3,9 @@ ghost use Rattle.std.specs.Prelude.{◌≡◌, ◌⊎◌, MatchOption, MatchResu
 ghost use Rattle.mc_flash.specs.Geometry.{refusal_of};
 ghost use Rattle.mc_c.specs.Exports.{Makes, MakesOf, grain_of, layout_of, origin_of, profile_of, rules_of};
 
-use mc_command::Refusal;
 use mc_explore::{Kind, Start, StartError};
 use mc_flash::{Grain, Layout, LayoutError};
+use mc_options::Refusal;
 use mc_trailer::{Profile, Rules};
 use std::alloc::Global;
 

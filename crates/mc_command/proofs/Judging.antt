@@ -8,7 +8,7 @@ use Rattle.mc_explore.specs.declared.expectation.Expectation.{Expectation}
 use Rattle.mc_explore.specs.declared.rights.RightsOf.{RightsOf}
 use Rattle.mc_command.specs.Verdicts.{IsVerdict, verdict_of}
 use Rattle.mc_command.specs.declared.verdict.Asked.{Asked}
-use Rattle.mc_command.specs.declared.refusal.Refusal.{Refusal}
+use Rattle.mc_options.specs.declared.refusal.Refusal.{Refusal}
 
 -- That holds where it was counted.
 where_counted : {K : Type 0} (P : Type 0) (o : Option (RightsOf K)) → P → IfSome o (λ _. P)

@@ -1,3 +1,2 @@
-mod GivenOptions
 mod Blocks
 mod Judging

@@ -17,19 +17,19 @@ use Rattle.mc_explore.specs.declared.subject.Fields.{Fields}
 use Rattle.mc_explore.specs.declared.tally.TallyOf.{TallyOf}
 use Rattle.mc_image.specs.Valid.{Identity}
 use Rattle.mc_start.specs.Start.{Started, begun}
-use Rattle.mc_command.specs.Arguments.{GivesExtent, GivesFlash, GivesRange}
-use Rattle.mc_command.specs.Numbers.{GivesNumber}
-use Rattle.mc_command.specs.Sources.{IsStartOf}
+use Rattle.mc_options.specs.Arguments.{GivesExtent, GivesFlash, GivesRange}
+use Rattle.mc_options.specs.Numbers.{GivesNumber}
+use Rattle.mc_options.specs.Sources.{IsStartOf}
 use Rattle.mc_command.specs.Verdicts.{IsExpectation, GivesAsked}
 use Rattle.mc_command.specs.declared.commands.census.Counts.{Counts}
 use Rattle.mc_command.specs.declared.commands.census.Wanted.{Wanted}
 use Rattle.mc_command.specs.declared.commands.explore.Exploration.{Exploration}
-use Rattle.mc_command.specs.declared.numbers.NumberOption.TheVariants as numbers
-use Rattle.mc_command.specs.declared.options.FlashOptions.{FlashOptions}
-use Rattle.mc_command.specs.declared.options.Source.{Source}
-use Rattle.mc_command.specs.declared.options.Source.TheVariants as sources
-use Rattle.mc_command.specs.declared.refusal.Refusal.{Refusal}
-use Rattle.mc_command.specs.declared.refusal.Refusal.TheVariants as refusals
+use Rattle.mc_options.specs.declared.numbers.NumberOption.TheVariants as numbers
+use Rattle.mc_options.specs.declared.options.FlashOptions.{FlashOptions}
+use Rattle.mc_options.specs.declared.options.Source.{Source}
+use Rattle.mc_options.specs.declared.options.Source.TheVariants as sources
+use Rattle.mc_options.specs.declared.refusal.Refusal.{Refusal}
+use Rattle.mc_options.specs.declared.refusal.Refusal.TheVariants as refusals
 use Rattle.mc_command.specs.declared.verdict.Asked.{Asked}
 
 -- The arguments give a source, and the start is of its files.

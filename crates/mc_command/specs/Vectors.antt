@@ -2,10 +2,10 @@
 use Rattle.std.specs.Prelude.{List, Some, codes, ℕ, ⊤, ◌≡◌, ◌≤◌}
 use Rattle.clap.specs.Words.{first_value}
 use Rattle.clap.specs.declared.parser.matches.Found.{Found}
-use Rattle.mc_command.specs.Numbers.{GivesNumber}
+use Rattle.mc_options.specs.Numbers.{GivesNumber}
 use Rattle.mc_command.specs.declared.commands.vectors.Cuts.{Cuts}
 use Rattle.mc_command.specs.declared.commands.vectors.Cuts.TheVariants as cuts
-use Rattle.mc_command.specs.declared.numbers.NumberOption.TheVariants as numbers
+use Rattle.mc_options.specs.declared.numbers.NumberOption.TheVariants as numbers
 use Rattle.mc_vectors.specs.Cases.{AnyCuts, AtMost}
 
 -- The schedules of at most so many cuts, or all.

@@ -10,12 +10,12 @@ use Rattle.mc_explore.specs.declared.expectation.Expectation.{Expectation}
 use Rattle.mc_explore.specs.declared.expectation.Wanted.{Wanted}
 use Rattle.mc_explore.specs.declared.rights.RightsOf.{RightsOf}
 use Rattle.mc_image.specs.Valid.{Identity}
-use Rattle.mc_command.specs.Arguments.{IsFlag}
+use Rattle.mc_options.specs.Arguments.{IsFlag}
 use Rattle.mc_command.specs.declared.verdict.Asked.{Asked}
 use Rattle.mc_command.specs.declared.verdict.Ends.{Ends}
-use Rattle.mc_command.specs.declared.refusal.Refusal.{Refusal}
+use Rattle.mc_options.specs.declared.refusal.Refusal.{Refusal}
 use Rattle.mc_explore.specs.declared.expectation.Wanted.TheVariants as wanted
-use Rattle.mc_command.specs.declared.refusal.Refusal.TheVariants as refusals
+use Rattle.mc_options.specs.declared.refusal.Refusal.TheVariants as refusals
 
 -- The text of an option is that of what a slot is to hold, or the option is left out.
 abbrev pub MayGiveWanted : Found → List ℕ → Option Wanted → Type 0

@@ -4,12 +4,11 @@ ghost use Rattle.clap.specs.Matches.{found_of};
 ghost use Rattle.clap.specs.Words.{first_value};
 ghost use Rattle.mc_imgtool.specs.Created.{created};
 ghost use Rattle.mc_imgtool.specs.Engines.{Answers};
-ghost use Rattle.mc_command.specs.Arguments.{GivesCreate, IsFlag, IsReady};
+ghost use Rattle.mc_options.specs.Arguments.{GivesCreate, IsFlag, IsReady};
 
-use crate::options::{create_options, required};
-use crate::refusal::Refusal;
 use clap::ArgMatches;
 use mc_imgtool::{CreateOptions, ToolError};
+use mc_options::{Refusal, create_options, required};
 use std::alloc::Global;
 use std::io::{Read, Write};
 

@@ -1,9 +1,8 @@
 //! The kinds of trees that commands explore, and what the options say of each.
-use crate::options::{RangeOptions, range_options};
-use crate::refusal::Refusal;
 use clap::ArgMatches;
 use mc_campaign::{Campaign, CampaignCursor, TwoRounds};
 use mc_explore::{Cursor, Kind, OneRound, Schedule, Subject};
+use mc_options::{RangeOptions, Refusal, range_options};
 
 /// A kind of tree that commands explore.
 pub trait Explorable: Subject {
@@ -11,7 +10,7 @@ pub trait Explorable: Subject {
     ghost use Rattle.clap.specs.Matches.{found_of};
     ghost use Rattle.clap.specs.declared.parser.matches.Found.{Found};
     ghost use Rattle.mc_boot.specs.declared.kind.Kind.{Kind as StartKind};
-    ghost use Rattle.mc_command.specs.Arguments.{GivesRange};
+    ghost use Rattle.mc_options.specs.Arguments.{GivesRange};
 
     ghost IsChoice: { Found → Self.Choice → Type 0 };
 
@@ -55,7 +54,7 @@ impl Explorable for OneRound {
 
 impl Explorable for TwoRounds {
     ghost use Rattle.std.specs.Prelude.{codes};
-    ghost use Rattle.mc_command.specs.Arguments.{IsFlag};
+    ghost use Rattle.mc_options.specs.Arguments.{IsFlag};
     ghost use Rattle.mc_command.specs.Sessions.{is_left_alone};
 
     ghost IsChoice = { λ found confirms. IsFlag found (codes "confirm") confirms };

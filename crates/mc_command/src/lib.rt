@@ -1,4 +1,4 @@
-//! The command line of `mcsim`: its words, files and exit status, over the image tool, the flashes and the boots.
+//! The commands of `mcsim`, over the image tool, the flashes and the boots, and the exit status of a command line.
 #![tactic(auto)]
 
 ghost use Rattle.std.specs.Prelude.{◌≤◌};
@@ -6,28 +6,18 @@ ghost use Rattle.std.specs.Prelude.{◌≤◌};
 mod commands;
 mod creation;
 mod explorable;
-mod layout_file;
-mod notes;
-mod numbers;
-mod options;
-mod outfile;
-mod reasons;
-mod refusal;
-mod same_file;
-mod source;
 mod verdict;
 
 use clap::error::ErrorKind;
 use clap::{ArgMatches, Error};
 use commands::rounds::{RoundText, print as print_rounds};
-use layout_file::{asks_file, with_files};
 use mc_campaign::TwoRounds;
 use mc_cli::{WatchedFiles, parse};
 use mc_explore::OneRound;
-use notes::print_note;
-use options::{has_two_rounds, span_options, view_options};
-use reasons::{report_file, report_reason};
-pub use refusal::Refusal;
+use mc_options::{
+    Refusal, asks_file, has_two_rounds, print_note, report_file, report_reason, span_options,
+    view_options, with_files,
+};
 use std::alloc::Global;
 use std::io::{Read, Write};
 use std::rt::Files;

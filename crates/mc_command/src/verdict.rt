@@ -7,10 +7,10 @@ ghost use Rattle.mc_explore.specs.declared.expectation.Expectation.{Expectation 
 ghost use Rattle.mc_explore.specs.Right.{AllEndRight};
 ghost use Rattle.mc_command.specs.Verdicts.{AreCounted, IsExpectation, MayGiveWanted, GivesAsked, GivesEnds, expected_ends, is_of_slots, lines_of, verdict_of, wanted_of, wanted_or_any};
 
-use crate::refusal::Refusal;
 use clap::ArgMatches;
 use mc_boot::ImageId;
 use mc_explore::{Expectation, RightsOf, Subject, Wanted, all_right, write_rights};
+use mc_options::Refusal;
 use std::io::Write;
 
 /// What the words say that the slots hold at the end, where they say it.

@@ -1,7 +1,8 @@
 //! The program `mcsim`: its words, streams and exit status, given to `mc_command`.
 #![tactic(auto)]
 
-use mc_command::{Refusal, run};
+use mc_command::run;
+use mc_options::Refusal;
 use std::alloc::{AllocError, Global};
 use std::io;
 use std::io::IsTerminal;

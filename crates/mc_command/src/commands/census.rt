@@ -9,9 +9,6 @@ ghost use Rattle.mc_start.specs.Start.{begun};
 
 use super::explore::{ends, is_taken_back};
 use crate::explorable::Explorable;
-use crate::options::{census_options, flash_options};
-use crate::refusal::Refusal;
-use crate::source::read_start;
 use crate::verdict::{Asked, right_if_asked, write_lines};
 use clap::ArgMatches;
 use mc_explore::{
@@ -19,6 +16,7 @@ use mc_explore::{
     write_census,
 };
 use mc_flash::JournalFlash;
+use mc_options::{Refusal, census_options, flash_options, read_start};
 use std::alloc::Global;
 use std::io::Write;
 use std::rt::Files;

@@ -1,11 +1,9 @@
 //! `create`: an image from a payload.
-ghost use Rattle.mc_command.specs.Arguments.{IsReady};
+ghost use Rattle.mc_options.specs.Arguments.{IsReady};
 
 use crate::creation::Creation;
-use crate::outfile::Outfile;
-use crate::refusal::Refusal;
-use crate::same_file::is_same_file;
 use clap::ArgMatches;
+use mc_options::{Outfile, Refusal, is_same_file};
 use std::alloc::Global;
 use std::fs;
 use std::io::{Read, Write};

@@ -1,7 +1,7 @@
 //! `dumpinfo`: what is in an image?
 use super::infile::open_infile;
-use crate::refusal::Refusal;
 use clap::ArgMatches;
+use mc_options::Refusal;
 use std::alloc::Global;
 use std::io::{Read, Write};
 use std::rt::Files;

@@ -1,8 +1,7 @@
 //! `explain`: what a refusal means.
-use crate::options::required;
-use crate::refusal::Refusal;
 use clap::ArgMatches;
 use mc_cli::explanation_of;
+use mc_options::{Refusal, required};
 use std::io::Write;
 
 /// Prints what the refusal of a number means, which may be written as it is printed: `33`, `E33` or `e33`.

@@ -12,9 +12,6 @@ ghost use Rattle.mc_boot.specs.Plan.{identity_of};
 
 use super::{finish, in_blocks};
 use crate::explorable::Explorable;
-use crate::options::{ExploreOptions, RangeOptions, Source, explore_options, flash_options};
-use crate::refusal::Refusal;
-use crate::source::read_start;
 use crate::verdict::{Asked, right_if_asked, write_lines};
 use clap::ArgMatches;
 use mc_boot::ImageId;
@@ -23,6 +20,9 @@ use mc_explore::{
     write_tally,
 };
 use mc_flash::JournalFlash;
+use mc_options::{
+    ExploreOptions, RangeOptions, Refusal, Source, explore_options, flash_options, read_start,
+};
 use std::alloc::Global;
 use std::io::Write;
 use std::rt::Files;

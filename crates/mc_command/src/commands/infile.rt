@@ -1,6 +1,6 @@
 //! INFILE, where it may be left out.
-use crate::refusal::Refusal;
 use clap::ArgMatches;
+use mc_options::Refusal;
 use std::fs;
 use std::rt::Files;
 

@@ -1,15 +1,16 @@
 //! `inspect` and `locate`: what a dump of a device is, and where it occurs in a swap of two images.
 ghost use Rattle.std.specs.Prelude.{◌≡◌, IfOk};
 ghost use Rattle.clap.specs.Matches.{found_of};
-ghost use Rattle.mc_command.specs.Arguments.{GivesLayout, GivesRules};
+ghost use Rattle.mc_options.specs.Arguments.{GivesLayout, GivesRules};
 ghost use Rattle.mc_command.specs.Inspections.{IsFound, IsSwapOf, first_of, second_of};
 
-use crate::options::{kind_name, layout_options, required, rules_options};
-use crate::refusal::Refusal;
-use crate::source::{GREATEST_FLASH, GREATEST_IMAGE, read_file};
 use clap::ArgMatches;
 use mc_explore::{Kind, OneRound, Start, take_census, write_census};
 use mc_flash::{JournalFlash, Layout};
+use mc_options::{
+    GREATEST_FLASH, GREATEST_IMAGE, Refusal, kind_name, layout_options, read_file, required,
+    rules_options,
+};
 use mc_trace::write_inspection;
 use mc_trailer::Rules;
 use mc_vectors::{Located, locate, write_located};

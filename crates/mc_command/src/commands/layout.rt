@@ -1,7 +1,6 @@
 //! `layout`: what follows from the numbers of a layout.
-use crate::options::{layout_options, times_options};
-use crate::refusal::Refusal;
 use clap::ArgMatches;
+use mc_options::{Refusal, layout_options, times_options};
 use mc_trace::write_layout;
 use std::io::Write;
 

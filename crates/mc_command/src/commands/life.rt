@@ -1,14 +1,14 @@
 //! `life`: what happens to a device, replayed event by event.
 use super::replay::write_file;
-use crate::options::{layout_options, rules_options};
-use crate::refusal::Refusal;
-use crate::same_file::{check_outputs, is_same_file};
-use crate::source::{GREATEST_FLASH, GREATEST_IMAGE, read_file};
 use clap::ArgMatches;
 use mc_explore::{Kind, Start};
 use mc_flash::{Layout, Slot, SnapFlash};
 use mc_imgtool::ToolError;
 use mc_life::{Device, File, Script, find, replay_life, write_wear};
+use mc_options::{
+    GREATEST_FLASH, GREATEST_IMAGE, Refusal, check_outputs, is_same_file, layout_options,
+    read_file, rules_options,
+};
 use std::alloc::Global;
 use std::fs;
 use std::io::{Read, Write};

@@ -5,11 +5,11 @@ ghost use Rattle.mc_trace.specs.Picture.{Draws};
 
 use super::{finish, in_blocks};
 use crate::commands::schedule::{Scheduled, read_schedule};
-use crate::refusal::Refusal;
 use crate::verdict::Ends;
 use clap::ArgMatches;
 use mc_explore::Expectation;
 use mc_flash::JournalFlash;
+use mc_options::Refusal;
 use mc_trace::write_picture;
 use std::alloc::Global;
 use std::io::Write;

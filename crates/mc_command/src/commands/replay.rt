@@ -1,10 +1,9 @@
 //! `boot` and `replay`: what the boot after a schedule of power cuts does.
 use crate::commands::schedule::{Scheduled, read_schedule, schedule_from};
-use crate::outfile::Outfile;
-use crate::refusal::Refusal;
 use clap::ArgMatches;
 use mc_explore::{flash_at_cut, replay};
 use mc_flash::{Flash, JournalFlash};
+use mc_options::{Outfile, Refusal};
 use mc_trace::write_slots;
 use std::alloc::Global;
 use std::io::Write;

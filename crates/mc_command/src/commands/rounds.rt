@@ -2,19 +2,16 @@
 ghost use Rattle.std.specs.Prelude.{◌≡◌, IfOk, codes};
 ghost use Rattle.clap.specs.Matches.{found_of};
 ghost use Rattle.mc_campaign.specs.Texts.{campaign_text};
-ghost use Rattle.mc_command.specs.Arguments.{IsFlag};
+ghost use Rattle.mc_options.specs.Arguments.{IsFlag};
 ghost use Rattle.mc_command.specs.Sessions.{GivesStart};
 
 use crate::commands::replay::write_file;
-use crate::options::{flash_options, required};
-use crate::refusal::Refusal;
-use crate::same_file::check_outputs;
-use crate::source::read_start;
 use clap::ArgMatches;
 use mc_boot::Outcome;
 use mc_campaign::{Campaign, Round, replay_campaign, start_of_second};
 use mc_explore::{Schedule, Start, flash_at_cut};
 use mc_flash::JournalFlash;
+use mc_options::{Refusal, check_outputs, flash_options, read_start, required};
 use mc_trace::{Span, View, write_sectors, write_trace};
 use std::alloc::Global;
 use std::io::Write;

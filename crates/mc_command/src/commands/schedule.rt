@@ -2,15 +2,12 @@
 ghost use Rattle.std.specs.Prelude.{◌≡◌, Some, IfOk, codes};
 ghost use Rattle.clap.specs.Matches.{found_of};
 ghost use Rattle.mc_start.specs.Start.{schedule_text};
-ghost use Rattle.mc_command.specs.Arguments.{MayGiveSchedule};
+ghost use Rattle.mc_options.specs.Arguments.{MayGiveSchedule};
 ghost use Rattle.mc_command.specs.Sessions.{GivesStart};
 
-use crate::options::{flash_options, required};
-use crate::refusal::Refusal;
-use crate::same_file::check_outputs;
-use crate::source::read_start;
 use clap::ArgMatches;
 use mc_explore::{Schedule, Start};
+use mc_options::{Refusal, check_outputs, flash_options, read_start, required};
 use std::alloc::Global;
 use std::rt::Files;
 

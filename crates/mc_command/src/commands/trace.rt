@@ -1,9 +1,8 @@
 //! `trace` and `sectors`: what happens of a schedule of power cuts, and what lies where at its last cut.
 use crate::commands::schedule::read_schedule;
-use crate::options::{span_options, view_options};
-use crate::refusal::Refusal;
 use clap::ArgMatches;
 use mc_flash::JournalFlash;
+use mc_options::{Refusal, span_options, view_options};
 use mc_trace::{write_sectors, write_trace};
 use std::alloc::Global;
 use std::io::Write;

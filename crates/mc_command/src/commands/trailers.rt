@@ -1,10 +1,8 @@
 //! `type`: what the trailers of a flash ask for.
-use crate::options::flash_options;
-use crate::refusal::Refusal;
-use crate::source::read_start;
 use clap::ArgMatches;
 use mc_explore::Start;
 use mc_flash::{Flash, JournalFlash, Slot};
+use mc_options::{Refusal, flash_options, read_start};
 use mc_trailer::{Profile, Trailer, resumes, swap_type};
 use std::alloc::Global;
 use std::io::Write;

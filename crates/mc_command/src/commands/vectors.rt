@@ -8,13 +8,10 @@ ghost use Rattle.mc_vectors.specs.Cases.{AreCases};
 ghost use Rattle.mc_vectors.specs.Table.{cases_text};
 
 use super::{finish, in_blocks};
-use crate::options::{census_options, flash_options, required};
-use crate::outfile::Outfile;
-use crate::refusal::Refusal;
-use crate::source::read_start;
 use clap::ArgMatches;
 use mc_explore::{ExploreError, Line, Start, flash_at_cut, replay};
 use mc_flash::{Flash, JournalFlash};
+use mc_options::{Outfile, Refusal, census_options, flash_options, read_start, required};
 use mc_trace::{write_patch, write_slots};
 use mc_vectors::{Case, Found, find_cases, write_cases};
 use std::alloc::Global;

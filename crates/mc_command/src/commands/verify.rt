@@ -1,7 +1,7 @@
 //! `verify`: is a file a valid image?
 use super::infile::open_infile;
-use crate::refusal::Refusal;
 use clap::ArgMatches;
+use mc_options::Refusal;
 use std::io::{Read, Write};
 use std::rt::Files;
 

@@ -1,6 +1,6 @@
 //! Command lines that are refused, and those that ask for help.
 use super::support::{Table, all_play, fits, outcome_over, ran, same_at};
-use mc_command::Refusal;
+use mc_options::Refusal;
 use std::alloc::Global;
 use std::process::Abort;
 

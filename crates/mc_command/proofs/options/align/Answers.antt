@@ -1,5 +1,0 @@
-use Rattle.mc_command.proofs.GivenOptions.{not_ok}
-use Rattle.mc_command.proofs.options.align.Goals as goal
-
-pub returns-in_err-unit-clause-taken : goal.returns-in_err-unit-clause-taken
-returns-in_err-unit-clause-taken c = λ n given unit. absurd (not_ok (c.in_err-unit.ensures.taken n given))

@@ -1,0 +1,4 @@
+pub mod Numbers
+pub mod Arguments
+pub mod Statuses
+pub mod Sources

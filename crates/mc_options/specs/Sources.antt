@@ -1,0 +1,31 @@
+-- The start that the bytes of a source's files make.
+use Rattle.std.specs.Prelude.{◌≡◌, ℕ, ◌^◌, List, Vec, Ok, ⊤}
+use Rattle.std.specs.declared.alloc.Global.{Global}
+use denote.Ref.{Bor}
+use Rattle.mc_flash.specs.Geometry.{Geometry}
+use Rattle.mc_start.specs.Start.{Started, Starts, Gives, of_flash}
+use Rattle.mc_options.specs.declared.options.FlashOptions.{FlashOptions}
+use Rattle.mc_options.specs.declared.options.Source.{Source}
+use Rattle.mc_options.specs.declared.options.Source.TheVariants as sources
+
+-- What reading gives for a path and a limit.
+abbrev pub Reading : Type 1
+Reading = Bor (List ℕ) → ℕ → Vec ℕ Global → Type 0
+
+-- The start of a flash's bytes, or of the first image's and the second's, in this order.
+abbrev pub OfSource : Reading → Geometry → Source → Started → Type 0
+OfSource reads g (sources.Flash path) s =
+    (bytes : Vec ℕ Global) × reads path (2 ^ 25) bytes × Gives g (Ok s) (of_flash g bytes.items)
+OfSource reads g (sources.Images kind a b) s =
+    (first : Vec ℕ Global) × (second : Vec ℕ Global) × reads a (2 ^ 24) first × reads b (2 ^ 24) second
+    × Starts g kind first.items second.items (Ok s)
+
+-- Such a start under the rules that are given.
+abbrev pub ComesOf : Reading → FlashOptions → Started → Type 0
+ComesOf reads o s =
+    (plain : Started) × OfSource reads o.layout o.source plain
+    × (s ≡ record { geometry = plain.geometry; rules = o.rules; content = plain.content; named = plain.named })
+
+-- The same of some bytes.
+abbrev pub IsStartOf : FlashOptions → Started → Type 0
+IsStartOf = ComesOf (λ path limit bytes. ⊤)

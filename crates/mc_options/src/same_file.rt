@@ -1,0 +1,64 @@
+//! Whether two paths lead to one file, and files that would be lost.
+ghost use Rattle.std.specs.Prelude.{◌≡◌, false, true, IfOk};
+ghost use Rattle.clap.specs.Matches.{found_of};
+ghost use Rattle.mc_options.specs.Arguments.{AreApart, IsKept, KeepsFiles};
+
+use crate::refusal::Refusal;
+use clap::ArgMatches;
+use std::fs;
+use std::os::unix::fs::MetadataExt;
+use std::rt::Files;
+
+/// Whether two paths lead to one file: they are one text, or the system gives one device and one number for both,
+/// also through links. Where a file is missing, or the system gives nothing, only the texts are compared.
+pub fn is_same_file<F: Files>(files: &F, first: &str, second: &str) -> bool
+    ensures { first.now ≡ second.now → result ≡ true }
+{
+    if first == second {
+        return true;
+    }
+    match (fs::metadata(files, first), fs::metadata(files, second)) {
+        (Ok(first), Ok(second)) => first.dev() == second.dev() && first.ino() == second.ino(),
+        _ => false,
+    }
+}
+
+/// Whether two options both name a file, and that is one file.
+fn share_file<F: Files>(files: &F, arguments: &ArgMatches<'_>, first: &str, second: &str) -> bool
+    ensures { result ≡ false → AreApart (found_of arguments.now) first.now second.now }
+{
+    match (arguments.get_str(first), arguments.get_str(second)) {
+        (Some(first), Some(second)) => is_same_file(files, first, second),
+        _ => false,
+    }
+}
+
+/// Whether the file that an option names to be written is an image or a script that is read.
+fn is_lost<F: Files>(files: &F, arguments: &ArgMatches<'_>, option: &str) -> bool
+    ensures { result ≡ false → IsKept (found_of arguments.now) option.now }
+{
+    share_file(files, arguments, option, "image-a")
+        || share_file(files, arguments, option, "image-b")
+        || share_file(files, arguments, option, "image")
+        || share_file(files, arguments, option, "SCRIPT")
+}
+
+/// Checks that no file which a command writes is another that it names: `--out` and `--at-cut` are two files, and neither is an image
+/// or the script; `--at-cut` is not the flash, but `--out` may be: then a boot happens in place.
+///
+/// # Errors
+///
+/// `SameFile`.
+pub fn check_outputs<F: Files>(files: &F, arguments: &ArgMatches<'_>) -> Result<(), Refusal>
+    // Of the paths by their texts. What they lead to is not known here.
+    ensures { IfOk result (λ _. KeepsFiles (found_of arguments.now)) }
+{
+    if is_lost(files, arguments, "out")
+        || is_lost(files, arguments, "at-cut")
+        || share_file(files, arguments, "at-cut", "flash")
+        || share_file(files, arguments, "at-cut", "out")
+    {
+        return Err(Refusal::SameFile);
+    }
+    Ok(())
+}
