@@ -61,6 +61,8 @@ class Source:
     def __init__(self, sector, unit, max_sectors, chunk, primary, secondary, kind, a, b=b"", grain=CALL, profile=1):
         self._numbers = _Numbers(sector, unit, max_sectors, chunk, primary, secondary, grain, profile, kind)
         self._images = [*_bytes(a), *_bytes(b)]
+        # A flash has at most 2^25 bytes; what has more is refused.
+        self._room = min(max(sector * (primary + secondary), 1 << 16), 1 << 25)
 
     def _ask(self, name, *arguments, room=1 << 16):
         while True:
@@ -93,7 +95,7 @@ class Source:
 
     def flash_at_cut(self, cuts=()):
         """The bytes of both slots when the last cut falls, of no cut those of the start."""
-        return self._ask("mcsim_flash_at_cut", *self._cuts(cuts))
+        return self._ask("mcsim_flash_at_cut", *self._cuts(cuts), room=self._room)
 
     def outcome(self, cuts=()):
         """What the uncut boot after the cuts comes to: result, type, ops, primary, secondary, next."""
@@ -102,7 +104,7 @@ class Source:
 
     def flash_left(self, cuts=()):
         """The bytes of both slots that it leaves."""
-        return self._ask("mcsim_flash_left", *self._cuts(cuts))
+        return self._ask("mcsim_flash_left", *self._cuts(cuts), room=self._room)
 
     def census(self, bound=16):
         """What all schedules of at most so many cuts come to, by the names of the lines."""

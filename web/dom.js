@@ -1,0 +1,54 @@
+"use strict";
+// Small helpers to make and find elements. Texts only ever become text.
+
+export const by_id = id => document.getElementById(id);
+
+// An element with attributes and children; a text child is a text.
+export function made(name, attributes = {}, ...children) {
+  const element = document.createElement(name);
+  for (const [key, value] of Object.entries(attributes)) if (value !== undefined) element.setAttribute(key, value);
+  element.append(...children);
+  return element;
+}
+
+// Runs `work` for the last of many calls: while it works, later calls become one.
+export function latest(work) {
+  let wanted = false, working = false;
+  return async () => {
+    wanted = true;
+    if (working) return;
+    working = true;
+    try {
+      while (wanted) {
+        wanted = false;
+        await work();
+      }
+    } finally {
+      working = false;
+    }
+  };
+}
+
+const tip = by_id("tip");
+
+export function show_tip(event, text) {
+  tip.textContent = text;
+  tip.hidden = false;
+  const { innerWidth: wide, innerHeight: high } = window, box = tip.getBoundingClientRect();
+  tip.style.left = `${Math.max(4, Math.min(event.clientX + 14, wide - box.width - 8))}px`;
+  tip.style.top = `${event.clientY + 18 + box.height > high ? event.clientY - box.height - 10 : event.clientY + 18}px`;
+}
+
+export function hide_tip() {
+  tip.hidden = true;
+}
+
+// Copies a text, and returns whether that went well.
+export async function copied(text) {
+  try {
+    await navigator.clipboard.writeText(text);
+    return true;
+  } catch {
+    return false;
+  }
+}

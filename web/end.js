@@ -1,0 +1,89 @@
+"use strict";
+// What a schedule comes to: the outcome, the trailers, the bytes of a sector, and the command lines that say the same.
+import { by_id, copied, made } from "./dom.js";
+import { fields_of, lines_of, schedule_text } from "./texts.js";
+
+const BADGES = { right: "✓ the right image", wrong: "≠ not as expected", bad: "✗ no boot", mixed: "" };
+const WIDTH = 16, MOST_LINES = 512;
+
+export function show_outcome(cuts, text, kind, expected) {
+  by_id("end-title").firstChild.textContent = cuts.length ? `Cut at ${schedule_text(cuts)}, it comes to ` : "Not cut, it comes to ";
+  by_id("outcome").textContent = text;
+  by_id("badge").className = `badge ${kind}`;
+  by_id("badge").textContent = kind === "right" && !expected ? "✓ it boots" : BADGES[kind];
+}
+
+// The lines of `type`: a table of both trailers, and how the next boot begins.
+export function show_trailers(text) {
+  const said = fields_of(text), of = slot => said[slot].split(" ").map(pair => pair.split("="));
+  const secondary = Object.fromEntries(of("secondary"));
+  const row = ([name, value]) => made("tr", {}, made("th", { scope: "row" }, name), made("td", {}, value), made("td", {}, secondary[name]));
+  const head = made("tr", {}, made("td"), made("th", { scope: "col" }, "primary"), made("th", { scope: "col" }, "secondary"));
+  const table = `The boot begins by the table of swap types: ${said.table}.`;
+  const begins = said.resume === "yes" ? "The boot goes on with the swap that was cut." : table;
+  by_id("trailers").replaceChildren(made("table", {}, made("thead", {}, head), made("tbody", {}, ...of("primary").map(row))), made("p", {}, begins));
+}
+
+const hex = (number, digits) => number.toString(16).padStart(digits, "0");
+
+// Sixteen bytes a line, with the offset in the slot; blank lines in a row are one.
+export function hex_lines(bytes, offset) {
+  const lines = [];
+  for (let begin = 0; begin < bytes.length; begin += WIDTH) {
+    const part = bytes.subarray(begin, begin + WIDTH), blank = part.every(byte => byte === 0xff);
+    if (blank && lines.at(-1) === "   ⋯    ff") continue;
+    lines.push(blank ? "   ⋯    ff" : `${hex(offset + begin, 6)}  ${Array.from(part, byte => hex(byte, 2)).join(" ")}`);
+  }
+  return lines;
+}
+
+export function show_bytes(bytes, { slot, sector }, offset, when) {
+  const lines = hex_lines(bytes, offset), more = lines.length - MOST_LINES;
+  by_id("bytes-title").textContent = `Bytes of ${slot} sector ${sector}, ${when}`;
+  by_id("bytes").textContent = lines.slice(0, MOST_LINES).join("\n") + (more > 0 ? `\n${more} more lines: save the flash to see them` : "");
+}
+
+// A word of a command line, for a shell.
+export const quoted = word => (/^[\w@%+=:,./-]+$/.test(word) ? word : `'${word.replaceAll("'", "'\\''")}'`);
+
+function command_line(command, pairs, names) {
+  const is_file = option => ["--image-a", "--image-b", "--flash"].includes(option);
+  const named = ([option, value]) => [option, is_file(option) ? names[value === "b" ? 1 : 0] : value];
+  return ["./mcsim", command, ...pairs.flatMap(named).filter(word => word !== undefined).map(quoted)].join(" ");
+}
+
+// The command lines that print what the page shows.
+export function command_lines(setup, cuts) {
+  const { numbers, source, rules, expected, bound, names } = setup, start = [...numbers, ...source, ...rules];
+  const at = [["--schedule", schedule_text(cuts)]];
+  const lines = [
+    ["What all come to", "census", [["--cuts", bound], ...expected]],
+    ["Each operation", "trace", at],
+    ["The sectors then", "sectors", [...at, ["--words", "all"]]],
+    ["The outcome, and the flash at the cut", "replay", [...at, ["--at-cut", "cut.flash"]]],
+    ["A page to send", "picture", at],
+  ];
+  return lines.map(([title, command, more]) => [title, command_line(command, [...start, ...more], names)]);
+}
+
+export function show_commands(setup, cuts) {
+  by_id("commands").replaceChildren(...command_lines(setup, cuts).map(([title, line]) => {
+    const button = made("button", { type: "button", "aria-label": `Copy: ${title}` }, "Copy");
+    button.addEventListener("click", async () => (button.textContent = (await copied(line)) ? "Copied" : "Select it"));
+    return made("li", {}, made("span", {}, title), made("code", { tabindex: 0 }, line), button);
+  }));
+}
+
+// A refusal: what the program says, what `explain` says of its number, and a way back.
+export function show_refusal(said, explanation, without_cuts) {
+  const box = by_id("refusal"), [first, ...reasons] = lines_of(said);
+  const parts = [made("h2", {}, first), ...reasons.map(line => made("p", {}, line))];
+  if (explanation) parts.push(made("pre", { id: "explanation" }, explanation));
+  if (without_cuts) {
+    const button = made("button", { type: "button" }, "Show it without cuts");
+    button.addEventListener("click", without_cuts);
+    parts.push(button);
+  }
+  box.replaceChildren(...parts);
+  box.hidden = false;
+}

@@ -1,0 +1,200 @@
+"use strict";
+// Puts the page together: what is asked, the cuts, and what the program says of them.
+import { BootCard } from "./boot.js";
+import { by_id, copied, latest } from "./dom.js";
+import { show_bytes, show_commands, show_outcome, show_refusal, show_trailers } from "./end.js";
+import { Facts } from "./facts.js";
+import { begin_form, link_of, setup, take_examples, take_link, times } from "./form.js";
+import { Refused, bytes_of } from "./program.js";
+import { fields_of, schedule_text } from "./texts.js";
+import { show_counting, show_verdict, show_wanted } from "./verdict.js";
+
+const REST = 150; // milliseconds without a change before the maps are filled
+const SAVED = 60000; // milliseconds in which a browser has saved a file
+const state = { facts: null, cuts: [], chosen: null, filling: new AbortController(), timer: 0 };
+const cards = [];
+
+const actions = {
+  cut: (index, number) => go(number === null ? state.cuts.slice(0, index) : [...state.cuts.slice(0, index), number]),
+  view: () => show(),
+  chosen: index => (state.chosen?.index === index ? state.chosen : null),
+  choose: chosen => {
+    state.chosen = chosen;
+    cards.slice(0, state.cuts.length + 1).forEach(card => card.draw());
+    fill_soon(0);
+  },
+  save: async (cuts, end) => {
+    try {
+      await state.facts.with_flash(cuts, end, digest => save(digest, `flash-${schedule_text(cuts)}${end ? "-end" : ""}.bin`));
+    } catch (error) {
+      failed(error);
+    }
+  },
+};
+
+async function save(digest, name) {
+  const address = URL.createObjectURL(new Blob([await bytes_of(digest, 0, 2 ** 26)]));
+  const link = Object.assign(document.createElement("a"), { href: address, download: name });
+  link.click();
+  setTimeout(() => URL.revokeObjectURL(address), SAVED);
+}
+
+function go(cuts) {
+  state.cuts = cuts;
+  show();
+}
+
+// Shows what failed; a refusal with its explanation.
+async function failed(error) {
+  if (error.name === "AbortError") return;
+  const number = error instanceof Refused && /^mcsim: (E\d+) /.exec(error.message)?.[1], { facts } = state;
+  const explanation = number ? await facts.explain(number).catch(() => "") : "";
+  if (facts !== state.facts) return;
+  show_refusal(error.message, explanation, state.cuts.length ? () => ask([]) : null);
+  by_id("shown").hidden = true;
+  if (error instanceof Refused) by_id("verdict").hidden = true;
+  document.body.dataset.done = document.body.dataset.shown = "refused";
+}
+
+// What the power-on after `before` shows, cut at a number or left alone.
+async function of_boot(facts, before, cut, index) {
+  const upto = cut === null ? before : [...before, cut];
+  const [outcome, slots, operation] = await Promise.all([
+    facts.outcome(before), facts.sectors(upto, cut === null),
+    cut === null ? null : cards[index]?.known_operation(facts, before, cut) ?? facts.operations(before, cut, cut + 1).then(told => told[0])]);
+  return { outcome: fields_of(outcome), slots, operation };
+}
+
+function place_cards(count) {
+  while (cards.length < count) cards.push(new BootCard(cards.length, actions));
+  const box = by_id("boots");
+  while (box.children.length > count) box.lastElementChild.remove();
+  for (const card of cards.slice(box.children.length, count)) box.append(card.element);
+}
+
+const show = latest(async () => {
+  const { facts, cuts } = state;
+  state.filling.abort();
+  clearTimeout(state.timer);
+  if (!facts) return;
+  document.body.dataset.shown = document.body.dataset.done = "";
+  show_commands(facts.setup, cuts);
+  try {
+    const trailers_told = facts.trailers(cuts), boots = [...cuts, null].map((cut, i) => of_boot(facts, cuts.slice(0, i), cut, i));
+    const [trailers, outcome, kind, ...told] = await Promise.all([trailers_told, facts.outcome(cuts), facts.kind(cuts), ...boots]);
+    if (facts !== state.facts) return;
+    by_id("refusal").hidden = true;
+    by_id("shown").hidden = false;
+    by_id("shown").classList.remove("old");
+    place_cards(told.length);
+    told.forEach((boot, i) => cards[i].update(facts, cuts.slice(0, i), cuts[i] ?? null, boot, cuts !== state.cuts));
+    show_outcome(cuts, outcome, kind, facts.setup.expected.length);
+    show_trailers(trailers);
+    document.body.dataset.shown = schedule_text(cuts);
+    fill_soon(REST);
+  } catch (error) {
+    // Of several refusals that of the outcome is shown.
+    const first = error instanceof Refused ? await facts.outcome(cuts).then(() => error, other => other) : error;
+    if (facts === state.facts) await failed(first);
+  }
+});
+
+// Fills what takes longer, once nothing has changed for a while.
+function fill_soon(rest) {
+  state.filling.abort();
+  clearTimeout(state.timer);
+  const { signal } = (state.filling = new AbortController());
+  state.timer = setTimeout(() => fill(signal).catch(error => signal.aborted || failed(error)), rest);
+}
+
+async function fill(signal) {
+  const { cuts } = state;
+  history.replaceState(null, "", link_of(cuts));
+  await fill_bytes(signal);
+  if (by_id("inspect-box").open) await fill_inspection();
+  for (const card of cards.slice(0, cuts.length + 1)) await card.fill(signal);
+  if (!signal.aborted) document.body.dataset.done = schedule_text(cuts);
+}
+
+async function fill_bytes(signal) {
+  const { facts, cuts } = state, slots = cards[0].words;
+  const { index, slot, sector } = state.chosen ?? { index: Math.max(cuts.length - 1, 0), slot: "primary", sector: slots.primary.length - 1 };
+  const upto = cuts.slice(0, index + 1), end = index >= cuts.length, size = facts.sector_bytes;
+  const at = (slot === "primary" ? 0 : slots.primary.length) + sector;
+  const bytes = await facts.bytes(upto, end, at * size, (at + 1) * size, signal);
+  if (!signal.aborted) show_bytes(bytes, { slot, sector }, sector * size, end ? "at the end" : `when power fails at power-on ${index + 1}`);
+}
+
+async function fill_inspection() {
+  by_id("inspect").textContent = await state.facts.inspect(state.cuts);
+}
+
+async function show_layout() {
+  const { facts } = state;
+  const text = await facts.layout(times()).catch(error => error.message);
+  if (facts === state.facts) by_id("layout").textContent = text;
+}
+
+async function count(facts) {
+  by_id("verdict").hidden = false;
+  show_counting();
+  try {
+    const text = await facts.census();
+    if (facts === state.facts) show_verdict(text, facts.setup.bound, go);
+  } catch (error) {
+    if (facts === state.facts) await failed(error);
+  }
+}
+
+// Begins anew with what the form asks.
+function ask(cuts) {
+  const asked = setup();
+  state.facts = asked.ready ? new Facts(asked) : null;
+  state.chosen = null;
+  state.cuts = cuts;
+  history.replaceState(null, "", link_of(cuts));
+  by_id("right-means").textContent = asked.expected.length ? "a cut here ends with the right image" : "a cut here ends in a boot";
+  by_id("refusal").hidden = true;
+  by_id("shown").classList.add("old");
+  by_id("program").hidden = !asked.ready;
+  if (!asked.ready) {
+    by_id("shown").hidden = true;
+    by_id("verdict").hidden = false;
+    show_wanted("Choose a dump of both slots, or drop it on its field.");
+    return;
+  }
+  show_layout();
+  count(state.facts);
+  go(cuts);
+}
+
+async function copy_link() {
+  by_id("linked").textContent = (await copied(location.href)) ? "Copied." : "The address line has it.";
+}
+
+function redraw() {
+  cards.slice(0, by_id("boots").children.length).forEach(card => card.draw());
+}
+
+// Draws anew where the page is made wider or narrower.
+function follow_width() {
+  let wide = 0;
+  new ResizeObserver(([{ contentRect }]) => {
+    if (contentRect.width !== wide) redraw();
+    wide = contentRect.width;
+  }).observe(by_id("boots"));
+}
+
+async function begin() {
+  begin_form({ changed: () => ask([]), filed: () => ask(state.cuts), timed: () => state.facts && show_layout(), failed });
+  by_id("link").addEventListener("click", copy_link);
+  by_id("inspect-box").addEventListener("toggle", () => state.facts && fill_soon(0));
+  addEventListener("hashchange", () => ask(take_link(location.hash)));
+  follow_width();
+  matchMedia("(prefers-color-scheme: dark)").addEventListener("change", redraw);
+  const cuts = take_link(location.hash);
+  await take_examples();
+  ask(cuts);
+}
+
+begin().catch(failed);
