@@ -141,6 +141,8 @@ pub fn run<F: Files, O: Write>(
     };
     let images = Images::read(files, alloc, arguments)?;
     let start = dump.read(files, alloc)?;
+    // Before anything is written, so that want of memory leaves no beginning.
+    let census = take_census::<JournalFlash, OneRound>(alloc, &start, MOST_CUTS, ())?;
     match &images {
         Some(images) => {
             let named = images.start_of(alloc, &dump.layout, dump.rules, Kind::None)?;
@@ -148,7 +150,6 @@ pub fn run<F: Files, O: Write>(
         }
         None => write_inspection::<JournalFlash, O>(alloc, &start, &start, out)?,
     }
-    let census = take_census::<JournalFlash, OneRound>(alloc, &start, MOST_CUTS, ())?;
     Ok(write_census::<OneRound, O>(&census, out)?)
 }
 
