@@ -5,7 +5,7 @@ import { draw_map, places } from "./map.js";
 import { draw_slots } from "./slots.js";
 
 const MOST_CUTS = 16;
-const TOLD = 4096; // so many operations of a view are told one by one
+const MOST_SHOWN = 4096; // so many operations of a view are shown one by one
 const SAMPLES = 96; // so many moments of a view show their sectors
 const AT_ONCE = 2; // questions
 const NEAREST = 32; // the fewest operations of a view
@@ -53,7 +53,7 @@ export class BootCard {
   listen() {
     this.slider.addEventListener("input", () => this.cut_at(Number(this.slider.value)));
     this.canvas.addEventListener("click", event => this.cut_at(this.number_under(event)));
-    this.canvas.addEventListener("mousemove", event => show_tip(event, this.told_of(this.number_under(event))));
+    this.canvas.addEventListener("mousemove", event => show_tip(event, this.text_at(this.number_under(event))));
     this.canvas.addEventListener("mouseleave", hide_tip);
     this.whole.addEventListener("click", () => this.cut_at(this.count));
     this.near.addEventListener("click", () => this.zoom_to((this.map.view.to - this.map.view.from) / STEP));
@@ -71,7 +71,7 @@ export class BootCard {
   }
 
   // What is known of an operation, and of a cut before it.
-  told_of(number) {
+  text_at(number) {
     const text = this.map.operations.find(operation => operation.number === number)?.text ?? "", row = this.map.rows.get(number);
     return `${number} ${text}${row ? `\na cut before it: ${row}` : ""}`;
   }
@@ -109,8 +109,8 @@ export class BootCard {
     const view = this.current_view(), kept = same && this.map.view.from === view.from && this.map.view.to === view.to;
     if (!kept) {
       const [primary, secondary] = [slots.primary.length, slots.secondary.length];
-      const told = view.to - view.from <= TOLD;
-      this.map = { segments: [], operations: [], samples: [], rows: new Map(), view, told, primary, secondary };
+      const shows_each = view.to - view.from <= MOST_SHOWN;
+      this.map = { segments: [], operations: [], samples: [], rows: new Map(), view, shows_each, primary, secondary };
     }
     this.map.cut = cut;
     this.show_words(outcome);
@@ -152,12 +152,12 @@ export class BootCard {
   async fill(signal) {
     if (this.map.complete || !this.count) return;
     const { facts, before, map } = this, { from, to } = map.view;
-    if (map.told && !map.operations.length) map.operations = await facts.operations(before, from, to, signal);
+    if (map.shows_each && !map.operations.length) map.operations = await facts.operations(before, from, to, signal);
     this.draw_soon();
     if (this.index < MOST_CUTS) {
       map.segments = await facts.segments(before, from, to, signal);
       await this.sample(map, signal);
-      if (map.told) map.rows = await facts.rows(before, from, to, signal);
+      if (map.shows_each) map.rows = await facts.rows(before, from, to, signal);
     }
     map.complete = true;
     draw_map(this.canvas, map);

@@ -6,7 +6,7 @@ import { cuts_of, fields_of, kind_of, last_operations, rows_of, schedule_text, s
 const KEPT = 3000; // answers
 const is_count = number => Number.isInteger(number) && number >= 0 && number < 2 ** 32;
 const ROWS = 1 << 19; // the most that one survey counts
-const SPLITS = 40; // surveys by which a boot's end is told more closely
+const SPLITS = 40; // surveys by which a boot's end is found more closely
 
 // The option with its value as words of a command line.
 function words_of([option, value]) {

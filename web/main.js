@@ -61,7 +61,7 @@ async function of_boot(facts, before, cut, index) {
   const upto = cut === null ? before : [...before, cut];
   const [outcome, slots, operation] = await Promise.all([
     facts.outcome(before), facts.sectors(upto, cut === null),
-    cut === null ? null : cards[index]?.known_operation(facts, before, cut) ?? facts.operations(before, cut, cut + 1).then(told => told[0])]);
+    cut === null ? null : cards[index]?.known_operation(facts, before, cut) ?? facts.operations(before, cut, cut + 1).then(found => found[0])]);
   return { outcome: fields_of(outcome), slots, operation };
 }
 
@@ -80,14 +80,14 @@ const show = latest(async () => {
   document.body.dataset.shown = document.body.dataset.done = "";
   show_commands(facts.setup, cuts);
   try {
-    const trailers_told = facts.trailers(cuts), boots = [...cuts, null].map((cut, i) => of_boot(facts, cuts.slice(0, i), cut, i));
-    const [trailers, outcome, kind, ...told] = await Promise.all([trailers_told, facts.outcome(cuts), facts.kind(cuts), ...boots]);
+    const trailers_asked = facts.trailers(cuts), boots = [...cuts, null].map((cut, i) => of_boot(facts, cuts.slice(0, i), cut, i));
+    const [trailers, outcome, kind, ...reports] = await Promise.all([trailers_asked, facts.outcome(cuts), facts.kind(cuts), ...boots]);
     if (facts !== state.facts) return;
     by_id("refusal").hidden = true;
     by_id("shown").hidden = false;
     by_id("shown").classList.remove("old");
-    place_cards(told.length);
-    told.forEach((boot, i) => cards[i].update(facts, cuts.slice(0, i), cuts[i] ?? null, boot, cuts !== state.cuts));
+    place_cards(reports.length);
+    reports.forEach((boot, i) => cards[i].update(facts, cuts.slice(0, i), cuts[i] ?? null, boot, cuts !== state.cuts));
     show_outcome(cuts, outcome, kind, facts.setup.expected.length);
     show_trailers(trailers);
     document.body.dataset.shown = schedule_text(cuts);

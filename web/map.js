@@ -119,7 +119,7 @@ class Drawing {
 
   operations() {
     const { x, top, column, margin } = this.at, gap = column > 5 ? 1 : 0, middle = top.operations + OPERATIONS / 2 + 0.5;
-    if (!this.boot.told) this.text("zoom in to see each operation", margin + 4, middle, "soft", "left");
+    if (!this.boot.shows_each) this.text("zoom in to see each operation", margin + 4, middle, "soft", "left");
     for (const { number, what } of this.boot.operations) {
       this.pen.fillStyle = this.colour(what);
       this.pen.fillRect(x(number), top.operations, Math.max(column - gap, 0.6), OPERATIONS);

@@ -17,7 +17,7 @@ const PATIENCE = 400; // milliseconds between two attempts at a server that has 
 
 const pause = time => new Promise(done => setTimeout(done, time));
 
-async function told(answer) {
+async function fail_by(answer) {
   const said = await answer.json().catch(() => ({}));
   throw new Error(said.error ?? `the server answers ${answer.status}`);
 }
@@ -34,7 +34,7 @@ async function send(path, body, signal) {
 // Hands a file to the server, and returns its digest.
 export async function keep(bytes) {
   const answer = await send("file", bytes);
-  if (!answer.ok) await told(answer);
+  if (!answer.ok) await fail_by(answer);
   const { digest } = await answer.json();
   held.set(digest, bytes);
   return digest;
@@ -56,7 +56,7 @@ async function ask(path, question, signal) {
     if (answer.ok) return answer.json();
     if (answer.status === 409) await send_again((await answer.json()).unknown);
     else if (answer.status === 503) await pause(PATIENCE);
-    else await told(answer);
+    else await fail_by(answer);
   }
 }
 
@@ -78,6 +78,6 @@ export async function flash(question, signal) {
 export async function bytes_of(digest, from, to, signal) {
   const answer = await fetch(`file/${digest}?from=${from}&to=${to}`, { signal });
   if (answer.status === 409) throw new Lost("a file is no longer kept");
-  if (!answer.ok) await told(answer);
+  if (!answer.ok) await fail_by(answer);
   return new Uint8Array(await answer.arrayBuffer());
 }

@@ -51,15 +51,15 @@ function row_of(slot, words, most, wide, frames, choose) {
     piece.style.width = share(run[1] - run[0], most);
     return piece;
   }), ...frames.filter(it => it.slot === slot).map(it => frame(it.kind, it.sector, most)));
-  const tell = sector => `${slot} sector ${sector}: ${meaning_of(words[sector])}`;
+  const text_of = sector => `${slot} sector ${sector}: ${meaning_of(words[sector])}`;
   const under = event => {
     const box = row.getBoundingClientRect();
     return Math.max(0, Math.min(words.length - 1, Math.floor(((event.clientX - box.left) / box.width) * most)));
   };
   const chosen = frames.find(it => it.slot === slot && it.kind === "chosen")?.sector;
   row.setAttribute("aria-valuenow", chosen ?? 0);
-  row.setAttribute("aria-valuetext", tell(chosen ?? 0));
-  row.addEventListener("mousemove", event => show_tip(event, tell(under(event))));
+  row.setAttribute("aria-valuetext", text_of(chosen ?? 0));
+  row.addEventListener("mousemove", event => show_tip(event, text_of(under(event))));
   row.addEventListener("mouseleave", hide_tip);
   row.addEventListener("click", event => choose(slot, under(event)));
   row.addEventListener("keydown", event => {

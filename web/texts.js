@@ -35,7 +35,7 @@ export function operation_of(line, sector_bytes) {
   return { number: Number(number), text: words.join(" "), what: words[0], target: sector(target), source: sector(source) };
 }
 
-// The operations that `trace` tells of its last boot.
+// The operations that `trace` prints of its last boot.
 export function last_operations(text, sector_bytes) {
   const lines = lines_of(text), begin = lines.findLastIndex(line => /^boot \d+ \w+$/.test(line));
   return lines.slice(begin + 1).filter(line => /^\d+ /.test(line)).map(line => operation_of(line, sector_bytes));
@@ -59,7 +59,7 @@ export function kind_of(counts) {
   return boot === rows && right === "0" ? "wrong" : "mixed";
 }
 
-// A count with commas; one that is not told exactly begins with `at least`.
+// A count with commas; one that is not known exactly begins with `at least`.
 export function grouped(count) {
   const digits = count.replace(/^>=/, "");
   return (digits === count ? "" : "at least ") + digits.replace(/\B(?=(\d{3})+$)/g, ",");
