@@ -106,9 +106,22 @@ pub fn with_files<F: Files>(
             is_path = true;
         } else {
             is_over = is_over || word.as_str() == "--";
-            let word = word.clone().map_err(|_| Refusal::Memory)?;
-            whole.push(word).map_err(|_| Refusal::Memory)?;
+            push_copy(&mut whole, word)?;
         }
     }
+    // Without a file it is clap's to refuse.
+    if is_path && let Some(word) = words.last() {
+        push_copy(&mut whole, word)?;
+    }
     Ok(whole)
+}
+
+/// Adds a copy of a word.
+///
+/// # Errors
+///
+/// `Memory`.
+fn push_copy(words: &mut Vec<String>, word: &String) -> Result<(), Refusal> {
+    let word = word.clone().map_err(|_| Refusal::Memory)?;
+    words.push(word).map_err(|_| Refusal::Memory)
 }

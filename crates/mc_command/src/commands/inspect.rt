@@ -1,5 +1,5 @@
 //! `inspect` and `locate`: what a dump of a device is, and where it occurs in a swap of two images.
-ghost use Rattle.std.specs.Prelude.{◌≡◌, IfOk};
+ghost use Rattle.std.specs.Prelude.{◌≡◌, ◌≤◌, ◌⊎◌, length, IfOk};
 ghost use Rattle.clap.specs.Matches.{found_of};
 ghost use Rattle.mc_options.specs.Arguments.{GivesLayout, GivesRules};
 ghost use Rattle.mc_command.specs.Inspections.{IsFound, IsSwapOf, first_of, second_of};
@@ -166,7 +166,8 @@ struct Found {
 ///
 /// `Start` with what is refused of the images; `Flash` for want of memory.
 fn find_in(alloc: Global, flash: &Start, images: &Images, kind: Kind) -> Result<Found, Refusal>
-    ensures { IfOk result (IsFound images.now flash.now) }
+    ensures found { IfOk result (IsFound images.now flash.now) }
+    ensures kind { IfOk result (λ found. found.kind ≡ kind) }
 {
     let start = images.start_of(alloc, flash.layout(), flash.rules(), kind)?;
     let (primary, secondary) = (flash.primary(), flash.secondary());
@@ -175,7 +176,11 @@ fn find_in(alloc: Global, flash: &Start, images: &Images, kind: Kind) -> Result<
 }
 
 /// That of two where fewer sectors differ; the first where as many do.
-fn nearer(first: Found, second: Found) -> Found {
+fn nearer(first: Found, second: Found) -> Found
+    ensures one { (result ≡ first) ⊎ (result ≡ second) }
+    ensures first { length result.located.differs.items ≤ length first.located.differs.items }
+    ensures second { length result.located.differs.items ≤ length second.located.differs.items }
+{
     if second.located.differs.len() < first.located.differs.len() {
         second
     } else {

@@ -31,13 +31,9 @@ fn reads_a_layout_from_a_file(rt: HostRuntime) {
         &[],
         missing,
     );
-    shows(
-        &rt,
-        rt.alloc(),
-        "layout --layout",
-        &[],
-        "! error: ...exit 2\n",
-    );
+    let no_file = in_full(&rt, rt.alloc(), "layout WORKED --layout");
+    let unfinished = "! error: a value is required...exit 2\n";
+    shows(&rt, rt.alloc(), no_file.as_str(), &[], unfinished);
 }
 
 /// Refusals with their reasons, and notes on what is not refused.
