@@ -1,5 +1,5 @@
 -- Totals that are cut off, one after another; what the rows of all paths come to is what the tree weighs.
-use Rattle.std.proofs.Common.{Bool, List, None, Option, Some, [], ap, arith, cond, false, if◌then◌else◌, length, map, max, not, option_map, refl, subst, suc, sym, take, true, zero, ℕ, ◌++◌, ◌+◌, ◌-◌, ◌<◌, ◌∙◌, ◌∷◌, ◌≡◌, ◌≤◌}
+use Rattle.std.proofs.Common.{Bool, List, None, Option, Some, [], ap, arith, cond, false, if◌then◌else◌, length, map, max, not, option_map, refl, subst, suc, sym, take, true, zero, ℕ, ◌++◌, ◌+◌, ◌-◌, ◌∙◌, ◌∷◌, ◌≡◌, ◌≤◌}
 use Rattle.std.proofs.lemmas.List.{length-map, take-take, take_all}
 use Rattle.std.proofs.lemmas.List.Recursion.{is_count_by}
 use Rattle.std.proofs.lemmas.List.Sums.{sum_by-cons}
@@ -7,10 +7,11 @@ use Rattle.std.proofs.lemmas.Option.{same_Some}
 use Rattle.std.specs.List.{find, fold, slice_get}
 use Rattle.std.specs.Option.{option_or}
 use Rattle.std.specs.Prelude.{Contains}
-use Rattle.mc_boot.specs.Outcome.{Report}
+use Rattle.mc_boot.specs.Outcome.{Report, shown}
 use Rattle.mc_boot.specs.Plan.{PowerOn}
 use Rattle.mc_boot.specs.SharedTail.{index_in_parent}
 use Rattle.mc_boot.specs.declared.outcome.BootResult.{BootResult}
+use Rattle.mc_boot.specs.declared.outcome.Outcome.{Outcome}
 use Rattle.mc_boot.specs.declared.shared_tail.SharedTail.{SharedTail}
 use Rattle.mc_explore.specs.Census.{IsCensusOf, census_by, cut_number}
 use Rattle.mc_explore.specs.Pages.{IsRest}
@@ -21,8 +22,8 @@ use Rattle.mc_explore.specs.Survey.{count_if, ending_with, is_boot, is_fault, is
 use Rattle.mc_explore.specs.declared.census.CensusOf.{CensusOf}
 use Rattle.mc_explore.specs.declared.expectation.Expectation.{Expectation}
 use Rattle.mc_explore.specs.facts.Totals.{totals_weigh}
-use Rattle.mc_explore.specs.inner.Table.{AreCutOff, AreSums, IsJoined, IsTailOf, own_totals, weigh, weigh_below}
-use Rattle.mc_explore.specs.inner.Totals.{Totals, merged, cut_off, no_totals, row_totals, totals}
+use Rattle.mc_explore.specs.inner.Table.{AreCutOff, IsJoined, IsTailOf, own_totals, weigh, weigh_below}
+use Rattle.mc_explore.specs.inner.Totals.{Totals, merged, cut_off, no_totals, report_totals, row_totals, totals}
 use Rattle.mc_start.specs.Start.{lowered}
 use Rattle.mc_tree.specs.Tree.{IsMember, Tree, landed}
 use Rattle.mc_tree.specs.facts.Existence.{all_from, all_paths, in_all, landed_path}
@@ -94,13 +95,11 @@ module _ {N : Type 0} (t : Tree N) (ended : N → Report) (e : Expectation) wher
       ∙ ap (λ a. merged (own_totals t ended e (t.child n c)) (merged no_totals a)) late
       ∙ totals_weigh.right (own_totals t ended e (t.child n c)))
 
-  pub is_joined : (n : N) (most c : ℕ) (own : Census) (x : SharedTail) → own ≡ cut_off (own_totals t ended e (t.child n c)) → IsTailOf t ended e n c x
-      → IsJoined (weigh_below t ended e n) (t.width n) most c own x
-  is_joined n most c own x own_is is = record {
+  pub is_joined : (n : N) (most c : ℕ) (outcome : Outcome) (x : SharedTail) → own_totals t ended e (t.child n c) ≡ report_totals (shown outcome) → IsTailOf t ended e n c x
+      → IsJoined (weigh_below t ended e n) (t.width n) most c outcome x
+  is_joined n most c outcome x own_is is = record {
     inside = record { late = omega (arith, is.width, is.at_most); early = is.within };
-    alone = own_totals t ended e (t.child n c);
-    own_is = own_is;
-    weighs = tail_weighs n c x is;
+    weighs = λ d. tail_weighs n c x is d ∙ ap (λ a. merged a (shared_below totals (weigh_below t ended e n d) (t.width n) x.kept x.erases (index_in_parent x))) own_is;
   }
 
 -- Lists of totals that are cut off.
@@ -123,35 +122,12 @@ one_cut_off under (x ∷ xs) y are is (suc i) lt = one_cut_off (λ i. under (suc
 pub more_cut_off : (under : ℕ → Totals) (xs all : List Census) (y : Census) (n : ℕ) → all ≡ xs ++ y ∷ [] → length xs ≡ n → AreCutOff under xs → y ≡ cut_off (under n) → AreCutOff under all
 more_cut_off under xs all y n pushed many are is = subst (AreCutOff under) (sym pushed) (one_cut_off under xs y are (is ∙ ap (λ k. cut_off (under k)) (sym many)))
 
-module _ (under : ℕ → Totals) where
-  -- The sums of one more of the last ones.
-  pub more_sums : (n later number : ℕ) → number + 1 + later ≡ n → merged (totals.prefixed number (under number)) (from totals under later (n - later)) ≡ from totals under (later + 1) (n - (later + 1))
-  more_sums n later number e =
-      let one : later + 1 ≡ suc later = omega arith in
-      let first : n - (later + 1) ≡ number = omega (arith, e) in
-      let second : n - later ≡ number + 1 = omega (arith, e) in
-      ap (λ i. merged (totals.prefixed number (under number)) (from totals under later i)) second
-      ∙ ap (λ i. from totals under (suc later) i) (sym first)
-      ∙ ap (λ k. from totals under k (n - (later + 1))) (sym one)
-
-  -- And of one more of the first ones.
-  pub more_first : (n : ℕ) → merged (from totals under n 0) (totals.prefixed n (under n)) ≡ from totals under (n + 1) 0
-  more_first n =
-      let at : 0 + n ≡ n = omega arith in
-      let one : n + 1 ≡ suc n = omega arith in
-      sym (ap (λ k. from totals under k 0) one ∙ from_more totals totals_weigh under n 0 ∙ ap (λ i. merged (from totals under n 0) (totals.prefixed i (under i))) at)
-
--- The census of a node for one bound more, by the sums of all children for that bound.
-pub entry_is : (under : ℕ → Totals) (alone : Totals) (own sum one : Census) (count : ℕ) (level sums : List Census)
-    → ((under : ℕ → Totals) → AreCutOff under level → count ≡ length level → AreSums under count sums)
-    → ((under : ℕ → Totals) → AreCutOff under sums → count < length sums → sum ≡ cut_off (under count))
-    → ((a b : Totals) → own ≡ cut_off a → sum ≡ cut_off b → one ≡ cut_off (merged a b))
-    → own ≡ cut_off alone → AreCutOff under level → count ≡ length level → one ≡ cut_off (merged alone (from totals under count 0))
-entry_is under alone own sum one count level sums summed last together own_is level_is many =
-    let are = summed under level_is many in
-    let at : count - count ≡ 0 = omega arith in
-    let sum_is = last (λ k. from totals under k (count - k)) are.1 (omega (arith, are.0)) in
-    together alone (from totals under count (count - count)) own_is sum_is ∙ ap (λ i. cut_off (merged alone (from totals under count i))) at
+-- The sums of one more of the first ones.
+pub more_first : (under : ℕ → Totals) (n : ℕ) → merged (from totals under n 0) (totals.prefixed n (under n)) ≡ from totals under (n + 1) 0
+more_first under n =
+    let at : 0 + n ≡ n = omega arith in
+    let one : n + 1 ≡ suc n = omega arith in
+    sym (ap (λ k. from totals under k 0) one ∙ from_more totals totals_weigh under n 0 ∙ ap (λ i. merged (from totals under n 0) (totals.prefixed i (under i))) at)
 
 -- What the one list of rows comes to is what the tree of boots does.
 
@@ -202,7 +178,7 @@ first_is (row ∷ rows) at_most =
     first_more (is_boot row.outcome.result) row (sum_of rows).first (find (λ row. not (is_boot row.outcome.result)) rows) (at_most row (lists.at_head row rows))
     (first_is rows (λ x i. at_most x (lists.in_rest row x rows i)))
 
-same_numbers : (x y : Census) → x.schedules ≡ y.schedules → x.boot ≡ y.boot → x.none ≡ y.none → x.panic ≡ y.panic → x.fault ≡ y.fault → x.most_operations ≡ y.most_operations
+pub same_numbers : (x y : Census) → x.schedules ≡ y.schedules → x.boot ≡ y.boot → x.none ≡ y.none → x.panic ≡ y.panic → x.fault ≡ y.fault → x.most_operations ≡ y.most_operations
     → x.first_not_boot ≡ y.first_not_boot → x ≡ y
 same_numbers x y a b c d e f h =
     let same : ◌≡◌ {A = Census} (record {

@@ -6,6 +6,7 @@ mod PageRows
 mod PageText
 mod Passing
 mod Restarts
+mod Runs
 mod TornPages
 mod Visiting
 pub mod Counted

@@ -78,11 +78,11 @@ module _ {N A T B : Type 0} (model : B → TreeModel N A T) (old : Walked B) whe
           subst (λ l. HasWeights (paths_of k old) (report_of old.flash_tree (origin_of old.seen)) e l bound column) here.path
           (here_too model old at here.same (λ b c. HasWeights (path_tree (model b).tree ((model b).root c)) (report_of b c) e at.path bound column) weights)
 
-      pub own_there : (report : Report) (own : Census) → report ≡ report_of at.flash_tree (origin_of at.seen) at.path → own ≡ cut_off (report_totals (judged e report))
-          → own ≡ cut_off (own_totals (paths_of k old) (report_of old.flash_tree (origin_of old.seen)) e (old.path ++ number ∷ []))
-      own_there report own is own_is =
+      pub own_there : (report judged_report : Report) → report ≡ report_of at.flash_tree (origin_of at.seen) at.path → judged_report ≡ judged e report
+          → own_totals (paths_of k old) (report_of old.flash_tree (origin_of old.seen)) e (old.path ++ number ∷ []) ≡ report_totals judged_report
+      own_there report judged_report is judged_is =
           let is_here : report ≡ report_of old.flash_tree (origin_of old.seen) at.path = here_too model old at here.same (λ b c. report ≡ report_of b c at.path) is in
-          own_is ∙ ap (λ o. cut_off (report_totals (judged e o))) (is_here ∙ ap (report_of old.flash_tree (origin_of old.seen)) here.path)
+          sym (ap report_totals judged_is ∙ ap (λ o. report_totals (judged e o)) (is_here ∙ ap (report_of old.flash_tree (origin_of old.seen)) here.path))
 
   -- At the root of the walk.
   pub root_weighs : (now : Walked B) (report_of : B → Content → List ℕ → Report) (e : Expectation) (bound : ℕ) (census : Census) → IsSame old now → now.path ≡ []

@@ -1,10 +1,10 @@
 //! What all rows come to, in numbers.
 ghost use Rattle.std.specs.Prelude.{◌≡◌, ◌↔◌, true, List};
 ghost use Rattle.mc_boot.specs.Outcome.{shown};
-ghost use Rattle.mc_start.specs.Start.{lowered};
 ghost use Rattle.mc_explore.specs.Census.{census_by};
 ghost use Rattle.mc_explore.specs.Survey.{AllEndInBoot};
-ghost use Rattle.mc_explore.specs.inner.Totals.{Totals, merged, cut_off, no_totals, report_totals, totals, with_first};
+ghost use Rattle.mc_explore.specs.inner.Totals.{Totals, merged, cut_off, no_totals, report_totals, totals};
+ghost use Rattle.mc_tree.specs.inner.Weights.{from};
 
 use crate::subject::Subject;
 use mc_boot::{BootResult, Outcome};
@@ -99,6 +99,26 @@ impl CensusOf<Schedule> {
         CensusOf {
             first_not_boot,
             ..*self
+        }
+    }
+
+    /// Of the same paths, after each of so many steps from that one on.
+    #[tactic(auto, unfolding(crate::specs::inner::Totals::cut_off, crate::specs::Census::cut_number))]
+    pub(crate) fn repeated(&self, step: u32, times: u32) -> Census
+        ensures { (a : Totals) → self.now ≡ cut_off a
+            → result ≡ cut_off (from totals (λ _. a) times step) }
+    {
+        if times == 0 {
+            return CensusOf::new();
+        }
+        let count = u128::from(times);
+        CensusOf {
+            schedules: self.schedules.saturating_mul(count),
+            boot: self.boot.saturating_mul(count),
+            none: self.none.saturating_mul(count),
+            panic: self.panic.saturating_mul(count),
+            fault: self.fault.saturating_mul(count),
+            ..self.prefixed(step)
         }
     }
 

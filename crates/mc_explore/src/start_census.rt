@@ -4,7 +4,6 @@ ghost use Rattle.mc_boot.specs.Outcome.{shown};
 ghost use Rattle.mc_start.specs.Start.{begun};
 ghost use Rattle.mc_explore.specs.Census.{IsCensus, IsCensusOf};
 ghost use Rattle.mc_explore.specs.Right.{AreRights, judged};
-ghost use Rattle.mc_explore.specs.declared.expectation.Expectation.{Expectation as Expected};
 ghost use Rattle.mc_explore.specs.inner.Table.{CanPass, HasSameLimits, HasWeights, IsTailHere, PassesBelow, ReachesChild, paths_of};
 ghost use Rattle.mc_walk.specs.Walks.{IsPath, origin_of};
 
@@ -13,7 +12,7 @@ use crate::countable::{Countable, Ending};
 use crate::error::{CensusError, ExploreError};
 use crate::expectation::Expectation;
 use crate::rights::RightsOf;
-use crate::table::{Below, Position, census_at, column_of};
+use crate::table::{Below, add_child, census_at, column_of};
 use crate::tree_loading::load_walk;
 use mc_boot::{Outcome, SharedTail};
 use mc_flash::{Flash, FlashError};
@@ -111,17 +110,17 @@ fn column<F: Flash, X: Ending>(
         return Ok(vec![in alloc; own]?);
     }
     let count = walk.flash_tree().width(&summary);
-    let mut positions = Vec::new(alloc);
+    let mut runs = Vec::new(alloc);
     for number in 0..count {
         let end = visit_child(walk, number, start)?;
         let below = match end.tail {
             Some(shared_tail) => Below::Joined(shared_tail),
             None => Below::Apart(column(alloc, walk, bound - 1, start, expectation)?),
         };
-        let own = Census::of(&expectation.judge(&end.outcome));
-        positions.push(Position { own, below })?;
+        let outcome = expectation.judge(&end.outcome);
+        add_child(&mut runs, number, outcome, below)?;
     }
-    Ok(column_of(alloc, own, &positions, count, bound)?)
+    Ok(column_of(alloc, own, &runs, count, bound)?)
 }
 
 // The census of a start, where only an outcome that meets the expectation counts as a boot.

@@ -1,12 +1,14 @@
 //! The censuses of the children of one node, for one bound after another.
-ghost use Rattle.std.specs.Prelude.{◌≡◌, ℕ, suc, ◌+◌, ◌<◌, length, IfOk};
+ghost use Rattle.std.specs.Prelude.{◌≡◌, ℕ, suc, ◌+◌, ◌<◌, ◌≤◌, length, nat_le, IfOk, OnOk, true};
+ghost use Rattle.mc_boot.specs.Outcome.{shown};
 ghost use Rattle.mc_boot.specs.SharedTail.{index_in_parent};
 ghost use Rattle.mc_tree.specs.inner.Weights.{from, shared_below};
-ghost use Rattle.mc_explore.specs.inner.Table.{AreCutOff, ArePositions, AreSums, IsColumn, IsInside, IsLevel, IsPosition};
-ghost use Rattle.mc_explore.specs.inner.Totals.{Totals, merged, cut_off, no_totals, totals};
+ghost use Rattle.mc_explore.specs.declared.table.Below.TheVariants.{Joined};
+ghost use Rattle.mc_explore.specs.inner.Table.{AreAlike, AreCutOff, AreRuns, AreSums, Begins, IsChild, IsColumn, IsInside, IsLevel, IsSplit, begin_of, rest_from};
+ghost use Rattle.mc_explore.specs.inner.Totals.{Totals, merged, cut_off, no_totals, report_totals, totals};
 
 use crate::census::Census;
-use mc_boot::SharedTail;
+use mc_boot::{Outcome, SharedTail};
 use std::alloc::{AllocError, Global};
 
 /// The paths from a child.
@@ -18,11 +20,83 @@ pub(crate) enum Below {
     Apart(Vec<Census>),
 }
 
-/// A child of a node: the census of its path of no steps, and its further paths.
+/// Children of a node, one after another, that have the same censuses: the number of the first, how the path ends there, and the
+/// further paths from there.
 #[derive(Drop)]
-pub(crate) struct Position {
-    pub own: Census,
+pub(crate) struct Run {
+    pub first: u32,
+    pub outcome: Outcome,
     pub below: Below,
+}
+
+/// Whether what lies below two children lies at the same places, or below themselves.
+fn are_alike(first: u32, one: &SharedTail, number: u32, other: &SharedTail) -> bool
+    ensures { result ≡ true → AreAlike first one.now number other.now }
+{
+    if one.kept() != other.kept() || one.erases() != other.erases() {
+        return false;
+    }
+    for step in 0..one.erases() {
+        let (a, b) = (one.index_in_parent(step), other.index_in_parent(step));
+        if a != b && (a != first || b != number) {
+            return false;
+        }
+    }
+    true
+}
+
+/// Whether two paths count alike by themselves.
+fn end_alike(one: &Outcome, other: &Outcome) -> bool
+    ensures { result ≡ true
+        → report_totals (shown one.now) ≡ report_totals (shown other.now) }
+{
+    one.result == other.result && one.ops == other.ops
+}
+
+impl Run {
+    /// Whether a child has the censuses that its children have.
+    fn takes(&self, number: u32, outcome: &Outcome, below: &Below) -> bool
+        ensures { (under : ℕ → ℕ → Totals) (n most : ℕ) → ((i : ℕ) → under 0 i ≡ no_totals)
+            → IsChild under n most self.now.first self.now.outcome self.now.below
+            → IsChild under n most number outcome.now below.now → result ≡ true
+            → (d : ℕ) → under d number ≡ under d self.now.first }
+    {
+        match (&self.below, below) {
+            (Below::Joined(one), Below::Joined(other)) => {
+                end_alike(outcome, &self.outcome) && are_alike(self.first, one, number, other)
+            }
+            _ => false,
+        }
+    }
+}
+
+/// Adds the child of that number, which comes after those of the runs.
+///
+/// # Errors
+///
+/// Where an allocation failed.
+pub(crate) fn add_child(
+    runs: &mut Vec<Run>,
+    number: u32,
+    outcome: Outcome,
+    below: Below,
+) -> Result<(), AllocError>
+    ensures { OnOk result ((under : ℕ → ℕ → Totals) (n most : ℕ)
+        → ((i : ℕ) → under 0 i ≡ no_totals) → AreRuns under n most number runs.old.items
+        → IsChild under n most number outcome below
+        → AreRuns under n most (number + 1) runs.new.items) }
+{
+    if let Some(run) = runs.last()
+        && run.takes(number, &outcome, &below)
+    {
+        return Ok(());
+    }
+    runs.push(Run {
+        first: number,
+        outcome,
+        below,
+    })?;
+    Ok(())
 }
 
 /// The census of a number in a list, and that of no paths past its end.
@@ -33,112 +107,172 @@ pub(crate) fn census_at(list: &[Census], index: usize) -> Census
     list.get(index).copied().unwrap_or(Census::new())
 }
 
-/// The sums of the last of so many censuses, each after its number as a first step: of none, of one, and so on to all of them.
-fn sums(alloc: Global, level: &[Census], count: u32) -> Result<Vec<Census>, AllocError>
-    ensures { IfOk result (λ sums. (under : ℕ → Totals) → AreCutOff under level.now
-        → count ≡ length level.now → AreSums under count sums.items) }
+/// The number of the first child of a run, or how many children there are.
+fn begin_at(runs: &[Run], count: u32, index: usize) -> u32
+    ensures { result ≡ begin_of runs.now count index }
+{
+    if index < runs.len() {
+        runs[index].first
+    } else {
+        count
+    }
+}
+
+/// The run of a child; of the number after the last one that of the last.
+fn run_of(runs: &[Run], number: u32) -> usize
+    ensures begins { (n : ℕ) → IsSplit runs.now n → 1 ≤ length runs.now → number ≤ n
+        → Begins runs.now n number result }
+    ensures bound { result ≤ length runs.now }
+{
+    let after = runs.partition_point(
+        |run: &Run| -> bool
+            ensures { result ≡ nat_le run.now.first number }
+        { run.first <= number },
+    );
+    after.saturating_sub(1)
+}
+
+/// The sums of the children of the last of so many runs, each after its number as a first step: of none, of one run, and so on to
+/// all of them.
+fn sums(
+    alloc: Global,
+    runs: &[Run],
+    level: &[Census],
+    count: u32,
+) -> Result<Vec<Census>, AllocError>
+    ensures { IfOk result (λ sums. (under : ℕ → Totals) → IsLevel under count runs.now level.now
+        → AreSums under count runs.now sums.items) }
 {
     let mut sum = Census::new();
     let mut sums = Vec::new(alloc);
     sums.push(sum)?;
-    for later in 0..count {
-        let number = count - 1 - later;
-        sum = census_at(level, number as usize)
-            .prefixed(number)
-            .merged(&sum);
+    for later in 0..runs.len() {
+        let index = runs.len() - 1 - later;
+        let first = begin_at(runs, count, index);
+        let times = begin_at(runs, count, index + 1).saturating_sub(first);
+        sum = census_at(level, index).repeated(first, times).merged(&sum);
         sums.push(sum)?;
     }
     Ok(sums)
 }
 
+/// The sum of the children from that number on, each after its number as a first step.
+fn rest(runs: &[Run], level: &[Census], sums: &[Census], count: u32, number: u32) -> Census
+    ensures { (under : ℕ → Totals) → IsLevel under count runs.now level.now
+        → AreSums under count runs.now sums.now → 1 ≤ length runs.now → number ≤ count
+        → result ≡ cut_off (rest_from under count number) }
+{
+    let index = run_of(runs, number);
+    let times = begin_at(runs, count, index + 1).saturating_sub(number);
+    let later = census_at(sums, runs.len().saturating_sub(index + 1));
+    census_at(level, index)
+        .repeated(number, times)
+        .merged(&later)
+}
+
 /// The census of the children that a boot has before it goes on with another one, by the censuses of that one's children.
-fn early(shared_tail: &SharedTail, level: &[Census]) -> Census
-    ensures { (under : ℕ → Totals) → AreCutOff under level.now
-        → IsInside shared_tail.now (length level.now) → result ≡ cut_off
+fn early(shared_tail: &SharedTail, runs: &[Run], level: &[Census]) -> Census
+    ensures { (under : ℕ → Totals) (n : ℕ) → IsLevel under n runs.now level.now
+        → IsInside shared_tail.now n → result ≡ cut_off
         (from totals (λ i. under (index_in_parent shared_tail.now i)) shared_tail.now.erases 0) }
 {
     let mut sum = Census::new();
     for number in 0..shared_tail.erases() {
-        let index = shared_tail.index_in_parent(number) as usize;
-        sum = sum.merged(&census_at(level, index).prefixed(number));
+        let run = run_of(runs, shared_tail.index_in_parent(number));
+        sum = sum.merged(&census_at(level, run).prefixed(number));
     }
     sum
 }
 
 /// The census of all children of a boot that goes on with another one, by the censuses of that one's children and their sums.
-fn with_shared_tail(shared_tail: &SharedTail, level: &[Census], sums: &[Census]) -> Census
-    ensures { (under : ℕ → Totals) → AreCutOff under level.now
-        → AreSums under (length level.now) sums.now
-        → IsInside shared_tail.now (length level.now) → result ≡ cut_off
-        (shared_below totals under (length level.now) shared_tail.now.kept shared_tail.now.erases
+fn with_shared_tail(
+    shared_tail: &SharedTail,
+    runs: &[Run],
+    level: &[Census],
+    sums: &[Census],
+    count: u32,
+) -> Census
+    ensures { (under : ℕ → Totals) → IsLevel under count runs.now level.now
+        → AreSums under count runs.now sums.now → 1 ≤ length runs.now
+        → IsInside shared_tail.now count → result ≡ cut_off
+        (shared_below totals under count shared_tail.now.kept shared_tail.now.erases
         (index_in_parent shared_tail.now)) }
 {
-    let from = (shared_tail.kept() + shared_tail.erases()) as usize;
-    let later = census_at(sums, level.len().saturating_sub(from));
-    early(shared_tail, level).merged(&later.first_lowered(shared_tail.kept()))
+    let from = shared_tail.kept() + shared_tail.erases();
+    let later = rest(runs, level, sums, count, from);
+    early(shared_tail, runs, level).merged(&later.first_lowered(shared_tail.kept()))
 }
 
-impl Position {
-    /// The census of the paths of at most so many steps from there, by those of all children for fewer steps and their sums.
-    fn census(&self, level: &[Census], sums: &[Census], bound: u32) -> Census
-        ensures { (under : ℕ → ℕ → Totals) (n most c : ℕ) → IsPosition under n most c self.now
-            → IsLevel under n bound level.now → AreSums (under bound) n sums.now → bound < most
+impl Run {
+    /// The census of the paths of at most so many steps from its first child, by those of all runs for fewer steps and their sums.
+    fn census(
+        &self,
+        runs: &[Run],
+        level: &[Census],
+        sums: &[Census],
+        count: u32,
+        bound: u32,
+    ) -> Census
+        ensures { (under : ℕ → ℕ → Totals) (most c : ℕ) → 1 ≤ length runs.now
+            → IsChild under count most c self.now.outcome self.now.below
+            → IsLevel (under bound) count runs.now level.now
+            → AreSums (under bound) count runs.now sums.now → bound < most
             → result ≡ cut_off (under (suc bound) c) }
     {
         match &self.below {
-            Below::Joined(shared_tail) => self
-                .own
-                .merged(&with_shared_tail(shared_tail, level, sums)),
+            Below::Joined(shared_tail) => {
+                let own = Census::of(&self.outcome);
+                own.merged(&with_shared_tail(shared_tail, runs, level, sums, count))
+            }
             Below::Apart(column) => census_at(column, bound as usize),
         }
     }
 }
 
-/// The censuses of all children for at most so many steps, by those for fewer steps and their sums.
+/// The censuses of all runs for at most so many steps, by those for fewer steps and their sums.
 fn next_level(
     alloc: Global,
-    positions: &[Position],
+    runs: &[Run],
     level: &[Census],
     sums: &[Census],
+    count: u32,
     bound: u32,
 ) -> Result<Vec<Census>, AllocError>
-    ensures { IfOk result (λ next. (under : ℕ → ℕ → Totals) (n most : ℕ)
-        → ArePositions under n most positions.now → length positions.now ≡ n
-        → IsLevel under n bound level.now → AreSums (under bound) n sums.now → bound < most
-        → IsLevel under n (suc bound) next.items) }
+    ensures { IfOk result (λ next. (under : ℕ → ℕ → Totals) (most : ℕ)
+        → AreRuns under count most count runs.now → IsLevel (under bound) count runs.now level.now
+        → AreSums (under bound) count runs.now sums.now → bound < most
+        → IsLevel (under (suc bound)) count runs.now next.items) }
 {
     let mut next = Vec::new(alloc);
-    for position in positions {
-        next.push(position.census(level, sums, bound))?;
+    for run in runs {
+        next.push(run.census(runs, level, sums, count, bound))?;
     }
     Ok(next)
 }
 
-/// The censuses of a node for each bound up to that one, by that of its path of no steps and by its children, of which there are so
-/// many.
+/// The censuses of a node for each bound up to that one, by that of its path of no steps and by the runs of its children, of which
+/// there are so many.
 pub(crate) fn column_of(
     alloc: Global,
     own: Census,
-    positions: &[Position],
+    runs: &[Run],
     count: u32,
     bound: u32,
 ) -> Result<Vec<Census>, AllocError>
     ensures { IfOk result (λ column. (alone : Totals) (under : ℕ → ℕ → Totals)
         → own ≡ cut_off alone → ((i : ℕ) → under 0 i ≡ no_totals)
-        → ArePositions under count bound positions.now → count ≡ length positions.now
+        → AreRuns under count bound count runs.now
         → IsColumn (λ d. merged alone (from totals (under d) count 0)) (bound + 1) column.items) }
 {
     let mut column = Vec::new(alloc);
     let mut level = Vec::new(alloc);
-    for _position in 0..count {
-        level.push(Census::new())?;
-    }
+    level.resize(runs.len(), Census::new())?;
     for fewer in 0..bound {
-        let sums = sums(alloc, &level, count)?;
-        column.push(own.merged(&census_at(&sums, count as usize)))?;
-        level = next_level(alloc, positions, &level, &sums, fewer)?;
+        let sums = sums(alloc, runs, &level, count)?;
+        column.push(own.merged(&census_at(&sums, runs.len())))?;
+        level = next_level(alloc, runs, &level, &sums, count, fewer)?;
     }
-    let sums = sums(alloc, &level, count)?;
-    column.push(own.merged(&census_at(&sums, count as usize)))?;
+    let sums = sums(alloc, runs, &level, count)?;
+    column.push(own.merged(&census_at(&sums, runs.len())))?;
     Ok(column)
 }

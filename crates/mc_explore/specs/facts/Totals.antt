@@ -5,7 +5,7 @@ use Rattle.mc_explore.specs.inner.Totals.{Totals, merged, no_totals, totals}
 use Rattle.mc_start.specs.Start.{lowered}
 use Rattle.mc_tree.specs.inner.Weights.{IsWeighing}
 
-same_totals : (x y : Totals) → x.schedules ≡ y.schedules → x.boot ≡ y.boot → x.none ≡ y.none → x.panic ≡ y.panic → x.fault ≡ y.fault → x.most ≡ y.most → x.first ≡ y.first → x ≡ y
+pub same_totals : (x y : Totals) → x.schedules ≡ y.schedules → x.boot ≡ y.boot → x.none ≡ y.none → x.panic ≡ y.panic → x.fault ≡ y.fault → x.most ≡ y.most → x.first ≡ y.first → x ≡ y
 same_totals x y a b c d e f h =
     let same : ◌≡◌ {A = Totals} (record { schedules = x.schedules; boot = x.boot; none = x.none; panic = x.panic; fault = x.fault; most = x.most; first = x.first })
     (record { schedules = y.schedules; boot = y.boot; none = y.none; panic = y.panic; fault = y.fault; most = y.most; first = y.first }) = cc in

@@ -1,7 +1,8 @@
 -- The totals of the nodes below a node, for each bound, and how a walk passes them.
 use Rattle.std.specs.List.{slice_get}
-use Rattle.std.specs.Prelude.{List, Some, [], length, suc, true, zero, ℕ, ◌++◌, ◌+◌, ◌-◌, ◌<◌, ◌∷◌, ◌≡◌, ◌≤◌}
-use Rattle.mc_boot.specs.Outcome.{Report}
+use Rattle.std.specs.Prelude.{List, Some, [], length, suc, true, zero, ℕ, ◌++◌, ◌+◌, ◌-◌, ◌<◌, ◌∷◌, ◌≡◌, ◌≤◌, ◌⊎◌}
+use Rattle.mc_boot.specs.Outcome.{Report, shown}
+use Rattle.mc_boot.specs.declared.outcome.Outcome.{Outcome}
 use Rattle.mc_boot.specs.SharedTail.{index_in_parent}
 use Rattle.mc_boot.specs.declared.shared_tail.SharedTail.{SharedTail}
 use Rattle.mc_explore.specs.Right.{judged}
@@ -9,7 +10,7 @@ use Rattle.mc_explore.specs.declared.census.CensusOf.{CensusOf}
 use Rattle.mc_explore.specs.declared.expectation.Expectation.{Expectation}
 use Rattle.mc_explore.specs.declared.table.Below.{Below}
 use Rattle.mc_explore.specs.declared.table.Below.TheVariants.{Apart, Joined}
-use Rattle.mc_explore.specs.declared.table.Position.{Position}
+use Rattle.mc_explore.specs.declared.table.Run.{Run}
 use Rattle.mc_explore.specs.inner.Totals.{Totals, merged, cut_off, no_totals, report_totals, totals}
 use Rattle.mc_flash.specs.Flash.{Content}
 use Rattle.mc_tree.specs.Tree.{Allowed, Beyond, Tree}
@@ -28,37 +29,69 @@ AreCutOff under censuses = (i : ℕ) → i < length censuses → slice_get censu
 abbrev pub IsColumn : (ℕ → Totals) → ℕ → List (CensusOf (List ℕ)) → Type 0
 IsColumn by_bound bound column = (length column ≡ bound) × AreCutOff by_bound column
 
--- The sums of the last ones of n, each after its number: of none, of one, and so on to all of them.
-abbrev pub AreSums : (ℕ → Totals) → ℕ → List (CensusOf (List ℕ)) → Type 0
-AreSums under n sums = (length sums ≡ n + 1) × AreCutOff (λ k. from totals under k (n - k)) sums
+-- The sum of the children from a number on, of which there are n, each after its number.
+abbrev pub rest_from : (ℕ → Totals) → ℕ → ℕ → Totals
+rest_from under n number = from totals under (n - number) number
 
 -- The flashes of a boot that goes on with one of n children are among those.
 pub record IsInside (x : SharedTail) (n : ℕ) : Type 0 where
   pub late : x.kept + x.erases ≤ n
   pub early : (i : ℕ) → i < x.erases → index_in_parent x i < n
 
+-- Runs of children: the number of the first one of a run, or of n children, where there is no such run.
+abbrev pub begin_of : List Run → ℕ → ℕ → ℕ
+begin_of [] n r = n
+begin_of (run ∷ runs) n zero = run.first
+begin_of (run ∷ runs) n (suc r) = begin_of runs n r
+
+-- They part n children, each of which is in one of them.
+pub record IsSplit (runs : List Run) (n : ℕ) : Type 0 where
+  pub begin : begin_of runs n 0 ≡ 0
+  pub rising : (r : ℕ) → r < length runs → begin_of runs n r < begin_of runs n (suc r)
+
+-- That run has that child, or is the last one, and all its children come before that number.
+pub record Begins (runs : List Run) (n number r : ℕ) : Type 0 where
+  pub some : r < length runs
+  pub first : begin_of runs n r ≤ number
+  pub at_most : number ≤ begin_of runs n (suc r)
+  pub inside : number < n → number < begin_of runs n (suc r)
+
+-- What lies below two children lies at the same places, or below themselves.
+pub record AreAlike (first : ℕ) (x : SharedTail) (number : ℕ) (y : SharedTail) : Type 0 where
+  pub kept : x.kept ≡ y.kept
+  pub erases : x.erases ≡ y.erases
+  pub index : (i : ℕ) → i < x.erases → (index_in_parent x i ≡ index_in_parent y i) ⊎ ((index_in_parent x i ≡ first) × (index_in_parent y i ≡ number))
+
+-- For one bound: the totals of a child of each run, which all its children have.
+pub record IsLevel (under : ℕ → Totals) (n : ℕ) (runs : List Run) (level : List (CensusOf (List ℕ))) : Type 0 where
+  pub split : IsSplit runs n
+  pub alike : (r i : ℕ) → r < length runs → begin_of runs n r ≤ i → i < begin_of runs n (suc r) → under i ≡ under (begin_of runs n r)
+  pub many : length level ≡ length runs
+  pub cut_offs : AreCutOff (λ r. under (begin_of runs n r)) level
+
+-- The sums of the children of the last runs: of none, of one, and so on to all of them.
+abbrev pub AreSums : (ℕ → Totals) → ℕ → List Run → List (CensusOf (List ℕ)) → Type 0
+AreSums under n runs sums = (length sums ≡ length runs + 1) × AreCutOff (λ k. rest_from under n (begin_of runs n (length runs - k))) sums
+
 -- Of a node with n children: `under d c` are the totals of all paths of fewer than d steps from the child of number c.
 module _ (under : ℕ → ℕ → Totals) (n most : ℕ) where
   -- A child whose boot goes on with that of its parent: by the censuses of all children for one step fewer.
-  pub record IsJoined (c : ℕ) (own : CensusOf (List ℕ)) (x : SharedTail) : Type 0 where
+  pub record IsJoined (c : ℕ) (outcome : Outcome) (x : SharedTail) : Type 0 where
     pub inside : IsInside x n
-    pub alone : Totals
-    pub own_is : own ≡ cut_off alone
-    pub weighs : (d : ℕ) → under (suc d) c ≡ merged alone (shared_below totals (under d) n x.kept x.erases (index_in_parent x))
+    pub weighs : (d : ℕ)
+        → under (suc d) c ≡ merged (report_totals (shown outcome)) (shared_below totals (under d) n x.kept x.erases (index_in_parent x))
 
-  abbrev pub IsPosition : ℕ → Position → Type 0
-  IsPosition c position = by position.below
-    where
-      by : Below → Type 0
-      by (Joined x) = IsJoined c position.own x
-      by (Apart column) = IsColumn (λ d. under (suc d) c) most column.items
+  -- A child whose path ends so, and what lies below it.
+  abbrev pub IsChild : ℕ → Outcome → Below → Type 0
+  IsChild c outcome (Joined x) = IsJoined c outcome x
+  IsChild c outcome (Apart column) = IsColumn (λ d. under (suc d) c) most column.items
 
-  abbrev pub ArePositions : List Position → Type 0
-  ArePositions positions = (c : ℕ) (position : Position) → slice_get positions c ≡ Some position → IsPosition c position
-
--- The totals of all children for one bound.
-abbrev pub IsLevel : (ℕ → ℕ → Totals) → ℕ → ℕ → List (CensusOf (List ℕ)) → Type 0
-IsLevel under n d level = (length level ≡ n) × AreCutOff (under d) level
+  -- The first so many children in runs.
+  pub record AreRuns (number : ℕ) (runs : List Run) : Type 0 where
+    pub split : IsSplit runs number
+    pub child : (r : ℕ) (run : Run) → slice_get runs r ≡ Some run → IsChild run.first run.outcome run.below
+    pub alike : (r i : ℕ) → r < length runs → begin_of runs number r ≤ i → i < begin_of runs number (suc r)
+        → (d : ℕ) → under d i ≡ under d (begin_of runs number r)
 
 -- The totals of a tree.
 

@@ -1,12 +1,11 @@
-use Rattle.std.proofs.Common.{List, Some, [], ap, arith, length, length-append, refl, subst, suc, sym, ℕ, ◌++◌, ◌+◌, ◌-◌, ◌∙◌, ◌∷◌, ◌≡◌}
+use Rattle.std.proofs.Common.{Some, [], ap, arith, length, length-append, refl, subst, suc, sym, ℕ, ◌++◌, ◌+◌, ◌-◌, ◌∙◌, ◌∷◌, ◌≡◌}
 use Rattle.mc_boot.specs.Outcome.{shown}
-use Rattle.mc_explore.proofs.Counting.{Census, each_more, is_joined, weigh_is}
+use Rattle.mc_explore.proofs.Counting.{is_joined, weigh_is}
 use Rattle.mc_explore.proofs.Passing.{come_below, own_there, passes_all, passes_none, tail_there, weights_there}
 use Rattle.mc_explore.specs.facts.Children.{HasCome, IsAtChild, can_pass, come_on, listed_there, reached, width_here}
 use Rattle.mc_explore.specs.Right.{judged}
 use Rattle.mc_explore.specs.declared.table.Below.{Below}
-use Rattle.mc_explore.specs.declared.table.Position.{Position}
-use Rattle.mc_explore.specs.inner.Table.{ArePositions, HasWeights, IsJoined, IsPosition, own_totals, paths_of, weigh_below}
+use Rattle.mc_explore.specs.inner.Table.{AreRuns, HasWeights, IsChild, IsJoined, own_totals, paths_of, weigh_below}
 use Rattle.mc_explore.specs.inner.Totals.{merged, cut_off, report_totals, totals}
 use Rattle.mc_tree.specs.inner.Weights.{from}
 use Rattle.mc_walk.specs.Walks.{origin_of}
@@ -63,32 +62,25 @@ loop-number-preserved g t c =
     let report = report_of walk.flash_tree (origin_of walk.seen) in
     let under = weigh_below paths report e walk.path in
     let all = width_here model walk c.flash_tree.result c.summary.result.now c.width-count.result c.flash_tree.ensures c.summary.ensures c.width-count.ensures in
-    let own : Census = c.of-own-in-loop-number.result in
-    let own_is = own_there model walk n at here report_of e (shown c.in_ok-end.end.outcome) own c.in_ok-end.ensures.ended
-    (c.of-own-in-loop-number.ensures ∙ ap (λ o. cut_off (report_totals o)) c.judge-in-loop-number.ensures) in
+    let own_is = own_there model walk n at here report_of e (shown c.in_ok-end.end.outcome) (shown c.judge-outcome.result) c.in_ok-end.ensures.ended c.judge-outcome.ensures in
     let come : HasCome model walk (suc n) c.match-end.walk = elim c.match-end.branch [
       | in-Some w ↦ subst (HasCome model walk (suc n)) (sym w.walk-is) (come_on model walk n at here)
       | in-None+in_ok-column-in-None w ↦ subst (HasCome model walk (suc n)) (sym w.walk-is) (come_below model walk n at here _ w.in_ok-column-in-None.ensures.passes)
     ] in
-    let P : Below → Type 0 = λ b. IsPosition under c.width-count.result bound n (record { own = own; below = b }) in
-    let position : P c.match-end.below = elim c.match-end.branch [
+    let P : Below → Type 0 = IsChild under c.width-count.result bound n c.judge-outcome.result in
+    let child : P c.match-end.below = elim c.match-end.branch [
       | in-Some w ↦
           let y = w.in-Some.shared_tail in
           let tail = tail_there model walk n at here report_of e y ((rw w.in-Some.is at c.in_ok-end.ensures.tail) e walk.path n here.path) in
-          subst P (sym w.below-is) (subst (λ m. IsJoined under m bound n own y) (sym all) (is_joined paths report e walk.path bound n own y own_is tail))
+          subst P (sym w.below-is) (subst (λ m. IsJoined under m bound n c.judge-outcome.result y) (sym all) (is_joined paths report e walk.path bound n c.judge-outcome.result y own_is tail))
       | in-None+in_ok-column-in-None w ↦
           let column = w.in_ok-column-in-None in
           let weights = weights_there model walk n at here report_of e (bound - 1 + 1) column.field-0.items column.ensures.column in
           subst P (sym w.below-is) (subst (λ m. HasWeights paths report e (walk.path ++ n ∷ []) m column.field-0.items) fewer weights)
     ] in
-    let old_ps : List Position = c.loop-number.positions.items in
-    let p : Position = record { own = own; below = c.match-end.below } in
-    let pushed : c.push.new.self.items ≡ old_ps ++ p ∷ [] = c.in_ok-push.ensures.items in
     record {
       come = subst (λ m. HasCome model walk m c.match-end.walk) one come;
-      many = omega (arith, ap length pushed, length-append old_ps (p ∷ []), i.many);
-      positions = subst (ArePositions under c.width-count.result bound) (sym pushed)
-          (each_more (IsPosition under c.width-count.result bound) old_ps p i.positions (subst (λ m. IsPosition under c.width-count.result bound m p) (sym i.many) position));
+      runs = c.in_ok-add_child.ensures under c.width-count.result bound (λ i. refl) i.runs child;
     }
 
 pub returns-clause-column : goal.returns-clause-column
@@ -104,7 +96,8 @@ returns-clause-column g t c =
     let own_is : c.of-own.result ≡ cut_off (own_totals paths report e walk.path) =
     c.of-own.ensures ∙ ap (λ o. cut_off (report_totals o)) (c.judge.ensures ∙ ap (judged e) (c.ended.ensures walk.flash_tree (origin_of walk.seen) walk.path c.summary.ensures.summary_is)) in
     let column = rw c.deref.ensures.value at c.in_ok-column_of.ensures in
-    let is = column (own_totals paths report e walk.path) under own_is (λ i. refl) i.positions (omega (arith, i.many, c.loop-number-test.false, c.loop-number.auto.number-end)) in (
+    let done : c.loop-number.number ≡ count = omega (arith, c.loop-number-test.false, c.loop-number.auto.number-end) in
+    let is = column (own_totals paths report e walk.path) under own_is (λ i. refl) (subst (λ m. AreRuns under count c.args.bound m c.loop-number.runs.items) done i.runs) in (
       is.0,
       λ d lt. is.1 d lt ∙ ap (λ n. Some (cut_off (merged (own_totals paths report e walk.path) (from totals (under d) n 0)))) all
           ∙ ap (λ a. Some (cut_off a)) (weigh_is paths report e walk.path d),

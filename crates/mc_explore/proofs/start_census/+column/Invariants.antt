@@ -1,6 +1,5 @@
-use Rattle.std.proofs.Common.{◌≡◌, length}
 use Rattle.mc_explore.specs.facts.Children.{HasCome}
-use Rattle.mc_explore.specs.inner.Table.{ArePositions, paths_of, weigh_below}
+use Rattle.mc_explore.specs.inner.Table.{AreRuns, paths_of, weigh_below}
 use Rattle.mc_walk.specs.Walks.{origin_of}
 use Rattle.mc_explore.proofs.start_census.+column.Given as goal
 
@@ -13,6 +12,5 @@ invariant-loop-number g l =
     let k = g.X.FlashTree.model old.flash_tree in
     record {
       come : HasCome g.X.FlashTree.model old l.number l.walk;
-      many : length l.positions.items ≡ l.number;
-      positions : ArePositions (weigh_below (paths_of k old) (g.X.Ending.report_of old.flash_tree (origin_of old.seen)) l.fn.expectation old.path) l.count l.bound l.positions.items;
+      runs : AreRuns (weigh_below (paths_of k old) (g.X.Ending.report_of old.flash_tree (origin_of old.seen)) l.fn.expectation old.path) l.count l.bound l.number l.runs.items;
     }

@@ -1,0 +1,15 @@
+use Rattle.std.proofs.Common.{rules, subst, sym}
+use Rattle.std.proofs.lemmas.List.Sorted.{IsPartitionPoint-from_clause}
+use Rattle.std.specs.Prelude.{nat_le}
+use Rattle.mc_explore.specs.declared.table.Run.{Run}
+use Rattle.mc_explore.specs.inner.Table.{Begins}
+use Rattle.mc_explore.proofs.Runs.{last_begun, parted}
+use Rattle.mc_explore.proofs.table.run_of.Goals as goal
+
+pub returns-clause-begins : goal.returns-clause-begins
+returns-clause-begins c = λ n split some le.
+    let at : Run → _ = λ run. nat_le run.first c.args.number in
+    let point = IsPartitionPoint-from_clause at c.args.runs.now c.partition_point-after.result c.partition_point-after.ensures.partitioned
+    (parted c.args.runs.now n split c.args.number) (λ run b f called. search rules) in
+    subst (Begins c.args.runs.now n c.args.number) (sym c.saturating_sub.ensures)
+    (last_begun c.args.runs.now n split c.args.number c.partition_point-after.result some le c.partition_point-after.ensures.bound point)
