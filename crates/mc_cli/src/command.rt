@@ -115,11 +115,17 @@ fn with_value<'a>(argument: Arg<'a>, word: &'static Word) -> Arg<'a> {
     match word.takes {
         Takes::Nothing => argument.long(word.name).action(ArgAction::SetTrue),
         Takes::Itself => argument,
-        Takes::Value(shown) => argument.long(word.name).value_name(shown),
-        Takes::OneOf(shown, values) => argument
-            .long(word.name)
-            .value_name(shown)
-            .value_parser(values)
-            .hide_possible_values(true),
+        Takes::Value(shown) => with_name(argument, word.name, shown),
+        Takes::OneOf(shown, values) => with_values(with_name(argument, word.name, shown), values),
     }
+}
+
+/// An option that takes one of these values, which its help does not list.
+fn with_values<'a>(argument: Arg<'a>, values: &'a [&'a str]) -> Arg<'a> {
+    argument.value_parser(values).hide_possible_values(true)
+}
+
+/// An option, with the name that its value is shown by.
+fn with_name<'a>(argument: Arg<'a>, name: &'static str, shown: &'static str) -> Arg<'a> {
+    argument.long(name).value_name(shown)
 }

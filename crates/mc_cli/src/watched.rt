@@ -1,4 +1,4 @@
-//! Files that remember why one of them could not be opened.
+//! Files that remember which of them was opened last, and why one could not be opened.
 use std::alloc::{Allocator, Global};
 use std::cell::RefCell;
 use std::fs::{Metadata, OpenOptions, Permissions};
@@ -13,11 +13,12 @@ pub struct Unopened {
     pub error: io::Error,
 }
 
-/// The same files, with the last that could not be opened or made.
+/// The same files, with the last that was opened, and the last that could not be opened or made.
 #[derive(Drop)]
 pub struct WatchedFiles<'f, F: Files> {
     files: &'f F,
     alloc: Global,
+    opened: RefCell<Option<String>>,
     unopened: RefCell<Option<Unopened>>,
 }
 
@@ -27,7 +28,16 @@ impl<'f, F: Files> WatchedFiles<'f, F> {
         WatchedFiles {
             files,
             alloc,
+            opened: RefCell::new(None),
             unopened: RefCell::new(None),
+        }
+    }
+
+    /// Hands out the path of the last that was opened, if there is one, and there was memory for it.
+    pub fn take_opened(&self) -> Option<String> {
+        match self.opened.try_borrow_mut() {
+            Ok(mut opened) => opened.take(),
+            Err(_) => None,
         }
     }
 
@@ -57,7 +67,13 @@ impl<F: Files> Files for WatchedFiles<'_, F> {
     type Dir = F::Dir;
 
     fn open_file(&self, how: &OpenOptions, path: &str) -> io::Result<F::File> {
-        self.note(path, self.files.open_file(how, path))
+        let given = self.files.open_file(how, path);
+        if given.is_ok()
+            && let Ok(mut opened) = self.opened.try_borrow_mut()
+        {
+            *opened = String::from_str(self.alloc, path).ok();
+        }
+        self.note(path, given)
     }
 
     fn open_dir(&self, path: &str) -> io::Result<F::Dir> {

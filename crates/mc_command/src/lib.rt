@@ -46,7 +46,7 @@ pub fn run<F: Files, R: Read, O: Write, E: Write>(
         Err(refusal) => {
             let status = refusal.report(err);
             if words.iter().any(|word| word.as_str() == "--verbose") {
-                let _ = report_file(watched, err);
+                let _ = report_file(watched, alloc, &refusal, err);
             }
             status
         }

@@ -3,6 +3,8 @@ use crate::numbers::NumberOption;
 use crate::refusal::Refusal;
 use crate::source::read_file;
 use std::alloc::Global;
+use std::io;
+use std::io::Write;
 use std::rt::Files;
 
 /// The most bytes of a file of a layout.
@@ -73,6 +75,35 @@ fn add_file<F: Files>(
     let bytes = read_file(files, alloc, path, GREATEST_FILE)?;
     let text = String::from_utf8(bytes).map_err(|_| Refusal::LayoutFile)?;
     add_settings(alloc, text.as_str(), words)
+}
+
+/// Prints what of such a file is refused: that it is no text, or the first line that says anything else.
+///
+/// # Errors
+///
+/// Where the output fails.
+pub(crate) fn report_lines<F: Files, E: Write>(
+    files: &F,
+    alloc: Global,
+    path: &str,
+    err: &mut E,
+) -> io::Result<()> {
+    let Ok(bytes) = read_file(files, alloc, path, GREATEST_FILE) else {
+        return Ok(());
+    };
+    let Ok(text) = str::from_utf8(&bytes) else {
+        return writeln!(err, "mcsim: {path}: it is no text");
+    };
+    for (index, line) in text.lines().enumerate() {
+        if setting_of(line).is_err() {
+            let number = index + 1;
+            return writeln!(
+                err,
+                "mcsim: {path}, line {number} gives no number of a layout: {line}"
+            );
+        }
+    }
+    Ok(())
 }
 
 /// Whether words ask for a layout from a file.

@@ -1,4 +1,5 @@
 //! What a refusal is about: a line more than its number and name.
+use crate::layout_file::report_lines;
 use crate::numbers::NumberOption;
 use crate::options::layout_options;
 use crate::refusal::Refusal;
@@ -8,14 +9,15 @@ use mc_cli::WatchedFiles;
 use mc_explore::StartError;
 use mc_flash::{LayoutError, Slot};
 use mc_image::ImageView;
+use mc_imgtool::ToolError;
 use mc_life::{EventError, LifeError};
 use std::alloc::Global;
-use std::io::Write;
+use std::io::{Read, Write};
 use std::rt::Files;
 use std::{fs, io};
 
-/// Prints the reason of a refusal, if it is known: the file and what the system says of it, the sizes of an image and of what fits, or
-/// the rule that a layout breaks, with its numbers.
+/// Prints the reason of a refusal, if it is known: the file and what the system says of it, or the line of it that is refused; the sizes
+/// of an image and of what fits; or the rule that a layout breaks, with its numbers.
 ///
 /// # Errors
 ///
@@ -30,9 +32,39 @@ pub fn report_reason<F: Files, E: Write>(
     match refusal {
         Refusal::Layout(error) => report_layout(arguments, *error, err),
         Refusal::Start(error) => report_start(&files, alloc, arguments, *error, err),
+        Refusal::Tool(ToolError::Read) => match arguments.get_str("INFILE") {
+            Some(path) => report_unread(&files, path, err),
+            None => report_file(files, alloc, refusal, err),
+        },
+        _ => report_file(files, alloc, refusal, err),
+    }
+}
+
+/// Prints the file that a refusal is about, if it is known, and what the system says of it, or the line that is refused.
+///
+/// # Errors
+///
+/// Where the output fails.
+pub fn report_file<F: Files, E: Write>(
+    files: WatchedFiles<'_, F>,
+    alloc: Global,
+    refusal: &Refusal,
+    err: &mut E,
+) -> io::Result<()> {
+    match refusal {
         Refusal::Open
         | Refusal::Write
-        | Refusal::Life(LifeError::Refused(EventError::NoFile, _, _)) => report_file(files, err),
+        | Refusal::Life(LifeError::Refused(EventError::NoFile, _, _)) => report_unopened(
+            files, err,
+        ),
+        Refusal::Tool(ToolError::Read) => match files.take_opened() {
+            Some(path) => report_unread(&files, &path, err),
+            None => Ok(()),
+        },
+        Refusal::LayoutFile => match files.take_opened() {
+            Some(path) => report_lines(&files, alloc, &path, err),
+            None => Ok(()),
+        },
         _ => Ok(()),
     }
 }
@@ -42,11 +74,26 @@ pub fn report_reason<F: Files, E: Write>(
 /// # Errors
 ///
 /// Where the output fails.
-pub fn report_file<F: Files, E: Write>(files: WatchedFiles<'_, F>, err: &mut E) -> io::Result<()> {
+fn report_unopened<F: Files, E: Write>(files: WatchedFiles<'_, F>, err: &mut E) -> io::Result<()> {
     match files.unopened() {
         Some(unopened) => writeln!(err, "mcsim: {}: {}", unopened.path, unopened.error),
         None => Ok(()),
     }
+}
+
+/// Prints what the system says of a file that it cannot read.
+///
+/// # Errors
+///
+/// Where the output fails.
+fn report_unread<F: Files, E: Write>(files: &F, path: &str, err: &mut E) -> io::Result<()> {
+    let mut byte = [0; 1];
+    if let Ok(mut file) = fs::open(files, path)
+        && let Err(error) = file.read(&mut byte)
+    {
+        return writeln!(err, "mcsim: {path}: {error}");
+    }
+    Ok(())
 }
 
 /// Prints the rule that the numbers of a layout break, with the numbers.

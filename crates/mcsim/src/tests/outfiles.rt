@@ -21,8 +21,15 @@ fn reads_a_layout_from_a_file(rt: HostRuntime) {
         "primary UNSET\nsecondary magic=good image-ok=unset copy-done=unset swap-info=0xff swap-size=4294967295\nresume no\ntable test\n",
     );
     shows(&rt, rt.alloc(), type_line, LAYOUT_FILE, trailers.as_str());
-    let refused = "! mcsim: E88 LayoutFile\nexit 2\n";
-    shows(&rt, rt.alloc(), "layout --layout=in", OTHER_FILE, refused);
+    let refused =
+        "! mcsim: E88 LayoutFile\nmcsim: in, line 2 gives no number of a layout: --kind test\nexit 2\n";
+    shows(
+        &rt,
+        rt.alloc(),
+        "layout --verbose --layout=in",
+        OTHER_FILE,
+        refused,
+    );
     let missing = "! mcsim: E71 Open\nmcsim: nofile: entity not found\nexit 3\n";
     shows(
         &rt,
@@ -73,6 +80,8 @@ const TABLES: [Table; 1] = [(REASONS, &[], "all")];
 
 #[test]
 fn gives_reasons_and_notes(rt: HostRuntime) {
+    let unread = "! mcsim: E24 Read\nmcsim: /: Is a directory (os error 21)\nexit 3\n";
+    prints(&rt, rt.alloc(), "verify --verbose /", unread);
     all_play(&rt, rt.alloc(), &TABLES)
 }
 
