@@ -122,34 +122,64 @@ impl<'a> Dump<'a> {
     }
 }
 
-/// Explains a dump: its trailers, what its slots hold, its sectors by those of the known images if they are given, the boot from there, and
-/// what all schedules of at most 16 cuts come to. The words are checked before a file is touched.
+/// A dump, and the images that are known.
+#[derive(Drop)]
+struct Inspected {
+    start: Start,
+    images: Option<Images>,
+}
+
+/// What the options give to be explained. They are checked before a file is touched.
 ///
 /// # Errors
 ///
-/// Those of `Dump::named`, `Images::read` and `Dump::read`; `Start` of the images; `Trace` and `Explore` for want of memory, or
-/// where the output fails.
-pub fn run<F: Files, O: Write>(
+/// Those of `Dump::named`, `Images::read` and `Dump::read`.
+fn read<F: Files>(
     files: &F,
     alloc: Global,
     arguments: &ArgMatches<'_>,
-    out: &mut O,
-) -> Result<(), Refusal> {
+) -> Result<Inspected, Refusal> {
     let dump = match Dump::named(arguments) {
         Ok(dump) => dump,
         Err(refusal) => return Err(refusal),
     };
     let images = Images::read(files, alloc, arguments)?;
     let start = dump.read(files, alloc)?;
-    // Before anything is written, so that want of memory leaves no beginning.
-    let census = take_census::<JournalFlash, OneRound>(alloc, &start, MOST_CUTS, ())?;
-    match &images {
+    Ok(Inspected { start, images })
+}
+
+/// Prints what a dump is, and its sectors by those of the known images, if they are given.
+///
+/// # Errors
+///
+/// `Start` of the images; `Trace` for want of memory, or where the output fails.
+fn print<O: Write>(alloc: Global, inspected: &Inspected, out: &mut O) -> Result<(), Refusal> {
+    let start = &inspected.start;
+    match &inspected.images {
         Some(images) => {
-            let named = images.start_of(alloc, &dump.layout, dump.rules, Kind::None)?;
-            write_inspection::<JournalFlash, O>(alloc, &start, &named, out)?;
+            let named = images.start_of(alloc, start.layout(), start.rules(), Kind::None)?;
+            Ok(write_inspection::<JournalFlash, O>(alloc, start, &named, out)?)
         }
-        None => write_inspection::<JournalFlash, O>(alloc, &start, &start, out)?,
+        None => Ok(write_inspection::<JournalFlash, O>(alloc, start, start, out)?),
     }
+}
+
+/// Explains a dump: its trailers, what its slots hold, its sectors by those of the known images if they are given, the boot from there, and
+/// what all schedules of at most 16 cuts come to. The words are checked before a file is touched.
+///
+/// # Errors
+///
+/// Those of `read` and `print`; `Explore` for want of memory, or where the output fails.
+pub fn run<F: Files, O: Write>(
+    files: &F,
+    alloc: Global,
+    arguments: &ArgMatches<'_>,
+    out: &mut O,
+) -> Result<(), Refusal> {
+    let inspected = read(files, alloc, arguments)?;
+    // Before anything is written, so that want of memory leaves no beginning.
+    let census = take_census::<JournalFlash, OneRound>(alloc, &inspected.start, MOST_CUTS, ())?;
+    print(alloc, &inspected, out)?;
     Ok(write_census::<OneRound, O>(&census, out)?)
 }
 

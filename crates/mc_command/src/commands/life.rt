@@ -129,13 +129,59 @@ fn read_script<F: Files, R: Read>(
     Ok(Script::read(alloc, &mut file)?)
 }
 
+/// A device, what happens to it, and the files that the script names.
+#[derive(Drop)]
+struct Life {
+    start: Start,
+    script: Script,
+    shelf: Vec<File>,
+}
+
+/// The life that the options give. They are checked before a file is touched.
+///
+/// # Errors
+///
+/// Those of `read_device`, `read_script` and `read_shelf`, in this order.
+fn read<F: Files, R: Read>(
+    files: &F,
+    alloc: Global,
+    arguments: &ArgMatches<'_>,
+    input: &mut R,
+) -> Result<Life, Refusal> {
+    let start = read_device(files, alloc, arguments)?;
+    let script = read_script(files, alloc, arguments, input)?;
+    let shelf = read_shelf(files, alloc, &script, arguments.get_str("out"))?;
+    Ok(Life {
+        start,
+        script,
+        shelf,
+    })
+}
+
+/// Prints a line for each event, and what was erased where that is asked; and gives the device as it is at the end.
+///
+/// # Errors
+///
+/// `Life` with the first event that can't happen: all before it is printed; `Write`.
+fn print<O: Write>(
+    life: &Life,
+    alloc: Global,
+    with_wear: bool,
+    out: &mut O,
+) -> Result<Device<SnapFlash>, Refusal> {
+    let device = replay_life(alloc, &life.start, &life.script, &life.shelf, out)?;
+    if with_wear {
+        write_wear(device.wear(), out).map_err(|_| Refusal::Write)?;
+    }
+    Ok(device)
+}
+
 /// Replays what happens to a device by a script, a line for each event. With `--wear` it ends with two lines of what was erased,
 /// and where `--out` names a file, the flash at the end is written to it.
 ///
 /// # Errors
 ///
-/// What refuses the words or their files; `Script`; `Life` with the first event that can't happen: all before it is printed;
-/// `Write`.
+/// What refuses the words or their files; `Script`; those of `print`; `Open` and `Write` of the file.
 pub fn run<F: Files, R: Read, O: Write>(
     files: &F,
     alloc: Global,
@@ -143,15 +189,10 @@ pub fn run<F: Files, R: Read, O: Write>(
     input: &mut R,
     out: &mut O,
 ) -> Result<(), Refusal> {
-    let start = read_device(files, alloc, arguments)?;
-    let script = read_script(files, alloc, arguments, input)?;
-    let shelf = read_shelf(files, alloc, &script, arguments.get_str("out"))?;
-    let device: Device<SnapFlash> = replay_life(alloc, &start, &script, &shelf, out)?;
-    if arguments.get_flag("wear") {
-        write_wear(device.wear(), out).map_err(|_| Refusal::Write)?;
+    let life = read(files, alloc, arguments, input)?;
+    let device = print(&life, alloc, arguments.get_flag("wear"), out)?;
+    match arguments.get_str("out") {
+        Some(path) => write_file(files, alloc, path, device.flash()),
+        None => Ok(()),
     }
-    if let Some(path) = arguments.get_str("out") {
-        write_file(files, alloc, path, device.flash())?;
-    }
-    Ok(())
 }

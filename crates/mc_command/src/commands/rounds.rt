@@ -1,7 +1,6 @@
 //! `replay`, `trace` and `sectors` of a campaign of two rounds of boots.
-ghost use Rattle.std.specs.Prelude.{◌≡◌, IfOk, codes};
+ghost use Rattle.std.specs.Prelude.{IfOk, codes};
 ghost use Rattle.clap.specs.Matches.{found_of};
-ghost use Rattle.mc_campaign.specs.Texts.{campaign_text};
 ghost use Rattle.mc_options.specs.Arguments.{IsFlag};
 ghost use Rattle.mc_command.specs.Sessions.{GivesStart};
 
@@ -147,6 +146,33 @@ fn write_round<O: Write>(
     Ok(())
 }
 
+impl Campaigned {
+    /// Finds whether each cut can occur.
+    ///
+    /// # Errors
+    ///
+    /// Those of `replay`.
+    fn check(&self, alloc: Global) -> Result<(), Refusal> {
+        let _outcomes = self.replay(alloc)?;
+        Ok(())
+    }
+
+    /// Prints that of both rounds, each under a line of its own.
+    ///
+    /// # Errors
+    ///
+    /// `Replay` where a cut of the first round can't occur, or for want of memory; `Write`; those of `write_round`.
+    fn write<O: Write>(&self, alloc: Global, text: RoundText, out: &mut O) -> Result<(), Refusal> {
+        let second = self.second(alloc)?;
+        out.write_all(b"round 1\n").map_err(|_| Refusal::Write)?;
+        let firsts = self.campaign.schedule(Round::First);
+        write_round(alloc, &self.start, &firsts, text, out)?;
+        out.write_all(b"round 2\n").map_err(|_| Refusal::Write)?;
+        let seconds = self.campaign.schedule(Round::Second);
+        write_round(alloc, &second, &seconds, text, out)
+    }
+}
+
 /// Prints that of both rounds, each under a line of its own.
 ///
 /// # Errors
@@ -161,14 +187,6 @@ pub fn print<F: Files, O: Write>(
     out: &mut O,
 ) -> Result<(), Refusal> {
     let campaigned = read(files, alloc, arguments)?;
-    let _outcomes = campaigned.replay(alloc)?;
-    let second = campaigned.second(alloc)?;
-    let (firsts, seconds) = (
-        campaigned.campaign.schedule(Round::First),
-        campaigned.campaign.schedule(Round::Second),
-    );
-    out.write_all(b"round 1\n").map_err(|_| Refusal::Write)?;
-    write_round(alloc, &campaigned.start, &firsts, text, out)?;
-    out.write_all(b"round 2\n").map_err(|_| Refusal::Write)?;
-    write_round(alloc, &second, &seconds, text, out)
+    campaigned.check(alloc)?;
+    campaigned.write(alloc, text, out)
 }

@@ -277,21 +277,26 @@ fn folder_named<'f, 'p, F: Files>(
     }
 }
 
-/// Prints each distinct flash that schedules of so many cuts leave as a row of a table: the first schedule that leaves it, its digest,
-/// the outcome of the boot from there, and the digest of the flash that this boot leaves. With `--dir` the table and the flashes are
-/// written into a folder, and how many flashes there are is printed. The words are checked before a file is touched, and the folder is
-/// made before the search begins.
+/// What the words ask of a start.
+#[derive(Drop)]
+struct Asked<'f, 'p, F: Files> {
+    start: Start,
+    cuts: Cuts,
+    folder: Option<Folder<'f, 'p, F>>,
+}
+
+/// What the words ask. They are checked before a file is touched.
 ///
 /// # Errors
 ///
-/// `Source`, `Layout` and the numbers of the words; what `read_start` refuses; those of `find`; `InUse`, `Open` and `Write` of the
-/// folder and the output.
-pub fn run<F: Files, O: Write>(
-    files: &F,
+/// `Source`, `Layout` and the numbers of the words; `Argument`; what `read_start` refuses.
+fn read<'f, 'p, F: Files>(
+    files: &'f F,
     alloc: Global,
-    arguments: &ArgMatches<'_>,
-    out: &mut O,
-) -> Result<(), Refusal> {
+    arguments: &ArgMatches<'p>,
+) -> Result<Asked<'f, 'p, F>, Refusal>
+    ensures { IfOk result (λ asked. IsFew asked.cuts) }
+{
     let options = match flash_options(arguments) {
         Ok(options) => options,
         Err(refusal) => return Err(refusal),
@@ -299,15 +304,54 @@ pub fn run<F: Files, O: Write>(
     let cuts = Cuts::read(arguments)?;
     let folder = folder_named(files, alloc, arguments)?;
     let start = read_start(files, alloc, &options)?;
-    if let Some(folder) = &folder {
-        folder.make()?;
-    }
-    let found = find(alloc, &start, cuts)?;
-    let Some(folder) = folder else {
+    Ok(Asked {
+        start,
+        cuts,
+        folder,
+    })
+}
+
+/// Prints the table, or writes it and the flashes into a folder and prints how many there are.
+///
+/// # Errors
+///
+/// Those of `print_table` and `Folder::write`; `Write`.
+fn print<F: Files, O: Write>(
+    asked: &Asked<'_, '_, F>,
+    alloc: Global,
+    found: &Found,
+    out: &mut O,
+) -> Result<(), Refusal> {
+    let Some(folder) = &asked.folder else {
         let _ = print_table(alloc, &found.cases, &mut *out)?;
         return Ok(());
     };
-    folder.write(&start, &found.cases)?;
+    folder.write(&asked.start, &found.cases)?;
     let all = if found.whole { "yes" } else { "no" };
     write!(out, "flashes {}\nall {all}\n", found.cases.len()).map_err(|_| Refusal::Write)
+}
+
+/// Prints each distinct flash that schedules of so many cuts leave as a row of a table: the first schedule that leaves it, its digest,
+/// the outcome of the boot from there, and the digest of the flash that this boot leaves. With `--dir` the table and the flashes are
+/// written into a folder, and how many flashes there are is printed. The words are checked before a file is touched, and the folder is
+/// made before the search begins.
+///
+/// # Errors
+///
+/// Those of `read`, `find` and `print`; `InUse` and `Open` of the folder.
+pub fn run<F: Files, O: Write>(
+    files: &F,
+    alloc: Global,
+    arguments: &ArgMatches<'_>,
+    out: &mut O,
+) -> Result<(), Refusal> {
+    let asked = match read(files, alloc, arguments) {
+        Ok(asked) => asked,
+        Err(refusal) => return Err(refusal),
+    };
+    if let Some(folder) = &asked.folder {
+        folder.make()?;
+    }
+    let found = find(alloc, &asked.start, asked.cuts)?;
+    print(&asked, alloc, &found, out)
 }
