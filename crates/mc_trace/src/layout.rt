@@ -144,7 +144,6 @@ fn boots_line(layout: &Layout, times: Option<Times>) -> Line
 /// # Errors
 ///
 /// `Write`, where a write fails or takes no bytes: a beginning of the text is out.
-#[tactic(auto, using(crate::proofs::Longest::longest))]
 pub fn write_layout<W: Write>(
     layout: &Layout,
     times: Option<Times>,

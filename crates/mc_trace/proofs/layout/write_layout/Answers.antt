@@ -2,6 +2,7 @@ use Rattle.std.specs.Prelude.{◌++◌}
 use Rattle.std.proofs.KnownBytes.{Appends-trans}
 use Rattle.std.proofs.lemmas.Result.{err_from_is_err_and}
 use Rattle.mc_trace.specs.LayoutText.{boots_text, parts_text, sizes_text}
+use Rattle.mc_trace.proofs.Longest.{longest}
 use Rattle.mc_trace.proofs.Writing.{first_begun, then_begun}
 use Rattle.mc_trace.proofs.layout.write_layout.Goals as goal
 
@@ -32,3 +33,15 @@ returns-clause-whole g c =
     Appends-trans _ _ _ (sizes_text l) (parts_text l ++ boots_text l c.args.times) (rw c.sizes_line.ensures at c.in_ok-write_line.ensures.whole)
     (Appends-trans _ _ _ (parts_text l) (boots_text l c.args.times) (rw c.parts_line.ensures at c.in_ok-write_line-2.ensures.whole)
     (rw c.boots_line.ensures at c.in_ok-write_line-3.ensures.whole))
+
+pub returns-in_err-write_line-clause-longest : goal.returns-in_err-write_line-clause-longest
+returns-in_err-write_line-clause-longest g c = longest
+
+pub returns-in_err-write_line-2-clause-longest : goal.returns-in_err-write_line-2-clause-longest
+returns-in_err-write_line-2-clause-longest g c = longest
+
+pub returns-in_err-write_line-3-clause-longest : goal.returns-in_err-write_line-3-clause-longest
+returns-in_err-write_line-3-clause-longest g c = longest
+
+pub returns-clause-longest : goal.returns-clause-longest
+returns-clause-longest g c = longest
