@@ -50,8 +50,8 @@ export class Facts {
     return this.ask("explain", [[number]], []);
   }
 
-  census() {
-    return this.of_start("census", [["--cuts", this.setup.bound], ...this.setup.expected]);
+  census(signal) {
+    return this.of_start("census", [["--cuts", this.setup.bound], ...this.setup.expected], signal);
   }
 
   outcome(cuts) {

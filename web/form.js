@@ -2,7 +2,7 @@
 // What is asked: the fields, the files, and the link that holds the numbers.
 import { BOARDS, FIELDS, board_of } from "./boards.js";
 import { by_id, made } from "./dom.js";
-import { hold_only, keep } from "./program.js";
+import { example, hold_only, keep } from "./program.js";
 import { cuts_of, schedule_text } from "./texts.js";
 
 const OTHERS = ["kind", "grain", "profile", "bound", "expect-primary", "expect-secondary"];
@@ -73,7 +73,7 @@ export async function take_file(place, name, bytes) {
 
 export async function take_examples() {
   for (const [place, name] of Object.entries(EXAMPLES)) {
-    await take_file(place, `examples/${name}`, await (await fetch(name)).arrayBuffer());
+    await take_file(place, `examples/${name}`, await example(name));
   }
 }
 

@@ -7,11 +7,11 @@ import { Facts } from "./facts.js";
 import { begin_form, link_of, setup, take_examples, take_link, times } from "./form.js";
 import { Refused, bytes_of } from "./program.js";
 import { fields_of, schedule_text } from "./texts.js";
-import { show_counting, show_verdict, show_wanted } from "./verdict.js";
+import { show_counting, show_stopped, show_verdict, show_wanted } from "./verdict.js";
 
 const REST = 150; // milliseconds without a change before the maps are filled
 const SAVED = 60000; // milliseconds in which a browser has saved a file
-const state = { facts: null, cuts: [], chosen: null, filling: new AbortController(), timer: 0 };
+const state = { facts: null, cuts: [], chosen: null, filling: new AbortController(), counting: new AbortController(), timer: 0 };
 const cards = [];
 
 const actions = {
@@ -135,20 +135,27 @@ async function show_layout() {
   if (facts === state.facts) by_id("layout").textContent = text;
 }
 
+// Counts all sequences; the count before, if it still runs, is no longer asked.
 async function count(facts) {
+  state.counting.abort();
+  const counting = (state.counting = new AbortController());
   by_id("verdict").hidden = false;
-  show_counting();
+  show_counting(() => {
+    counting.abort();
+    show_stopped(() => count(facts));
+  });
   try {
-    const text = await facts.census();
-    if (facts === state.facts) show_verdict(text, facts.setup.bound, go);
+    const text = await facts.census(counting.signal);
+    if (!counting.signal.aborted) show_verdict(text, facts.setup.bound, go);
   } catch (error) {
-    if (facts === state.facts) await failed(error);
+    if (!counting.signal.aborted) await failed(error);
   }
 }
 
 // Begins anew with what the form asks.
 function ask(cuts) {
   const asked = setup();
+  state.counting.abort();
   state.facts = asked.ready ? new Facts(asked) : null;
   state.chosen = null;
   state.cuts = cuts;

@@ -36,14 +36,24 @@ export function show_verdict(text, bound, go) {
   box.append(words);
 }
 
-export function show_counting() {
+// In place of a verdict: a text, whether it will change by itself, and what a button does.
+function show_instead(text, is_busy, name, act) {
+  const button = made("button", { type: "button" }, name);
+  button.addEventListener("click", act);
   by_id("verdict").className = "card";
-  by_id("verdict").setAttribute("aria-busy", "true");
-  by_id("verdict").replaceChildren(made("h2", {}, "Counting all sequences of power cuts …"));
+  by_id("verdict").setAttribute("aria-busy", String(is_busy));
+  by_id("verdict").replaceChildren(made("h2", {}, text), ...(act ? [button] : []));
+}
+
+export function show_counting(stop) {
+  show_instead("Counting all sequences of power cuts …", true, "Stop", stop);
+}
+
+export function show_stopped(count) {
+  show_instead("The sequences of power cuts are not counted.", false, "Count them", count);
 }
 
 // Says that something is to be given first.
 export function show_wanted(text) {
-  by_id("verdict").className = "card";
-  by_id("verdict").replaceChildren(made("h2", {}, text));
+  show_instead(text, false);
 }
