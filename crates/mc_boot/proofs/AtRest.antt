@@ -5,7 +5,7 @@ use Rattle.std.proofs.lemmas.Bool.{cases_lt}
 use Rattle.std.proofs.lemmas.Bool.Decides.{nat_tests}
 use Rattle.std.proofs.lemmas.Grind.{div_ceil_times}
 use Rattle.std.specs.Int.{div_ceil}
-use Rattle.std.specs.Prelude.{Bool, List, Option, [], false, if◌then◌else◌, int_le, nat_lt, not, pos, refl, true, ℕ, ◌&&◌, ◌*◌, ◌+◌, ◌<◌, ◌==◌, ◌||◌, ◌≡◌, ◌≢◌, ◌≤◌, ◌⊎◌}
+use Rattle.std.specs.Prelude.{Bool, Option, [], false, if◌then◌else◌, int_le, nat_lt, not, pos, refl, true, ℕ, ◌&&◌, ◌*◌, ◌+◌, ◌<◌, ◌==◌, ◌||◌, ◌≡◌, ◌≢◌, ◌≤◌, ◌⊎◌}
 use Rattle.mc_boot.proofs.Images.{HasImage}
 use Rattle.mc_boot.proofs.Phases.{larger_size, new_swap_is, starting}
 use Rattle.mc_boot.proofs.Plans.{plan_new, plan_resumed}
@@ -16,7 +16,6 @@ use Rattle.mc_boot.specs.declared.image.Images.{Images}
 use Rattle.mc_flash.specs.Flash.{Content, IsSized}
 use Rattle.mc_flash.specs.Geometry.{Geometry, IsLayout, fits, greatest_sectors}
 use Rattle.mc_flash.specs.declared.flash.Grain.{Grain}
-use Rattle.mc_flash.specs.declared.op.Op.{Op}
 use Rattle.mc_flash.specs.declared.op.Slot.TheVariants.{Primary, Secondary}
 use Rattle.mc_flash.specs.facts.Layouts.{fits_few, greatest_is}
 use Rattle.mc_image.specs.Valid.{is_valid}
@@ -113,20 +112,14 @@ asked_or_fails x kind table is = go (not (images_of x.content).valid || nat_lt (
 pub rests_or_wants : (x : PowerOn) → is_at_rest (trailer_of x.geometry x.content Primary) ≡ true → RestsOrWants x
 rests_or_wants x rest = go (is_resumed x.geometry x.content) refl
   where
+    planned : {kind : SwapType} → is_resumed x.geometry x.content ≡ false → table_of x.rules.profile x.geometry x.content ≡ kind → plan x ≡ new_plan x.rules.grain x.geometry (images_of x.content) kind
+    planned not_on at = plan_new x not_on ∙ ap (new_plan x.rules.grain x.geometry (images_of x.content)) at
+
     by : (kind : SwapType) → is_resumed x.geometry x.content ≡ false → table_of x.rules.profile x.geometry x.content ≡ kind → RestsOrWants x
-    by kinds.None not_on at = inl (record { kind = kinds.None; either = inl refl; planned = plan_new x not_on ∙ ap (new_plan x.rules.grain x.geometry (images_of x.content)) at })
-    by kinds.Test not_on at = elim (asked_or_fails x kinds.Test at (plan_new x not_on ∙ ap (new_plan x.rules.grain x.geometry (images_of x.content)) at)) [
-      | inl idle ↦ inl idle
-      | inr wants ↦ inr (inl wants)
-    ]
-    by kinds.Perm not_on at = elim (asked_or_fails x kinds.Perm at (plan_new x not_on ∙ ap (new_plan x.rules.grain x.geometry (images_of x.content)) at)) [
-      | inl idle ↦ inl idle
-      | inr wants ↦ inr (inr (inl wants))
-    ]
-    by kinds.Revert not_on at = elim (asked_or_fails x kinds.Revert at (plan_new x not_on ∙ ap (new_plan x.rules.grain x.geometry (images_of x.content)) at)) [
-      | inl idle ↦ inl idle
-      | inr wants ↦ inr (inr (inr wants))
-    ]
+    by kinds.None not_on at = inl (record { kind = kinds.None; either = inl refl; planned = planned not_on at })
+    by kinds.Test not_on at = elim (asked_or_fails x kinds.Test at (planned not_on at)) [ inl idle ↦ inl idle | inr wants ↦ inr (inl wants) ]
+    by kinds.Perm not_on at = elim (asked_or_fails x kinds.Perm at (planned not_on at)) [ inl idle ↦ inl idle | inr wants ↦ inr (inr (inl wants)) ]
+    by kinds.Revert not_on at = elim (asked_or_fails x kinds.Revert at (planned not_on at)) [ inl idle ↦ inl idle | inr wants ↦ inr (inr (inr wants)) ]
     by kinds.Fail not_on at = absurd ((types_are_rows x.rules.profile (trailer_of x.geometry x.content Primary) (trailer_of x.geometry x.content Secondary) kinds.Fail).0 at)
     by kinds.Panic not_on at = absurd ((types_are_rows x.rules.profile (trailer_of x.geometry x.content Primary) (trailer_of x.geometry x.content Secondary) kinds.Panic).0 at)
 
@@ -175,8 +168,7 @@ none_idle x rest none = go (rests_or_wants x rest)
 no_revert_at : (profile : Profile) (m : Magic) → is_good m ≡ true → reverts_at profile m ≡ false
 no_revert_at profiles.One magics.Good is = refl
 no_revert_at profiles.Two magics.Good is = refl
-no_revert_at profile magics.Unset is = absurd cc
-no_revert_at profile magics.Bad is = absurd cc
+no_revert_at profile m is = absurd cc
 
 rows : (gq uq sq gp rv up cp : Bool) → (gq ≡ true → rv ≡ false)
     → (if gq && uq then kinds.Test else if gq && sq then kinds.Perm else if gp && rv && up && cp then kinds.Revert else kinds.None)
@@ -235,12 +227,9 @@ module _ (g : Geometry) (ok : IsLayout g) (s : Content) (rest : AtRest g s) wher
     | inr at_most ↦ absurd (
         let small = few_small g (larger_size s) ok at_most in
         let fit = fits_of g (image_size s.secondary) ok (small_few g (image_size s.secondary) ok (omega (arith, small))) in
-        clash (sym none ∙ fit)
+        cc
         )
   ]
-    where
-      clash : false ≡ true → ⊥
-      clash e = cc
 
   pub fails_unless : (not (images_of s).valid || nat_lt (greatest_sectors g) (div_ceil (images_of s).size g.sector)) ≡ not (can_swap g s.secondary)
   unfolding images_of
@@ -258,19 +247,14 @@ asked_none profile p q good set = grind (arith, good, set)
 
 not_set : (f : Flag) → is_unset f ≡ true → is_set f ≡ false
 not_set flags.Unset is = refl
-not_set flags.Set is = absurd cc
-not_set flags.Bad is = absurd cc
+not_set f is = absurd cc
 
 on_parts : (a b c : Bool) → (a && b && not c) ≡ true → (b ≡ true) × (c ≡ false)
 on_parts a b c is = grind (arith, is)
 
 module _ (r : Rules) (g : Geometry) (ok : IsLayout g) (s : Content) (rest : AtRest g s) where
   swap_kind : (kind : SwapType) → (new_swap r.grain g (images_of s) kind).kind ≡ (if can_swap g s.secondary then kind else kinds.Fail)
-  swap_kind kind = rw (fails_unless g ok s rest) (go (can_swap g s.secondary) _ _)
-    where
-      go : (can : Bool) (n : ℕ) (ops : List Op) → (if not can then nothing kinds.Fail else record { kind = kind; sectors = n; list = ops }).kind ≡ (if can then kind else kinds.Fail)
-      go true n ops = refl
-      go false n ops = refl
+  swap_kind kind = rw (fails_unless g ok s rest) (grind arith)
 
   pub next_is : (plan (power_on r g s)).kind ≡ done_or_fails (asked_of r.profile (is_on_trial (trailer_of g s Primary)) (trailer_of g s Secondary)) (can_swap g s.secondary)
   next_is = go (is_resumed g s) refl

@@ -1,15 +1,15 @@
 -- Courses that go on with another one: in their transfers, in their openings, by the test, and so the outcome after a cut.
-use Rattle.std.proofs.Common.{ap, append_assoc, arith, inl, inr, length-append, subst, sym, zero-mul, ◌∙◌}
+use Rattle.std.proofs.Common.{ap, append_assoc, arith, inl, inr, length-append, subst, sym, zero-mul, ◌∙◌, zero-add, add-zero}
 use Rattle.std.proofs.Math.Nat.{mod-add-div', mul-le-mul_right}
 use Rattle.std.proofs.Math.Seq.{drop-append-add}
-use Rattle.std.proofs.lemmas.List.{drop-drop, length-drop, length-take}
+use Rattle.std.proofs.lemmas.List.{drop-drop, length-drop, length-take, length-map, drop_all}
 use Rattle.std.proofs.lemmas.List.FromFn.{length-map-range_with_len}
 use Rattle.std.specs.Bool.{beq}
 use Rattle.std.specs.List.{AllByRecursion, between, range_with_len}
 use Rattle.std.specs.Prelude.{Bool, IfSome, List, Option, Some, [], drop, false, flat_map, if◌then◌else◌, length, map, nat_le, not, option_map, refl, slice_get, suc, take, true, zero, ℕ, ◌&&◌, ◌*◌, ◌++◌, ◌+◌, ◌-◌, ◌/◌, ◌<◌, ◌==◌, ◌||◌, ◌∷◌, ◌≡◌, ◌≤◌}
 use Rattle.mc_boot.proofs.Courses.{drop_at_place, length-steps, length-transfers}
 use Rattle.mc_boot.proofs.Joins.{IsJoined, Joins, are_equal, are_same, chosen, is_less, is_most, joined, less}
-use Rattle.mc_boot.proofs.Meets.{AreThere, BeginsIn, IsListed, IsRestOf, Meets, Sector, WritesIn, erase_of, target_of}
+use Rattle.mc_boot.proofs.Meets.{AreThere, BeginsIn, IsListed, IsRestOf, Meets, Sector, WritesIn, erase_of, target_of, all_weaker}
 use Rattle.mc_boot.proofs.Transfers.{fits_at, there_is}
 use Rattle.mc_boot.specs.Boot.{IsBootOf, IsCold, Progress, all_saves, begun, course_list, list_from, progress, whole_list}
 use Rattle.mc_boot.specs.Joins.{IsCut, comes_to, erases_at, erases_of, is_same_grain, is_same_swap, kept_from, kept_of, harmless_opening_len, starts_as, harmless_transfer_len}
@@ -27,7 +27,7 @@ use Rattle.mc_flash.specs.Geometry.{Geometry, IsLayout, greatest_sectors, in_pie
 use Rattle.mc_flash.specs.Usage.{Seen, most_operations, most_saved}
 use Rattle.mc_flash.specs.declared.flash.Grain.{Grain}
 use Rattle.mc_flash.specs.declared.op.Op.{Op}
-use Rattle.mc_flash.specs.declared.op.Op.TheVariants.{Copy, Erase, Program}
+use Rattle.mc_flash.specs.declared.op.Op.TheVariants.{Erase, Program}
 use Rattle.mc_flash.specs.declared.op.Slot.{Slot}
 use Rattle.mc_flash.specs.declared.op.Slot.TheVariants.{Primary, Secondary}
 use Rattle.mc_flash.specs.facts.Layouts.{trailer_covered, trailer_leaves_one}
@@ -37,6 +37,7 @@ use Rattle.mc_trailer.specs.declared.tables.Rules.{Rules}
 use Rattle.mc_trailer.specs.declared.tables.SwapType.{SwapType}
 use Rattle.mc_trailer.specs.facts.Places.{field_ends, most_before_end, one_unit_fits, place_inside, size_bytes_fit}
 use Rattle.mc_trailer.specs.facts.Tables.{and_parts}
+use lib.Seq.{take_at}
 use Rattle.mc_trailer.specs.declared.places.Field.TheVariants as field
 use Rattle.mc_flash.specs.declared.flash.Grain.TheVariants as grains
 use Rattle.mc_trailer.specs.declared.tables.SwapType.TheVariants as kinds
@@ -59,6 +60,10 @@ all_less P (x ∷ xs) (suc k) (suc n) at_most all = (all.0, all_less P xs k n (o
 pub all_mapped : {A : Type 0} (P : A → Type 0) (f : ℕ → A) (a n : ℕ) → ((i : ℕ) → i < a + n → P (f i)) → AllByRecursion P (map f (range_with_len a n))
 all_mapped P f a zero each = tt
 all_mapped P f a (suc n) each = (each a (omega arith), all_mapped P f (a + 1) n (λ i h. each i (omega (arith, h))))
+
+pub all_both : {A : Type 0} (P : A → Type 0) (xs ys : List A) → AllByRecursion P xs → AllByRecursion P ys → AllByRecursion P (xs ++ ys)
+all_both P [] ys one two = two
+all_both P (x ∷ xs) ys one two = (one.0, all_both P xs ys one.1 two)
 
 -- Without its first k pieces, where all have one length.
 drop_pieces : {A B : Type 0} (f : A → List B) (w : ℕ) → ((x : A) → length (f x) ≡ w) → (xs : List A) (ys : List B) (k : ℕ) → k ≤ length xs
@@ -144,17 +149,11 @@ rest_of_rest xs ys zs one two = (
 finish_alone : (g : Geometry) (n first : ℕ) (ok : Bool) → first ≡ 3 * n → from_transfer g n first ok ≡ closing g ok
 finish_alone g n first ok is =
     ap (λ (ts : List Transfer). flat_map (steps g) ts ++ closing g ok)
-    (none (drop first (transfers g n)) (omega (arith, length-drop first (transfers g n), length-transfers g n, is)))
-  where
-    none : (ts : List Transfer) → length ts ≡ 0 → ts ≡ []
-    none [] e = refl
-    none (t ∷ ts) e = absurd (omega (arith, e))
+    (drop_all first (transfers g n) (omega (arith, length-transfers g n, is)))
 
 finish_rest : (g : Geometry) (n first : ℕ) → first ≡ 3 * n → IsRestOf (from_transfer g n first false) (from_transfer g n first true)
 finish_rest g n first is =
-    let P : List Op → Type 0 = λ ops. IsRestOf ops (from_transfer g n first true) in
-    let Q : List Op → Type 0 = λ ops. IsRestOf (closing g false) ops in
-    subst P (sym (finish_alone g n first false is)) (subst Q (sym (finish_alone g n first true is)) (1, omega arith, refl))
+    rw (finish_alone g n first false is, finish_alone g n first true is) (1, omega arith, refl)
 
 -- What a course comes to is a rest of it.
 pub comes_rest : (c : Grain) (g : Geometry) (n : ℕ) (opening : Opening) (first : ℕ) (erases image_ok : Bool) → first ≤ 3 * n
@@ -163,18 +162,11 @@ comes_rest c g n (New kind size) first erases true high is = let no_ : false ≡
 comes_rest c g n (New kind size) first false false high is =
     new_rest c g kind size n (from_transfer g n first false) (resumed_rest g n 0 first true false (omega arith) high)
 comes_rest c g n (New kind size) first true false high is =
-    let P : ℕ → Type 0 = λ k. IsRestOf (resumed_list g n k true false) (new_list c g kind size n) in
-    let none = are_equal first 0 (and_parts (first == 0) true is).0 in
-    subst P (sym none) (new_rest c g kind size n (resumed_list g n 0 true false) (whole_rest (resumed_list g n 0 true false)))
+    rw (are_equal first 0 (and_parts (first == 0) true is).0) (new_rest c g kind size n (resumed_list g n 0 true false) (whole_rest (resumed_list g n 0 true false)))
 comes_rest c g n (Resumed start erased ok) first true image_ok high is =
     let parts = and_parts (start == first && erased) (beq ok image_ok) is in
     let here = and_parts (start == first) erased parts.0 in
-    let P : List Op → Type 0 = λ ops. IsRestOf (resumed_list g n first true image_ok) ops in
-    let same : resumed_list g n first true image_ok ≡ resumed_list g n start erased ok =
-    ap (λ k. resumed_list g n k true image_ok) (sym (are_equal start first here.0))
-    ∙ ap (λ b. resumed_list g n start b image_ok) (sym here.1)
-    ∙ ap (λ b. resumed_list g n start erased b) (sym (are_same ok image_ok parts.1)) in
-    subst P same (whole_rest (resumed_list g n first true image_ok))
+    rw (are_equal start first here.0, here.1, are_same ok image_ok parts.1) (whole_rest (resumed_list g n first true image_ok))
 comes_rest c g n (Resumed start erased ok) first false image_ok high is = ends ok image_ok parts.1
   where
     parts : (nat_le start first ≡ true) × ((beq ok image_ok || first == 3 * n && not image_ok) ≡ true)
@@ -237,17 +229,15 @@ transfer_begins g n first image_ok t there here =
       there = (there, tt);
       erases = ap (take 1) whole.1;
       inside =
-          let P : List Op → Type 0 = λ ops. AllByRecursion (WritesIn g (target t ∷ [])) (take (g.sector / g.chunk + 1) ops) in
           let at_most = length-map-range_with_len (copy_of g t) 0 (g.sector / g.chunk) in
-          subst P (sym whole.1) (all_prefix (WritesIn g (target t ∷ [])) (target_steps g t) whole.0 (g.sector / g.chunk + 1) (omega (arith, at_most)) (writes_target g t));
+          rw whole.1 (all_prefix (WritesIn g (target t ∷ [])) (target_steps g t) whole.0 (g.sector / g.chunk + 1) (omega (arith, at_most)) (writes_target g t));
     }
 
 -- The pieces of a layout play no part in where its operations write.
 pub writes_pieces : (c : Grain) (g : Geometry) (es : List Sector) (op : Op) → WritesIn (in_pieces c g) es op → WritesIn g es op
 writes_pieces grains.Call g es op w = w
 writes_pieces grains.Unit g es (Erase slot sector) w = record { index = w.index; listed = w.listed; from = w.from; to = w.to }
-writes_pieces grains.Unit g es (Program slot at bytes) w = record { index = w.index; listed = w.listed; from = w.from; to = w.to }
-writes_pieces grains.Unit g es (Copy from at to offset len) w = record { index = w.index; listed = w.listed; from = w.from; to = w.to }
+writes_pieces grains.Unit g es op w = record { index = w.index; listed = w.listed; from = w.from; to = w.to }
 
 pub sectors_pieces : (c : Grain) (g : Geometry) (slot : Slot) → sectors_of (in_pieces c g) slot ≡ sectors_of g slot
 sectors_pieces grains.Call g slot = refl
@@ -255,19 +245,14 @@ sectors_pieces grains.Unit g Primary = refl
 sectors_pieces grains.Unit g Secondary = refl
 
 pub there_pieces : (c : Grain) (g : Geometry) (xs : List Sector) → AreThere (in_pieces c g) xs → AreThere g xs
-there_pieces c g [] all = tt
-there_pieces c g (x ∷ xs) all = (omega (arith, all.0, sectors_pieces c g x.slot), there_pieces c g xs all.1)
+there_pieces c g xs all = all_weaker _ _ (λ x here. omega (arith, here, sectors_pieces c g x.slot)) xs all
 
 pub begins_pieces : (c : Grain) (g : Geometry) (ops : List Op) (es : List Sector) (harmless_len : ℕ) → BeginsIn (in_pieces c g) ops es harmless_len → BeginsIn g ops es harmless_len
 begins_pieces c g ops es harmless_len b = record {
   there = there_pieces c g es b.there;
   erases = b.erases;
-  inside = all_inside (take harmless_len ops) b.inside;
+  inside = all_weaker (WritesIn (in_pieces c g) es) (WritesIn g es) (λ x writes. writes_pieces c g es x writes) (take harmless_len ops) b.inside;
 }
-  where
-    all_inside : (xs : List Op) → AllByRecursion (WritesIn (in_pieces c g) es) xs → AllByRecursion (WritesIn g es) xs
-    all_inside [] all = tt
-    all_inside (x ∷ xs) all = (writes_pieces c g es x all.0, all_inside xs all.1)
 
 -- ---- the test
 
@@ -282,10 +267,7 @@ met_joins x u c j erases ops rest m sized cut early list_s list_u = record {
   rest = list_u ∙ rest_at rest ops m.is_rest ∙ ap (λ n. drop n ops) (sym m.count) ∙ ap (drop j) (sym list_s);
   there = m.begins.there;
   erases = ap (take (length m.sectors)) list_u ∙ m.begins.erases;
-  inside =
-      let P : List Op → Type 0 = λ xs. AllByRecursion (WritesIn x.geometry m.sectors) (take (c - j) xs) in
-      let high = m.reached in
-      subst P (sym list_u) (all_less (WritesIn x.geometry m.sectors) rest (c - j) m.harmless_len (omega (arith, high)) m.begins.inside);
+  inside = let high = m.reached in rw list_u (all_less (WritesIn x.geometry m.sectors) rest (c - j) m.harmless_len (omega (arith, high)) m.begins.inside);
 }
 
 -- ---- erases before others
@@ -299,29 +281,20 @@ listed_prefix [] fs slot index listed = absurd listed
 listed_prefix (e ∷ es) fs slot index (inl here) = inl here
 listed_prefix (e ∷ es) fs slot index (inr listed) = inr (listed_prefix es fs slot index listed)
 
-there_both : (g : Geometry) (es fs : List Sector) → AreThere g es → AreThere g fs → AreThere g (es ++ fs)
-there_both g [] fs one two = two
-there_both g (e ∷ es) fs one two = (one.0, there_both g es fs one.1 two)
-
 writes_more : (g : Geometry) (es fs : List Sector) (ops : List Op) → AllByRecursion (WritesIn g fs) ops → AllByRecursion (WritesIn g (es ++ fs)) ops
-writes_more g es fs [] all = tt
-writes_more g es fs (op ∷ ops) all = (
-  record { index = all.0.index; listed = listed_beyond es fs (target_of op) all.0.index all.0.listed; from = all.0.from; to = all.0.to },
-  writes_more g es fs ops all.1,
-)
+writes_more g es fs ops all =
+    all_weaker (WritesIn g fs) (WritesIn g (es ++ fs))
+    (λ op writes. record { index = writes.index; listed = listed_beyond es fs (target_of op) writes.index writes.listed; from = writes.from; to = writes.to }) ops all
 
 pub writes_erases : (g : Geometry) (es xs : List Sector) (rest : List Op) (harmless_len : ℕ) → ((slot : Slot) (index : ℕ) → IsListed xs slot index → IsListed es slot index)
     → AllByRecursion (WritesIn g es) (take harmless_len rest) → AllByRecursion (WritesIn g es) (take (length xs + harmless_len) (map erase_of xs ++ rest))
-writes_erases g es [] rest harmless_len listed all = let P : ℕ → Type 0 = λ n. AllByRecursion (WritesIn g es) (take n rest) in subst P (omega arith) all
+writes_erases g es [] rest harmless_len listed all = rw (zero-add harmless_len) all
 writes_erases g es (x ∷ xs) rest harmless_len listed all =
-    let P : ℕ → Type 0 = λ n. AllByRecursion (WritesIn g es) (take n (erase_of x ∷ (map erase_of xs ++ rest))) in
-    subst P (next (length xs)) (
+    let next : suc (length xs) + harmless_len ≡ suc (length xs + harmless_len) = omega arith in
+    rw next (
       record { index = x.index; listed = listed x.slot x.index (inl (refl, refl)); from = omega arith; to = omega arith },
       writes_erases g es xs rest harmless_len (λ slot index is. listed slot index (inr is)) all,
     )
-  where
-    next : (n : ℕ) → suc (n + harmless_len) ≡ suc n + harmless_len
-    next n = omega arith
 
 first_erases : (es fs : List Sector) (rest : List Op) → take (length fs) rest ≡ map erase_of fs → take (length (es ++ fs)) (map erase_of es ++ rest) ≡ map erase_of (es ++ fs)
 first_erases [] fs rest is = is
@@ -330,7 +303,7 @@ first_erases (e ∷ es) fs rest is = ap (λ (ops : List Op). erase_of e ∷ ops)
 erases_begin : (g : Geometry) (es fs : List Sector) (rest : List Op) (harmless_len : ℕ) → AreThere g es → BeginsIn g rest fs harmless_len
     → BeginsIn g (map erase_of es ++ rest) (es ++ fs) (length es + harmless_len)
 erases_begin g es fs rest harmless_len there begins = record {
-  there = there_both g es fs there begins.there;
+  there = all_both _ es fs there begins.there;
   erases = first_erases es fs rest begins.erases;
   inside = writes_erases g (es ++ fs) es rest harmless_len (λ slot index is. listed_prefix es fs slot index is) (writes_more g es fs (take harmless_len rest) begins.inside);
 }
@@ -359,10 +332,7 @@ trailer_erased g slot = each (range_with_len 0 (trailer_sectors g))
 trailer_begins : (g : Geometry) (slot : Slot) (fs : List Sector) (rest : List Op) (harmless_len : ℕ) → IsLayout g → BeginsIn g rest fs harmless_len
     → BeginsIn g (trailer_erases g slot ++ rest) (trailer_of_slot g slot ++ fs) (trailer_sectors g + harmless_len)
 trailer_begins g slot fs rest harmless_len ok begins =
-    let P : List Op → Type 0 = λ ops. BeginsIn g (ops ++ rest) (trailer_of_slot g slot ++ fs) (trailer_sectors g + harmless_len) in
-    let Q : ℕ → Type 0 = λ n. BeginsIn g (map erase_of (trailer_of_slot g slot) ++ rest) (trailer_of_slot g slot ++ fs) (n + harmless_len) in
-    subst P (trailer_erased g slot) (subst Q (length-map-range_with_len (trailer_sector g slot) 0 (trailer_sectors g))
-    (erases_begin g (trailer_of_slot g slot) fs rest harmless_len (trailer_there g slot ok) begins))
+    rw (trailer_erased g slot, length-trailer g slot) at (erases_begin g (trailer_of_slot g slot) fs rest harmless_len (trailer_there g slot ok) begins)
 
 -- A course from a transfer on begins with the erase of its target and copies into it, after the erases of the secondary's
 -- trailer where no entry was written. After the last transfer it begins with no erase.
@@ -373,8 +343,7 @@ begins_so l n first erases image_ok true ok at_most high is = ([], refl, record 
 begins_so l n first false image_ok false ok at_most high is =
     let there = there_is l n first (is_less first (3 * n) high is) in
     let fits = fits_at l n first there.0 ok at_most there.1 in
-    let P : ℕ → Type 0 = λ k. BeginsIn l (from_transfer l n first image_ok) (target there.0 ∷ []) k in
-    (target there.0 ∷ [], omega arith, subst P (omega arith) (transfer_begins l n first image_ok there.0 fits.inside.to there.1))
+    (target there.0 ∷ [], omega arith, rw (zero-add (l.sector / l.chunk + 1)) (transfer_begins l n first image_ok there.0 fits.inside.to there.1))
 begins_so l n first true image_ok false ok at_most high is =
     let there = there_is l n first (is_less first (3 * n) high is) in
     let fits = fits_at l n first there.0 ok at_most there.1 in (
@@ -392,21 +361,16 @@ course_meets g a b first erases image_ok done less layout_a layout_b ok grain se
     let harmless_len : ℕ = harmless_transfer_len b.layout b.sectors first erases in
     let same : course_list b ≡ resumed_list b.layout b.sectors first erases image_ok = ap (list_from b.grain b.layout b.sectors) opening in
     let layouts : a.layout ≡ b.layout = layout_a ∙ ap (λ (c : Grain). in_pieces c g) grain ∙ sym layout_b in
-    let lists : course_list a ≡ list_from a.grain b.layout b.sectors a.opening =
-    ap (λ (l : Geometry). list_from a.grain l a.sectors a.opening) layouts ∙ ap (λ n. list_from a.grain b.layout n a.opening) sectors in
+    let lists : course_list a ≡ list_from a.grain b.layout b.sectors a.opening = rw (layouts, sectors) refl in
     let rest = comes_rest a.grain b.layout b.sectors a.opening first erases image_ok high comes in
     let begins = begins_so b.layout b.sectors first erases image_ok (first == 3 * b.sectors) ok b.fits high refl in
-    let P : List Op → Type 0 = λ ops. IsRestOf (resumed_list b.layout b.sectors first erases image_ok) ops in
-    let Q : List Op → Type 0 = λ ops. IsRestOf ops (course_list a) in
-    let R : List Op → Type 0 = λ ops. BeginsIn b.layout ops begins.0 harmless_len in
-    let S : Geometry → Type 0 = λ x. BeginsIn x (course_list b) begins.0 harmless_len in
     record {
       count = count;
-      is_rest = subst Q (sym same) (subst P (sym lists) rest);
+      is_rest = rw (same, lists) rest;
       sectors = begins.0;
       so_many = begins.1;
       harmless_len = harmless_len;
-      begins = begins_pieces b.grain g (course_list b) begins.0 harmless_len (subst S layout_b (subst R (sym same) begins.2));
+      begins = begins_pieces b.grain g (course_list b) begins.0 harmless_len (rw (← layout_b, same) begins.2);
       passed = low;
       reached = far;
     }
@@ -431,8 +395,7 @@ in_last g slot f ok = go (sectors_of g slot) (let leaves = trailer_leaves_one g 
         let one : suc n - 1 - 0 ≡ n = omega arith in
         let rows : suc n * g.sector ≡ n * g.sector + g.sector = omega arith in
         let wide = ok.least_sector in
-        let P : ℕ → Type 0 = λ k. (k * g.sector ≤ suc n * g.sector - before_end f) × (suc n * g.sector ≤ k * g.sector + g.sector) in
-        subst P (sym one) (omega (arith, rows, wide, most_before_end f), omega (arith, rows))
+        rw one (omega (arith, rows, wide, most_before_end f), omega (arith, rows))
 
 writes_part : (g : Geometry) (slot : Slot) (f : Field) (from : ℕ) (bytes : List ℕ) → IsLayout g → from + length bytes ≤ room f
     → WritesIn g (trailer_of_slot g slot) (Program slot (place g slot f + from) bytes)
@@ -447,8 +410,7 @@ writes_part g slot f from bytes ok short =
 
 writes_field : (g : Geometry) (slot : Slot) (f : Field) (bytes : List ℕ) → IsLayout g → length bytes ≤ room f → WritesIn g (trailer_of_slot g slot) (Program slot (place g slot f) bytes)
 writes_field g slot f bytes ok short =
-    let P : ℕ → Type 0 = λ n. WritesIn g (trailer_of_slot g slot) (Program slot n bytes) in
-    subst P (omega arith) (writes_part g slot f 0 bytes ok (omega (arith, short)))
+    rw (add-zero (place g slot f)) at (writes_part g slot f 0 bytes ok (omega (arith, short)))
 
 writes_pieces_of : (c : Grain) (g : Geometry) (slot : Slot) (f : Field) (new : List ℕ) → IsLayout g → length new ≤ room f → AllByRecursion (WritesIn g (trailer_of_slot g slot)) (write c g slot f new)
 writes_pieces_of grains.Call g slot f new ok short = (writes_field g slot f new ok short, tt)
@@ -458,10 +420,6 @@ writes_pieces_of grains.Unit g slot f new ok short =
     let parts = mod-add-div' (length new) g.unit in
     let at_most : length (between (j * g.unit) (j * g.unit + g.unit) new) ≤ g.unit = omega (arith, length-take (j * g.unit + g.unit - j * g.unit) (drop (j * g.unit) new)) in
     writes_part g slot f (j * g.unit) (between (j * g.unit) (j * g.unit + g.unit) new) ok (omega (arith, row, parts, at_most, short)))
-
-pub all_both : {A : Type 0} (P : A → Type 0) (xs ys : List A) → AllByRecursion P xs → AllByRecursion P ys → AllByRecursion P (xs ++ ys)
-all_both P [] ys one two = two
-all_both P (x ∷ xs) ys one two = (one.0, all_both P xs ys one.1 two)
 
 writes_marking : (c : Grain) (g : Geometry) (slot : Slot) (size : ℕ) → IsLayout g → AllByRecursion (WritesIn g (trailer_of_slot g slot)) (marking c g slot size)
 writes_marking c g slot size ok =
@@ -481,21 +439,15 @@ writes_opening c g kind size ok = (writes_field g Primary field.SwapInfo (one_un
 
 -- ---- the opening
 
-first_only : (es : List Sector) (rest : List Op) → take (length es) (map erase_of es ++ rest) ≡ map erase_of es
-first_only [] rest = refl
-first_only (e ∷ es) rest = ap (λ (ops : List Op). erase_of e ∷ ops) (first_only es rest)
-
 -- Erases of a trailer, then writes in it.
 trailer_opens : (g : Geometry) (slot : Slot) (writes rest : List Op) → IsLayout g → AllByRecursion (WritesIn g (trailer_of_slot g slot)) writes
     → BeginsIn g (trailer_erases g slot ++ (writes ++ rest)) (trailer_of_slot g slot) (trailer_sectors g + length writes)
 trailer_opens g slot writes rest ok all =
     let es : List Sector = trailer_of_slot g slot in
-    let P : List Op → Type 0 = λ ops. BeginsIn g (ops ++ (writes ++ rest)) es (trailer_sectors g + length writes) in
-    let Q : ℕ → Type 0 = λ n. AllByRecursion (WritesIn g es) (take (n + length writes) (map erase_of es ++ (writes ++ rest))) in
-    subst P (trailer_erased g slot) (record {
+    rw (← trailer_erased g slot) (record {
       there = trailer_there g slot ok;
-      erases = first_only es (writes ++ rest);
-      inside = subst Q (length-map-range_with_len (trailer_sector g slot) 0 (trailer_sectors g))
+      erases = take_at (map erase_of es) (writes ++ rest) (length es) (length-map es erase_of);
+      inside = rw (length-trailer g slot) at
           (writes_erases g es es (writes ++ rest) (length writes) (λ o index is. is) (all_prefix (WritesIn g es) writes rest (length writes) (omega arith) all));
     })
 
@@ -516,22 +468,15 @@ pub anew_meets : (g : Geometry) (a b : Course) (kind : SwapType) (size done : �
 anew_meets g a b kind size done layout_a layout_b grain sectors opening_a opening_b ok far =
     let layouts : a.layout ≡ b.layout = layout_a ∙ ap (λ (c : Grain). in_pieces c g) grain ∙ sym layout_b in
     let list_b : course_list b ≡ new_list b.grain b.layout kind size b.sectors = ap (list_from b.grain b.layout b.sectors) opening_b in
-    let same : course_list b ≡ course_list a =
-    ap (list_from b.grain b.layout b.sectors) (opening_b ∙ sym opening_a)
-    ∙ ap (λ n. list_from b.grain b.layout n a.opening) (sym sectors)
-    ∙ ap (λ (l : Geometry). list_from b.grain l a.sectors a.opening) (sym layouts)
-    ∙ ap (λ (c : Grain). list_from c a.layout a.sectors a.opening) (sym grain) in
+    let same : course_list b ≡ course_list a = rw (opening_a, opening_b, layouts, grain, sectors) refl in
     let begins = new_begins b.grain b.layout kind size b.sectors ok in
-    let P : List Op → Type 0 = λ ops. BeginsIn b.layout ops begins.0 (harmless_opening_len b.grain b.layout kind size) in
-    let Q : Geometry → Type 0 = λ x. BeginsIn x (course_list b) begins.0 (harmless_opening_len b.grain b.layout kind size) in
-    let R : List Op → Type 0 = λ ops. IsRestOf (course_list b) ops in
     record {
       count = omega (arith, ap (λ (ops : List Op). length ops) same);
-      is_rest = subst R same (whole_rest (course_list b));
+      is_rest = rw (← same) (whole_rest (course_list b));
       sectors = begins.0;
       so_many = begins.1;
       harmless_len = harmless_opening_len b.grain b.layout kind size;
-      begins = begins_pieces b.grain g (course_list b) begins.0 (harmless_opening_len b.grain b.layout kind size) (subst Q layout_b (subst P (sym list_b) begins.2));
+      begins = begins_pieces b.grain g (course_list b) begins.0 (harmless_opening_len b.grain b.layout kind size) (rw (← layout_b, list_b) begins.2);
       passed = omega arith;
       reached = omega (arith, far);
     }
@@ -541,8 +486,7 @@ anew_meets g a b kind size done layout_a layout_b grain sectors opening_a openin
 same_grain : (c d : Grain) → is_same_grain c d ≡ true → c ≡ d
 same_grain grains.Call grains.Call is = refl
 same_grain grains.Unit grains.Unit is = refl
-same_grain grains.Call grains.Unit is = absurd cc
-same_grain grains.Unit grains.Call is = absurd cc
+same_grain c d is = absurd cc
 
 abbrev kind_at : ℕ → SwapType
 kind_at n =
@@ -551,11 +495,7 @@ kind_at n =
 
 kind_back : (kind : SwapType) → kind_at (number_of kind) ≡ kind
 kind_back kinds.None = refl
-kind_back kinds.Test = refl
-kind_back kinds.Perm = refl
-kind_back kinds.Revert = refl
-kind_back kinds.Fail = refl
-kind_back kinds.Panic = refl
+kind_back kind = refl
 
 -- A type is known by its number.
 same_kind : (k l : SwapType) → (number_of k == number_of l) ≡ true → k ≡ l
@@ -575,8 +515,7 @@ from_opening g a b done j (New kind size) at_b ok layout_a layout_b is =
     let parts = and_parts (is_same_swap a b && starts_as a.opening kind size) far found.0 in
     let starts = and_parts (is_same_swap a b) (starts_as a.opening kind size) parts.0 in
     let swaps = and_parts (is_same_grain a.grain b.grain) (a.sectors == b.sectors) starts.0 in
-    let P : ℕ → Type 0 = λ n. Meets g (course_list a) (course_list b) done n (trailer_sectors b.layout) in
-    subst P found.1 (anew_meets g a b kind size done layout_a layout_b (same_grain a.grain b.grain swaps.0) (are_equal a.sectors b.sectors swaps.1)
+    rw (← found.1) (anew_meets g a b kind size done layout_a layout_b (same_grain a.grain b.grain swaps.0) (are_equal a.sectors b.sectors swaps.1)
     (same_start a.opening kind size starts.1) at_b ok (is_most done (harmless_opening_len b.grain b.layout kind size) parts.1))
 from_opening g a b done j (Resumed first erases image_ok) at_b ok layout_a layout_b is =
     let less = length (course_list a) - length (course_list b) in
@@ -589,8 +528,7 @@ from_opening g a b done j (Resumed first erases image_ok) at_b ok layout_a layou
     let goes = and_parts (is_same_swap a b && inside) comes low.0 in
     let high = and_parts (is_same_swap a b) inside goes.0 in
     let swaps = and_parts (is_same_grain a.grain b.grain) (a.sectors == b.sectors) high.0 in
-    let P : ℕ → Type 0 = λ n. Meets g (course_list a) (course_list b) done n (erases_at b.layout b.sectors (Resumed first erases image_ok)) in
-    subst P found.1 (course_meets g a b first erases image_ok done less layout_a layout_b ok (same_grain a.grain b.grain swaps.0) (are_equal a.sectors b.sectors swaps.1)
+    rw (← found.1) (course_meets g a b first erases image_ok done less layout_a layout_b ok (same_grain a.grain b.grain swaps.0) (are_equal a.sectors b.sectors swaps.1)
     at_b (is_most first (3 * b.sectors) high.1) goes.1 refl (is_most less done low.1) (is_most done (less + harmless_len) far.1))
 
 pub joins_meet : (g : Geometry) (a b : Course) (done j : ℕ) → IsLayout b.layout → a.layout ≡ in_pieces a.grain g → b.layout ≡ in_pieces b.grain g → kept_of a done b ≡ Some j
@@ -621,7 +559,7 @@ is_cold r f b ok sized is of =
     }
 
 pub layout_is : (g : Geometry) (o : Option Course) (a : Course) → o ≡ Some a → IfSome o (λ c. c.layout ≡ in_pieces c.grain g) → a.layout ≡ in_pieces a.grain g
-layout_is g o a is all = let P : Option Course → Type 0 = λ x. IfSome x (λ c. c.layout ≡ in_pieces c.grain g) in subst P is all
+layout_is g o a is all = rw is at all
 
 -- Before the first operation the flash is as it was.
 pub at_start : (from : PowerOn) (u : Content) (cut : Boot) (whole : Report) → IsCut from u cut whole → cut.done ≡ 0 → again from u ≡ from

@@ -1,11 +1,11 @@
 -- Operation number k of each list of operations, by either grain.
-use Rattle.std.proofs.Common.{ap, arith, inl, inr, length-append, subst, sym, zero-add, ◌∙◌}
+use Rattle.std.proofs.Common.{ap, arith, inl, inr, length-append, subst, sym, zero-add, ◌∙◌, add-one}
 use Rattle.std.proofs.Math.Nat.{add-mul-mod_self_right, mod-add-div', mod_self, mul-le-mul_left, mul-le-mul_right, zero-mul}
 use Rattle.std.proofs.lemmas.List.{length-drop, length-replicate, length-take}
-use Rattle.std.proofs.lemmas.List.FromFn.{length-map-range_with_len, length-range_with_len}
+use Rattle.std.proofs.lemmas.List.FromFn.{length-map-range_with_len, length-range_with_len, get_or-range_with_len}
 use Rattle.std.proofs.lemmas.Nat.{mod_below}
 use Rattle.std.specs.List.{range_with_len}
-use Rattle.std.specs.Prelude.{Bool, IfSome, List, None, Option, Some, [], drop, false, flat_map, length, map, max, refl, replicate, slice_get, suc, take, true, zero, ℕ, ◌%◌, ◌*◌, ◌++◌, ◌+◌, ◌-◌, ◌/◌, ◌<◌, ◌^◌, ◌∷◌, ◌≡◌, ◌≤◌, ◌⊎◌}
+use Rattle.std.specs.Prelude.{Bool, IfSome, List, None, Option, Some, [], drop, false, flat_map, length, map, max, refl, replicate, slice_get, suc, take, true, zero, ℕ, ◌%◌, ◌*◌, ◌++◌, ◌+◌, ◌-◌, ◌/◌, ◌<◌, ◌^◌, ◌∷◌, ◌≡◌, ◌≤◌, option_map}
 use Rattle.byteorder.specs.Endian.{little_bytes}
 use Rattle.mc_boot.specs.Boot.{IsInside}
 use Rattle.mc_boot.specs.Plan.{brought_in, closing, copy_of, entry_of, from_transfer, marking, moved_up, opening_writes, piece, resumed_list, steps, swap_list, taken_out, trailer_erase, trailer_erases, transfers, write, write_count}
@@ -21,38 +21,34 @@ use Rattle.mc_flash.specs.facts.Pieces.{pieces_can}
 use Rattle.mc_trailer.specs.Trailer.{magic_bytes, place, size_bytes}
 use Rattle.mc_trailer.specs.declared.places.Field.{Field}
 use Rattle.mc_trailer.specs.declared.tables.SwapType.{SwapType}
+use Rattle.std.proofs.lemmas.Option.{slice_get_within, get_or_from_slice_get, slice_get-get_or, slice_get-map}
+use lib.Seq.{drop-cons}
 use Rattle.mc_trailer.specs.declared.places.Field.TheVariants as field
 use Rattle.mc_flash.specs.declared.flash.Grain.TheVariants as grains
 
 -- Elements of lists by their number.
-
-pub get_prefix : {A : Type 0} (xs ys : List A) (k : ℕ) (x : A) → slice_get xs k ≡ Some x → slice_get (xs ++ ys) k ≡ Some x
-get_prefix [] ys k x h = cc
-get_prefix (y ∷ xs) ys zero x h = h
-get_prefix (y ∷ xs) ys (suc k) x h = get_prefix xs ys k x h
-
-pub get_beyond : {A : Type 0} (xs ys : List A) (k j : ℕ) → k ≡ length xs + j → slice_get (xs ++ ys) k ≡ slice_get ys j
-get_beyond [] ys k j e = ap (slice_get ys) (omega (arith, e))
-get_beyond (x ∷ xs) ys zero j e = absurd (omega (arith, e))
-get_beyond (x ∷ xs) ys (suc k) j e = get_beyond xs ys k j (omega (arith, e))
-
-pub get_mapped : {A : Type 0} (f : ℕ → A) (a n k : ℕ) → k < n → slice_get (map f (range_with_len a n)) k ≡ Some (f (a + k))
-get_mapped f a zero k h = absurd (omega arith)
-get_mapped f a (suc n) zero h = ap (λ i. Some (f i)) (omega arith)
-get_mapped f a (suc n) (suc k) h = get_mapped f (a + 1) n k (omega arith) ∙ ap (λ i. Some (f i)) (omega arith)
 
 pub get_within : {A : Type 0} (xs ys : List A) (k : ℕ) → k < length xs → slice_get (xs ++ ys) k ≡ slice_get xs k
 get_within [] ys k h = absurd (omega arith)
 get_within (x ∷ xs) ys zero h = refl
 get_within (x ∷ xs) ys (suc k) h = get_within xs ys k (omega arith)
 
+pub get_prefix : {A : Type 0} (xs ys : List A) (k : ℕ) (x : A) → slice_get xs k ≡ Some x → slice_get (xs ++ ys) k ≡ Some x
+get_prefix xs ys k x h = get_within xs ys k (slice_get_within xs k x h) ∙ h
+
+pub get_beyond : {A : Type 0} (xs ys : List A) (k j : ℕ) → k ≡ length xs + j → slice_get (xs ++ ys) k ≡ slice_get ys j
+get_beyond [] ys k j e = ap (slice_get ys) (omega (arith, e))
+get_beyond (x ∷ xs) ys zero j e = absurd (omega (arith, e))
+get_beyond (x ∷ xs) ys (suc k) j e = get_beyond xs ys k j (omega (arith, e))
+
+get_number : (a n k : ℕ) → k < n → slice_get (range_with_len a n) k ≡ Some (a + k)
+get_number a n k h = slice_get-get_or (range_with_len a n) k 0 (omega (arith, h, length-range_with_len a n)) ∙ ap (λ (i : ℕ). Some i) (get_or-range_with_len a n k 0 h)
+
+pub get_mapped : {A : Type 0} (f : ℕ → A) (a n k : ℕ) → k < n → slice_get (map f (range_with_len a n)) k ≡ Some (f (a + k))
+get_mapped f a n k h = slice_get-map f (range_with_len a n) k ∙ ap (option_map f) (get_number a n k h)
+
 pub get_counted : (n k : ℕ) → k < n → slice_get (range_with_len 0 n) k ≡ Some k
-get_counted n k h = from 0 n k h ∙ ap (λ (i : ℕ). Some i) (zero-add k)
-  where
-    from : (a n k : ℕ) → k < n → slice_get (range_with_len a n) k ≡ Some (a + k)
-    from a zero k h = absurd (omega arith)
-    from a (suc n) zero h = ap (λ (i : ℕ). Some i) (omega arith)
-    from a (suc n) (suc k) h = from (a + 1) n k (omega arith) ∙ ap (λ (i : ℕ). Some i) (omega arith)
+get_counted n k h = get_number 0 n k h ∙ ap (λ (i : ℕ). Some i) (zero-add k)
 
 -- the j-th of the i-th piece, where all pieces have one length
 pub get_piece : {A B : Type 0} (f : A → List B) (w : ℕ) → ((x : A) → length (f x) ≡ w) → (xs : List A) (k i j : ℕ) (x : A) → slice_get xs i ≡ Some x → j < w → k ≡ i * w + j
@@ -68,25 +64,11 @@ get_piece f w even (y ∷ xs) k (suc i) j x h b e =
 pub get_dropped : {A : Type 0} (i : ℕ) (xs : List A) (k : ℕ) → slice_get (drop i xs) k ≡ slice_get xs (i + k)
 get_dropped zero xs k = ap (slice_get xs) (omega arith)
 get_dropped (suc i) [] k = refl
-get_dropped (suc i) (x ∷ xs) k = get_dropped i xs k ∙ ap (slice_get (x ∷ xs)) (later i k)
-  where
-    later : (i k : ℕ) → suc (i + k) ≡ suc i + k
-    later i k = omega arith
+get_dropped (suc i) (x ∷ xs) k = let later : suc i + k ≡ suc (i + k) = omega arith in rw later (get_dropped i xs k)
 
 -- what is left, from a place with an element on
 pub drop_at_place : {A : Type 0} (xs : List A) (k : ℕ) (x : A) → slice_get xs k ≡ Some x → drop k xs ≡ x ∷ drop (k + 1) xs
-drop_at_place [] k x h = cc
-drop_at_place (y ∷ xs) zero x h = let e : y ≡ x = cc in ap (λ z. z ∷ xs) e
-drop_at_place (y ∷ xs) (suc k) x h = drop_at_place xs k x h ∙ ap (λ n. x ∷ drop n (y ∷ xs)) (next k)
-  where
-    next : (k : ℕ) → suc (k + 1) ≡ suc k + 1
-    next k = omega arith
-
-pub drop_past_end : {A : Type 0} (xs : List A) (k : ℕ) → slice_get xs k ≡ None → drop k xs ≡ []
-drop_past_end [] zero h = refl
-drop_past_end [] (suc k) h = refl
-drop_past_end (y ∷ xs) zero h = cc
-drop_past_end (y ∷ xs) (suc k) h = drop_past_end xs k h
+drop_at_place xs k x h = rw (add-one, drop-cons xs k x (slice_get_within xs k x h), get_or_from_slice_get xs k x x h) refl
 
 -- The copies of a transfer are operations that may be tried.
 
@@ -119,13 +101,10 @@ chunks_apart g low high c ok next =
 pub slot_small : (g : Geometry) (slot : Slot) → IsLayout g → size_of g slot ≤ 2 ^ 24
 slot_small g Primary ok = ok.size
 slot_small g Secondary ok =
-    let no_more : g.secondary * g.sector ≤ g.primary * g.sector = mul-le-mul_right g.sector (fewer ok.counts) in
+    let fewer : g.secondary ≤ g.primary = elim ok.counts [ inl same ↦ omega (arith, same) | inr more ↦ omega (arith, more) ] in
+    let no_more : g.secondary * g.sector ≤ g.primary * g.sector = mul-le-mul_right g.sector fewer in
     let small = ok.size in
     omega (arith, no_more, small)
-  where
-    fewer : (g.primary ≡ g.secondary) ⊎ (g.primary ≡ g.secondary + 1) → g.secondary ≤ g.primary
-    fewer (inl same) = omega (arith, same)
-    fewer (inr more) = omega (arith, more)
 
 -- both ends of a copied chunk
 pub can_copy : (g : Geometry) (t : Transfer) (c : ℕ) → IsLayout g → IsInside g t → c < g.sector / g.chunk → CanTry g (copy_of g t c)

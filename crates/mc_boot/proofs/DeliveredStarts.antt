@@ -1,5 +1,5 @@
 -- The starts of two images are flashes that a device can be delivered with.
-use Rattle.std.specs.Prelude.{◌≡◌, ℕ, zero, suc, ◌-◌, ◌≤◌, ◌&&◌, nat_lt, Bool, true, List, [], ◌∷◌, ◌++◌, length, replicate, take, slice_index, refl}
+use Rattle.std.specs.Prelude.{◌≡◌, ℕ, zero, suc, ◌-◌, ◌≤◌, nat_lt, true, List, [], ◌∷◌, ◌++◌, length, replicate, take, slice_index, refl}
 use Rattle.std.specs.List.{list_all}
 use Rattle.std.proofs.Common.{arith, sym, ap, ◌∙◌, inl, inr}
 use Rattle.std.proofs.lemmas.Bool.{cases_lt, ltb-true}
@@ -24,15 +24,13 @@ use Rattle.mc_trailer.specs.Trailer.{trailer_of, magic_bytes, place}
 use Rattle.mc_trailer.specs.declared.places.Field.TheVariants as field
 use Rattle.mc_trailer.specs.declared.trailer.Magic.TheVariants as magics
 use Rattle.mc_trailer.specs.declared.trailer.Trailer.{Trailer}
+use Rattle.mc_trailer.specs.facts.Tables.{and_parts}
 
 -- bytes, by a test of each
-both_parts : (a b : Bool) → (a && b) ≡ true → (a ≡ true) × (b ≡ true)
-both_parts a b is = grind (arith, is)
-
 small_each : (xs : List ℕ) → list_all (λ b. nat_lt b 256) xs ≡ true → IsBytes xs
 small_each [] all i = let none : slice_index [] i ≡ 0 = get_or_past [] i 0 (omega arith) in omega (arith, none)
-small_each (x ∷ xs) all zero = ltb-true x 256 (both_parts (nat_lt x 256) (list_all (λ b. nat_lt b 256) xs) all).0
-small_each (x ∷ xs) all (suc i) = small_each xs (both_parts (nat_lt x 256) (list_all (λ b. nat_lt b 256) xs) all).1 i
+small_each (x ∷ xs) all zero = ltb-true x 256 (and_parts (nat_lt x 256) (list_all (λ b. nat_lt b 256) xs) all).0
+small_each (x ∷ xs) all (suc i) = small_each xs (and_parts (nat_lt x 256) (list_all (λ b. nat_lt b 256) xs) all).1 i
 
 append_bytes : (xs ys : List ℕ) → IsBytes xs → IsBytes ys → IsBytes (xs ++ ys)
 append_bytes xs ys one two i = elim (cases_lt i (length xs)) [

@@ -10,7 +10,7 @@ use Rattle.mc_flash.specs.Flash.{is_blank, Content, byte, bytes_of}
 use Rattle.mc_flash.specs.facts.Changes.{Changed, range_blank}
 use Rattle.mc_flash.specs.declared.op.Slot.{Slot}
 use Rattle.mc_flash.specs.declared.op.Slot.TheVariants.{Primary, Secondary}
-use Rattle.mc_boot.proofs.Meets.{blank, erase_in, erases, Fit, fit_longer, same_bytes, same_content, which_slot, Sector}
+use Rattle.mc_boot.proofs.Meets.{blank, erase_in, erases, Fit, fit_longer, same_bytes, same_content, which_slot, Sector, all_weaker}
 
 index_replicate : (n i : ℕ) → i < n → slice_index (replicate n 255) i ≡ 255
 index_replicate n i lt = grind (arith, elements)
@@ -62,9 +62,7 @@ module _ (g : Geometry) where
               (after.inside k (omega (arith, wide, short)) ∙ index_replicate g.sector k short)
 
       by : (e.slot ≡ f.slot) ⊎ (e.slot ≢ f.slot) → byte (erase_in g s f) e.slot at ≡ 255
-      by (inl same) =
-          let P : Slot → Type 0 = λ o. byte s o at ≡ 255 → byte (erase_in g s f) o at ≡ 255 in
-          subst P (sym same) here (is i lt)
+      by (inl same) = rw same (here (rw same at (is i lt)))
       by (inr no_) = after.other e.slot at no_ ∙ is i lt
 
   noop : (s : Content) (e : Sector) → Ends s e → IsErased s e → erase_in g s e ≡ s
@@ -89,8 +87,7 @@ module _ (g : Geometry) where
       ]
 
       by : (o : Slot) (i : ℕ) → (o ≡ e.slot) ⊎ (o ≢ e.slot) → byte (erase_in g s e) o i ≡ byte s o i
-      by o i (inl same) =
-          let P : Slot → Type 0 = λ x. byte (erase_in g s e) x i ≡ byte s x i in subst P (sym same) (here i)
+      by o i (inl same) = rw same (here i)
       by o i (inr no_) = after.other o i no_
 
       each : (o : Slot) → bytes_of (erase_in g s e) o ≡ bytes_of s o
@@ -107,8 +104,7 @@ module _ (g : Geometry) where
       ap (blank g es) (noop s e fits.0 are.0) ∙ blank_noop es s fits.1 are.1
 
   all_stay : (xs : List Sector) (s : Content) (f : Sector) → Ends s f → AreErased xs s → AreErased xs (erase_in g s f)
-  all_stay [] s f ends are = tt
-  all_stay (x ∷ xs) s f ends are = (stays s x f ends are.0, all_stay xs s f ends are.1)
+  all_stay xs s f ends are = all_weaker _ _ (λ x is. stays s x f ends is) xs are
 
   -- Sectors that are erased stay so.
   pub blank_stays : (xs es : List Sector) (s : Content) → Fit g es s → AreErased xs s → AreErased xs (blank g es s)

@@ -1,22 +1,22 @@
 -- From rest to rest: what a confirmation leaves, reverts, and what cuts and a boot leave of a flash at rest, which rests again.
 use Rattle.std.proofs.Common.{add-zero, ap, arith, inl, inr, subst, sym, ◌∙◌}
-use Rattle.std.proofs.Math.Nat.{mul-le-mul_right, zero-mul}
+use Rattle.std.proofs.Math.Nat.{mul-le-mul_right}
 use Rattle.std.proofs.lemmas.Bool.{cases_lt}
 use Rattle.std.proofs.lemmas.Grind.{div_ceil_times}
 use Rattle.std.proofs.lemmas.List.Edits.{get_or-between}
 use Rattle.std.specs.List.{range_with_len}
 use Rattle.std.specs.Prelude.{Bool, List, Option, Some, [], false, if◌then◌else◌, length, map, refl, replicate, slice_index, suc, true, zero, ℕ, ◌&&◌, ◌*◌, ◌++◌, ◌+◌, ◌-◌, ◌<◌, ◌∷◌, ◌≡◌, ◌≢◌, ◌≤◌, ◌⊎◌}
 use Rattle.mc_boot.proofs.AtRest.{AtRest, Idles, Wants, rests_or_wants}
-use Rattle.mc_boot.proofs.Courses.{slot_small, some_trailer}
-use Rattle.mc_boot.proofs.Images.{ImageLaws, SameImage, has_same, some_size}
-use Rattle.mc_boot.proofs.InPieces.{Steps, cycle, exchanged_pieces, keeps_more, pieces_again, plan_in_pieces, primary_pieces, primary_whole, secondary_pieces, secondary_whole, sized_whole, steps_by, swap_pieces}
-use Rattle.mc_boot.proofs.Keeps.{Erased, Keeps, erase_inside, erased_here}
+use Rattle.mc_boot.proofs.Courses.{some_trailer}
+use Rattle.mc_boot.proofs.Images.{ImageLaws, SameImage, has_same}
+use Rattle.mc_boot.proofs.InPieces.{Steps, cycle, exchanged_pieces, keeps_more, pieces_again, plan_in_pieces, sized_whole, steps_by, swap_pieces, fields_pieces, fields_whole}
+use Rattle.mc_boot.proofs.Keeps.{Erased, Keeps, erase_inside}
 use Rattle.mc_boot.proofs.Meets.{same_bytes, same_content as equal_content, which_slot}
 use Rattle.mc_boot.proofs.Moving.{data_begin}
-use Rattle.mc_boot.proofs.Phases.{Ended, IsSwapOf, Phase, MagicUnset, Swap, Waiting, asked, asked_from, asks, larger_size, new_is, not_when_done, plan_tested, magic_unset_reverts, set_is, starting, swap_of, tested, tested_from, unasked}
-use Rattle.mc_boot.proofs.Starts.{count_of}
-use Rattle.mc_boot.proofs.SwapEnds.{Crossed, Nothing, asked_boots, asked_swaps, crossed, exchanges, prefix_at_start, prefix_inside, image_there, running_swaps, sees_start, settled_end, settled_on, tested_end, tested_fields, tested_on}
-use Rattle.mc_boot.proofs.SwapsKeep.{data_erased, magic_unset_blank, revert_keeps}
+use Rattle.mc_boot.proofs.Phases.{Ended, Phase, MagicUnset, Swap, Waiting, asked, asked_from, asks, larger_size, new_is, not_when_done, plan_tested, magic_unset_reverts, set_is, starting, swap_of, tested, tested_from, unasked, no_panic}
+use Rattle.mc_boot.proofs.Starts.{count_of, swap_between}
+use Rattle.mc_boot.proofs.SwapEnds.{Crossed, Nothing, asked_boots, asked_swaps, crossed, exchanges, prefix_at_start, image_there, running_swaps, sees_start, settled_end, settled_on, tested_end, tested_fields, tested_on, Swaps}
+use Rattle.mc_boot.proofs.SwapsKeep.{data_erased, magic_unset_blank, revert_keeps, magic_erased}
 use Rattle.mc_boot.specs.Life.{DeviceState, EndsWell, Forgets, Leaves, LeavesBytes, booted, booted_by, device_state, is_at_rest, is_on_trial}
 use Rattle.mc_boot.specs.Outcome.{after}
 use Rattle.mc_boot.specs.Plan.{Plan, PowerOn, new_list, nothing, plan, power_on, trailer_erase}
@@ -29,7 +29,7 @@ use Rattle.mc_flash.specs.declared.op.Op.TheVariants.{Erase}
 use Rattle.mc_flash.specs.declared.op.Slot.{Slot}
 use Rattle.mc_flash.specs.declared.op.Slot.TheVariants.{Primary, Secondary}
 use Rattle.mc_flash.specs.facts.Changes.{Changed, blank_range, erase_changes, same_content, sized_is}
-use Rattle.mc_flash.specs.facts.Layouts.{small_unit, trailer_leaves_one}
+use Rattle.mc_flash.specs.facts.Layouts.{small_unit}
 use Rattle.mc_image.specs.Valid.{Identity, id_of, is_valid}
 use Rattle.mc_trailer.specs.Tables.{asks_perm, asks_revert, asks_test, is_good, is_set, is_unset, reverts_at}
 use Rattle.mc_trailer.specs.Trailer.{bytes_at, one_unit, place, trailer_of}
@@ -40,8 +40,8 @@ use Rattle.mc_trailer.specs.declared.trailer.Flag.{Flag}
 use Rattle.mc_trailer.specs.declared.trailer.Magic.{Magic}
 use Rattle.mc_trailer.specs.declared.trailer.Trailer.{Trailer}
 use Rattle.mc_trailer.specs.facts.Fields.{FieldIs, FieldsAre, blank_byte, blank_field, field_as, fields_same, reads_absent, reads_copy_done, reads_good, reads_image_ok, reads_not_good}
-use Rattle.mc_trailer.specs.facts.Places.{field_ends, place_inside}
-use Rattle.mc_trailer.specs.facts.Tables.{types_are_rows}
+use Rattle.mc_trailer.specs.facts.Places.{field_ends}
+use Rattle.mc_trailer.specs.facts.Tables.{types_are_rows, and_parts}
 use Rattle.mc_trailer.specs.declared.places.Field.TheVariants as field
 use Rattle.mc_trailer.specs.declared.trailer.Flag.TheVariants as flags
 use Rattle.mc_flash.specs.declared.flash.Grain.TheVariants as grains
@@ -85,9 +85,7 @@ marked [] one = absurd (omega (arith, one))
 marked (x ∷ xs) one = rw one refl
 
 never : (magic done : Bool) → (magic && done && false) ≡ false
-never true true = refl
-never true false = refl
-never false done = refl
+never magic done = grind arith
 
 pub settled_stays : (x : PowerOn) → IsLayout x.geometry → IsSettled x → confirmed x.geometry x.content ≡ x.content
 unfolding confirmed trailer_of
@@ -148,8 +146,7 @@ from_first : (g : Geometry) (P Q : Content → Type 0) (f : ℕ → Op) (m : ℕ
 from_first g P Q f zero rest s t some begin makes still keeps = absurd (omega (arith, some))
 from_first g P Q f (suc m) rest s t some begin makes still keeps =
     let same : keeps.1.0 ≡ t = same_content keeps.1.0 t (sym keeps.1.1 ∙ still) in
-    let E : Content → Type 0 = λ x. Keeps g P (map f (range_with_len (0 + 1) m) ++ rest) x Q in
-    (begin, (t, makes, subst E same keeps.1.2))
+    (begin, (t, makes, rw same at keeps.1.2))
 
 -- a magic that is quiet is not good
 magic_unset_not_good : (c : Grain) (g : Geometry) (t : Content) → IsLayout g → IsSized g t → MagicUnset c g t → is_good (trailer_of g t Secondary).magic ≡ false
@@ -228,21 +225,9 @@ module _ (r : Rules) (g : Geometry) (s : Content) (size n : ℕ) (whole : in_pie
     taken : (t : Content) → Erased g Secondary 0 s t → Waiting r.grain g s n t
     taken t ch = record {
       primary = fields_same g s t Primary tested w.ok (λ p h. ch.other Primary p (λ e. cc)) tested_is;
-      magic_unset = magic_unset_blank r.grain g t (blank_field g t Secondary field.Magic (λ i h. erased_here g Secondary 0 s t (place g Secondary field.Magic + i) ch (last.0 i) (last.1 i h)));
+      magic_unset = magic_unset_blank r.grain g t (blank_field g t Secondary field.Magic (λ i h. magic_erased g 0 s t i w.ok refl ch h));
       data_ = data_erased g Secondary n s 0 0 s t (some_trailer g w.ok) ch (data_begin g n s w.sized);
     }
-      where
-        last : ((p : ℕ) → (sectors_of g Secondary - 1 - 0) * g.sector ≤ place g Secondary field.Magic + p)
-            × ((p : ℕ) → p < 16 → place g Secondary field.Magic + p < (sectors_of g Secondary - 1 - 0) * g.sector + g.sector)
-        last = at (sectors_of g Secondary - 1 - 0) (let leaves = trailer_leaves_one g Secondary w.ok in omega arith)
-          where
-            at : (k : ℕ) → sectors_of g Secondary ≡ k + 1
-                → ((p : ℕ) → k * g.sector ≤ place g Secondary field.Magic + p) × ((p : ℕ) → p < 16 → place g Secondary field.Magic + p < k * g.sector + g.sector)
-            at k e =
-                let rows : sectors_of g Secondary * g.sector ≡ (k + 1) * g.sector = ap (λ n. n * g.sector) e in
-                let inside = place_inside g Secondary field.Magic w.ok in
-                let wide = w.ok.least_sector in
-                (λ p. omega (arith, rows, inside, wide), λ p h. omega (arith, rows, inside, h))
 
     start_keeps : Keeps g Reverts (new_list r.grain g kinds.Revert size n) s (MadeOrLost s)
     start_keeps =
@@ -259,24 +244,18 @@ module _ (r : Rules) (g : Geometry) (s : Content) (size n : ℕ) (whole : in_pie
     start_steps : Steps (power_on r g s) Reverts (MadeOrLost s)
     start_steps = steps_by (power_on r g s) Reverts (MadeOrLost s) (starting r.grain g kinds.Revert size n) planned (λ e. cc) (listed s start_keeps)
 
-    no_panic : (e : Bool) (kind : _) → IsSwapOf e kind → kind ≢ kinds.Panic
-    no_panic e kind of same = let E : _ → Type 0 = λ k. IsSwapOf e k in subst E same of
+    -- by what a boot from a phase does
+    swap_steps : (t : Content) → Swaps Waits (power_on r g s) size n false t → Steps (power_on r g t) Reverts (MadeOrLost t)
+    swap_steps t swaps = record {
+      keeps = keeps_more g Reverts Reverts (Ended g s size n false) (MadeOrLost t) (plan (power_on r g t)).list t (λ x k. k) (made t) swaps.keeps;
+      not_panic = λ panic. no_panic false swaps.planned.kind swaps.planned.of (sym swaps.planned.is ∙ panic);
+    }
 
     pub revert_steps : (t : Content) → Reverts t → Steps (power_on r g t) Reverts (MadeOrLost t)
     revert_steps t (inl (inl is)) = waiting_steps t is
     revert_steps t (inl (inr is)) = rw is start_steps
-    revert_steps t (inr (inl is)) =
-        let swaps = asked_swaps Waits (power_on r g s) size n false whole w t is in
-        record {
-          keeps = keeps_more g Reverts Reverts (Ended g s size n false) (MadeOrLost t) (plan (power_on r g t)).list t (λ x k. k) (made t) swaps.keeps;
-          not_panic = λ panic. no_panic false swaps.planned.kind swaps.planned.of (sym swaps.planned.is ∙ panic);
-        }
-    revert_steps t (inr (inr is)) =
-        let swaps = running_swaps Waits (power_on r g s) size n false is.0 is.1 whole w is.2 is.3 t is.4 in
-        record {
-          keeps = keeps_more g Reverts Reverts (Ended g s size n false) (MadeOrLost t) (plan (power_on r g t)).list t (λ x k. k) (made t) swaps.keeps;
-          not_panic = λ panic. no_panic false swaps.planned.kind swaps.planned.of (sym swaps.planned.is ∙ panic);
-        }
+    revert_steps t (inr (inl is)) = swap_steps t (asked_swaps Waits (power_on r g s) size n false whole w t is)
+    revert_steps t (inr (inr is)) = swap_steps t (running_swaps Waits (power_on r g s) size n false is.0 is.1 whole w is.2 is.3 t is.4)
 
 -- What power-on after power-on leaves of a device at rest, however often the boots are cut.
 
@@ -306,46 +285,22 @@ no_trial p set = rw set (grind arith)
 
 good_of : (m : Magic) → is_good m ≡ true → m ≡ magics.Good
 good_of magics.Good is = refl
-good_of magics.Unset is = absurd cc
-good_of magics.Bad is = absurd cc
+good_of m is = absurd cc
 
 pub set_of : (f : Flag) → is_set f ≡ true → f ≡ flags.Set
 set_of flags.Set is = refl
-set_of flags.Unset is = absurd cc
-set_of flags.Bad is = absurd cc
+set_of f is = absurd cc
 
 unset_of : (f : Flag) → is_unset f ≡ true → f ≡ flags.Unset
 unset_of flags.Unset is = refl
-unset_of flags.Set is = absurd cc
-unset_of flags.Bad is = absurd cc
+unset_of f is = absurd cc
 
 -- ---- a swap that is wanted
 
 module _ (laws : ImageLaws) (g : Geometry) (ok : IsLayout g) (s : Content) (rest : AtRest g s) where
   -- the swap of the images that a flash at rest holds
   pub swap_at : is_valid s.secondary ≡ true → count_of g s ≤ greatest_sectors g → Swap g s (larger_size s) (count_of g s)
-  swap_at valid at_most = record {
-    laws = laws;
-    ok = ok;
-    sized = rest.sized;
-    primary = rest.primary;
-    secondary = rest.secondary valid;
-    larger = refl;
-    count = refl;
-    some = at_least (count_of g s) rows;
-    at_most = at_most;
-    small = let small = slot_small g Primary ok in omega (arith, rows, prefix_inside g (count_of g s) Primary ok at_most, small);
-  }
-    where
-      rows : larger_size s ≤ count_of g s * g.sector
-      rows = let wide = ok.least_sector in (div_ceil_times (larger_size s) g.sector (omega (arith, wide))).0
-
-      some_byte : 0 < larger_size s
-      some_byte = omega (arith, some_size s.secondary valid)
-
-      at_least : (n : ℕ) → larger_size s ≤ n * g.sector → 0 < n
-      at_least zero h = let none : zero * g.sector ≡ 0 = zero-mul g.sector in absurd (omega (arith, h, none, some_byte))
-      at_least (suc n) h = omega arith
+  swap_at valid at_most = swap_between g s laws ok rest.sized rest.primary (rest.secondary valid) at_most
 
   -- an image of it is in front of the trailers
   in_prefix : is_valid s.secondary ≡ true → count_of g s ≤ greatest_sectors g → larger_size s ≤ greatest_sectors g * g.sector
@@ -400,13 +355,7 @@ module _ (laws : ImageLaws) (r : Rules) (g : Geometry) (ok : IsLayout g) (s : Co
       (end.0, end.1, idle_rests i u end.0 end.2)
     where
       not_panic : i.kind ≢ kinds.Panic
-      not_panic panic = elim i.either [ inl e ↦ clash kinds.None (sym e ∙ panic) | inr e ↦ clash_fail (sym e ∙ panic) ]
-        where
-          clash : (k : SwapType) → kinds.None ≡ kinds.Panic → ⊥
-          clash k e = cc
-
-          clash_fail : kinds.Fail ≡ kinds.Panic → ⊥
-          clash_fail e = cc
+      not_panic panic = elim i.either [ inl e ↦ cc | inr e ↦ cc ]
 
       steps : (t : Content) → t ≡ s → Steps (power_on r G t) (λ t. t ≡ s) (λ t. t ≡ s)
       steps t same = rw same (steps_by (power_on r G s) (λ t. t ≡ s) (λ t. t ≡ s) (nothing i.kind) (plan_in_pieces r g s ∙ i.planned) not_panic refl)
@@ -439,7 +388,7 @@ module _ (laws : ImageLaws) (r : Rules) (g : Geometry) (ok : IsLayout g) (s : Co
       moved = exchanged_pieces r.grain g (count_of g s) s z (exchanges G s (larger_size s) (count_of g s) z in_parts e.2.data_)
 
       absent : (trailer_of g z Secondary).magic ≡ magics.Unset
-      absent = reads_absent g z Secondary ok sized (secondary_whole r.grain g z unasked e.2.secondary field.Magic)
+      absent = reads_absent g z Secondary ok sized (fields_whole r.grain g z Secondary unasked e.2.secondary field.Magic)
 
       made_rests : (u : Content) (k : SwapType) (trial : Bool) → (AreExchanged g (count_of g s) s z → LeavesBytes r g kind (count_of g s) s z)
           → booted_by kind (device_state r g s) ≡ named (id_of s.secondary) trial (id_of s.primary) k
@@ -463,32 +412,26 @@ module _ (laws : ImageLaws) (r : Rules) (g : Geometry) (ok : IsLayout g) (s : Co
       Bears : Content → Type 0
       Bears t = Phase Nothing G s (larger_size s) (count_of g s) b t
 
-      no_panic : (kind : SwapType) → IsSwapOf b kind → kind ≢ kinds.Panic
-      no_panic kind of same = let E : SwapType → Type 0 = λ k. IsSwapOf b k in subst E same of
-
       steps : (t : Content) → Bears t → Steps (power_on r G t) Bears (Ended G s (larger_size s) (count_of g s) b)
       steps t at =
           let swaps = asked_boots r g s (larger_size s) (count_of g s) b (whole_swap kind wants) t at in
-          record { keeps = swaps.keeps; not_panic = λ panic. no_panic swaps.planned.kind swaps.planned.of (sym swaps.planned.is ∙ panic) }
+          record { keeps = swaps.keeps; not_panic = λ panic. no_panic b swaps.planned.kind swaps.planned.of (sym swaps.planned.is ∙ panic) }
 
       valid : (z : Content) → Ended G s (larger_size s) (count_of g s) b z → is_valid z.primary ≡ true
       valid z e = (held kind wants b z e).primary.valid
 
       begin : Bears s
       begin = asks Nothing G s (larger_size s) (count_of g s) b s (record {
-        secondary = secondary_pieces r.grain g s (asked b) are;
+        secondary = fields_pieces r.grain g s Secondary (asked b) are;
         data_ = data_begin G (count_of g s) s (in_parts kind wants).sized;
       })
-
-  two_hold : (a b : Bool) → (a && b) ≡ true → (a ≡ true) × (b ≡ true)
-  two_hold a b is = grind (arith, is)
 
   -- a test
   test_law : Wants (power_on r g s) kinds.Test → (u : Content) (cuts : List ℕ) → after (power_on r g s) cuts ≡ Some u → (z : Content) × EndsWell (power_on r g u) z × RestsAgain r g s u z
   test_law wants u cuts is =
       let p = trailer_of g s Primary in
       let q = trailer_of g s Secondary in
-      let asks = two_hold (is_good q.magic) (is_unset q.image_ok) ((types_are_rows r.profile p q kinds.Test).0 wants.table) in
+      let asks = and_parts (is_good q.magic) (is_unset q.image_ok) ((types_are_rows r.profile p q kinds.Test).0 wants.table) in
       let are = asked_from g s true (good_of q.magic asks.0) (unset_of q.image_ok asks.1) in
       let end = asked_cycle true kinds.Test wants are u cuts is in
       (end.0, end.1, rests end.0 end.2)
@@ -497,7 +440,7 @@ module _ (laws : ImageLaws) (r : Rules) (g : Geometry) (ok : IsLayout g) (s : Co
       rests z e =
           let size = larger_size s in
           let n = count_of g s in
-          let first = primary_whole r.grain g z tested (tested_fields G s size n z e) in
+          let first = fields_whole r.grain g z Primary tested (tested_fields G s size n z e) in
           let here = sized kinds.Test wants true z e in
           let good = reads_good g z Primary ok here (first field.Magic) in
           let unset = reads_image_ok g z Primary 255 [] (first field.ImageOk) in
@@ -519,7 +462,7 @@ module _ (laws : ImageLaws) (r : Rules) (g : Geometry) (ok : IsLayout g) (s : Co
   perm_law wants u cuts is =
       let p = trailer_of g s Primary in
       let q = trailer_of g s Secondary in
-      let asks = two_hold (is_good q.magic) (is_set q.image_ok) ((types_are_rows r.profile p q kinds.Perm).0 wants.table) in
+      let asks = and_parts (is_good q.magic) (is_set q.image_ok) ((types_are_rows r.profile p q kinds.Perm).0 wants.table) in
       let are = asked_from g s false (good_of q.magic asks.0) (set_of q.image_ok asks.1) in
       let end = asked_cycle false kinds.Perm wants are u cuts is in
       (end.0, end.1, stays_rests kinds.Perm wants (λ z m n. (m, n)) refl u end.0 end.2)
@@ -554,7 +497,7 @@ module _ (laws : ImageLaws) (r : Rules) (g : Geometry) (ok : IsLayout g) (s : Co
         let one = waits_primary u l.waiting in
         let two = waits_secondary u l.waiting in
         let planned : plan (power_on r g u) ≡ nothing kinds.None = sym (plan_in_pieces r g u) ∙ l.planned in
-        let first = primary_whole r.grain g u tested l.waiting.primary in
+        let first = fields_whole r.grain g u Primary tested l.waiting.primary in
         let here = sized_whole r.grain g u l.waiting.data_.sized in
         let good = reads_good g u Primary ok here (first field.Magic) in
         let unset = reads_image_ok g u Primary 255 [] (first field.ImageOk) in
@@ -584,7 +527,7 @@ module _ (laws : ImageLaws) (r : Rules) (g : Geometry) (ok : IsLayout g) (s : Co
         plan_in_pieces r g s ∙ wants.planned
         ∙ ap (λ (x : Geometry). record { kind = kinds.Revert; sectors = count_of g s; list = new_list r.grain x kinds.Revert (larger_size s) (count_of g s) }) (sym (pieces_again r.grain g)) in
         let end = cycle r g Bearing Ending
-        (λ t at. revert_steps r G s (larger_size s) (count_of g s) (pieces_again r.grain g) pieces (primary_pieces r.grain g s tested are) planned t at)
+        (λ t at. revert_steps r G s (larger_size s) (count_of g s) (pieces_again r.grain g) pieces (fields_pieces r.grain g s Primary tested are) planned t at)
         valid cuts s u (inl (inr refl)) is in
         (end.0, end.1, rests end.0 (on_trial p good unset set) end.2)
       where

@@ -145,11 +145,7 @@ id_refused b e some = rw some refl
 -- valid bytes are those that have an identity
 pub valid_id : (b : List ℕ) → is_some (id_of b) ≡ is_valid b
 unfolding id_of
-valid_id b = at (is_valid b)
-  where
-    at : (t : Bool) → is_some (if t then Some (identity (image_in b)) else None) ≡ t
-    at true = refl
-    at false = refl
+valid_id b = grind arith
 
 mapped : (o : Option ImageId) → is_some (option_map identity_of o) ≡ is_some o
 mapped None = refl

@@ -12,7 +12,7 @@ use Rattle.mc_flash.specs.Flash.{Content, IsSized, apply}
 use Rattle.mc_flash.specs.Geometry.{Geometry, in_pieces}
 use Rattle.mc_flash.specs.declared.flash.Grain.{Grain}
 use Rattle.mc_flash.specs.declared.op.Op.{Op}
-use Rattle.mc_flash.specs.declared.op.Op.TheVariants.{Copy, Erase, Program}
+use Rattle.mc_flash.specs.declared.op.Op.TheVariants.{Erase}
 use Rattle.mc_flash.specs.declared.op.Slot.TheVariants.{Primary, Secondary}
 use Rattle.mc_flash.specs.facts.Pieces.{pieces_layout}
 use Rattle.mc_image.specs.Valid.{is_valid}
@@ -21,6 +21,7 @@ use Rattle.mc_trailer.specs.declared.places.Field.{Field}
 use Rattle.mc_trailer.specs.declared.tables.Profile.{Profile}
 use Rattle.mc_trailer.specs.declared.tables.Rules.{Rules}
 use Rattle.mc_trailer.specs.facts.Fields.{FieldsAre}
+use Rattle.mc_flash.specs.declared.op.Slot.{Slot}
 use Rattle.mc_flash.specs.declared.flash.Grain.TheVariants as grains
 use Rattle.mc_trailer.specs.declared.tables.SwapType.TheVariants as kinds
 
@@ -43,8 +44,7 @@ apply_pieces : (c : Grain) (g : Geometry) (op : Op) (s : Content) → apply (in_
 unfolding apply
 apply_pieces grains.Call g op s = refl
 apply_pieces grains.Unit g (Erase slot sector) s = refl
-apply_pieces grains.Unit g (Program slot at bytes) s = refl
-apply_pieces grains.Unit g (Copy from at to offset len) s = refl
+apply_pieces grains.Unit g op s = refl
 
 pub keeps_pieces : (c : Grain) (g : Geometry) (P Q : Content → Type 0) (ops : List Op) (s : Content) → Keeps (in_pieces c g) P ops s Q → Keeps g P ops s Q
 keeps_pieces c g P Q [] s k = k
@@ -79,29 +79,23 @@ swap_pieces grains.Unit g start size n w = record {
 }
 
 -- the fields at the start
-pub secondary_pieces : (c : Grain) (g : Geometry) (s : Content) (v : Field → List ℕ) → FieldsAre g s Secondary v → FieldsAre (in_pieces c g) s Secondary v
-secondary_pieces grains.Call g s v are = are
-secondary_pieces grains.Unit g s v are = λ f i short within. are f i short within
-
-pub primary_pieces : (c : Grain) (g : Geometry) (s : Content) (v : Field → List ℕ) → FieldsAre g s Primary v → FieldsAre (in_pieces c g) s Primary v
-primary_pieces grains.Call g s v are = are
-primary_pieces grains.Unit g s v are = λ f i short within. are f i short within
+pub fields_pieces : (c : Grain) (g : Geometry) (s : Content) (slot : Slot) (v : Field → List ℕ) → FieldsAre g s slot v → FieldsAre (in_pieces c g) s slot v
+fields_pieces grains.Call g s slot v are = are
+fields_pieces grains.Unit g s Primary v are = λ f i short within. are f i short within
+fields_pieces grains.Unit g s Secondary v are = λ f i short within. are f i short within
 
 -- and back
 pub sized_whole : (c : Grain) (g : Geometry) (s : Content) → IsSized (in_pieces c g) s → IsSized g s
 sized_whole grains.Call g s sized = sized
 sized_whole grains.Unit g s sized = record { primary = sized.primary; secondary = sized.secondary }
 
-pub secondary_whole : (c : Grain) (g : Geometry) (s : Content) (v : Field → List ℕ) → FieldsAre (in_pieces c g) s Secondary v → FieldsAre g s Secondary v
-secondary_whole grains.Call g s v are = are
-secondary_whole grains.Unit g s v are = λ f i short within. are f i short within
-
-pub primary_whole : (c : Grain) (g : Geometry) (s : Content) (v : Field → List ℕ) → FieldsAre (in_pieces c g) s Primary v → FieldsAre g s Primary v
-primary_whole grains.Call g s v are = are
-primary_whole grains.Unit g s v are = λ f i short within. are f i short within
+pub fields_whole : (c : Grain) (g : Geometry) (s : Content) (slot : Slot) (v : Field → List ℕ) → FieldsAre (in_pieces c g) s slot v → FieldsAre g s slot v
+fields_whole grains.Call g s slot v are = are
+fields_whole grains.Unit g s Primary v are = λ f i short within. are f i short within
+fields_whole grains.Unit g s Secondary v are = λ f i short within. are f i short within
 
 pub asked_pieces : (c : Grain) (g : Geometry) (start : Content) (n : ℕ) (b : Bool) → IsSized g start → FieldsAre g start Secondary (asked b) → Asked (in_pieces c g) start n b start
-asked_pieces c g start n b sized are = record { secondary = secondary_pieces c g start (asked b) are; data_ = data_begin (in_pieces c g) n start (sized_pieces c g start sized) }
+asked_pieces c g start n b sized are = record { secondary = fields_pieces c g start Secondary (asked b) are; data_ = data_begin (in_pieces c g) n start (sized_pieces c g start sized) }
 
 -- Power-on after power-on: what holds before each operation, whatever the boots are, and what the last leaves.
 

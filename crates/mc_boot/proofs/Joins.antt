@@ -6,7 +6,7 @@ use Rattle.std.proofs.lemmas.List.{length-drop, length-take, length-take-le}
 use Rattle.std.specs.Bool.{beq}
 use Rattle.std.specs.Int.{div_ceil}
 use Rattle.std.specs.List.{AllByRecursion}
-use Rattle.std.specs.Prelude.{Bool, List, None, Option, Some, [], drop, false, if◌then◌else◌, length, map, nat_le, nat_lt, not, option_and_then, option_map, refl, suc, take, true, zero, ℕ, ◌++◌, ◌+◌, ◌-◌, ◌<◌, ◌==◌, ◌||◌, ◌∷◌, ◌≡◌, ◌≤◌}
+use Rattle.std.specs.Prelude.{Bool, List, None, Option, Some, [], drop, false, if◌then◌else◌, length, map, nat_le, nat_lt, not, option_and_then, option_map, refl, suc, take, true, ℕ, ◌++◌, ◌+◌, ◌-◌, ◌<◌, ◌==◌, ◌||◌, ◌∷◌, ◌≡◌, ◌≤◌}
 use Rattle.mc_boot.proofs.Meets.{AreThere, Fit, Sector, WritesIn, blank, erase_in, erase_of, fit_longer, fit_there, op_blanked, op_longer}
 use Rattle.mc_boot.specs.Outcome.{Report, applied, at, first_then, happening, is_faulted, is_panic, left_by, ops_of, outcome_of, report, result_of}
 use Rattle.mc_boot.specs.Plan.{Plan, PowerOn, again, first_left, images_of, new_list, new_plan, new_swap, nothing, plan, plan_with, power_on, resumed_from, resumed_plan, resumed_swap}
@@ -32,9 +32,8 @@ use Rattle.mc_trailer.specs.declared.tables.SwapType.TheVariants as kinds
 
 pub are_same : (a b : Bool) → beq a b ≡ true → a ≡ b
 are_same true true is = refl
-are_same true false is = absurd cc
-are_same false true is = absurd cc
 are_same false false is = refl
+are_same a b is = absurd cc
 
 pub are_equal : (m n : ℕ) → (m == n) ≡ true → m ≡ n
 are_equal m n is = grind (arith, nat_tests)
@@ -91,10 +90,9 @@ first_prefix g op ops c beyond (Some t) below = ap (λ (xs : List Op). op ∷ xs
 
 -- What happens of a list is a prefix of it.
 happens_prefix : (g : Geometry) (ops : List Op) (c : ℕ) (s : Content) → c ≤ length (happening g ops s) → take c (happening g ops s) ≡ take c ops
-happens_prefix g [] zero s below = refl
-happens_prefix g [] (suc c) s below = refl
-happens_prefix g (op ∷ ops) zero s below = refl
 happens_prefix g (op ∷ ops) (suc c) s below = first_prefix g op ops c (λ t b. happens_prefix g ops c t b) (apply g op s) below
+happens_prefix g [] (suc c) s below = refl
+happens_prefix g ops c s below = refl
 
 pub happens_few : (g : Geometry) (ops : List Op) (s : Content) → length (happening g ops s) ≤ length ops
 happens_few g ops s =
@@ -188,12 +186,10 @@ new_swap_not_panic c g images kind not_panic =
     (idle_not_panic kinds.Fail) (λ _. not_panic)
 
 new_plan_not_panic : (c : Grain) (g : Geometry) (images : Images) (kind : SwapType) → IsNoPanic (new_plan c g images kind)
-new_plan_not_panic c g images kinds.None = idle_not_panic kinds.None
 new_plan_not_panic c g images kinds.Test = new_swap_not_panic c g images kinds.Test refl
 new_plan_not_panic c g images kinds.Perm = new_swap_not_panic c g images kinds.Perm refl
 new_plan_not_panic c g images kinds.Revert = new_swap_not_panic c g images kinds.Revert refl
-new_plan_not_panic c g images kinds.Fail = idle_not_panic kinds.Fail
-new_plan_not_panic c g images kinds.Panic = idle_not_panic kinds.Panic
+new_plan_not_panic c g images kind = idle_not_panic kind
 
 resumed_from_not_panic : (c : Grain) (g : Geometry) (image_ok : Flag) (highest : Option ℕ) (kind : SwapType) (n : ℕ) (first : Option ℕ) → is_panic kind ≡ false
     → IsNoPanic (resumed_from c g image_ok highest kind n first)
@@ -299,10 +295,7 @@ module _ (r : Rules) (g : Geometry) (k l : SwapType) (n m j : ℕ) (one : is_pan
   reported_less : (f h : Bool) (a b : Option Content) (z : Content) → f ≡ h → a ≡ b → b ≡ Some z
       → option_map (λ x. report r g k n f x) a ≡ option_map (less k j) (option_map (λ x. report r g l m h x) b)
   reported_less f h a b z faults same left =
-      ap (option_map (λ x. report r g k n f x)) (same ∙ left)
-      ∙ ap (λ (x : Bool). Some (report r g k n x z)) faults
-      ∙ ap (λ (o : Report). Some o) (less_report h z)
-      ∙ ap (λ (x : Option Content). option_map (less k j) (option_map (λ y. report r g l m h y) x)) (sym left)
+      rw (same, left, faults) (ap (λ (o : Report). Some o) (less_report h z))
 
 -- After a cut that joins, the next boot ends as the one that was cut would have.
 pub joined : (x : PowerOn) (u : Content) (c j : ℕ) (es : List Sector) → Joins x u c j es → IsJoined x u j

@@ -1,13 +1,12 @@
 -- What operations keep: a phase, operation by operation, through erases, writes in pieces and boots that are not cut.
-use Rattle.std.proofs.Common.{ap, arith, inl, inr, subst, sym, ◌∙◌}
+use Rattle.std.proofs.Common.{ap, arith, inl, inr, subst, sym, ◌∙◌, zero-add}
 use Rattle.std.proofs.Math.Nat.{mod-add-div', mul-le-mul_right, zero-mul}
 use Rattle.std.proofs.lemmas.Bool.{cases_lt}
 use Rattle.std.proofs.lemmas.Bool.Decides.{nat_tests}
 use Rattle.std.proofs.lemmas.List.{get_or-replicate, get_or-take, length-replicate, length-take-le}
 use Rattle.std.proofs.lemmas.List.Edits.{get_or-between, length-between}
 use Rattle.std.specs.List.{between, range_with_len}
-use Rattle.std.specs.Prelude.{Bool, List, None, Option, Some, [], false, if◌then◌else◌, length, map, nat_lt, option_and_then, option_map, refl, replicate, slice_index, suc, take, true, zero, ℕ, ◌%◌, ◌*◌, ◌++◌, ◌+◌, ◌-◌, ◌/◌, ◌<◌, ◌∷◌, ◌≡◌, ◌≢◌, ◌≤◌}
-use Rattle.mc_boot.proofs.Transfers.{take_whole}
+use Rattle.std.specs.Prelude.{Bool, List, None, Some, [], false, if◌then◌else◌, length, map, nat_lt, option_and_then, option_map, refl, replicate, slice_index, suc, take, true, zero, ℕ, ◌%◌, ◌*◌, ◌++◌, ◌+◌, ◌-◌, ◌/◌, ◌<◌, ◌∷◌, ◌≡◌, ◌≢◌, ◌≤◌}
 use Rattle.mc_boot.specs.Outcome.{after, applied, at, first_then, happening, is_faulted, left_by, ops_of, outcome_of, report, result_of}
 use Rattle.mc_boot.specs.Plan.{PowerOn, piece, plan, power_on, trailer_erase, trailer_erases, write}
 use Rattle.mc_boot.specs.declared.outcome.BootResult.{BootResult}
@@ -27,6 +26,7 @@ use Rattle.mc_trailer.specs.declared.tables.SwapType.{SwapType}
 use Rattle.mc_trailer.specs.facts.Fields.{FieldIs, blank_byte, field_write}
 use Rattle.mc_trailer.specs.facts.Places.{field_beyond_data, field_ends}
 use borrow.Author.Tests.{ltb-true}
+use lib.Seq.{take-length, take_all}
 use Rattle.mc_flash.specs.declared.flash.Grain.TheVariants as grains
 use Rattle.mc_trailer.specs.declared.tables.SwapType.TheVariants as kinds
 use Rattle.mc_boot.specs.declared.outcome.BootResult.TheVariants as results
@@ -50,10 +50,8 @@ keeps_range g P K f a zero s step j = let D : ℕ → Type 0 = λ m. K m s in su
 keeps_range g P K f a (suc n) s step j =
     let now = step a s (omega arith) j in
     let rest = keeps_range g P K f (a + 1) n now.1.0 (λ i t h k. step i t (omega (arith, h)) k) now.1.2 in
-    (now.0, (now.1.0, now.1.1, let D : ℕ → Type 0 = λ m. Keeps g P (map f (range_with_len (a + 1) n)) now.1.0 (K m) in subst D (later a n) rest))
-  where
-    later : (a n : ℕ) → a + 1 + n ≡ a + suc n
-    later a n = omega arith
+    let later : a + 1 + n ≡ a + suc n = omega arith in
+    (now.0, (now.1.0, now.1.1, rw later at rest))
 
 -- nothing is refused
 pub keeps_whole : (g : Geometry) (P Q : Content → Type 0) (ops : List Op) (s : Content) → Keeps g P ops s Q → happening g ops s ≡ ops
@@ -150,8 +148,7 @@ pub erases_keep : (g : Geometry) (slot : Slot) (P : Content → Type 0) (R : ℕ
     → ((i : ℕ) (t u : Content) → i < trailer_sectors g → R i t → Erased g slot i t u → R (i + 1) u)
     → R 0 s → Keeps g P (trailer_erases g slot) s (λ t. R (trailer_sectors g) t × ((p : ℕ) → data_end g slot ≤ p → p < size_of g slot → byte t slot p ≡ 255))
 erases_keep g slot P R s ok bears step begin =
-    let D : ℕ → Type 0 = λ m. Keeps g P (trailer_erases g slot) s (K m) in
-    subst D (omega arith) (keeps_range g P K (trailer_erase g slot) 0 (trailer_sectors g) s
+    rw (zero-add (trailer_sectors g)) at (keeps_range g P K (trailer_erase g slot) 0 (trailer_sectors g) s
     (λ i t h k. let does = erase_changes g t slot (sectors_of g slot - 1 - i) (fits i t (omega (arith, h)) (bears i t k.0).1) in
     ((bears i t k.0).0, (does.0, does.1, (step i t does.0 (omega (arith, h)) k.0 does.2, more i t does.0 (omega (arith, h)) does.2 k.1))))
     (begin, λ p from below. absurd (nothing p from below)))
@@ -168,10 +165,9 @@ erases_keep g slot P R s ok bears step begin =
     fits i t below sized = omega (arith, erase_inside g slot i ok below, sized_is g t slot sized)
 
     next_sector : (i : ℕ) → i < trailer_sectors g → (sectors_of g slot - i) * g.sector ≡ (sectors_of g slot - 1 - i) * g.sector + g.sector
-    next_sector i below = with_sector (sectors_of g slot - i) (sectors_of g slot - 1 - i) (let leaves = trailer_leaves_one g slot ok in omega arith)
-      where
-        with_sector : (a b : ℕ) → a ≡ b + 1 → a * g.sector ≡ b * g.sector + g.sector
-        with_sector a b e = ap (λ n. n * g.sector) e ∙ omega arith
+    next_sector i below =
+        let up : sectors_of g slot - i ≡ sectors_of g slot - 1 - i + 1 = (let leaves = trailer_leaves_one g slot ok in omega arith) in
+        ap (λ n. n * g.sector) up ∙ omega arith
 
     more : (i : ℕ) (t u : Content) → i < trailer_sectors g → Erased g slot i t u → ((p : ℕ) → (sectors_of g slot - i) * g.sector ≤ p → p < size_of g slot → byte t slot p ≡ 255) → (p : ℕ)
         → (sectors_of g slot - (i + 1)) * g.sector ≤ p → p < size_of g slot → byte u slot p ≡ 255
@@ -241,13 +237,7 @@ pub pieces_keep : (g : Geometry) (P : Content → Type 0) (s : Content) (slot : 
     → Keeps g P (map (piece g slot at new) (range_with_len 0 m)) s (λ t. Changed s t slot at new)
 pieces_keep g P s slot at new m len fits free bears =
     let K : ℕ → Content → Type 0 = λ j t. Part s slot at new (j * g.unit) t in
-    let W : List ℕ → Type 0 = λ l. Keeps g P (map (piece g slot at new) (range_with_len 0 m)) s (λ t. Changed s t slot at l) in
-    let D : ℕ → Type 0 = λ j. Keeps g P (map (piece g slot at new) (range_with_len 0 m)) s (λ t. Part s slot at new (j * g.unit) t) in
-    let Z : ℕ → Type 0 = λ k. Part s slot at new k s in
-    let count : 0 + m ≡ m = omega arith in
-    let nothing : 0 ≡ 0 * g.unit = sym (zero-mul g.unit) in
-    subst W (take_whole new (m * g.unit) (sym len))
-    (subst D count
+    rw (zero-add m, take_all (m * g.unit) new (omega (arith, len))) at
     (keeps_range g P K (piece g slot at new) 0 m s
     (λ j t h k.
     let below : j < m = omega (arith, h) in
@@ -256,7 +246,7 @@ pieces_keep g P s slot at new m len fits free bears =
     let N : ℕ → Type 0 = λ n. Part s slot at new n done.0 in
     let next : j * g.unit + g.unit ≡ (j + 1) * g.unit = omega arith in
     (bears j t below k, (done.0, done.1, subst N next done.2)))
-    (subst Z nothing (none_yet s slot at new))))
+    (rw (zero-mul g.unit) (none_yet s slot at new)))
 
 -- A write of a field that is free, by either grain.
 
@@ -293,7 +283,7 @@ not_below n = grind (arith, nat_tests)
 
 left_whole : (x : PowerOn) (z : Content) → ops_of x ≡ (plan x).list → applied x.geometry (plan x).list x.content ≡ Some z → left_by x ≡ Some z
 unfolding left_by at
-left_whole x z whole end = ap (λ (l : List Op). applied x.geometry l x.content) (take_whole (ops_of x) (length (ops_of x)) refl ∙ whole) ∙ end
+left_whole x z whole end = ap (λ (l : List Op). applied x.geometry l x.content) (take-length (ops_of x) ∙ whole) ∙ end
 
 not_faulted : (x : PowerOn) → ops_of x ≡ (plan x).list → is_faulted x ≡ false
 unfolding is_faulted
@@ -307,19 +297,11 @@ ends r g P Q u keeps =
 
 -- a boot that is not faulted and does not panic boots what it left, where that is valid
 not_panic_boots : (kind : SwapType) → kind ≢ kinds.Panic → result_of kind false true ≡ results.Boot
-not_panic_boots kinds.None not_panic = refl
-not_panic_boots kinds.Test not_panic = refl
-not_panic_boots kinds.Perm not_panic = refl
-not_panic_boots kinds.Revert not_panic = refl
-not_panic_boots kinds.Fail not_panic = refl
 not_panic_boots kinds.Panic not_panic = absurd (not_panic refl)
+not_panic_boots kind not_panic = refl
 
 pub boots_so : (x : PowerOn) (z : Content) → left_by x ≡ Some z → is_faulted x ≡ false → (plan x).kind ≢ kinds.Panic → is_valid z.primary ≡ true
     → option_map (λ o. o.result) (outcome_of x) ≡ Some results.Boot
 unfolding outcome_of report
 boots_so from z end whole not_panic valid =
-    let kind : SwapType = (plan from).kind in
-    ap (λ (x : Option Content). option_map (λ o. o.result) (option_map (λ y. report from.rules from.geometry (plan from).kind (length (ops_of from)) (is_faulted from) y) x)) end
-    ∙ ap (λ (e : Bool). Some (result_of (plan from).kind e (is_valid z.primary))) whole
-    ∙ ap (λ (e : Bool). Some (result_of (plan from).kind false e)) valid
-    ∙ ap (λ (e : BootResult). Some e) (not_panic_boots (plan from).kind not_panic)
+    rw (end, whole, valid) (ap (λ (e : BootResult). Some e) (not_panic_boots (plan from).kind not_panic))

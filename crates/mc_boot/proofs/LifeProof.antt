@@ -151,19 +151,11 @@ module _ (laws : ImageLaws) (g : Geometry) (ok : IsLayout g) (s : Content) (rest
   -- the images stay
   confirmed_primary : id_of (confirmed g s).primary ≡ id_of s.primary
   unfolding confirmed
-  confirmed_primary = go (may_confirm g s)
-    where
-      go : (b : Bool) → id_of (if b then with_ok else s).primary ≡ id_of s.primary
-      go true = kept.id
-      go false = refl
+  confirmed_primary = grind (arith, kept.id)
 
   confirmed_secondary : (confirmed g s).secondary ≡ s.secondary
   unfolding confirmed
-  confirmed_secondary = go (may_confirm g s)
-    where
-      go : (b : Bool) → (if b then with_ok else s).secondary ≡ s.secondary
-      go true = refl
-      go false = refl
+  confirmed_secondary = grind arith
 
 -- ---- one cut more
 
@@ -171,16 +163,12 @@ cut_more : (r : Rules) (g : Geometry) (cuts : List ℕ) (c : ℕ) (s u t : Conte
     → after (power_on r g s) (cuts ++ c ∷ []) ≡ Some t
 cut_more r g [] c s u t come is =
     let same : s ≡ u = same_content s u come in
-    let E : Content → Type 0 = λ x. cut_at (power_on r g x) c ≡ Some t in
-    ap (option_and_then (λ y. after (power_on r g y) [])) (subst E (sym same) is)
+    ap (option_and_then (λ y. after (power_on r g y) [])) (rw (← same) at is)
 cut_more r g (d ∷ cuts) c s u t come is = go (λ y e. cut_more r g cuts c y u t e is) (cut_at (power_on r g s) d) come
   where
     go : ((y : Content) → after (power_on r g y) cuts ≡ Some u → after (power_on r g y) (cuts ++ c ∷ []) ≡ Some t) → (o : Option Content)
         → option_and_then (λ y. after (power_on r g y) cuts) o ≡ Some u → option_and_then (λ y. after (power_on r g y) (cuts ++ c ∷ [])) o ≡ Some t
-    go later None e = absurd (none e)
-      where
-        none : None ≡ Some u → ⊥
-        none e = cc
+    go later None e = absurd cc
     go later (Some y) e = later y e
 
 -- ---- a life
@@ -210,8 +198,7 @@ module _ (laws : ImageLaws) (r : Rules) (g : Geometry) (ok : IsLayout g) where
   leads m boot n is to =
       let end = rest_law laws r g ok m.rested is.rest m.content is.cuts is.come in
       let same : end.0 ≡ to.0 = same_content end.0 to.0 (sym end.1.end ∙ to.2) in
-      let F : Content → Type 0 = λ x. AtRest g x in
-      rw to.4 (at_rest r g to.0 to.1 (subst F same end.2.rest))
+      rw to.4 (at_rest r g to.0 to.1 (rw same at end.2.rest))
   leads m (store bytes) n is to =
       rw to.2 (at_rest r g (with_bytes m.content Secondary bytes) true (rests_stored g m.content bytes (runs_at_rest r g m is to.0) to.1))
   leads m (mark bytes) n is to =
@@ -272,12 +259,10 @@ record Passes (K : Option Identity → Bool) (s : Content) : Type 0 where
 
 booted_passes : (K : Option Identity → Bool) (kind : SwapType) (x : DeviceState) → K x.primary ≡ true → K x.secondary ≡ true
     → (K (booted_by kind x).primary ≡ true) × (K (booted_by kind x).secondary ≡ true)
-booted_passes K kinds.None x p q = (p, q)
-booted_passes K kinds.Fail x p q = (p, q)
-booted_passes K kinds.Panic x p q = (p, q)
 booted_passes K kinds.Test x p q = (q, p)
 booted_passes K kinds.Perm x p q = (q, p)
 booted_passes K kinds.Revert x p q = (q, p)
+booted_passes K kind x p q = (p, q)
 
 leaves_passes : (K : Option Identity → Bool) (r : Rules) (g : Geometry) (s u z : Content) → Passes K s → Leaves r g s z ⊎ Forgets r g s u z → Passes K z
 leaves_passes K r g s u z is (inl t) =
@@ -298,21 +283,18 @@ module _ (laws : ImageLaws) (K : Option Identity → Bool) (r : Rules) (g : Geom
   leads_passes m boot n is pass stored to =
       let end = rest_law laws r g ok m.rested is.rest m.content is.cuts is.come in
       let same : end.0 ≡ to.0 = same_content end.0 to.0 (sym end.1.end ∙ to.2) in
-      let F : Content → Type 0 = λ x. Passes K x in
-      rw to.4 (subst F same (leaves_passes K r g m.rested m.content end.0 pass end.2.leaves))
+      rw to.4 (rw same at (leaves_passes K r g m.rested m.content end.0 pass end.2.leaves))
   leads_passes m (store bytes) n is pass stored to =
       let here = ap (λ (s : Content). K (id_of s.primary)) (is.running to.0) ∙ pass.primary in
       rw to.2 (record { primary = here; secondary = stored.0 })
   leads_passes m (mark bytes) n is pass stored to =
-      let F : Content → Type 0 = λ x. Passes K x in
-      let at = subst F (sym (is.running to.0)) pass in
+      let at : Passes K m.content = rw (is.running to.0) pass in
       rw to.3 (record {
         primary = ap K (kept_mark laws g ok m.content (runs_at_rest r g m is to.0) bytes to.2).id ∙ at.primary;
         secondary = at.secondary;
       })
   leads_passes m confirm n is pass stored to =
-      let F : Content → Type 0 = λ x. Passes K x in
-      let at = subst F (sym (is.running to.0)) pass in
+      let at : Passes K m.content = rw (is.running to.0) pass in
       let rest = runs_at_rest r g m is to.0 in
       rw to.1 (record {
         primary = ap K (confirmed_primary laws g ok m.content rest) ∙ at.primary;
@@ -320,11 +302,8 @@ module _ (laws : ImageLaws) (K : Option Identity → Bool) (r : Rules) (g : Geom
       })
 
   first_of : (e : Event) (events : List Event) → AllStored K (e ∷ events) → AllStored K (e ∷ []) × AllStored K events
-  first_of (cut c) events stored = (tt, stored)
-  first_of boot events stored = (tt, stored)
   first_of (store bytes) events stored = ((stored.0, tt), stored.1)
-  first_of confirm events stored = (tt, stored)
-  first_of (mark bytes) events stored = (tt, stored)
+  first_of e events stored = (tt, stored)
 
   lives_passes : (events : List Event) (m n : Moment) → Reached r g m → Passes K m.rested → AllStored K events → Lives r g m events n → Passes K n.rested
   lives_passes [] m n is pass stored same = rw same pass
@@ -345,10 +324,7 @@ runs_of : (x : PowerOn) → option_map (λ o. o.result) (outcome_of x) ≡ Some 
 runs_of x boots = go (outcome_of x) boots
   where
     go : (o : Option Report) → option_map (λ o. o.result) o ≡ Some results.Boot → option_map (λ o. is_boot o.result) o ≡ Some true
-    go None e = absurd (none e)
-      where
-        none : None ≡ Some results.Boot → ⊥
-        none e = cc
+    go None e = absurd cc
     go (Some o) e = ap (option_map is_boot) e
 
 pub life_law : ImageLaws → (r : Rules) → LifeLaw r

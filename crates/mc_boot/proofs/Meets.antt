@@ -99,9 +99,8 @@ pub record SameOutside (g : Geometry) (es : List Sector) (s t : Content) : Type 
 
 pub which_slot : (a b : Slot) → (a ≡ b) ⊎ (a ≢ b)
 which_slot Primary Primary = inl refl
-which_slot Primary Secondary = inr (λ e. cc)
-which_slot Secondary Primary = inr (λ e. cc)
 which_slot Secondary Secondary = inl refl
+which_slot a b = inr (λ e. cc)
 
 pub erases : (g : Geometry) (s : Content) (e : Sector) → e.index * g.sector + g.sector ≤ length (bytes_of s e.slot) → Changed s (erase_in g s e) e.slot (e.index * g.sector) (replicate g.sector 255)
 erases g s e fits = changed s e.slot (e.index * g.sector) (replicate g.sector 255) (omega (arith, fits, length-replicate {A = ℕ} g.sector 255))
@@ -145,9 +144,7 @@ erase_apart g s t e es fits_s fits_t same = record {
     ]
 
     by : (o : Slot) (i : ℕ) → IsOutside g es o i → (o ≡ e.slot) ⊎ (o ≢ e.slot) → byte (erase_in g t e) o i ≡ byte (erase_in g s e) o i
-    by o i outside (inl is) =
-        let P : Slot → Type 0 = λ x. IsOutside g es x i → byte (erase_in g t e) x i ≡ byte (erase_in g s e) x i in
-        subst P (sym is) (here i) outside
+    by o i outside (inl is) = rw is (here i (rw is at outside))
     by o i outside (inr no_) = to.other o i no_ ∙ beside o i outside (λ is. absurd (no_ is)) ∙ sym (from.other o i no_)
 
 pub same_bytes : (s t : Content) (o : Slot) → length (bytes_of t o) ≡ length (bytes_of s o) → ((i : ℕ) → byte t o i ≡ byte s o i) → bytes_of t o ≡ bytes_of s o
@@ -159,9 +156,17 @@ same_content s t p q =
     ap (λ (xs : List ℕ). let x : Content = record { primary = xs; secondary = t.secondary } in x) p
     ∙ ap (λ (ys : List ℕ). let x : Content = record { primary = s.primary; secondary = ys } in x) q
 
+-- what holds of each element, said weaker
+pub all_weaker : {A : Type 0} (P Q : A → Type 0) → ((x : A) → P x → Q x) → (xs : List A) → AllByRecursion P xs → AllByRecursion Q xs
+all_weaker P Q weaker [] all = tt
+all_weaker P Q weaker (x ∷ xs) all = (weaker x all.0, all_weaker P Q weaker xs all.1)
+
 -- The sectors end in the content.
 abbrev pub Fit : Geometry → List Sector → Content → Type 0
 Fit g es s = AllByRecursion (λ e. e.index * g.sector + g.sector ≤ length (bytes_of s e.slot)) es
+
+pub fit_longer : (g : Geometry) (es : List Sector) (s t : Content) → ((o : Slot) → length (bytes_of s o) ≤ length (bytes_of t o)) → Fit g es s → Fit g es t
+fit_longer g es s t longer fits = all_weaker _ _ (λ e fit. omega (arith, longer e.slot, fit)) es fits
 
 -- Blanking leaves nothing of what they differ in.
 pub blank_same : (g : Geometry) (es : List Sector) (s t : Content) → Fit g es s → SameOutside g es s t → blank g es t ≡ blank g es s
@@ -169,28 +174,15 @@ blank_same g [] s t fits same =
     same_content s t (same_bytes s t Primary (same.sizes Primary) (λ i. same.bytes Primary i (λ index no_. absurd no_)))
     (same_bytes s t Secondary (same.sizes Secondary) (λ i. same.bytes Secondary i (λ index no_. absurd no_)))
 blank_same g (e ∷ es) s t fits same =
-    blank_same g es (erase_in g s e) (erase_in g t e) (kept es fits.1)
+    blank_same g es (erase_in g s e) (erase_in g t e) (fit_longer g es s (erase_in g s e) (λ o. omega (arith, (erases g s e fits.0).sizes o)) fits.1)
     (erase_apart g s t e es fits.0 (omega (arith, fits.0, same.sizes e.slot)) same)
-  where
-    kept : (es : List Sector) → Fit g es s → Fit g es (erase_in g s e)
-    kept [] all = tt
-    kept (f ∷ fs) all = (omega (arith, all.0, (erases g s e fits.0).sizes f.slot), kept fs all.1)
 
 pub fit_there : (g : Geometry) (es : List Sector) (s : Content) → IsSized g s → AreThere g es → Fit g es s
-fit_there g [] s sized there = tt
-fit_there g (e ∷ es) s sized there =
-    (omega (arith, sector_inside g e.slot e.index there.0, sized_is g s e.slot sized), fit_there g es s sized there.1)
-
-pub fit_longer : (g : Geometry) (es : List Sector) (s t : Content) → ((o : Slot) → length (bytes_of s o) ≤ length (bytes_of t o)) → Fit g es s → Fit g es t
-fit_longer g [] s t longer fits = tt
-fit_longer g (e ∷ es) s t longer fits = (omega (arith, longer e.slot, fits.0), fit_longer g es s t longer fits.1)
+fit_there g es s sized there = all_weaker _ _ (λ e here. omega (arith, sector_inside g e.slot e.index here, sized_is g s e.slot sized)) es there
 
 listed_fits : (g : Geometry) (es : List Sector) (s : Content) (slot : Slot) (index : ℕ) → Fit g es s → IsListed es slot index → index * g.sector + g.sector ≤ length (bytes_of s slot)
 listed_fits g [] s slot index fits listed = absurd listed
-listed_fits g (e ∷ es) s slot index fits (inl is) =
-    let P : Slot → Type 0 = λ x. index * g.sector + g.sector ≤ length (bytes_of s x) in
-    let Q : ℕ → Type 0 = λ n. n * g.sector + g.sector ≤ length (bytes_of s e.slot) in
-    subst P (sym is.0) (subst Q (sym is.1) fits.0)
+listed_fits g (e ∷ es) s slot index fits (inl is) = rw (is.0, is.1) fits.0
 listed_fits g (e ∷ es) s slot index fits (inr listed) = listed_fits g es s slot index fits.1 listed
 
 changed_outside : (g : Geometry) (es : List Sector) (s t : Content) (slot : Slot) (at : ℕ) (new : List ℕ) (index : ℕ) → Changed s t slot at new → IsListed es slot index
@@ -205,9 +197,7 @@ changed_outside g es s t slot at new index ch listed from to = record {
     here i (inr high) = ch.beyond i (omega (arith, high, to))
 
     by : (o : Slot) (i : ℕ) → IsOutside g es o i → (o ≡ slot) ⊎ (o ≢ slot) → byte t o i ≡ byte s o i
-    by o i outside (inl is) =
-        let P : Slot → Type 0 = λ x. IsOutside g es x i → byte t x i ≡ byte s x i in
-        subst P (sym is) (λ out. here i (out index listed)) outside
+    by o i outside (inl is) = rw is (here i ((rw is at outside) index listed))
     by o i outside (inr no_) = ch.other o i no_
 
 short_copy : (s : Content) (from : Slot) (at len : ℕ) → length (copied s from at len) ≤ len
@@ -219,8 +209,7 @@ program_outside g es s t slot at new index listed fits from to is =
     let inside : at + length new ≤ length (bytes_of s slot) = omega (arith, to, listed_fits g es s slot index fits listed) in
     let made = program_changes g s slot at new inside (program_was_blank g s t slot at new inside is) in
     let same : made.0 ≡ t = one_content made.0 t (sym made.1 ∙ is) in
-    let P : Content → Type 0 = λ x. SameOutside g es s x in
-    subst P same (changed_outside g es s made.0 slot at new index made.2 listed from to)
+    rw (← same) (changed_outside g es s made.0 slot at new index made.2 listed from to)
 
 -- An operation changes nothing beside what it writes.
 pub op_outside : (g : Geometry) (es : List Sector) (op : Op) (s t : Content) → WritesIn g es op → Fit g es s → apply g op s ≡ Some t → SameOutside g es s t
@@ -230,8 +219,7 @@ op_outside g es (Erase slot sector) s t writes fits is =
     let inside : sector * g.sector + length {A = ℕ} (replicate g.sector 255) ≤ length (bytes_of s slot) = omega (arith, wide, writes.to, listed_fits g es s slot writes.index fits writes.listed) in
     let new : List ℕ = replicate g.sector 255 in
     let made : Changed s (with_bytes s slot (put (bytes_of s slot) (sector * g.sector) new)) slot (sector * g.sector) new = changed s slot (sector * g.sector) new inside in
-    let P : Content → Type 0 = λ x. SameOutside g es s x in
-    subst P (one_content _ t is) (changed_outside g es s _ slot (sector * g.sector) (replicate g.sector 255) writes.index made writes.listed writes.from (omega (arith, wide, writes.to)))
+    rw (← one_content _ t is) (changed_outside g es s _ slot (sector * g.sector) (replicate g.sector 255) writes.index made writes.listed writes.from (omega (arith, wide, writes.to)))
 op_outside g es (Program slot at bytes) s t writes fits is = program_outside g es s t slot at bytes writes.index writes.listed fits writes.from writes.to is
 op_outside g es (Copy from at to offset len) s t writes fits is =
     program_outside g es s t to offset (copied s from at len) writes.index writes.listed fits writes.from
@@ -250,9 +238,8 @@ longer_put xs new at =
 
 longer_slot : (s : Content) (slot : Slot) (new : List ℕ) → length (bytes_of s slot) ≤ length new → (o : Slot) → length (bytes_of s o) ≤ length (bytes_of (with_bytes s slot new) o)
 longer_slot s Primary new more Primary = more
-longer_slot s Primary new more Secondary = omega arith
-longer_slot s Secondary new more Primary = omega arith
 longer_slot s Secondary new more Secondary = more
+longer_slot s slot new more o = omega arith
 
 programmed_longer : (s t : Content) (slot : Slot) (at : ℕ) (new : List ℕ) → in_slot s slot (programmed (bytes_of s slot) at new) ≡ Some t → (o : Slot) → length (bytes_of s o) ≤ length (bytes_of t o)
 programmed_longer s t slot at new is o = go (is_blank (between at (at + length new) (bytes_of s slot))) is
@@ -260,13 +247,11 @@ programmed_longer s t slot at new is o = go (is_blank (between at (at + length n
     go : (b : Bool) → in_slot s slot (if b then Some (put (bytes_of s slot) at new) else None) ≡ Some t → length (bytes_of s o) ≤ length (bytes_of t o)
     go false none = absurd cc
     go true some =
-        let P : Content → Type 0 = λ x. length (bytes_of s o) ≤ length (bytes_of x o) in
-        subst P (one_content _ t some) (longer_slot s slot (put (bytes_of s slot) at new) (longer_put (bytes_of s slot) new at) o)
+        rw (← one_content _ t some) (longer_slot s slot (put (bytes_of s slot) at new) (longer_put (bytes_of s slot) new at) o)
 
 pub op_longer : (g : Geometry) (op : Op) (s t : Content) → apply g op s ≡ Some t → (o : Slot) → length (bytes_of s o) ≤ length (bytes_of t o)
 unfolding apply
 op_longer g (Erase slot sector) s t is o =
-    let P : Content → Type 0 = λ x. length (bytes_of s o) ≤ length (bytes_of x o) in
-    subst P (one_content _ t is) (longer_slot s slot (put (bytes_of s slot) (sector * g.sector) (replicate g.sector 255)) (longer_put (bytes_of s slot) (replicate g.sector 255) (sector * g.sector)) o)
+    rw (← one_content _ t is) (longer_slot s slot (put (bytes_of s slot) (sector * g.sector) (replicate g.sector 255)) (longer_put (bytes_of s slot) (replicate g.sector 255) (sector * g.sector)) o)
 op_longer g (Program slot at bytes) s t is o = programmed_longer s t slot at bytes is o
 op_longer g (Copy from at to offset len) s t is o = programmed_longer s t to offset (copied s from at len) is o

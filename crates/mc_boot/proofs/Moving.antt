@@ -1,12 +1,11 @@
 -- A transfer whole and in pieces, and the bytes of the sectors on the way of a swap.
-use Rattle.std.proofs.Common.{add_assoc, ap, arith, inl, inr, subst, sym, ◌∙◌}
+use Rattle.std.proofs.Common.{add_assoc, ap, arith, inl, inr, subst, sym, ◌∙◌, zero-add}
 use Rattle.std.proofs.Math.Nat.{mul-le-mul_right}
 use Rattle.std.proofs.lemmas.Bool.{cases_eq, cases_lt}
-use Rattle.std.proofs.lemmas.Grind.{elements}
-use Rattle.std.proofs.lemmas.List.{length-replicate}
+use Rattle.std.proofs.lemmas.List.{length-replicate, get_or-replicate}
 use Rattle.std.proofs.lemmas.List.Edits.{get_or-between, length-between}
 use Rattle.std.specs.List.{between, range_with_len}
-use Rattle.std.specs.Prelude.{List, Some, [], length, map, refl, replicate, slice_get, slice_index, ℕ, ◌*◌, ◌+◌, ◌-◌, ◌/◌, ◌<◌, ◌∷◌, ◌≡◌, ◌≢◌, ◌≤◌, ◌⊎◌}
+use Rattle.std.specs.Prelude.{List, Some, [], length, map, refl, slice_get, ℕ, ◌*◌, ◌+◌, ◌-◌, ◌/◌, ◌<◌, ◌∷◌, ◌≡◌, ◌≤◌, ◌⊎◌}
 use Rattle.mc_boot.proofs.Courses.{can_chunk}
 use Rattle.mc_boot.proofs.Keeps.{Keeps, keeps_append, keeps_range}
 use Rattle.mc_boot.proofs.Transfers.{Fits, Held, fits_at, held_after, held_at, held_begin, held_here, held_next, held_there, same_transfer}
@@ -17,11 +16,12 @@ use Rattle.mc_flash.specs.Flash.{Content, IsSized, apply, byte, bytes_of, sector
 use Rattle.mc_flash.specs.Geometry.{Geometry, IsLayout, greatest_sectors}
 use Rattle.mc_flash.specs.declared.op.Op.TheVariants.{Copy, Erase}
 use Rattle.mc_flash.specs.declared.op.Slot.{Slot}
-use Rattle.mc_flash.specs.declared.op.Slot.TheVariants.{Primary, Secondary}
+use Rattle.mc_flash.specs.declared.op.Slot.TheVariants.{Primary}
 use Rattle.mc_flash.specs.facts.Changes.{Changed, changed_sized, copied, copy_is_program, erase_changes, length-copied, program_changes, sized_is}
 use Rattle.mc_flash.specs.facts.Layouts.{chunks_cover, data_end, data_sectors, sector_in_data}
 use Rattle.mc_trailer.specs.Trailer.{entry_place, one_unit, room}
 use Rattle.mc_trailer.specs.facts.Places.{entry_ends, one_unit_len}
+use Rattle.mc_boot.proofs.Meets.{which_slot}
 
 -- A transfer, byte by byte.
 
@@ -31,12 +31,6 @@ copy_does g s from at to offset len there fits blank =
     let n = length-copied s from at len there in
     let does = program_changes g s to offset (copied s from at len) (omega (arith, n, fits)) (λ i below. blank i (omega (arith, n, below))) in
     (does.0, copy_is_program g s from to at offset len ∙ does.1, does.2)
-
-pub same_slot : (o p : Slot) → (o ≡ p) ⊎ (o ≢ p)
-same_slot Primary Primary = inl refl
-same_slot Primary Secondary = inr (λ e. cc)
-same_slot Secondary Primary = inr (λ e. cc)
-same_slot Secondary Secondary = inl refl
 
 -- outside a sector
 abbrev pub IsOutside : Geometry → Slot → ℕ → Slot → ℕ → Type 0
@@ -57,10 +51,9 @@ source_outside g x i inside below same =
     inl (omega (arith, up, below))
 
 pub unchanged : (s t : Content) (slot : Slot) (at : ℕ) (new : List ℕ) (o : Slot) (i : ℕ) → Changed s t slot at new → (o ≡ slot → (i < at) ⊎ (at + length new ≤ i)) → byte t o i ≡ byte s o i
-unchanged s t slot at new o i ch out = elim (same_slot o slot) [
+unchanged s t slot at new o i ch out = elim (which_slot o slot) [
   | inl same ↦
-      let E : Slot → Type 0 = λ p. byte t p i ≡ byte s p i in
-      subst E (sym same) (elim (out same) [ inl low ↦ ch.before i low | inr high ↦ ch.beyond i high ])
+      rw same (elim (out same) [ inl low ↦ ch.before i low | inr high ↦ ch.beyond i high ])
   | inr differ ↦ ch.other o i differ
 ]
 
@@ -106,8 +99,7 @@ chunk_step g s t x c ok inside below so =
 pub copies_keep : (g : Geometry) (P : Content → Type 0) (s t : Content) (x : Transfer) → IsLayout g → IsInside g x → ((u : Content) (c : ℕ) → Copied g s u x c → P u) → Copied g s t x 0
     → Keeps g P (map (copy_of g x) (range_with_len 0 (g.sector / g.chunk))) t (λ u. Copied g s u x (g.sector / g.chunk))
 copies_keep g P s t x ok inside bears so =
-    let D : ℕ → Type 0 = λ m. Keeps g P (map (copy_of g x) (range_with_len 0 (g.sector / g.chunk))) t (λ u. Copied g s u x m) in
-    subst D (omega arith)
+    rw (zero-add (g.sector / g.chunk)) at
     (keeps_range g P (λ c u. Copied g s u x c) (copy_of g x) 0 (g.sector / g.chunk) t
     (λ c u h k. (bears u c k, chunk_step g s u x c ok inside (omega (arith, h)) k)) so)
 
@@ -120,14 +112,11 @@ erase_step g s x ok inside sized =
       does.1,
       record {
         done = λ i h. absurd (omega (arith, h));
-        blank = λ i _ short. does.2.inside i (omega (arith, short, length-replicate {A = ℕ} g.sector 255)) ∙ blanks g.sector i short;
+        blank = λ i _ short. does.2.inside i (omega (arith, short, length-replicate {A = ℕ} g.sector 255)) ∙ get_or-replicate g.sector i 255 0 short;
         elsewhere = λ o i out. unchanged s does.0 x.to _ _ o i does.2 (λ same. elim (out same) [ inl low ↦ inl low | inr high ↦ inr (omega (arith, high, length-replicate {A = ℕ} g.sector 255)) ]);
         sized = changed_sized g s does.0 x.to _ _ does.2 sized;
       },
     )
-  where
-    blanks : (n i : ℕ) → i < n → slice_index (replicate n 255) i ≡ 255
-    blanks n i h = grind (arith, elements)
 
 -- A whole transfer: the target is the source, the entry is written, and nothing else changes.
 
@@ -226,8 +215,7 @@ pub data_step : (g : Geometry) (n : ℕ) (start : Content) (k : ℕ) (s u : Cont
 data_step g n start k s u x ok at_most at data_ so = record {
   sized = so.sized;
   held = λ o i m below short away.
-      let E : Held → Type 0 = λ f. byte_in g u o i m ≡ byte_held g start (f o i) m in
-      subst E (sym (held_next g n k x at)) (index o i m below short);
+      rw (held_next g n k x at) (index o i m below short);
 }
   where
     fits : Fits g n k x
@@ -248,13 +236,11 @@ data_step g n start k s u x ok at_most at data_ so = record {
         ∙ ap (λ (h : Slot × ℕ). byte_held g start h m) (sym (held_here (held_at g n k) x))
 
     index : (o : Slot) (i m : ℕ) → i < data_sectors g o → m < g.sector → byte_in g u o i m ≡ byte_held g start (held_after (held_at g n k) x o i) m
-    index o i m below short = elim (same_slot o x.to) [
+    index o i m below short = elim (which_slot o x.to) [
       | inr other ↦ elsewhere o i m below short (λ slot sector. other slot)
       | inl slot ↦ elim (cases_eq i x.to_sector) [
         | inr other ↦ elsewhere o i m below short (λ _ sector. other sector)
         | inl sector ↦
-            let E : Slot → Type 0 = λ p. byte_in g u p i m ≡ byte_held g start (held_after (held_at g n k) x p i) m in
-            let F : ℕ → Type 0 = λ j. byte_in g u x.to j m ≡ byte_held g start (held_after (held_at g n k) x x.to j) m in
-            subst E (sym slot) (subst F (sym sector) (target m short))
+            rw (slot, sector) (target m short)
       ]
     ]

@@ -1,15 +1,15 @@
 -- The phases of a swap, the plan of the boot in each, and fields by what is read of them.
-use Rattle.std.proofs.Common.{add-zero, ap, arith, inl, inr, subst, sym, ◌∙◌}
+use Rattle.std.proofs.Common.{add-zero, ap, arith, inl, inr, sym, ◌∙◌}
 use Rattle.std.proofs.lemmas.Bool.Decides.{nat_tests}
 use Rattle.std.proofs.lemmas.List.Edits.{get_or-between}
 use Rattle.std.proofs.lemmas.Slice.Eq.{bytes_eq-Decides}
 use Rattle.std.specs.Int.{div_ceil}
-use Rattle.std.specs.Prelude.{Bool, List, Option, Some, [], bytes_eq, false, if◌then◌else◌, is_none, max, nat_lt, not, refl, replicate, slice_index, suc, true, zero, ℕ, ◌&&◌, ◌*◌, ◌+◌, ◌-◌, ◌<◌, ◌==◌, ◌^◌, ◌||◌, ◌∷◌, ◌≡◌, ◌≤◌, ◌⊎◌}
+use Rattle.std.specs.Prelude.{Bool, List, Option, Some, [], bytes_eq, false, if◌then◌else◌, is_none, max, nat_lt, not, refl, replicate, slice_index, suc, true, zero, ℕ, ◌&&◌, ◌*◌, ◌+◌, ◌-◌, ◌<◌, ◌==◌, ◌^◌, ◌∷◌, ◌≡◌, ◌≤◌, ◌⊎◌, ◌≢◌}
 use Rattle.mc_boot.proofs.Images.{HasImage, ImageLaws}
 use Rattle.mc_boot.proofs.Moving.{Data}
 use Rattle.mc_boot.proofs.Plans.{plan_new, plan_resumed, resumed_count}
 use Rattle.mc_boot.proofs.Transfers.{Entries, entries_last, entries_not, left_at, other_number}
-use Rattle.mc_boot.specs.Plan.{Plan, PowerOn, again, confirms, first_left, image_size, images_of, is_test, new_list, new_plan, new_swap, nothing, number_of, plan, resumed_from, resumed_list, resumed_plan, resumed_swap}
+use Rattle.mc_boot.specs.Plan.{Plan, PowerOn, again, confirms, first_left, image_size, images_of, is_test, new_list, new_plan, new_swap, nothing, number_of, plan, resumed_list, resumed_plan, resumed_swap}
 use Rattle.mc_boot.specs.Restart.{forgets_reverts}
 use Rattle.mc_boot.specs.declared.image.Images.{Images}
 use Rattle.mc_flash.specs.Flash.{Content, IsSized, byte, bytes_of, is_blank}
@@ -57,12 +57,10 @@ pub record Swap (g : Geometry) (start : Content) (size n : ℕ) : Type 0 where
 
 -- the types of swap that end as a test, or as one that stays
 abbrev pub IsSwapOf : Bool → SwapType → Type 0
-IsSwapOf b kinds.None = ⊥
 IsSwapOf b kinds.Test = b ≡ true
 IsSwapOf b kinds.Perm = b ≡ false
 IsSwapOf b kinds.Revert = b ≡ false
-IsSwapOf b kinds.Fail = ⊥
-IsSwapOf b kinds.Panic = ⊥
+IsSwapOf b kind = ⊥
 
 -- the fields of the primary while the swap runs, and at its end
 abbrev pub opened : Geometry → SwapType → ℕ → Field → List ℕ
@@ -73,34 +71,25 @@ opened g kind size field.SwapInfo = one_unit g (number_of kind)
 opened g kind size field.SwapSize = size_bytes g size
 
 abbrev pub closed : Geometry → SwapType → ℕ → Field → List ℕ
-closed g kind size field.Magic = magic_bytes
-closed g kind size field.ImageOk = if is_test kind then blank_fields field.ImageOk else one_unit g 1
 closed g kind size field.CopyDone = one_unit g 1
-closed g kind size field.SwapInfo = one_unit g (number_of kind)
-closed g kind size field.SwapSize = size_bytes g size
+closed g kind size f = opened g kind size f
 
 -- the secondary's fields: nothing is asked; a test or an upgrade is asked for
 abbrev pub unasked : Field → List ℕ
 unasked field.Magic = replicate 16 255
-unasked field.ImageOk = []
-unasked field.CopyDone = []
-unasked field.SwapInfo = []
-unasked field.SwapSize = []
+unasked f = []
 
 abbrev pub asked : Bool → Field → List ℕ
 asked b field.Magic = magic_bytes
 asked b field.ImageOk = (if b then 255 else 1) ∷ []
-asked b field.CopyDone = []
-asked b field.SwapInfo = []
-asked b field.SwapSize = []
+asked b f = []
 
 -- the primary's fields after a test
 abbrev pub tested : Field → List ℕ
 tested field.Magic = magic_bytes
 tested field.ImageOk = 255 ∷ []
 tested field.CopyDone = 1 ∷ []
-tested field.SwapInfo = []
-tested field.SwapSize = []
+tested f = []
 
 -- The secondary's magic while a revert is prepared: unset; where a unit is written at once, only its last byte is 0xff for
 -- sure, since it is written upward.
@@ -159,18 +148,10 @@ resumes_when : (p q : Trailer) → p.magic ≡ magics.Good → p.copy_done ≡ f
 resumes_when p q good unset absent = rw good (rw unset (rw absent refl))
 
 not_when_asked : (p q : Trailer) → q.magic ≡ magics.Good → resumes p q ≡ false
-not_when_asked p q good = rw good (never (is_good p.magic && is_unset p.copy_done))
-  where
-    never : (b : Bool) → (b && false) ≡ false
-    never true = refl
-    never false = refl
+not_when_asked p q good = rw good (grind arith)
 
 pub not_when_done : (p q : Trailer) → p.copy_done ≡ flags.Set → resumes p q ≡ false
-not_when_done p q set = rw set (never (is_good p.magic))
-  where
-    never : (b : Bool) → (b && false && not (is_good q.magic)) ≡ false
-    never true = refl
-    never false = refl
+not_when_done p q set = rw set (grind arith)
 
 tests_when : (profile : Profile) (p q : Trailer) → q.magic ≡ magics.Good → q.image_ok ≡ flags.Unset → swap_type profile p q ≡ kinds.Test
 tests_when profile p q good unset = rw good (rw unset refl)
@@ -188,9 +169,7 @@ reverts_when profile p q good reverts unset set =
     (all_hold (is_good p.magic) (reverts_at profile q.magic) (is_unset p.image_ok) (is_set p.copy_done) (ap is_good good) reverts (ap is_unset unset) (ap is_set set))
 
 third_fails : (a b c d : Bool) → c ≡ false → (a && b && c && d) ≡ false
-third_fails true true c d is = rw is refl
-third_fails true false c d is = refl
-third_fails false b c d is = refl
+third_fails a b c d is = grind (arith, is)
 
 nothing_asked : (p q : Trailer) → q.magic ≡ magics.Unset → (asks_test p q ≡ false) × (asks_perm p q ≡ false)
 nothing_asked p q absent = (rw absent refl, rw absent refl)
@@ -214,9 +193,11 @@ pub swap_of : (b : Bool) (kind : SwapType) → IsSwapOf b kind → is_test kind 
 swap_of b kinds.Test of = sym of
 swap_of b kinds.Perm of = sym of
 swap_of b kinds.Revert of = sym of
-swap_of b kinds.None of = absurd of
-swap_of b kinds.Fail of = absurd of
-swap_of b kinds.Panic of = absurd of
+swap_of b kind of = absurd of
+
+-- a swap is no panic
+pub no_panic : (b : Bool) (kind : SwapType) → IsSwapOf b kind → kind ≢ kinds.Panic
+no_panic b kind of same = rw same at of
 
 abbrev by_info : Grain → Geometry → Flag → Option ℕ → ℕ → ℕ → Plan
 by_info c g image_ok highest n info =
@@ -230,9 +211,7 @@ of_kind : (c : Grain) (g : Geometry) (image_ok : Flag) (highest : Option ℕ) (n
 of_kind c g image_ok highest n b kinds.Test of = refl
 of_kind c g image_ok highest n b kinds.Perm of = refl
 of_kind c g image_ok highest n b kinds.Revert of = refl
-of_kind c g image_ok highest n b kinds.None of = absurd of
-of_kind c g image_ok highest n b kinds.Fail of = absurd of
-of_kind c g image_ok highest n b kinds.Panic of = absurd of
+of_kind c g image_ok highest n b kind of = absurd of
 
 -- the plan of a swap that runs
 abbrev pub running : Geometry → SwapType → ℕ → ℕ → Bool → Plan
@@ -244,12 +223,7 @@ running_is : (c : Grain) (g : Geometry) (p : Trailer) (highest : Option ℕ) (b 
 running_is c g p highest b kind size n k of info sized_is count some at_most first any settled =
     ap (by_info c g p.image_ok highest (div_ceil p.swap_size g.sector)) info
     ∙ of_kind c g p.image_ok highest (div_ceil p.swap_size g.sector) b kind of
-    ∙ ap (λ z. resumed_swap c g p.image_ok highest kind (div_ceil z g.sector)) sized_is
-    ∙ ap (resumed_swap c g p.image_ok highest kind) count
-    ∙ resumed_count c g p.image_ok highest kind n some at_most
-    ∙ ap (resumed_from c g p.image_ok highest kind n) first
-    ∙ ap (λ (e : Bool). record { kind = kind; sectors = n; list = resumed_list (in_pieces c g) n k e (confirms kind p.image_ok) }) any
-    ∙ ap (λ (e : Bool). record { kind = kind; sectors = n; list = resumed_list (in_pieces c g) n k (k == 0) e }) settled
+    ∙ rw (sized_is, count, resumed_count c g p.image_ok highest kind n some at_most, first, any, settled) refl
 
 confirms_not : (b : Bool) (kind : SwapType) (image_ok : Flag) → is_test kind ≡ b → (b ≡ false → image_ok ≡ flags.Set) → confirms kind image_ok ≡ false
 confirms_not true kind image_ok of set = rw of refl
@@ -293,18 +267,8 @@ starting c g kind size n = record { kind = kind; sectors = n; list = new_list c 
 pub new_swap_is : (c : Grain) (g : Geometry) (images : Images) (kind : SwapType) (size n : ℕ) → images.valid ≡ true → images.size ≡ size → div_ceil size g.sector ≡ n → n ≤ greatest_sectors g
     → new_swap c g images kind ≡ starting c g kind size n
 new_swap_is c g images kind size n valid larger count at_most =
-    ap (λ (z : ℕ). if not images.valid || nat_lt (greatest_sectors g) (div_ceil z g.sector) then nothing kinds.Fail else record {
-      kind = kind;
-      sectors = div_ceil z g.sector;
-      list =
-          new_list c (in_pieces c g) kind z (div_ceil z g.sector);
-    }) larger
-    ∙ ap (λ (m : ℕ). if not images.valid || nat_lt (greatest_sectors g) m then nothing kinds.Fail else record { kind = kind; sectors = m; list = new_list c (in_pieces c g) kind size m }) count
-    ∙ ap (λ (v : Bool). if not v || nat_lt (greatest_sectors g) n then nothing kinds.Fail else starting c g kind size n) valid
-    ∙ ap (λ (v : Bool). if v then nothing kinds.Fail else starting c g kind size n) (no_more (greatest_sectors g) at_most)
-  where
-    no_more : (most : ℕ) → n ≤ most → nat_lt most n ≡ false
-    no_more most h = grind (arith, nat_tests)
+    let no_more : nat_lt (greatest_sectors g) n ≡ false = grind (arith, nat_tests) in
+    rw (larger, count, valid, no_more)
 
 -- the images that the slots begin with, as a plan sees them
 pub record SeesImages (s : Content) (size : ℕ) : Type 0 where
@@ -393,8 +357,7 @@ unset_is b unset = grind (arith, nat_tests, unset)
 one_byte : (g : Geometry) (s : Content) (slot : Slot) (f : Field) (value : ℕ) → byte s slot (place g slot f) ≡ value → FieldIs g s slot f (value ∷ [])
 one_byte g s slot f value is i short within =
     let first : 0 ≡ i = omega (arith, short) in
-    let E : ℕ → Type 0 = λ j. byte s slot (place g slot f + j) ≡ slice_index (value ∷ []) j in
-    subst E first (ap (byte s slot) (add-zero (place g slot f)) ∙ is)
+    rw (← first) (ap (byte s slot) (add-zero (place g slot f)) ∙ is)
 
 -- The secondary asks for a test or a swap that stays.
 pub asked_from : (g : Geometry) (s : Content) (b : Bool) → (trailer_of g s Secondary).magic ≡ magics.Good → (trailer_of g s Secondary).image_ok ≡ (if b then flags.Unset else flags.Set)
@@ -403,9 +366,7 @@ unfolding trailer_of
 asked_from g s b good flag field.Magic i short within = good_bytes g s Secondary good i short within
 asked_from g s true good flag field.ImageOk i short within = one_byte g s Secondary field.ImageOk 255 (unset_is (byte s Secondary (place g Secondary field.ImageOk)) flag) i short within
 asked_from g s false good flag field.ImageOk i short within = one_byte g s Secondary field.ImageOk 1 (set_is (byte s Secondary (place g Secondary field.ImageOk)) flag) i short within
-asked_from g s b good flag field.CopyDone i short within = absurd (omega (arith, short))
-asked_from g s b good flag field.SwapInfo i short within = absurd (omega (arith, short))
-asked_from g s b good flag field.SwapSize i short within = absurd (omega (arith, short))
+asked_from g s b good flag f i short within = absurd (omega (arith, short))
 
 -- The primary's image is on trial.
 pub tested_from : (g : Geometry) (s : Content) → (trailer_of g s Primary).magic ≡ magics.Good → (trailer_of g s Primary).image_ok ≡ flags.Unset → (trailer_of g s Primary).copy_done ≡ flags.Set
@@ -414,5 +375,4 @@ unfolding trailer_of
 tested_from g s good unset set field.Magic i short within = good_bytes g s Primary good i short within
 tested_from g s good unset set field.ImageOk i short within = one_byte g s Primary field.ImageOk 255 (unset_is (byte s Primary (place g Primary field.ImageOk)) unset) i short within
 tested_from g s good unset set field.CopyDone i short within = one_byte g s Primary field.CopyDone 1 (set_is (byte s Primary (place g Primary field.CopyDone)) set) i short within
-tested_from g s good unset set field.SwapInfo i short within = absurd (omega (arith, short))
-tested_from g s good unset set field.SwapSize i short within = absurd (omega (arith, short))
+tested_from g s good unset set f i short within = absurd (omega (arith, short))

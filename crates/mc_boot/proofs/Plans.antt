@@ -8,7 +8,7 @@ use Rattle.std.specs.Prelude.{Bool, Err, List, None, Ok, Option, Result, Some, [
 use Rattle.mc_boot.proofs.Courses.{drop_at_place, get_dropped}
 use Rattle.mc_boot.proofs.Images.{valid_held}
 use Rattle.mc_boot.specs.Boot.{Progress, Steps, StepsAlong, Turns, begun, progress, to_come, whole_list}
-use Rattle.mc_boot.specs.Outcome.{Report, report, result_of, shown}
+use Rattle.mc_boot.specs.Outcome.{report, result_of, shown}
 use Rattle.mc_boot.specs.Plan.{PowerOn, confirms, first_left, identity_of, images_of, new_list, new_plan, new_swap, nothing, plan, plan_with, resumed_from, resumed_list, resumed_plan, resumed_swap}
 use Rattle.mc_boot.specs.declared.boot.Boot.{Boot}
 use Rattle.mc_boot.specs.declared.course.Course.{Course}
@@ -22,7 +22,7 @@ use Rattle.mc_flash.specs.declared.flash.Grain.{Grain}
 use Rattle.mc_flash.specs.declared.op.Op.{Op}
 use Rattle.mc_flash.specs.declared.op.Slot.TheVariants.{Primary, Secondary}
 use Rattle.mc_flash.specs.facts.Usage.{few_trailer_sectors}
-use Rattle.mc_image.specs.Valid.{Identity, id_of, is_valid}
+use Rattle.mc_image.specs.Valid.{id_of, is_valid}
 use Rattle.mc_trailer.specs.Tables.{is_resumed, resumes, swap_type, table_of}
 use Rattle.mc_trailer.specs.Trailer.{highest_entry, trailer_of}
 use Rattle.mc_trailer.specs.declared.tables.Rules.{Rules}
@@ -59,13 +59,12 @@ pub new_begun : (r : Rules) (g : Geometry) (images : Images) (kind : SwapType) (
     → l ≡ in_pieces r.grain g → record { rules = r; kind = kind; to_come = new_list r.grain l kind images.size n; count = 0; faulted = false } ≡ begun r (new_swap r.grain g images kind)
 new_begun r g images kind l n valid is at_most layout_is =
     let fits : nat_lt (greatest_sectors g) (div_ceil images.size g.sector) ≡ false = grind (arith, nat_tests) in
-    rw (is, layout_is, valid, fits) refl
+    rw (is, layout_is, valid, fits)
 
 pub none_of : (r : Bool) (o : Option ℕ) → is_some o ≡ not r → r ≡ is_none o
 none_of true None e = refl
-none_of true (Some x) e = cc
-none_of false None e = cc
 none_of false (Some x) e = refl
+none_of r o e = cc
 
 -- a swap that was cut, at power-on
 pub resumed_begun : (r : Rules) (g : Geometry) (image_ok : Flag) (highest : Option ℕ) (kind : SwapType) (n first : ℕ) (l : Geometry) (erases ok : Bool) → 0 < n → n ≤ greatest_sectors g
@@ -73,12 +72,7 @@ pub resumed_begun : (r : Rules) (g : Geometry) (image_ok : Flag) (highest : Opti
     → erases ≡ is_none highest → ok ≡ confirms kind image_ok → (written : Option ℕ) → highest ≡ written
     → record { rules = r; kind = kind; to_come = resumed_list l n first erases ok; count = 0; faulted = false } ≡ begun r (resumed_swap r.grain g image_ok written kind n)
 resumed_begun r g image_ok highest kind n first l erases ok some at_most first_is layout_is erases_is ok_is written is =
-    let at : Geometry → Bool → Bool → Progress = λ x e b. record { rules = r; kind = kind; to_come = resumed_list x n first e b; count = 0; faulted = false } in
-    ap (λ x. at x erases ok) layout_is
-    ∙ ap (λ e. at (in_pieces r.grain g) e ok) erases_is
-    ∙ ap (λ b. at (in_pieces r.grain g) (is_none highest) b) ok_is
-    ∙ ap (begun r) (sym (resumed_count r.grain g image_ok highest kind n some at_most ∙ ap (resumed_from r.grain g image_ok highest kind n) first_is))
-    ∙ ap (λ (w : Option ℕ). begun r (resumed_swap r.grain g image_ok w kind n)) is
+    rw (layout_is, erases_is, ok_is, ← is, resumed_count r.grain g image_ok highest kind n some at_most, first_is) refl
 
 -- the two halves of a plan
 pub plan_resumed : (x : PowerOn) → is_resumed x.geometry x.content ≡ true
@@ -156,12 +150,8 @@ pub reported : (x : PowerOn) (kind next : SwapType) (ops : ℕ) (faulted boots :
     → shown (record { result = result; kind = kind; ops = ops; primary = primary; secondary = secondary; next = next }) ≡ report x.rules x.geometry kind ops faulted x.content
 unfolding report
 reported from kind next ops faulted boots result primary secondary result_is boots_is first second next_is =
-    let here : BootResult → Option Identity → Option Identity → SwapType → Report = λ x p q n. record { result = x; kind = kind; ops = ops; primary = p; secondary = q; next = n } in
     let valid : boots ≡ is_valid from.content.primary = boots_is ∙ valid_held from.content.primary primary first in
-    ap (λ x. here x (option_map identity_of primary) (option_map identity_of secondary) next) (result_is ∙ ap (result_of kind faulted) valid)
-    ∙ ap (λ p. here (result_of kind faulted (is_valid from.content.primary)) p (option_map identity_of secondary) next) first
-    ∙ ap (λ q. here (result_of kind faulted (is_valid from.content.primary)) (id_of from.content.primary) q next) second
-    ∙ ap (λ n. here (result_of kind faulted (is_valid from.content.primary)) (id_of from.content.primary) (id_of from.content.secondary) n) next_is
+    rw (result_is, valid, first, second, next_is) refl
 
 -- How few sectors a trailer takes, by the count that a call gave, and how few transfers a swap has.
 

@@ -4,7 +4,7 @@ use Rattle.std.proofs.Math.Nat.{mul-le-mul_right}
 use Rattle.std.proofs.lemmas.Bool.Decides.{nat_tests}
 use Rattle.std.proofs.lemmas.Grind.{div_ceil_times}
 use Rattle.std.specs.Int.{div_ceil}
-use Rattle.std.specs.Prelude.{Bool, List, Some, [], false, if◌then◌else◌, length, max, refl, suc, take, true, zero, ℕ, ◌&&◌, ◌*◌, ◌∷◌, ◌≡◌, ◌≢◌, ◌≤◌, ◌⊎◌}
+use Rattle.std.specs.Prelude.{Bool, List, Some, [], false, if◌then◌else◌, length, max, refl, take, true, ℕ, ◌&&◌, ◌*◌, ◌≡◌, ◌≢◌, ◌≤◌, ◌⊎◌}
 use Rattle.mc_boot.proofs.AtRest.{AtRest, both_true, next_is, none_idle, swap_sectors}
 use Rattle.mc_boot.proofs.DeliveredStarts.{starts_law, test_delivered}
 use Rattle.mc_boot.proofs.FromRest.{rest_law, settled_stays, unconfirmed, unmarked_stays}
@@ -40,6 +40,7 @@ use Rattle.mc_trailer.specs.declared.trailer.Magic.{Magic}
 use Rattle.mc_trailer.specs.declared.trailer.Trailer.{Trailer}
 use Rattle.mc_trailer.specs.facts.Fields.{FieldsAre, reads_absent, reads_good, reads_image_ok}
 use Rattle.mc_trailer.specs.facts.Places.{field_ends}
+use lib.Seq.{take-take}
 use Rattle.mc_trailer.specs.declared.places.Field.TheVariants as field
 use Rattle.mc_trailer.specs.declared.trailer.Flag.TheVariants as flags
 use Rattle.mc_flash.specs.declared.flash.Grain.TheVariants as grains
@@ -80,7 +81,7 @@ module _ (from : PowerOn) (idle : (plan from).list ≡ []) where
       → IsSwapped (again from s) kind from.content from.content → EndsIn (again from s) kind a b from.content from.content
   idle_ends kind a b s none valid one two swapped =
       let end = ends from.rules from.geometry (λ t. t ≡ from.content) (λ t. t ≡ from.content) from.content (rests from.content refl) in
-      let not_panic : (plan from).kind ≢ kinds.Panic = λ panic. no_panic (sym none ∙ panic) in
+      let not_panic : (plan from).kind ≢ kinds.Panic = λ panic. cc in
       record {
         end = idle_leaves;
         whole = end.1.whole;
@@ -91,23 +92,14 @@ module _ (from : PowerOn) (idle : (plan from).list ≡ []) where
         secondary = two;
         swapped = swapped;
       }
-    where
-      no_panic : kinds.None ≡ kinds.Panic → ⊥
-      no_panic e = cc
 
 -- ---- flashes that two images start from
-
-less_prefix : (m n : ℕ) (xs : List ℕ) → m ≤ n → take m (take n xs) ≡ take m xs
-less_prefix zero n xs less = refl
-less_prefix (suc m) zero xs less = absurd (omega (arith, less))
-less_prefix (suc m) (suc n) [] less = refl
-less_prefix (suc m) (suc n) (x ∷ xs) less = ap (λ (l : List ℕ). x ∷ l) (less_prefix m n xs (omega (arith, less)))
 
 -- the image stands wherever so many bytes are the same
 same_in_prefix : (g : Geometry) (b ys zs : List ℕ) (m : ℕ) → ImageLaws → BeginsImage g b → SameImage b ys → image_size ys ≤ m → take m zs ≡ take m ys → SameImage b zs
 same_in_prefix g b ys zs m laws at_b same most is =
     let less : image_size b ≤ m = let size = same.size in omega (arith, size, most) in
-    image_prefix b zs laws at_b.bytes at_b.valid (sym (less_prefix (image_size b) m zs less) ∙ ap (take (image_size b)) is ∙ less_prefix (image_size b) m ys less ∙ same.prefix)
+    image_prefix b zs laws at_b.bytes at_b.valid (sym (take-take (image_size b) m zs less) ∙ ap (take (image_size b)) is ∙ take-take (image_size b) m ys less ∙ same.prefix)
 
 -- At rest, with the images of a and b in the slots, and a boot of this type is next.
 pub record Begins (r : Rules) (g : Geometry) (kind : SwapType) (a b : List ℕ) (s : Content) : Type 0 where
@@ -149,8 +141,7 @@ module _ (laws : ImageLaws) (r : Rules) (g : Geometry) (a b : List ℕ) (ok : Is
       where
         by : (z : Content) → EndsWell (power_on r g u) z → Leaves r g s z ⊎ Forgets r g s u z → EndsIn (power_on r g s) kind a b u z
         by z well (inl l) =
-            let B : SwapType → Type 0 = λ k. LeavesBytes r g k (plan (power_on r g s)).sectors s z in
-            let bytes = done z (subst B begins.next l.bytes) in
+            let bytes = done z (rw begins.next at l.bytes) in
             let held = crossed_images next s z some made begins bytes.0 in
             record {
               end = well.end;
@@ -196,13 +187,12 @@ module _ (laws : ImageLaws) (r : Rules) (g : Geometry) (a b : List ℕ) (ok : Is
   pub begins_placed : (s : Content) → IsDelivered g s → placed g (image_bytes a) (image_bytes b) ≡ s → Begins r g kinds.None a b s
   begins_placed s delivered start =
       let h = placed_holds g a b laws ok at_a at_b in
-      let E : Content → Type 0 = λ t. IsDelivered g t → Begins r g kinds.None a b t in
-      subst E start (λ there. record {
-        rest = rests_delivered g (placed g (image_bytes a) (image_bytes b)) ok there;
+      rw (← start) (record {
+        rest = rests_delivered g (placed g (image_bytes a) (image_bytes b)) ok (rw (← start) at delivered);
         next = ap (λ (p : Plan). p.kind) (idle_at r g a b laws ok at_a at_b);
         primary = primary_image g a b (placed g (image_bytes a) (image_bytes b)) laws ok at_a h;
         secondary = secondary_image g a b (placed g (image_bytes a) (image_bytes b)) laws ok at_b h;
-      }) delivered
+      })
 
 -- what is asked for, by the two fields that say so
 abbrev pub asked_at : Profile → Bool → Magic → Flag → SwapType
@@ -216,9 +206,8 @@ reverts_too profile trial can q is = by profile q.magic q.image_ok is
   where
     by : (profile : Profile) (m : Magic) (f : Flag) → done_or_fails (asked_at profiles.One trial m f) can ≡ kinds.Revert → done_or_fails (asked_at profile trial m f) can ≡ kinds.Revert
     by profiles.One m f is = is
-    by profiles.Two magics.Good f is = is
-    by profiles.Two magics.Unset f is = is
     by profiles.Two magics.Bad f is = grind (arith, is)
+    by profiles.Two m f is = is
 
 module _ (laws : ImageLaws) (r : Rules) (g : Geometry) (a b : List ℕ) (ok : IsLayout g) (at_a : BeginsImage g a) (at_b : BeginsImage g b) where
   -- What a test of the exchanged images leaves, by whatever rules, waits to be taken back.
@@ -237,14 +226,12 @@ module _ (laws : ImageLaws) (r : Rules) (g : Geometry) (a b : List ℕ) (ok : Is
 module _ (laws : ImageLaws) (r : Rules) (g : Geometry) (a b : List ℕ) (s : Content) (ok : IsLayout g) (at_a : BeginsImage g a) (at_b : BeginsImage g b) (is : IsDelivered g s) where
   pub test_begins : test_flash g (image_bytes a) (image_bytes b) ≡ s → Begins r g kinds.Test a b s
   test_begins start =
-      let E : Content → Type 0 = λ t. Holding g a b t × FieldsAre g t Secondary (asked true) in
-      let from = subst E start (test_holds g a b laws ok at_a at_b, test_asked g a b laws ok at_b) in
+      let from : Holding g a b s × FieldsAre g s Secondary (asked true) = rw (← start) (test_holds g a b laws ok at_a at_b, test_asked g a b laws ok at_b) in
       begins_asked laws r g a b ok at_a at_b true s is from.0 from.1
 
   perm_begins : perm_flash g (image_bytes a) (image_bytes b) ≡ s → Begins r g kinds.Perm a b s
   perm_begins start =
-      let E : Content → Type 0 = λ t. Holding g a b t × FieldsAre g t Secondary (asked false) in
-      let from = subst E start (perm_holds g a b laws ok at_a at_b, perm_asked g a b laws ok at_b) in
+      let from : Holding g a b s × FieldsAre g s Secondary (asked false) = rw (← start) (perm_holds g a b laws ok at_a at_b, perm_asked g a b laws ok at_b) in
       begins_asked laws r g a b ok at_a at_b false s is from.0 from.1
 
 -- the start of a revert, which a test by the plain rules leaves
@@ -254,13 +241,11 @@ revert_begins laws r g a b s ok at_a at_b left =
     let from : Content = test_flash g (image_bytes b) (image_bytes a) in
     let begins = test_begins laws plain g b a from ok at_b at_a (test_delivered laws g b a ok at_b at_a) refl in
     let end = rest_law laws plain g ok from begins.rest from [] refl in
-    let E : Content → Type 0 = λ t. Begins r g kinds.Revert a b t in
-    subst E (same_content end.0 s (sym end.1.end ∙ left)) (by from begins end.0 end.2.rest end.2.leaves)
+    rw (← same_content end.0 s (sym end.1.end ∙ left)) (by from begins end.0 end.2.rest end.2.leaves)
   where
     by : (from : Content) → Begins plain g kinds.Test b a from → (z : Content) → AtRest g z → Leaves plain g from z ⊎ Forgets plain g from from z → Begins r g kinds.Revert a b z
     by from begins z rest (inl l) =
-        let B : SwapType → Type 0 = λ k. LeavesBytes plain g k (plan (power_on plain g from)).sectors from z in
-        let bytes = subst B begins.next l.bytes in
+        let bytes = rw begins.next at l.bytes in
         begins_revert laws plain g a b ok at_a at_b from z rest begins bytes.0 bytes.1 r (by_any laws r g a b ok at_a at_b z rest)
     by from begins z rest (inr f) = let e : kinds.Test ≡ kinds.Revert = sym begins.next ∙ f.next in absurd cc
 
@@ -303,31 +288,26 @@ module _ (r : Rules) (g : Geometry) (kind : Kind) (confirms : Bool) (a b : List 
     still_round valid one two swapped =
         let same = unconfirmed confirms g x stays in
         let there = uncut (power_on r g x) idle u second (ap (λ m. after (power_on r g m) second) (sym same) ∙ occurs) in
-        let E : Content → Type 0 = λ y. EndsIn (power_on r g s) kind a b y x in
-        (x, (subst E (sym there) (idle_ends (power_on r g x) idle kind a b s none valid one two swapped), record { idle = idle; uncut = there }, same))
+        (x, (rw there (idle_ends (power_on r g x) idle kind a b s none valid one two swapped), record { idle = idle; uncut = there }, same))
 
 -- A swap that stays.
 module _ (r : Rules) (g : Geometry) (kind : Kind) (confirms : Bool) (a b : List ℕ) (s : Content) (second : List ℕ) where
   stays_round : (t x u y : Content) → IsLayout g → EndsIn (power_on r g s) kind a b t y → IsSettled (power_on r g y) → IsSwapped (power_on r g s) kind y y → left_by (power_on r g t) ≡ Some x
       → after (power_on r g (confirmed_if confirms g x)) second ≡ Some u → (z : Content) × IsStill r g kind confirms a b s x u second z
   stays_round t x u y ok e settled swapped left occurs =
-      let E : Content → Type 0 = λ m. after (power_on r g (confirmed_if confirms g m)) second ≡ Some u → (z : Content) × IsStill r g kind confirms a b s m u second z in
       let stays = settled_stays (power_on r g y) ok settled in
-      subst E (same_content y x (sym e.end ∙ left))
-      (λ at. still_round r g kind confirms a b s y u second settled.idle settled.next stays at e.boots e.primary e.secondary swapped) occurs
+      let same : y ≡ x = same_content y x (sym e.end ∙ left) in
+      rw (← same) (still_round r g kind confirms a b s y u second settled.idle settled.next stays (rw (← same) at occurs) e.boots e.primary e.secondary swapped)
 
 -- a flash that asks for a revert asks for nothing else
 no_request : (profile : Profile) (trial can : Bool) (q : Trailer) → done_or_fails (asked_of profile trial q) can ≡ kinds.Revert → is_good q.magic ≡ false
 no_request profile trial can q is = by q.magic q.image_ok can is
   where
     by : (m : Magic) (f : Flag) (can : Bool) → done_or_fails (asked_at profile trial m f) can ≡ kinds.Revert → is_good m ≡ false
-    by magics.Unset f can is = refl
-    by magics.Bad f can is = refl
     by magics.Good flags.Unset true is = absurd cc
-    by magics.Good flags.Unset false is = absurd cc
     by magics.Good flags.Set true is = absurd cc
-    by magics.Good flags.Set false is = absurd cc
-    by magics.Good flags.Bad can is = absurd cc
+    by magics.Good f can is = absurd cc
+    by m f can is = refl
 
 module _ (laws : ImageLaws) (r : Rules) (g : Geometry) (a b : List ℕ) (ok : IsLayout g) (at_a : BeginsImage g a) (at_b : BeginsImage g b) where
   -- No swap: it stays as it was placed.
@@ -338,11 +318,9 @@ module _ (laws : ImageLaws) (r : Rules) (g : Geometry) (a b : List ℕ) (ok : Is
       let idle = none_idle (power_on r g s) begins.rest.rest begins.next in
       let there : t ≡ s = uncut (power_on r g s) idle t first is in
       let same : x ≡ s = same_content x s (sym left ∙ ap (λ s. left_by (power_on r g s)) there ∙ idle_leaves (power_on r g s) idle) in
-      let E : Content → Type 0 = λ y. after (power_on r g (confirmed_if confirms g y)) second ≡ Some u → (z : Content) × EndsAgain (power_on r g s) starts.None confirms a b y u z in
-      subst E (sym same)
-      (λ at. still_round r g starts.None confirms a b s s u second idle begins.next stays at begins.primary.valid (held_whole a s.primary begins.primary)
+      rw same
+      (still_round r g starts.None confirms a b s s u second idle begins.next stays (rw same at occurs) begins.primary.valid (held_whole a s.primary begins.primary)
       (held_whole b s.secondary begins.secondary) idle)
-      occurs
 
   -- What a test leaves.
   record Tested (s x : Content) : Type 0 where
@@ -355,13 +333,11 @@ module _ (laws : ImageLaws) (r : Rules) (g : Geometry) (a b : List ℕ) (ok : Is
     round : Tested s x
     round =
         let end = rest_law laws r g ok s begins.rest t first is in
-        let E : Content → Type 0 = λ y. Tested s y in
-        subst E (same_content end.0 x (sym end.1.end ∙ left)) (by end.0 end.2.rest end.2.leaves)
+        rw (← same_content end.0 x (sym end.1.end ∙ left)) (by end.0 end.2.rest end.2.leaves)
       where
         by : (y : Content) → AtRest g y → Leaves r g s y ⊎ Forgets r g s t y → Tested s y
         by y rest (inl l) =
-            let B : SwapType → Type 0 = λ k. LeavesBytes r g k (plan (power_on r g s)).sectors s y in
-            let bytes = subst B begins.next l.bytes in
+            let bytes = rw begins.next at l.bytes in
             record { rest = rest; exchange = bytes.0; tested = bytes.1; may = bytes.2 }
         by y rest (inr f) = let e : kinds.Test ≡ kinds.Revert = sym begins.next ∙ f.next in absurd cc
 
@@ -383,8 +359,7 @@ module _ (laws : ImageLaws) (r : Rules) (g : Geometry) (a b : List ℕ) (ok : Is
         let larger : larger_size x ≡ larger_size s = omega (arith, here, there, now_, below) in
         let same : (plan (power_on r g x)).sectors ≡ (plan (power_on r g s)).sectors =
         (swap_sectors (power_on r g x) kinds.Revert round.rest.rest round.tested.next (λ e. cc) (λ e. cc)).0 ∙ ap (λ n. div_ceil n g.sector) larger ∙ sym sectors.0 in
-        let E : ℕ → Type 0 = λ m. AreExchanged g m x end.0 in
-        (end.0, (end.1, twice g (plan (power_on r g s)).sectors s x end.0 round.exchange (subst E same end.1.swapped.0)))
+        (end.0, (end.1, twice g (plan (power_on r g s)).sectors s x end.0 round.exchange (rw same at end.1.swapped.0)))
 
     -- confirmed it stays
     written_there : Written laws g ok x round.rest (confirmed g x)
@@ -417,12 +392,10 @@ module _ (laws : ImageLaws) (r : Rules) (g : Geometry) (a b : List ℕ) (ok : Is
     confirmed_round u second occurs =
         let there = uncut (power_on r g (confirmed g x)) settled.idle u second occurs in
         let upper = same_then b x.primary (confirmed g x).primary again_begins.primary written_there.primary in
-        let E : Content → Type 0 = λ y. EndsIn (power_on r g s) starts.Perm a b y (confirmed g x) in
-        let H : List ℕ → Type 0 = λ l. Holds a l in
-        let lower : Holds a (confirmed g x).secondary = subst H (sym written_there.secondary) (held_whole a x.secondary again_begins.secondary) in (
+        let lower : Holds a (confirmed g x).secondary = rw written_there.secondary (held_whole a x.secondary again_begins.secondary) in (
           confirmed g x,
           (
-            subst E (sym there) (idle_ends (power_on r g (confirmed g x)) settled.idle starts.Perm a b s settled.next upper.valid
+            rw there (idle_ends (power_on r g (confirmed g x)) settled.idle starts.Perm a b s settled.next upper.valid
                 (held_whole b (confirmed g x).primary upper) lower (crossing, settled)),
             record { idle = settled.idle; uncut = there },
           ),
@@ -437,8 +410,7 @@ unfolding start_flash
 rounds_law laws r g starts.None confirms a b s t x u first second ok at_a at_b keeps start is left occurs =
     let there : placed g (image_bytes a) (image_bytes b) ≡ s = same_content (placed g (image_bytes a) (image_bytes b)) s start in
     let begins = begins_placed laws r g a b ok at_a at_b s (starts_law laws g starts.None a b s ok at_a at_b (λ e. cc) start) there in
-    let E : Content → Type 0 = λ y. confirmed g y ≡ y in
-    none_round laws r g a b ok at_a at_b confirms s t x u first second begins (subst E there (absent_stays laws r g a b ok at_a at_b)) is left occurs
+    none_round laws r g a b ok at_a at_b confirms s t x u first second begins (rw (← there) (absent_stays laws r g a b ok at_a at_b)) is left occurs
 rounds_law laws r g starts.Test false a b s t x u first second ok at_a at_b keeps start is left occurs =
     let delivered = starts_law laws g starts.Test a b s ok at_a at_b (λ e. cc) start in
     let begins = test_begins laws r g a b s ok at_a at_b delivered (same_content (test_flash g (image_bytes a) (image_bytes b)) s start) in

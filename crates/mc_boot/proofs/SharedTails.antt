@@ -1,9 +1,9 @@
 -- Where the flashes after a cut lie among those of the boot that was cut.
-use Rattle.std.specs.Prelude.{◌≡◌, ℕ, ◌+◌, ◌-◌, ◌<◌, ◌≤◌, max, zero, suc, List, [], ◌∷◌, ◌++◌, length, map, take, drop, Some, refl}
+use Rattle.std.specs.Prelude.{◌≡◌, ℕ, ◌+◌, ◌-◌, ◌<◌, ◌≤◌, max, List, [], ◌∷◌, ◌++◌, length, map, take, drop, Some, refl}
 use Rattle.std.proofs.Common.{arith, sym, ap, subst, ◌∙◌, inl, inr, length-append}
-use Rattle.std.proofs.Math.Seq.{take-add, take-length}
+use Rattle.std.proofs.Math.Seq.{take-add, take-length, take-append-add}
 use Rattle.std.proofs.lemmas.Bool.{cases_lt}
-use Rattle.std.proofs.lemmas.List.{length-take-le, length-map, take-append-drop}
+use Rattle.std.proofs.lemmas.List.{length-take-le, length-map, take-append-drop, take-append-le, take-map}
 use Rattle.mc_flash.specs.Geometry.{Geometry}
 use Rattle.mc_flash.specs.Flash.{Content}
 use Rattle.mc_flash.specs.declared.op.Op.{Op}
@@ -14,31 +14,14 @@ use Rattle.mc_boot.proofs.Meets.{Fit, blank, fit_longer, fit_there, Sector, eras
 use Rattle.mc_boot.proofs.Erased.{AreErased, blank_erased, blank_noop, blank_stays, erased_prefix, fit_beyond, fit_blanked, fit_prefix}
 use Rattle.mc_boot.proofs.Joins.{Joins, Met, applied_beyond, applied_longer, erases_applied, happens_all, happens_few_of, meets}
 use Rattle.mc_flash.specs.facts.Changes.{same_content}
+use lib.Seq.{take-take}
 
 blank_append : (g : Geometry) (xs ys : List Sector) (s : Content) → blank g (xs ++ ys) s ≡ blank g ys (blank g xs s)
 blank_append g [] ys s = refl
 blank_append g (x ∷ xs) ys s = blank_append g xs ys _
 
 take_mapped : {A B : Type 0} (f : A → B) (xs : List A) (ys : List B) (i : ℕ) → i ≤ length xs → take i (map f xs ++ ys) ≡ map f (take i xs)
-take_mapped f xs ys zero at_most = refl
-take_mapped f [] ys (suc i) at_most = absurd (omega (arith, at_most))
-take_mapped f (x ∷ xs) ys (suc i) at_most = ap (λ l. f x ∷ l) (take_mapped f xs ys i (omega (arith, at_most)))
-
-take_beyond : {A : Type 0} (xs ys : List A) (i : ℕ) → take (length xs + i) (xs ++ ys) ≡ xs ++ take i ys
-take_beyond [] ys i = ap (λ n. take n ys) (omega arith)
-take_beyond (x ∷ xs) ys i =
-    let next : length (x ∷ xs) + i ≡ suc (length xs + i) = omega arith in
-    ap (λ n. take n (x ∷ (xs ++ ys))) next ∙ ap (λ l. x ∷ l) (take_beyond xs ys i)
-
-take_none : {A : Type 0} (k : ℕ) → take {A = A} k [] ≡ []
-take_none zero = refl
-take_none (suc k) = refl
-
-take_less : {A : Type 0} (xs : List A) (i k : ℕ) → i ≤ k → take i (take k xs) ≡ take i xs
-take_less xs zero k le = refl
-take_less [] (suc i) k le = ap (take (suc i)) (take_none k)
-take_less (x ∷ xs) (suc i) zero le = absurd (omega (arith, le))
-take_less (x ∷ xs) (suc i) (suc k) le = ap (λ l. x ∷ l) (take_less xs i k (omega (arith, le)))
+take_mapped f xs ys i at_most = take-append-le i (map f xs) ys (simp length-map at_most) ∙ take-map f i xs
 
 module _ (from : PowerOn) (u : Content) (c j : ℕ) (es : List Sector) (joins : Joins from u c j es) where
   met : Met from u j es
@@ -66,7 +49,7 @@ module _ (from : PowerOn) (u : Content) (c j : ℕ) (es : List Sector) (joins : 
       let prefix : take (j + i) (ops_of from) ≡ take j (plan from).list ++ take i (ops_of (again from u)) =
       ap (take (j + i)) (happens_all from u c j es joins)
       ∙ ap (λ n. take (n + i) (take j (plan from).list ++ ops_of (again from u))) count
-      ∙ take_beyond (take j (plan from).list) (ops_of (again from u)) i in
+      ∙ take-append-add (take j (plan from).list) (ops_of (again from u)) i in
       ap (λ (xs : List Op). applied from.geometry xs from.content) prefix
       ∙ applied_beyond from.geometry (take j (plan from).list) (take i (ops_of (again from u))) from.content met.from met.start
     where
@@ -99,7 +82,7 @@ module _ (from : PowerOn) (u : Content) (c j : ℕ) (es : List Sector) (joins : 
       prefix =
           ap (take i) ops_are
           ∙ ap (λ n. take n (map erase_of es ++ rest)) count
-          ∙ take_beyond (map erase_of es) rest (i - length es)
+          ∙ take-append-add (map erase_of es) rest (i - length es)
 
       beyond : (x : Content) → applied from.geometry (take i (ops_of (again from u))) x ≡ applied from.geometry (take (i - length es) rest) (blank from.geometry es x)
       beyond x =
@@ -134,7 +117,7 @@ module _ (from : PowerOn) (u : Content) (c j : ℕ) (es : List Sector) (joins : 
     among i at_most = elim (cases_lt i (c - j)) [
       | inl low ↦
           let same : max c (j + i) ≡ c = omega (arith, low) in
-          let prefix : take i (take (c - j) es) ≡ take i es = take_less es i (c - j) (omega (arith, low)) in
+          let prefix : take i (take (c - j) es) ≡ take i es = take-take i (c - j) es (omega (arith, low)) in
           stays i (omega (arith, at_most)) (subst (λ xs. AreErased from.geometry xs u) prefix (erased_prefix from.geometry (take (c - j) es) u i are_erased)) ∙ ap (at from) (sym same)
       | inr high ↦
           let same : max c (j + i) ≡ j + i = omega (arith, high) in

@@ -7,7 +7,7 @@ use Rattle.std.proofs.lemmas.List.{get_or-append_right, get_or-replicate, get_or
 use Rattle.std.specs.Int.{div_ceil}
 use Rattle.std.specs.Prelude.{List, [], false, length, max, refl, replicate, slice_index, suc, true, zero, ℕ, ◌*◌, ◌+◌, ◌-◌, ◌<◌, ◌∷◌, ◌≡◌, ◌≤◌, ◌⊎◌}
 use Rattle.mc_boot.proofs.Courses.{slot_small}
-use Rattle.mc_boot.proofs.Images.{ImageLaws, SameImage, image_prefix, inside_size, same_prefixes, some_size}
+use Rattle.mc_boot.proofs.Images.{ImageLaws, SameImage, image_prefix, inside_size, same_prefixes, some_size, HasImage}
 use Rattle.mc_boot.proofs.Keeps.{place_beyond_data}
 use Rattle.mc_boot.proofs.Phases.{Swap, asked, larger_size, unasked}
 use Rattle.mc_boot.proofs.SwapEnds.{prefix_inside}
@@ -52,11 +52,15 @@ pub filled_free : (g : Geometry) (o : Slot) (a : List ℕ) (i : ℕ) → length 
 filled_free g o a i from below =
     get_or-append_right a (replicate (size_of g o - length a) 255) (length a) i 0 refl from ∙ get_or-replicate (size_of g o - length a) (i - length a) 255 0 (omega (arith, from, below))
 
--- What the starts have in common: each slot begins with its image.
-pub record Holding (g : Geometry) (a b : List ℕ) (s : Content) : Type 0 where
+-- The slots begin with these bytes.
+pub record Begins (g : Geometry) (x y : List ℕ) (s : Content) : Type 0 where
   pub sized : IsSized g s
-  pub primary : (i : ℕ) → i < length (image_bytes a) → slice_index s.primary i ≡ slice_index (image_bytes a) i
-  pub secondary : (i : ℕ) → i < length (image_bytes b) → slice_index s.secondary i ≡ slice_index (image_bytes b) i
+  pub primary : (i : ℕ) → i < length x → slice_index s.primary i ≡ slice_index x i
+  pub secondary : (i : ℕ) → i < length y → slice_index s.secondary i ≡ slice_index y i
+
+-- What the starts have in common: each slot begins with its image.
+abbrev pub Holding : Geometry → List ℕ → List ℕ → Content → Type 0
+Holding g a b s = Begins g (image_bytes a) (image_bytes b) s
 
 held_image : (g : Geometry) (a xs : List ℕ) (o : Slot) → ImageLaws → IsLayout g → BeginsImage g a → length xs ≡ size_of g o
     → ((i : ℕ) → i < length (image_bytes a) → slice_index xs i ≡ slice_index (image_bytes a) i) → SameImage a xs
@@ -76,13 +80,15 @@ secondary_image g a b s laws ok image h = held_image g b s.secondary Secondary l
 abbrev pub count_of : Geometry → Content → ℕ
 count_of g s = div_ceil (larger_size s) g.sector
 
-pub swap_held : (g : Geometry) (a b : List ℕ) (s : Content) → ImageLaws → IsLayout g → BeginsImage g a → BeginsImage g b → Holding g a b s → Swap g s (larger_size s) (count_of g s)
-swap_held g a b s laws ok at_a at_b h = record {
+-- the swap of two images that the slots hold
+pub swap_between : (g : Geometry) (s : Content) → ImageLaws → IsLayout g → IsSized g s → HasImage s.primary → HasImage s.secondary → count_of g s ≤ greatest_sectors g
+    → Swap g s (larger_size s) (count_of g s)
+swap_between g s laws ok sized one two at_most = record {
   laws = laws;
   ok = ok;
-  sized = h.sized;
-  primary = record { image = a; bytes = at_a.bytes; valid = at_a.valid; same = one };
-  secondary = record { image = b; bytes = at_b.bytes; valid = at_b.valid; same = two };
+  sized = sized;
+  primary = one;
+  secondary = two;
   larger = refl;
   count = refl;
   some = at_least (count_of g s) rows;
@@ -90,21 +96,26 @@ swap_held g a b s laws ok at_a at_b h = record {
   small = let small = slot_small g Primary ok in omega (arith, rows, prefix_inside g (count_of g s) Primary ok at_most, small);
 }
   where
+    rows : larger_size s ≤ count_of g s * g.sector
+    rows = let wide = ok.least_sector in (div_ceil_times (larger_size s) g.sector (omega (arith, wide))).0
+
+    some_byte : 0 < larger_size s
+    some_byte = let same = one.same.size in omega (arith, same, some_size one.image one.valid)
+
+    at_least : (n : ℕ) → larger_size s ≤ n * g.sector → 0 < n
+    at_least zero h = let none : zero * g.sector ≡ 0 = zero-mul g.sector in absurd (omega (arith, h, none, some_byte))
+    at_least (suc n) h = omega arith
+
+pub swap_held : (g : Geometry) (a b : List ℕ) (s : Content) → ImageLaws → IsLayout g → BeginsImage g a → BeginsImage g b → Holding g a b s → Swap g s (larger_size s) (count_of g s)
+swap_held g a b s laws ok at_a at_b h =
+    swap_between g s laws ok h.sized (record { image = a; bytes = at_a.bytes; valid = at_a.valid; same = one })
+    (record { image = b; bytes = at_b.bytes; valid = at_b.valid; same = two }) at_most
+  where
     one : SameImage a s.primary
     one = primary_image g a b s laws ok at_a h
 
     two : SameImage b s.secondary
     two = secondary_image g a b s laws ok at_b h
-
-    rows : larger_size s ≤ count_of g s * g.sector
-    rows = let wide = ok.least_sector in (div_ceil_times (larger_size s) g.sector (omega (arith, wide))).0
-
-    some_byte : 0 < larger_size s
-    some_byte = omega (arith, one.size, some_size a at_a.valid)
-
-    at_least : (n : ℕ) → larger_size s ≤ n * g.sector → 0 < n
-    at_least zero h = let none : zero * g.sector ≡ 0 = zero-mul g.sector in absurd (omega (arith, h, none, some_byte))
-    at_least (suc n) h = omega arith
 
     one_of : (x y : ℕ) → (max x y ≡ x) ⊎ (max x y ≡ y)
     one_of x y = elim (cases_lt x y) [ inl low ↦ inr (omega (arith, low)) | inr high ↦ inl (omega (arith, high)) ]
@@ -159,11 +170,6 @@ ok_free g y ok short =
     ∙ filled_free g Secondary y (place g Secondary field.ImageOk) (omega (arith, short, place_beyond_data g Secondary field.ImageOk ok)) (omega (arith, image_ok))
 
 -- what is there of the bytes
-record Begins (g : Geometry) (x y : List ℕ) (s : Content) : Type 0 where
-  sized : IsSized g s
-  primary : (i : ℕ) → i < length x → slice_index s.primary i ≡ slice_index x i
-  secondary : (i : ℕ) → i < length y → slice_index s.secondary i ≡ slice_index y i
-
 placed_begins : (g : Geometry) (x y : List ℕ) → IsLayout g → length x ≤ data_end g Primary → length y ≤ data_end g Secondary → Begins g x y (placed g x y)
 placed_begins g x y ok short_x short_y = record {
   sized = record { primary = length-filled g Primary x (short_in g x Primary ok short_x); secondary = length-filled g Secondary y (short_in g y Secondary ok short_y) };
@@ -200,11 +206,8 @@ unfolding marked
 test_fields g x y ok short field.Magic i h within = magic_there g y i ok short within
 test_fields g x y ok short field.ImageOk i h within =
     let first : 0 ≡ i = omega (arith, h) in
-    let E : ℕ → Type 0 = λ j. slice_index (marked g y) (place g Secondary field.ImageOk + j) ≡ slice_index (255 ∷ []) j in
-    subst E first (ap (slice_index (marked g y)) (omega arith) ∙ ok_free g y ok short)
-test_fields g x y ok short field.CopyDone i h within = absurd (omega (arith, h))
-test_fields g x y ok short field.SwapInfo i h within = absurd (omega (arith, h))
-test_fields g x y ok short field.SwapSize i h within = absurd (omega (arith, h))
+    rw (← first) (ap (slice_index (marked g y)) (omega arith) ∙ ok_free g y ok short)
+test_fields g x y ok short f i h within = absurd (omega (arith, h))
 
 perm_fields : (g : Geometry) (x y : List ℕ) → IsLayout g → length y ≤ data_end g Secondary → FieldsAre g (perm_flash g x y) Secondary (asked false)
 unfolding marked
@@ -214,25 +217,20 @@ perm_fields g x y ok short field.Magic i h within =
     put_beyond (marked g y) (1 ∷ []) (place g Secondary field.ImageOk) (place g Secondary field.Magic + i) (ok_fits g (marked g y) ok (length-marked g y ok short)) (omega (arith, magic, image_ok))
     ∙ magic_there g y i ok short within
 perm_fields g x y ok short field.ImageOk i h within = put_inside (marked g y) (1 ∷ []) (place g Secondary field.ImageOk) i (ok_fits g (marked g y) ok (length-marked g y ok short)) h
-perm_fields g x y ok short field.CopyDone i h within = absurd (omega (arith, h))
-perm_fields g x y ok short field.SwapInfo i h within = absurd (omega (arith, h))
-perm_fields g x y ok short field.SwapSize i h within = absurd (omega (arith, h))
+perm_fields g x y ok short f i h within = absurd (omega (arith, h))
 
 -- the same of the images of a and b
 pub placed_holds : (g : Geometry) (a b : List ℕ) → ImageLaws → IsLayout g → BeginsImage g a → BeginsImage g b → Holding g a b (placed g (image_bytes a) (image_bytes b))
 placed_holds g a b laws ok at_a at_b =
-    let h = placed_begins g (image_bytes a) (image_bytes b) ok (image_short g a Primary laws ok at_a) (image_short g b Secondary laws ok at_b) in
-    record { sized = h.sized; primary = h.primary; secondary = h.secondary }
+    placed_begins g (image_bytes a) (image_bytes b) ok (image_short g a Primary laws ok at_a) (image_short g b Secondary laws ok at_b)
 
 pub test_holds : (g : Geometry) (a b : List ℕ) → ImageLaws → IsLayout g → BeginsImage g a → BeginsImage g b → Holding g a b (test_flash g (image_bytes a) (image_bytes b))
 test_holds g a b laws ok at_a at_b =
-    let h = test_begins g (image_bytes a) (image_bytes b) ok (image_short g a Primary laws ok at_a) (image_short g b Secondary laws ok at_b) in
-    record { sized = h.sized; primary = h.primary; secondary = h.secondary }
+    test_begins g (image_bytes a) (image_bytes b) ok (image_short g a Primary laws ok at_a) (image_short g b Secondary laws ok at_b)
 
 pub perm_holds : (g : Geometry) (a b : List ℕ) → ImageLaws → IsLayout g → BeginsImage g a → BeginsImage g b → Holding g a b (perm_flash g (image_bytes a) (image_bytes b))
 perm_holds g a b laws ok at_a at_b =
-    let h = perm_begins g (image_bytes a) (image_bytes b) ok (image_short g a Primary laws ok at_a) (image_short g b Secondary laws ok at_b) in
-    record { sized = h.sized; primary = h.primary; secondary = h.secondary }
+    perm_begins g (image_bytes a) (image_bytes b) ok (image_short g a Primary laws ok at_a) (image_short g b Secondary laws ok at_b)
 
 pub test_asked : (g : Geometry) (a b : List ℕ) → ImageLaws → IsLayout g → BeginsImage g b → FieldsAre g (test_flash g (image_bytes a) (image_bytes b)) Secondary (asked true)
 test_asked g a b laws ok at_b = test_fields g (image_bytes a) (image_bytes b) ok (image_short g b Secondary laws ok at_b)

@@ -11,7 +11,7 @@ use Rattle.mc_boot.proofs.InPieces.{pieces_again, plan_in_pieces, swap_pieces, t
 use Rattle.mc_boot.proofs.Keeps.{Keeps}
 use Rattle.mc_boot.proofs.Moving.{Data, IsNoTarget, byte_held}
 use Rattle.mc_boot.proofs.Phases.{Asked, Ended, IsSwapOf, Phase, SeesImages, Swap, Under, absent_reverts, closed, image_ok_is, kind_asked, larger_size, plan_asked, plan_settled, plan_tested, plan_under, running, sees_images, starting, swap_of, tested}
-use Rattle.mc_boot.proofs.SwapsKeep.{rest_keeps, resumed_keeps, swap_keeps}
+use Rattle.mc_boot.proofs.SwapsKeep.{rest_keeps, swap_keeps, clearing_keeps}
 use Rattle.mc_boot.proofs.Transfers.{Held, at_start, exchanged, held_after_all, held_at, held_begin, held_end, other_number, place_below, same_transfer}
 use Rattle.mc_boot.specs.Plan.{Plan, PowerOn, again, image_size, moved_up, new_list, plan, power_on, transfers}
 use Rattle.mc_boot.specs.Restart.{AreExchanged, IsSettled, IsTested}
@@ -176,25 +176,22 @@ pub asked_swaps : (R : Content → Type 0) (x : PowerOn) (size n : ℕ) (b : Boo
 asked_swaps R from size n b whole w s is =
     let g = from.geometry in
     let c = from.rules.grain in
-    let F : Geometry → Type 0 = λ x. Keeps g (Phase R g from.content size n b) (new_list c x (kind_asked b) size n) s (Ended g from.content size n b) in
     by_plan R from size n b s (starting c g (kind_asked b) size n) (plan_asked from size n b s w (sees_start g from.content size n s w is.data_) is) (of_asked b) refl
-    (subst F (sym whole) (asked_keeps R c g from.content size n b s w is))
+    (rw whole (asked_keeps R c g from.content size n b s w is))
 
 -- from where it runs
 running_keeps : (R : Content → Type 0) (g : Geometry) (start : Content) (size n : ℕ) (b : Bool) (kind : SwapType) (k : ℕ) (s : Content) → Swap g start size n → IsSwapOf b kind → k ≤ 3 * n
     → Under g start size n kind k s → Keeps g (Phase R g start size n b) (running g kind n k (k == 0)).list s (Ended g start size n b)
-running_keeps R g start size n b kind zero s w of most is = resumed_keeps g start size n w b R kind s of is
+running_keeps R g start size n b kind zero s w of most is = clearing_keeps g start size n w b R kind s of (inr is)
 running_keeps R g start size n b kind (suc j) s w of most is =
-    let E : Bool → Type 0 = λ c. Keeps g (Phase R g start size n b) (running g kind n (suc j) c).list s (Ended g start size n b) in
-    subst E (sym (other_number (suc j) 0 (λ e. omega (arith, e)))) (rest_keeps g start size n w R b kind of (suc j) s most is)
+    rw (other_number (suc j) 0 (λ e. omega (arith, e))) (rest_keeps g start size n w R b kind of (suc j) s most is)
 
 pub running_swaps : (R : Content → Type 0) (x : PowerOn) (size n : ℕ) (b : Bool) (kind : SwapType) (k : ℕ) → in_pieces x.rules.grain x.geometry ≡ x.geometry → Swap x.geometry x.content size n
     → IsSwapOf b kind
     → k ≤ 3 * n → (s : Content) → Under x.geometry x.content size n kind k s → Swaps R x size n b s
 running_swaps R from size n b kind k whole w of most s is =
-    let F : Geometry → Type 0 = λ x. Keeps from.geometry (Phase R from.geometry from.content size n b) (running x kind n k (k == 0)).list s (Ended from.geometry from.content size n b) in
     by_plan R from size n b s (running (in_pieces from.rules.grain from.geometry) kind n k (k == 0)) (plan_under from size n b kind k s w of most is) of refl
-    (subst F (sym whole) (running_keeps R from.geometry from.content size n b kind k s w of most is))
+    (rw whole (running_keeps R from.geometry from.content size n b kind k s w of most is))
 
 -- from each phase
 pub phase_swaps : (R : Content → Type 0) (x : PowerOn) (size n : ℕ) (b : Bool) → in_pieces x.rules.grain x.geometry ≡ x.geometry → Swap x.geometry x.content size n
@@ -242,8 +239,7 @@ tested_fields g start size n z e = fields_prefix g z Primary (closed g e.0 size)
     less field.Magic = ([], refl)
     less field.ImageOk = (replicate 7 255, ap (λ (c : Bool). if c then blank_fields field.ImageOk else one_unit g 1) (swap_of true e.0 e.1))
     less field.CopyDone = (replicate (g.unit - 1) 255, refl)
-    less field.SwapInfo = (_, refl)
-    less field.SwapSize = (_, refl)
+    less f = (_, refl)
 
 -- the trailers at the end
 pub tested_end : (x : PowerOn) (size n : ℕ) (z : Content) → Swap x.geometry x.content size n → (e : Ended x.geometry x.content size n true z) → IsTested (again x z)

@@ -1,8 +1,8 @@
 -- The phases of a swap are kept by its transfers, by the whole of it, and by the preparation of a revert.
 use Rattle.std.proofs.Common.{ap, arith, inl, inr, subst, sym, ◌∙◌}
-use Rattle.std.proofs.lemmas.List.{get_or-replicate, length-replicate, length-take-le}
-use Rattle.std.specs.Prelude.{Bool, List, None, Option, Some, [], drop, false, flat_map, if◌then◌else◌, length, refl, replicate, slice_get, suc, take, true, zero, ℕ, ◌%◌, ◌*◌, ◌++◌, ◌+◌, ◌-◌, ◌/◌, ◌<◌, ◌∷◌, ◌≡◌, ◌≢◌, ◌≤◌, ◌⊎◌}
-use Rattle.mc_boot.proofs.Courses.{drop_at_place, drop_past_end, some_trailer}
+use Rattle.std.proofs.lemmas.List.{get_or-replicate, length-replicate, length-take-le, drop_all}
+use Rattle.std.specs.Prelude.{Bool, List, Some, [], drop, false, flat_map, if◌then◌else◌, length, refl, replicate, slice_get, suc, take, true, zero, ℕ, ◌%◌, ◌*◌, ◌++◌, ◌+◌, ◌-◌, ◌/◌, ◌<◌, ◌∷◌, ◌≡◌, ◌≢◌, ◌≤◌, ◌⊎◌}
+use Rattle.mc_boot.proofs.Courses.{drop_at_place, some_trailer, length-transfers}
 use Rattle.mc_boot.proofs.Keeps.{Erased, Keeps, Part, erase_beyond_data, erased_here, erased_still, erases_keep, field_write_keeps, keeps_append, keeps_then, place_beyond_data}
 use Rattle.mc_boot.proofs.Moving.{Copied, Data, IsOutside, Transferred, data_half, data_same, data_step, kept_below, transfer_keeps}
 use Rattle.mc_boot.proofs.Phases.{Asked, Ended, IsSwapOf, Phase, MagicUnset, Swap, Under, Waiting, asked, asks, closed, opened, runs, tested, unasked, waits}
@@ -30,17 +30,13 @@ use Rattle.mc_trailer.specs.declared.tables.SwapType.TheVariants as kinds
 -- what stands after the data sectors of a slot is outside of a transfer's target
 trailer_outside : (g : Geometry) (n k : ℕ) (x : Transfer) (o : Slot) (i : ℕ) → Fits g n k x → data_end g o ≤ i → IsOutside g x.to x.to_sector o i
 trailer_outside g n k x o i fits beyond same =
-    let E : Slot → Type 0 = λ p. data_end g p ≤ i in
-    let here : data_end g x.to ≤ i = subst E same beyond in
+    let here : data_end g x.to ≤ i = rw same at beyond in
     inr (omega (arith, here, sector_in_data g x.to x.to_sector fits.to_data))
 
 -- the trailers after copies of a transfer
 trailers_kept : (g : Geometry) (n k c : ℕ) (s u : Content) (x : Transfer) → IsLayout g → Fits g n k x → Copied g s u x c → (o : Slot) (i : ℕ) → size_of g o ≤ i + trailer_bytes g
     → byte u o i ≡ byte s o i
 trailers_kept g n k c s u x ok fits so o i beyond = so.elsewhere o i (trailer_outside g n k x o i fits (omega (arith, beyond, data_before_trailer g o ok)))
-
-field_in_trailer : (g : Geometry) (o : Slot) (i : ℕ) → size_of g o ≤ i + 48 → size_of g o ≤ i + trailer_bytes g
-field_in_trailer g o i h = omega (arith, h)
 
 -- Of a swap, under way.
 module _ (g : Geometry) (start : Content) (size n : ℕ) (w : Swap g start size n) where
@@ -52,9 +48,9 @@ module _ (g : Geometry) (start : Content) (size n : ℕ) (w : Swap g start size 
       let kept = trailers_kept g n k c s u x w.ok fits so in
       let at_most = w.at_most in
       record {
-        primary = fields_same g s u Primary (opened g kind size) w.ok (λ i h. kept Primary i (field_in_trailer g Primary i h)) is.primary;
+        primary = fields_same g s u Primary (opened g kind size) w.ok (λ i h. kept Primary i (omega (arith, h))) is.primary;
         entries = entries_kept g n k s u w.ok (omega (arith, at_most)) most (λ i h _. kept Primary i h) is.entries;
-        secondary = fields_same g s u Secondary unasked w.ok (λ i h. kept Secondary i (field_in_trailer g Secondary i h)) is.secondary;
+        secondary = fields_same g s u Secondary unasked w.ok (λ i h. kept Secondary i (omega (arith, h))) is.secondary;
         data_ = data_half g n start k c s u x at is.data_ so;
       }
 
@@ -106,33 +102,23 @@ module _ (g : Geometry) (start : Content) (size n : ℕ) (w : Swap g start size 
         let at_most = w.at_most in
         let below = place_below g n k x at in
         let number = number_below g n k (omega (arith, at_most)) below in
-        let E : ℕ → Type 0 = λ e. (i : ℕ) → i < g.unit → (byte s Primary (entry_place g e + i) ≡ 255) × IsOutside g x.to x.to_sector Primary (entry_place g e + i) in
         let entry : (i : ℕ) → i < g.unit → (byte s Primary (entry_place g x.entry + i) ≡ 255) × IsOutside g x.to x.to_sector Primary (entry_place g x.entry + i) =
-        subst E (sym fits.entry) (λ i h. (
-          is.entries.free (entry_number g n k) i number (λ some. over k some) h,
+        rw fits.entry (λ i h. (
+          is.entries.free (entry_number g n k) i number (λ some. number_up g n (k - 1) k (omega (arith, at_most)) (omega (arith, some))) h,
           trailer_outside g n k x Primary (entry_place g (entry_number g n k) + i) fits (omega (arith, entry_inside g (entry_number g n k) w.ok number, data_before_trailer g Primary w.ok)),
         )) in
         transfer_keeps g (Phase R g start size n b) s x w.ok fits.inside is.data_.sized (λ i h. (entry i h).0) (λ i h. (entry i h).1)
         (runs R g start size n b kind k s of (omega (arith, below)) is)
         (λ u c so. runs R g start size n b kind k u of (omega (arith, below)) (under_half kind k c s u x (omega (arith, below)) at is so))
-      where
-        over : (k : ℕ) → 0 < k → entry_number g n (k - 1) < entry_number g n k
-        over k some = let at_most = w.at_most in number_up g n (k - 1) k (omega (arith, at_most)) (omega (arith, some))
 
     pub transfers_keep : (m k : ℕ) (s : Content) → k + m ≡ 3 * n → Under g start size n kind k s
         → Keeps g (Phase R g start size n b) (flat_map (steps g) (drop k (transfers g n))) s (Under g start size n kind (3 * n))
     transfers_keep zero k s whole is =
-        let E : List Transfer → Type 0 = λ l. Keeps g (Phase R g start size n b) (flat_map (steps g) l) s (Under g start size n kind (3 * n)) in
-        let F : ℕ → Type 0 = λ j. Under g start size n kind j s in
-        subst E (sym (drop_past_end (transfers g n) k (none_at (slice_get (transfers g n) k) refl))) (subst F (omega (arith, whole)) is)
-      where
-        none_at : (o : Option Transfer) → slice_get (transfers g n) k ≡ o → slice_get (transfers g n) k ≡ None
-        none_at None e = e
-        none_at (Some x) e = absurd (omega (arith, whole, place_below g n k x e))
+        let last : 3 * n ≡ k = omega (arith, whole) in
+        rw (drop_all k (transfers g n) (omega (arith, whole, length-transfers g n)), last) is
     transfers_keep (suc m) k s whole is =
         let there = there_is g n k (omega (arith, whole)) in
-        let E : List Transfer → Type 0 = λ l. Keeps g (Phase R g start size n b) (flat_map (steps g) l) s (Under g start size n kind (3 * n)) in
-        subst E (sym (drop_at_place (transfers g n) k there.0 there.1))
+        rw (drop_at_place (transfers g n) k there.0 there.1)
         (keeps_append g (Phase R g start size n b) (λ v. Transferred g s v there.0) (Under g start size n kind (3 * n)) (steps g there.0) (flat_map (steps g) (drop (k + 1) (transfers g n))) s
         (one_keeps k s there.0 there.1 is)
         (λ v so. transfers_keep m (k + 1) v (omega (arith, whole)) (under_next kind k s v there.0 there.1 is so)))
@@ -161,11 +147,8 @@ module _ (g : Geometry) (start : Content) (size n : ℕ) (w : Swap g start size 
         )
       where
         closes : (f : Field) → set_field (opened g kind size) field.CopyDone (one_unit g 1) f ≡ closed g kind size f
-        closes field.Magic = refl
-        closes field.ImageOk = refl
         closes field.CopyDone = refl
-        closes field.SwapInfo = refl
-        closes field.SwapSize = refl
+        closes f = refl
 
     -- all that is left
     pub rest_keeps : (k : ℕ) (s : Content) → k ≤ 3 * n → Under g start size n kind k s
@@ -180,10 +163,7 @@ module _ (g : Geometry) (start : Content) (size n : ℕ) (w : Swap g start size 
 -- a slot whose magic is 0xff
 pub unasked_from : (g : Geometry) (s : Content) (slot : Slot) → ((i : ℕ) → i < 16 → byte s slot (place g slot field.Magic + i) ≡ 255) → FieldsAre g s slot unasked
 unasked_from g s slot free field.Magic i h within = free i within ∙ sym (get_or-replicate 16 i 255 0 within)
-unasked_from g s slot free field.ImageOk i h within = absurd (omega (arith, h))
-unasked_from g s slot free field.CopyDone i h within = absurd (omega (arith, h))
-unasked_from g s slot free field.SwapInfo i h within = absurd (omega (arith, h))
-unasked_from g s slot free field.SwapSize i h within = absurd (omega (arith, h))
+unasked_from g s slot free f i h within = absurd (omega (arith, h))
 
 pub unasked_is : (g : Geometry) (s : Content) (i : ℕ) → FieldsAre g s Secondary unasked → i < 16 → byte s Secondary (place g Secondary field.Magic + i) ≡ 255
 unasked_is g s i are below = are field.Magic i (omega (arith, below, length-replicate {A = ℕ} 16 255)) below ∙ get_or-replicate 16 i 255 0 below
@@ -193,6 +173,20 @@ pub data_erased : (g : Geometry) (slot : Slot) (n : ℕ) (start : Content) (k i 
 data_erased g slot n start k i s t below ch data_ =
     data_same g n start k s t (changed_sized g s t slot _ _ ch data_.sized) (kept_below g s t slot ((sectors_of g slot - 1 - i) * g.sector) (replicate g.sector 255) ch
     (erase_beyond_data g slot i below)) data_
+
+-- the first erase takes the secondary's magic
+pub magic_erased : (g : Geometry) (i : ℕ) (s t : Content) (p : ℕ) → IsLayout g → i ≡ 0 → Erased g Secondary i s t → p < 16 → byte t Secondary (place g Secondary field.Magic + p) ≡ 255
+magic_erased g i s t p ok first ch below = erased_here g Secondary i s t (place g Secondary field.Magic + p) ch last.0 last.1
+  where
+    at : (k : ℕ) → sectors_of g Secondary ≡ k + 1 → (k * g.sector ≤ place g Secondary field.Magic + p) × (place g Secondary field.Magic + p < k * g.sector + g.sector)
+    at k e =
+        let rows : sectors_of g Secondary * g.sector ≡ (k + 1) * g.sector = ap (λ n. n * g.sector) e in
+        let inside = place_inside g Secondary field.Magic ok in
+        let wide = ok.least_sector in
+        (omega (arith, rows, inside, wide), omega (arith, rows, inside, below))
+
+    last : ((sectors_of g Secondary - 1 - i) * g.sector ≤ place g Secondary field.Magic + p) × (place g Secondary field.Magic + p < (sectors_of g Secondary - 1 - i) * g.sector + g.sector)
+    last = at (sectors_of g Secondary - 1 - i) (let leaves = trailer_leaves_one g Secondary ok in omega (arith, first))
 
 -- the primary's trailer is made, and the secondary still asks
 pub record Ready (g : Geometry) (start : Content) (size n : ℕ) (b : Bool) (kind : SwapType) (s : Content) : Type 0 where
@@ -222,21 +216,9 @@ module _ (g : Geometry) (start : Content) (size n : ℕ) (w : Swap g start size 
   clears kind i t u below (inl first) ch = record {
     primary = fields_same g t u Primary (opened g kind size) w.ok (λ p h. ch.other Primary p (λ e. cc)) first.1.primary;
     entries = let at_most = w.at_most in entries_kept g n 0 t u w.ok (omega (arith, at_most)) (omega arith) (λ p h l. ch.other Primary p (λ e. cc)) first.1.entries;
-    secondary = unasked_from g u Secondary (λ p h. erased_here g Secondary i t u (place g Secondary field.Magic + p) ch (last.0 p) (last.1 p h));
+    secondary = unasked_from g u Secondary (λ p h. magic_erased g i t u p w.ok first.0 ch h);
     data_ = data_erased g Secondary n start 0 i t u below ch first.1.is_asked.data_;
   }
-    where
-      last : ((p : ℕ) → (sectors_of g Secondary - 1 - i) * g.sector ≤ place g Secondary field.Magic + p)
-          × ((p : ℕ) → p < 16 → place g Secondary field.Magic + p < (sectors_of g Secondary - 1 - i) * g.sector + g.sector)
-      last = at (sectors_of g Secondary - 1 - i) (let leaves = trailer_leaves_one g Secondary w.ok in let zero_ = first.0 in omega arith)
-        where
-          at : (k : ℕ) → sectors_of g Secondary ≡ k + 1
-              → ((p : ℕ) → k * g.sector ≤ place g Secondary field.Magic + p) × ((p : ℕ) → p < 16 → place g Secondary field.Magic + p < k * g.sector + g.sector)
-          at k e =
-              let rows : sectors_of g Secondary * g.sector ≡ (k + 1) * g.sector = ap (λ n. n * g.sector) e in
-              let inside = place_inside g Secondary field.Magic w.ok in
-              let wide = w.ok.least_sector in
-              (λ p. omega (arith, rows, inside, wide), λ p h. omega (arith, rows, inside, h))
   clears kind i t u below (inr under) ch = record {
     primary = fields_same g t u Primary (opened g kind size) w.ok (λ p h. ch.other Primary p (λ e. cc)) under.primary;
     entries = let at_most = w.at_most in entries_kept g n 0 t u w.ok (omega (arith, at_most)) (omega arith) (λ p h l. ch.other Primary p (λ e. cc)) under.entries;
@@ -292,11 +274,6 @@ module _ (g : Geometry) (start : Content) (size n : ℕ) (w : Swap g start size 
         cleared t (inl none) = absurd (omega (arith, none.0, some_trailer g w.ok))
         cleared t (inr under) = under
 
-    -- no transfer made: the secondary's trailer is erased again
-    pub resumed_keeps : (kind : SwapType) (s : Content) → IsSwapOf b kind → Under g start size n kind 0 s
-        → Keeps g (Phase R g start size n b) (resumed_list g n 0 true false) s (Ended g start size n b)
-    resumed_keeps kind s of is = clearing_keeps kind s of (inr is)
-
     pub opening_field_keeps : (c : Grain) (v : Field → List ℕ) (f : Field) (new : List ℕ) (s : Content)
         → Opening g start n b v s → FieldIs g s Primary f (replicate (room f) 255) → length new ≤ room f → length new % g.unit ≡ 0
         → Keeps g (Phase R g start size n b) (write c g Primary f new) s (Opening g start n b (set_field v f new))
@@ -342,17 +319,12 @@ module _ (g : Geometry) (start : Content) (size n : ℕ) (w : Swap g start size 
       where
         same : (f : Field) → marked_by g size (set_field blank_fields field.SwapInfo (one_unit g 2)) f ≡ opened g kinds.Test size f
         same field.Magic = refl
-        same field.ImageOk = refl
-        same field.CopyDone = refl
-        same field.SwapInfo = refl
-        same field.SwapSize = refl
+        same f = refl
 
     opening_stays : (c : Grain) (kind : SwapType) (s : Content) → Opening g start n b blank_fields s → is_test kind ≡ false
         → Keeps g (Phase R g start size n b) (opening_writes c g kind size) s (Ready g start size n b kind)
     opening_stays c kind s is stays =
-        let E : Bool → Type 0 = λ e. Keeps g (Phase R g start size n b) (info_write g kind ∷ (if e then marking c g Primary size else image_ok_write g Primary ∷ marking c g Primary size)) s
-        (Ready g start size n b kind) in
-        subst E (sym stays)
+        rw stays
         (keeps_append g (Phase R g start size n b) (Opening g start n b (set_field blank_fields field.SwapInfo (one_unit g (number_of kind)))) (Ready g start size n b kind) (info_write g kind ∷ [])
         (image_ok_write g Primary ∷ marking c g Primary size) s
         (first_keeps blank_fields field.SwapInfo (number_of kind) s is refl)
@@ -363,20 +335,15 @@ module _ (g : Geometry) (start : Content) (size n : ℕ) (w : Swap g start size 
         (marking_keeps c (staying g (number_of kind)) u k refl refl))))
       where
         same : (f : Field) → marked_by g size (staying g (number_of kind)) f ≡ opened g kind size f
-        same field.Magic = refl
         same field.ImageOk = ap (λ (e : Bool). if e then blank_fields field.ImageOk else one_unit g 1) (sym stays)
-        same field.CopyDone = refl
-        same field.SwapInfo = refl
-        same field.SwapSize = refl
+        same f = refl
 
     pub opening_keeps : (c : Grain) (kind : SwapType) (s : Content) → IsSwapOf b kind → Opening g start n b blank_fields s
         → Keeps g (Phase R g start size n b) (opening_writes c g kind size) s (Ready g start size n b kind)
     opening_keeps c kinds.Test s of is = opening_test c s is
     opening_keeps c kinds.Perm s of is = opening_stays c kinds.Perm s is refl
     opening_keeps c kinds.Revert s of is = opening_stays c kinds.Revert s is refl
-    opening_keeps c kinds.None s of is = absurd of
-    opening_keeps c kinds.Fail s of is = absurd of
-    opening_keeps c kinds.Panic s of is = absurd of
+    opening_keeps c kind s of is = absurd of
 
     pub swap_keeps : (c : Grain) (kind : SwapType) (s : Content) → IsSwapOf b kind → Asked g start n b s
         → Keeps g (Phase R g start size n b) (swap_list c g kind size n) s (Ended g start size n b)
@@ -506,9 +473,7 @@ module _ (g : Geometry) (start : Content) (size n : ℕ) (w : Swap g start size 
         less : (f : Field) → (rest : List ℕ) × (set_field (sized g size) field.Magic magic_bytes f ≡ asked false f ++ rest)
         less field.Magic = ([], refl)
         less field.ImageOk = (replicate (g.unit - 1) 255, refl)
-        less field.CopyDone = (_, refl)
-        less field.SwapInfo = (_, refl)
-        less field.SwapSize = (_, refl)
+        less f = (_, refl)
 
     pub revert_keeps : (s : Content) → Waiting c g start n s → Keeps g (Bears) (new_list c g kinds.Revert size n) s (Ended g start size n false)
     revert_keeps s is =

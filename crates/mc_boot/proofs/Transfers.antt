@@ -1,11 +1,11 @@
 -- The transfers of a swap: where each reads and writes, its status entry, and the highest entry that is written.
-use Rattle.std.proofs.Common.{add-zero, ap, arith, eq-eqb, inl, inr, subst, sym, zero-add, ◌∙◌}
+use Rattle.std.proofs.Common.{add-zero, ap, arith, eq-eqb, inl, inr, subst, sym, zero-add, ◌∙◌, add-one}
 use Rattle.std.proofs.lemmas.Bool.{cases_eq, cases_lt}
 use Rattle.std.proofs.lemmas.Bool.Decides.{nat_tests}
 use Rattle.std.proofs.lemmas.Iterator.Adapters.{position_from-zero}
-use Rattle.std.proofs.lemmas.Option.{slice_get_within}
+use Rattle.std.proofs.lemmas.Option.{slice_get_within, get_or_from_slice_get}
 use Rattle.std.specs.List.{position_from, range_with_len}
-use Rattle.std.specs.Prelude.{Bool, List, None, Option, Some, [], false, flat_map, if◌then◌else◌, length, map, nat_lt, option_map, position, refl, slice_get, suc, take, true, zero, ℕ, ◌%◌, ◌&&◌, ◌*◌, ◌++◌, ◌+◌, ◌-◌, ◌/◌, ◌<◌, ◌==◌, ◌∷◌, ◌≡◌, ◌≤◌, ◌⊎◌}
+use Rattle.std.specs.Prelude.{Bool, List, None, Option, Some, [], false, flat_map, if◌then◌else◌, map, nat_lt, option_map, refl, slice_get, suc, take, true, zero, ℕ, ◌%◌, ◌&&◌, ◌*◌, ◌++◌, ◌+◌, ◌-◌, ◌/◌, ◌<◌, ◌==◌, ◌∷◌, ◌≡◌, ◌≤◌, ◌⊎◌}
 use Rattle.mc_boot.proofs.Courses.{get_brought, get_moved, get_taken, length-transfers}
 use Rattle.mc_boot.specs.Boot.{IsInside}
 use Rattle.mc_boot.specs.Plan.{brought_in, first_left, moved_up, taken_out, transfers}
@@ -19,6 +19,7 @@ use Rattle.mc_flash.specs.facts.Layouts.{data_sectors, small_unit}
 use Rattle.mc_trailer.specs.Trailer.{entry_place, highest_entry, one_unit}
 use Rattle.mc_trailer.specs.facts.Entries.{blank_entry, entries_same, entry_kept_beside, highest_at, highest_none, written_entry}
 use Rattle.mc_trailer.specs.facts.Places.{entry_ends, entry_inside}
+use lib.Seq.{take-suc, take_all}
 
 -- Where each sector's bytes come from, after transfers. No byte is in it.
 
@@ -28,9 +29,8 @@ Held = Slot → ℕ → Slot × ℕ
 
 abbrev pub is_same : Slot → Slot → Bool
 is_same Primary Primary = true
-is_same Primary Secondary = false
-is_same Secondary Primary = false
 is_same Secondary Secondary = true
+is_same o p = false
 
 abbrev pub held_after : Held → Transfer → Held
 held_after f x o i = if is_same o x.to && i == x.to_sector then f x.from x.from_sector else f o i
@@ -55,9 +55,6 @@ pub record Paired (n k : ℕ) (f : Held) : Type 0 where
   pub taken : (i : ℕ) → i < k → f Secondary i ≡ (Primary, i)
   pub waits : (i : ℕ) → k ≤ i → f Secondary i ≡ (Secondary, i)
 
-same_number : (m n : ℕ) → m ≡ n → (m == n) ≡ true
-same_number m n e = eq-eqb m n e
-
 pub other_number : (m n : ℕ) → (m ≡ n → ⊥) → (m == n) ≡ false
 other_number m n distinct = grind (arith, nat_tests)
 
@@ -65,7 +62,7 @@ move_step : (n j : ℕ) (f : Held) → j < n → Moved n j f → Moved n (j + 1)
 move_step n j f below m = record {
   low = λ i h. rw (other_number i (n - j) (λ e. omega (arith, e, h, below))) (m.low i (omega (arith, h)));
   high = λ i h k. elim (cases_eq (i + 1) (n - j)) [
-    | inl here ↦ rw (same_number (i + 1) (n - j) here) (m.low (n - 1 - j) (omega (arith, below)) ∙ ap (λ (a : ℕ). (Primary, a)) (omega (arith, here)))
+    | inl here ↦ rw (eq-eqb (i + 1) (n - j) here) (m.low (n - 1 - j) (omega (arith, below)) ∙ ap (λ (a : ℕ). (Primary, a)) (omega (arith, here)))
     | inr past ↦ rw (other_number (i + 1) (n - j) past) (m.high i h (omega (arith, k, past, below)))
   ];
   other = λ i. m.other i;
@@ -74,12 +71,12 @@ move_step n j f below m = record {
 pair_step : (g : Geometry) (n k : ℕ) (f : Held) → k < n → Paired n k f → Paired n (k + 1) (held_after (held_after f (brought_in g k)) (taken_out g k))
 pair_step g n k f below p = record {
   done = λ i h. elim (cases_eq i k) [
-    | inl here ↦ rw (same_number i k here) (p.waits k (omega arith) ∙ ap (λ (a : ℕ). (Secondary, a)) (sym here))
+    | inl here ↦ rw (eq-eqb i k here) (p.waits k (omega arith) ∙ ap (λ (a : ℕ). (Secondary, a)) (sym here))
     | inr past ↦ rw (other_number i k past) (p.done i (omega (arith, h, past)))
   ];
   left = λ i h l. rw (other_number (i + 1) k (λ e. omega (arith, e, h))) (p.left i (omega (arith, h)) l);
   taken = λ i h. elim (cases_eq i k) [
-    | inl here ↦ rw (same_number i k here, other_number (k + 1) k (λ e. omega (arith, e))) (p.left k (omega arith) below ∙ ap (λ (a : ℕ). (Primary, a)) (sym here))
+    | inl here ↦ rw (eq-eqb i k here, other_number (k + 1) k (λ e. omega (arith, e))) (p.left k (omega arith) below ∙ ap (λ (a : ℕ). (Primary, a)) (sym here))
     | inr past ↦ rw (other_number i k past) (p.taken i (omega (arith, h, past)))
   ];
   waits = λ i h. rw (other_number i k (λ e. omega (arith, e, h))) (p.waits i (omega (arith, h)));
@@ -104,8 +101,7 @@ exchanged g n =
     moves n 0 n at_start (omega arith) (record { low = λ i _. refl; high = λ i h k. absurd (omega (arith, h, k)); other = λ i. refl }) in
     let begin : Paired n 0 (held_after_all at_start (map (moved_up n) (range_with_len 0 n))) =
     record { done = λ i h. absurd (omega (arith, h)); left = λ i h l. first.high i l (omega arith); taken = λ i h. absurd (omega (arith, h)); waits = λ i h. first.other i } in
-    let E : Held → Type 0 = λ f. Paired n n f in
-    subst E (sym (held_append at_start (map (moved_up n) (range_with_len 0 n)) (flat_map (λ i. brought_in g i ∷ taken_out g i ∷ []) (range_with_len 0 n))))
+    rw (held_append at_start (map (moved_up n) (range_with_len 0 n)) (flat_map (λ i. brought_in g i ∷ taken_out g i ∷ []) (range_with_len 0 n)))
     (pairs g n 0 n (held_after_all at_start (map (moved_up n) (range_with_len 0 n))) (omega arith) begin)
 
 -- The status entries of the first k transfers, and the highest of them.
@@ -190,10 +186,8 @@ found_from p (y ∷ xs) i zero x here passes before =
     let same : y ≡ x = cc in
     rw (ap p same ∙ passes) (ap (λ (n : ℕ). Some n) (omega arith))
 found_from p (y ∷ xs) i (suc k) x here passes before =
-    rw (before 0 y (omega arith) refl) (found_from p xs (i + 1) k x here passes (λ j z below at. before (suc j) z (omega (arith, below)) at) ∙ ap (λ (n : ℕ). Some n) (later i k))
-  where
-    later : (i k : ℕ) → i + 1 + k ≡ i + suc k
-    later i k = omega arith
+    let later : i + 1 + k ≡ i + suc k = omega arith in
+    rw (before 0 y (omega arith) refl) (found_from p xs (i + 1) k x here passes (λ j z below at. before (suc j) z (omega (arith, below)) at) ∙ ap (λ (n : ℕ). Some n) later)
 
 none_from : {A : Type 0} (p : A → Bool) (xs : List A) (i : ℕ) → ((j : ℕ) (y : A) → slice_get xs j ≡ Some y → p y ≡ false) → position_from p i xs ≡ None
 none_from p [] i fails = refl
@@ -238,28 +232,24 @@ apart g n j k d e at_most before (inl low) (inr high) same = omega (arith, low.0
 apart g n j k d e at_most before (inr low) (inl high) same = omega (arith, low.0, high.0)
 apart g n j k d e at_most before (inr low) (inr high) same = omega (arith, low.2, high.2)
 
-position_is : (p : Transfer → Bool) (xs : List Transfer) → position p xs ≡ position_from p 0 xs
-position_is p xs = position_from-zero p xs
-
 pub left_after : (g : Geometry) (n k e : ℕ) (t : Transfer) → n ≤ g.max_sectors → slice_get (transfers g n) k ≡ Some t → t.entry ≡ e → first_left g n (Some e) ≡ Some (k + 1)
 left_after g n k e t at_most at is =
     let p : Transfer → Bool = λ u. u.entry == e in
     let found : position_from p 0 (transfers g n) ≡ Some (0 + k) =
     found_from p (transfers g n) 0 k t at (eq-eqb t.entry e is)
     (λ j y below there. other_number y.entry e (λ same. apart g n j k y.entry t.entry at_most below (entry_of_place g n j y there) (entry_of_place g n k t at) (same ∙ sym is))) in
-    ap (option_map (λ (i : ℕ). i + 1)) (position_is p (transfers g n) ∙ found ∙ ap (λ (m : ℕ). Some m) (zero-add k))
+    ap (option_map (λ (i : ℕ). i + 1)) (position_from-zero p (transfers g n) ∙ found ∙ ap (λ (m : ℕ). Some m) (zero-add k))
 
 other_entry : (g : Geometry) (n k d e : ℕ) → entry_at g n k d → n ≤ e → (e < g.max_sectors) ⊎ (g.max_sectors + 2 * n ≤ e) → d ≡ e → ⊥
 unfolding entry_at
-other_entry g n k d e (inl low) above (inl small) same = omega (arith, low.0, low.1)
-other_entry g n k d e (inl low) above (inr great) same = omega (arith, low.0, low.1)
+other_entry g n k d e (inl low) above other same = omega (arith, low.0, low.1)
 other_entry g n k d e (inr high) above (inl small) same = omega (arith, high.0, high.1, high.2)
 other_entry g n k d e (inr high) above (inr great) same = omega (arith, high.0, high.1, high.2)
 
 pub left_none : (g : Geometry) (n e : ℕ) → n ≤ e → (e < g.max_sectors) ⊎ (g.max_sectors + 2 * n ≤ e) → first_left g n (Some e) ≡ None
 left_none g n e above other =
     let p : Transfer → Bool = λ u. u.entry == e in
-    ap (option_map (λ (i : ℕ). i + 1)) (position_is p (transfers g n)
+    ap (option_map (λ (i : ℕ). i + 1)) (position_from-zero p (transfers g n)
     ∙ none_from p (transfers g n) 0 (λ j y there. other_number y.entry e (other_entry g n j y.entry e (entry_of_place g n j y there) above other)))
 
 pub left_at_pair : (g : Geometry) (n e : ℕ) → n ≤ g.max_sectors → g.max_sectors ≤ e → e - g.max_sectors < 2 * n → first_left g n (Some e) ≡ Some (n + (e - g.max_sectors) + 1)
@@ -329,17 +319,14 @@ pub fits_at : (g : Geometry) (n k : ℕ) (x : Transfer) → IsLayout g → n ≤
 fits_at g n k x ok at_most at = elim (cases_lt k n) [
   | inl low ↦
       let same : moved_up n k ≡ x = same_transfer (moved_up n k) x (sym (get_moved g n k low) ∙ at) in
-      let E : Transfer → Type 0 = λ y. Fits g n k y in
-      subst E same (fits_moved g n k ok at_most low)
+      rw (← same) (fits_moved g n k ok at_most low)
   | inr high ↦ elim (cases_eq ((k - n) % 2) 0) [
     | inl even ↦
         let same : brought_in g ((k - n) / 2) ≡ x = same_transfer (brought_in g ((k - n) / 2)) x (sym (get_brought g n k ((k - n) / 2) (omega (arith, within)) (omega arith)) ∙ at) in
-        let E : Transfer → Type 0 = λ y. Fits g n k y in
-        subst E same (fits_brought g n k ((k - n) / 2) ok at_most (omega (arith, within)) (omega arith))
+        rw (← same) (fits_brought g n k ((k - n) / 2) ok at_most (omega (arith, within)) (omega arith))
     | inr odd ↦
         let same : taken_out g ((k - n) / 2) ≡ x = same_transfer (taken_out g ((k - n) / 2)) x (sym (get_taken g n k ((k - n) / 2) (omega (arith, within)) (omega arith)) ∙ at) in
-        let E : Transfer → Type 0 = λ y. Fits g n k y in
-        subst E same (fits_taken g n k ((k - n) / 2) ok at_most (omega (arith, within)) (omega arith))
+        rw (← same) (fits_taken g n k ((k - n) / 2) ok at_most (omega (arith, within)) (omega arith))
   ]
 ]
   where
@@ -358,18 +345,7 @@ pub held_at : Geometry → ℕ → ℕ → Held
 held_at g n k = held_after_all at_start (take k (transfers g n))
 
 take_more : {A : Type 0} (xs : List A) (k : ℕ) (x : A) → slice_get xs k ≡ Some x → take (k + 1) xs ≡ take k xs ++ x ∷ []
-take_more [] k x h = cc
-take_more (y ∷ xs) zero x h = let e : y ≡ x = cc in ap (λ z. z ∷ []) e
-take_more (y ∷ xs) (suc k) x h = ap (λ n. take n (y ∷ xs)) (next k) ∙ ap (λ l. y ∷ l) (take_more xs k x h)
-  where
-    next : (k : ℕ) → suc k + 1 ≡ suc (k + 1)
-    next k = omega arith
-
-pub take_whole : {A : Type 0} (xs : List A) (k : ℕ) → k ≡ length xs → take k xs ≡ xs
-take_whole [] zero e = refl
-take_whole [] (suc k) e = refl
-take_whole (x ∷ xs) zero e = absurd (omega (arith, e))
-take_whole (x ∷ xs) (suc k) e = ap (λ l. x ∷ l) (take_whole xs k (omega (arith, e)))
+take_more xs k x h = rw (add-one, take-suc xs k x (slice_get_within xs k x h), get_or_from_slice_get xs k x x h) refl
 
 pub held_next : (g : Geometry) (n k : ℕ) (x : Transfer) → slice_get (transfers g n) k ≡ Some x → held_at g n (k + 1) ≡ held_after (held_at g n k) x
 unfolding held_at
@@ -381,7 +357,7 @@ held_begin g n = refl
 
 pub held_end : (g : Geometry) (n : ℕ) → held_at g n (3 * n) ≡ held_after_all at_start (transfers g n)
 unfolding held_at
-held_end g n = ap (held_after_all at_start) (take_whole (transfers g n) (3 * n) (sym (length-transfers g n)))
+held_end g n = ap (held_after_all at_start) (take_all (3 * n) (transfers g n) (omega (arith, length-transfers g n)))
 
 -- at the target, and elsewhere
 same_is : (o : Slot) → is_same o o ≡ true
@@ -390,9 +366,8 @@ same_is Secondary = refl
 
 is_same_means : (o p : Slot) → is_same o p ≡ true → o ≡ p
 is_same_means Primary Primary e = refl
-is_same_means Primary Secondary e = cc
-is_same_means Secondary Primary e = cc
 is_same_means Secondary Secondary e = refl
+is_same_means o p e = cc
 
 pub held_here : (f : Held) (x : Transfer) → held_after f x x.to x.to_sector ≡ f x.from x.from_sector
 held_here f x = rw (same_is x.to) (rw (eq-eqb x.to_sector x.to_sector refl) refl)

@@ -1,5 +1,5 @@
 -- The application's own work leaves bytes; a list of operations erases a sector at most twice.
-use Rattle.std.proofs.Common.{ap, arith, inl, inr, subst, ◌∙◌}
+use Rattle.std.proofs.Common.{ap, arith, inl, inr, ◌∙◌}
 use Rattle.std.proofs.lemmas.Bool.{cases_eq, cases_lt}
 use Rattle.std.proofs.lemmas.Bool.Decides.{nat_tests}
 use Rattle.std.proofs.lemmas.List.{get_or-replicate, get_or_past, length-replicate}
@@ -9,7 +9,7 @@ use Rattle.std.specs.Prelude.{Bool, List, None, Option, Some, [], drop, false, f
 use Rattle.mc_boot.proofs.Transfers.{other_number}
 use Rattle.mc_boot.specs.Life.{AreSecondary, WearLaw, WorkLaw, all_erases, erases}
 use Rattle.mc_boot.specs.Outcome.{first_then, happening, ops_of}
-use Rattle.mc_boot.specs.Plan.{Plan, PowerOn, brought_in, closing, confirms, copy_of, entry_of, first_left, from_transfer, image_ok_write, images_of, info_write, is_revert, is_test, marking, moved_up, new_list, new_plan, new_swap, nothing, opening_writes, piece, plan, plan_with, preparation_writes, resumed_from, resumed_list, resumed_plan, resumed_swap, steps, swap_list, taken_out, trailer_erase, trailer_erases, transfers, write}
+use Rattle.mc_boot.specs.Plan.{Plan, PowerOn, brought_in, closing, confirms, copy_of, first_left, from_transfer, images_of, is_revert, marking, moved_up, new_list, new_plan, new_swap, nothing, opening_writes, piece, plan, plan_with, preparation_writes, resumed_from, resumed_list, resumed_plan, resumed_swap, steps, swap_list, taken_out, trailer_erase, trailer_erases, transfers, write}
 use Rattle.mc_boot.specs.declared.image.Images.{Images}
 use Rattle.mc_boot.specs.declared.transfer.Transfer.{Transfer}
 use Rattle.mc_flash.specs.Flash.{Content, IsSized, apply, erased, in_slot, is_blank, put, size_of, with_bytes}
@@ -24,12 +24,12 @@ use Rattle.mc_flash.specs.facts.Layouts.{data_sectors, sector_inside, trailer_le
 use Rattle.mc_flash.specs.facts.Pieces.{pieces_layout}
 use Rattle.mc_image.specs.Image.{IsBytes}
 use Rattle.mc_trailer.specs.Tables.{is_resumed, table_of}
-use Rattle.mc_trailer.specs.Trailer.{highest_entry, magic_bytes, place, size_bytes, trailer_of}
+use Rattle.mc_trailer.specs.Trailer.{highest_entry, place, trailer_of}
 use Rattle.mc_trailer.specs.declared.places.Field.{Field}
 use Rattle.mc_trailer.specs.declared.tables.SwapType.{SwapType}
 use Rattle.mc_trailer.specs.declared.trailer.Flag.{Flag}
 use Rattle.mc_trailer.specs.declared.trailer.Trailer.{Trailer}
-use Rattle.mc_trailer.specs.declared.places.Field.TheVariants as field
+use Rattle.mc_boot.proofs.Courses.{greatest_pieces}
 use Rattle.mc_flash.specs.declared.flash.Grain.TheVariants as grains
 use Rattle.mc_trailer.specs.declared.tables.SwapType.TheVariants as kinds
 
@@ -47,10 +47,9 @@ put_bytes xs new at fits old fresh i = elim (cases_lt i at) [
   where
     within : (k : ℕ) → k < length new → at + k ≡ i → slice_index (put xs at new) i < 256
     within k short is =
-        let E : ℕ → Type 0 = λ j. slice_index (put xs at new) j < 256 in
         let same = put_inside xs new at k fits short in
         let small = fresh k in
-        subst E is (omega (arith, same, small))
+        rw (← is) (omega (arith, same, small))
 
 pub erased_bytes : (n : ℕ) → IsBytes (replicate n 255)
 erased_bytes n i = elim (cases_lt i n) [
@@ -70,24 +69,17 @@ work_law g (Erase Primary sector) s t ok sized bytes work can is = absurd work
 work_law g (Erase Secondary sector) s t ok sized bytes work can is =
     let new : Content = with_bytes s Secondary (erased g.sector sector s.secondary) in
     let same : new ≡ t = same_content new t is in
-    let E : Content → Type 0 = λ x. AreSecondary g x.secondary × (x ≡ with_bytes s Secondary x.secondary) in
     let inside = sector_inside g Secondary sector can in
-    subst E same (stored g s (sector * g.sector) (replicate g.sector 255) sized bytes (erased_bytes g.sector) (omega (arith, inside, length-replicate {A = ℕ} g.sector 255)), refl)
+    rw (← same) (stored g s (sector * g.sector) (replicate g.sector 255) sized bytes (erased_bytes g.sector) (omega (arith, inside, length-replicate {A = ℕ} g.sector 255)), refl)
 work_law g (Program Primary at new) s t ok sized bytes work can is = absurd work
 work_law g (Program Secondary at new) s t ok sized bytes work can is = go (is_blank (between at (at + length new) s.secondary)) is
   where
-    E : Content → Type 0
-    E x = AreSecondary g x.secondary × (x ≡ with_bytes s Secondary x.secondary)
-
     go : (b : Bool) → in_slot s Secondary (if b then Some (put s.secondary at new) else None) ≡ Some t → AreSecondary g t.secondary × (t ≡ with_bytes s Secondary t.secondary)
     go true e =
         let given : Content = with_bytes s Secondary (put s.secondary at new) in
         let same : given ≡ t = same_content given t e in
-        subst E same (stored g s at new sized bytes work can.inside, refl)
-    go false e = absurd (none e)
-      where
-        none : None ≡ Some t → ⊥
-        none e = cc
+        rw (← same) (stored g s at new sized bytes work can.inside, refl)
+    go false e = absurd cc
 work_law g (Copy from at to offset len) s t ok sized bytes work can is = absurd work
 
 -- No power-on erases a sector more than twice.
@@ -120,11 +112,8 @@ module _ (o : Slot) (k : ℕ) where
     where
       go : (s : Slot) (op : Op) → (erases s k op ≡ 0) ⊎ (erases s k op ≡ 1)
       go Primary (Erase Primary i) = hit (i == k)
-      go Primary (Erase Secondary i) = inl refl
-      go Secondary (Erase Primary i) = inl refl
       go Secondary (Erase Secondary i) = hit (i == k)
-      go s (Program to at bytes) = inl refl
-      go s (Copy from at to offset len) = inl refl
+      go s op = inl refl
 
   W-append : (xs ys : List Op) → W (xs ++ ys) ≡ W xs + W ys
   W-append [] ys = omega arith
@@ -166,22 +155,13 @@ module _ (o : Slot) (k : ℕ) where
 
   marked : (c : Grain) (l : Geometry) (slot : Slot) (size : ℕ) → W (marking c l slot size) ≡ 0
   marked c l slot size =
-      omega (
-        arith,
-        W-append (write c l slot field.SwapSize (size_bytes l size)) (write c l slot field.Magic magic_bytes),
-        written c l slot field.SwapSize (size_bytes l size),
-        written c l slot field.Magic magic_bytes,
-      )
+      omega (arith, W-append, written)
 
   prepared : (c : Grain) (l : Geometry) (size : ℕ) → W (preparation_writes c l size) ≡ 0
   prepared c l size = omega (arith, marked c l Secondary size)
 
   opened : (c : Grain) (l : Geometry) (kind : SwapType) (size : ℕ) → W (opening_writes c l kind size) ≡ 0
-  opened c l kind size = go (is_test kind)
-    where
-      go : (b : Bool) → W (info_write l kind ∷ (if b then marking c l Primary size else image_ok_write l Primary ∷ marking c l Primary size)) ≡ 0
-      go true = omega (arith, marked c l Primary size)
-      go false = omega (arith, marked c l Primary size)
+  opened c l kind size = grind (arith, marked c l Primary size)
 
   closed : (l : Geometry) (image_ok : Bool) → W (closing l image_ok) ≡ 0
   closed l true = refl
@@ -193,11 +173,7 @@ module _ (o : Slot) (k : ℕ) where
 
   stepped : (l : Geometry) (t : Transfer) → W (steps l t) ≡ erases o k (target t)
   stepped l t =
-      omega (
-        arith,
-        W-append (map (copy_of l t) (range_with_len 0 (l.sector / l.chunk))) (entry_of l t ∷ []),
-        none_of (copy_of l t) (range_with_len 0 (l.sector / l.chunk)) (λ i. refl),
-      )
+      omega (arith, W-append, none_of (copy_of l t) (range_with_len 0 (l.sector / l.chunk)) (λ i. refl))
 
   targets : (l : Geometry) (ts : List Transfer) → W (flat_map (steps l) ts) ≡ W (map target ts)
   targets l [] = refl
@@ -223,12 +199,7 @@ module _ (o : Slot) (k : ℕ) where
   all_targets : (l : Geometry) (n : ℕ) → W (map target (transfers l n))
       ≡ W (map (λ j. Erase Primary (n - j)) (range_with_len 0 n)) + (W (map (λ i. Erase Primary i) (range_with_len 0 n)) + W (map (λ i. Erase Secondary i) (range_with_len 0 n)))
   all_targets l n =
-      omega (
-        arith,
-        targets-append (map (moved_up n) (range_with_len 0 n)) (flat_map (λ i. brought_in l i ∷ taken_out l i ∷ []) (range_with_len 0 n)),
-        moved n (range_with_len 0 n),
-        crossed l (range_with_len 0 n),
-      )
+      omega (arith, targets-append, moved, crossed l)
 
 -- at most twice in the primary, once in the secondary, and none after the image
 twice : (k : ℕ) (l : Geometry) (n : ℕ) → all_erases Primary k (map (target Primary k) (transfers l n)) ≤ 2
@@ -300,13 +271,7 @@ module _ (o : Slot) (k : ℕ) (l : Geometry) (n : ℕ) (ok : IsLayout l) (at_mos
 
   from_some : (first : ℕ) (image_ok : Bool) → all_erases o k (from_transfer l n first image_ok) ≤ all_erases o k (map (target o k) (transfers l n))
   from_some first image_ok =
-      omega (
-        arith,
-        W-append o k (flat_map (steps l) (drop first (transfers l n))) (closing l image_ok),
-        targets o k l (drop first (transfers l n)),
-        targets-drop o k first (transfers l n),
-        closed o k l image_ok,
-      )
+      omega (arith, W-append o k, targets o k l, targets-drop o k, closed o k l image_ok)
 
   resumed_wears : (first : ℕ) (erased image_ok : Bool)
       → all_erases o k (resumed_list l n first erased image_ok) ≤ all_erases o k (trailer_erases l Secondary) + all_erases o k (map (target o k) (transfers l n))
@@ -320,27 +285,14 @@ module _ (o : Slot) (k : ℕ) (l : Geometry) (n : ℕ) (ok : IsLayout l) (at_mos
       → all_erases o k (swap_list c l kind size n)
       ≤ all_erases o k (trailer_erases l Primary) + (all_erases o k (trailer_erases l Secondary) + all_erases o k (map (target o k) (transfers l n)))
   swap_wears c kind size =
-      omega (
-        arith,
-        W-append o k (trailer_erases l Primary) (opening_writes c l kind size ++ resumed_list l n 0 true false),
-        W-append o k (opening_writes c l kind size) (resumed_list l n 0 true false),
-        opened o k c l kind size,
-        resumed_wears 0 true false,
-      )
+      omega (arith, W-append o k, W-append o k (opening_writes c l kind size) (resumed_list l n 0 true false), opened o k c l kind size, resumed_wears 0 true false)
 
   new_twice : (c : Grain) (kind : SwapType) (size : ℕ) → all_erases o k (new_list c l kind size n) ≤ 2
   new_twice c kind size = go (is_revert kind)
     where
       go : (b : Bool) → all_erases o k (if b then trailer_erases l Secondary ++ (preparation_writes c l size ++ swap_list c l kind size n) else swap_list c l kind size n) ≤ 2
       go true =
-          omega (
-            arith,
-            W-append o k (trailer_erases l Secondary) (preparation_writes c l size ++ swap_list c l kind size n),
-            W-append o k (preparation_writes c l size) (swap_list c l kind size n),
-            prepared o k c l size,
-            swap_wears c kind size,
-            together,
-          )
+          omega (arith, W-append o k, W-append o k (preparation_writes c l size) (swap_list c l kind size n), prepared o k c l size, swap_wears c kind size, together)
       go false = omega (arith, swap_wears c kind size, together)
 
 -- ---- plans
@@ -350,12 +302,7 @@ chosen o k true p q yes_ no_ = yes_ refl
 chosen o k false p q yes_ no_ = no_ refl
 
 not_above : (n most : ℕ) (b : Bool) → (b || nat_lt most n) ≡ false → n ≤ most
-not_above n most true e = absurd cc
-not_above n most false e = grind (arith, nat_tests)
-
-greatest_pieces : (c : Grain) (g : Geometry) (n : ℕ) → n ≤ greatest_sectors g → n ≤ greatest_sectors (in_pieces c g)
-greatest_pieces grains.Call g n at_most = at_most
-greatest_pieces grains.Unit g n at_most = at_most
+not_above n most b e = grind (arith, nat_tests, e)
 
 module _ (o : Slot) (k : ℕ) (c : Grain) (g : Geometry) (ok : IsLayout g) where
   nothing_worn : (kind : SwapType) → all_erases o k (nothing kind).list ≤ 2
@@ -366,21 +313,19 @@ module _ (o : Slot) (k : ℕ) (c : Grain) (g : Geometry) (ok : IsLayout g) where
       let n = div_ceil images.size g.sector in
       chosen o k (not images.valid || nat_lt (greatest_sectors g) n) (nothing kinds.Fail) (record { kind = kind; sectors = n; list = new_list c (in_pieces c g) kind images.size n })
       (λ _. nothing_worn kinds.Fail)
-      (λ e. new_twice o k (in_pieces c g) n (pieces_layout c g ok) (greatest_pieces c g n (not_above n (greatest_sectors g) (not images.valid) e)) c kind images.size)
+      (λ e. new_twice o k (in_pieces c g) n (pieces_layout c g ok) (omega (arith, greatest_pieces c g, not_above n (greatest_sectors g) (not images.valid) e)) c kind images.size)
 
   new_plan_worn : (images : Images) (kind : SwapType) → all_erases o k (new_plan c g images kind).list ≤ 2
-  new_plan_worn images kinds.None = nothing_worn kinds.None
   new_plan_worn images kinds.Test = new_swap_worn images kinds.Test
   new_plan_worn images kinds.Perm = new_swap_worn images kinds.Perm
   new_plan_worn images kinds.Revert = new_swap_worn images kinds.Revert
-  new_plan_worn images kinds.Fail = nothing_worn kinds.Fail
-  new_plan_worn images kinds.Panic = nothing_worn kinds.Panic
+  new_plan_worn images kind = nothing_worn kind
 
   from_worn : (image_ok : Flag) (highest : Option ℕ) (kind : SwapType) (n : ℕ) (first : Option ℕ) → n ≤ greatest_sectors g
       → all_erases o k (resumed_from c g image_ok highest kind n first).list ≤ 2
   from_worn image_ok highest kind n None at_most = omega arith
   from_worn image_ok highest kind n (Some first) at_most =
-      resumed_twice o k (in_pieces c g) n (pieces_layout c g ok) (greatest_pieces c g n at_most) first (is_none highest) (confirms kind image_ok)
+      resumed_twice o k (in_pieces c g) n (pieces_layout c g ok) (omega (arith, greatest_pieces c g, at_most)) first (is_none highest) (confirms kind image_ok)
 
   resumed_swap_worn : (image_ok : Flag) (highest : Option ℕ) (kind : SwapType) (n : ℕ) → all_erases o k (resumed_swap c g image_ok highest kind n).list ≤ 2
   resumed_swap_worn image_ok highest kind n =

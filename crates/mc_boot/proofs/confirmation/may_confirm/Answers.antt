@@ -19,13 +19,11 @@ fits at e size u inside small short = (omega arith, omega arith, omega arith, om
 
 other_magic : (m : Magic) → (m ≡ magics.Good → ⊥) → is_good m ≡ false
 other_magic magics.Good other = absurd (other refl)
-other_magic magics.Unset other = refl
-other_magic magics.Bad other = refl
+other_magic m other = refl
 
 other_flag : (f : Flag) → (f ≡ flags.Set → ⊥) → is_set f ≡ false
 other_flag flags.Set other = absurd (other refl)
-other_flag flags.Unset other = refl
-other_flag flags.Bad other = refl
+other_flag f other = refl
 
 not_good : (r t : Trailer) (b c : Bool) → r ≡ t → (r.magic ≡ magics.Good → ⊥) → (is_good t.magic && b && c) ≡ false
 not_good r t b c is other = and_left _ c (and_left _ b (other_magic t.magic (subst (λ (x : Trailer). x.magic ≡ magics.Good → ⊥) is other)))

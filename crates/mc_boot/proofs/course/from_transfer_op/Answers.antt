@@ -29,19 +29,10 @@ nonzero_div-index c = some c.transfer_len-width.result _ c.transfer_len-width.en
 pub nonzero_rem-index : goal.nonzero_rem-index
 nonzero_rem-index c = some c.transfer_len-width.result _ c.transfer_len-width.ensures.len
 
-pub transfer_at-transfer-requires-clause-fits : goal.transfer_at-transfer-requires-clause-fits
-transfer_at-transfer-requires-clause-fits c = c.requires
-
-pub transfer_op-requires-clause-inside : goal.transfer_op-requires-clause-inside
-transfer_op-requires-clause-inside c = c.transfer_at-transfer.ensures.inside
-
 pub transfer_op-requires-clause-below : goal.transfer_op-requires-clause-below
 transfer_op-requires-clause-below c =
     let width = c.transfer_len-width.ensures.len in
     omega (arith, mod-lt c.args.index (some c.transfer_len-width.result _ width), width)
-
-pub returns-then-index-width-clause-inside : goal.returns-then-index-width-clause-inside
-returns-then-index-width-clause-inside c = c.transfer_op.ensures.inside
 
 pub overflow_mul-left : goal.overflow_mul-left
 overflow_mul-left c =
@@ -49,6 +40,3 @@ overflow_mul-left c =
 
 pub overflow_sub-index : goal.overflow_sub-index
 overflow_sub-index c = (le-div_iff_mul-le (some c.transfer_len-width.result _ c.transfer_len-width.ensures.len)).0 c.if-index-width.false
-
-pub returns-clause-inside : goal.returns-clause-inside
-returns-clause-inside c = c.closing_op.ensures.inside

@@ -49,12 +49,6 @@ returns-else-is_revert-clause-len c size =
     let opens = c.opening_len-opening.ensures.len size in
     rw (other, c.trailer_sectors-count.ensures.value, c.resumed_len.ensures.len) (omega (arith, swap, opens))
 
-pub resumed_len-requires : goal.resumed_len-requires
-resumed_len-requires c = c.requires
-
-pub overflow_add-swap : goal.overflow_add-swap
-overflow_add-swap c = omega (arith, c.opening_len-opening.ensures.at_most, c.resumed_len.ensures.at_most)
-
 pub overflow_add-result : goal.overflow_add-result
 overflow_add-result c = small _ (part c.trailer_sectors-count.result _ _ (whole c))
 

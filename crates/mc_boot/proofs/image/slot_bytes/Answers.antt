@@ -17,9 +17,3 @@ pub returns-clause-value : goal.returns-clause-value
 returns-clause-value g c =
     all (g.F.Flash.seen c.args.flash.now).geometry c.layout.result.now c.args.slot c.read.result.now c.size-size.result c.layout.ensures c.size-size.ensures.value c.read.ensures.len
     ∙ c.read.ensures.value
-
-pub returns-clause-at_most : goal.returns-clause-at_most
-returns-clause-at_most g c = at_most c.layout.result.now c.args.slot c.read.result.now c.size-size.result c.size-size.ensures.valid c.size-size.ensures.value
-
-pub slice_bounds-result-end : goal.slice_bounds-result-end
-slice_bounds-result-end g c = let size = rw c.layout.ensures at c.size-size.ensures.value in omega (arith, length-take c.size-size.result c.read.result.now, size, c.read.ensures.len)

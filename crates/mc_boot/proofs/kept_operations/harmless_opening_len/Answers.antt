@@ -11,9 +11,6 @@ pub overflow_add-result : goal.overflow_add-result
 overflow_add-result c =
     fits c.args.layout.now _ _ c.trailer_sectors-count.ensures.value c.trailer_sectors-count.ensures.valid (let at_most = c.preparation_len.ensures.at_most in omega (arith, at_most))
 
-pub overflow_add-result-else-is_revert : goal.overflow_add-result-else-is_revert
-overflow_add-result-else-is_revert c = fits c.args.layout.now _ _ c.trailer_sectors-count.ensures.value c.trailer_sectors-count.ensures.valid c.opening_len.ensures.at_most
-
 pub returns-then-is_revert : goal.returns-then-is_revert
 returns-then-is_revert c size =
     let revert : is_revert c.args.kind ≡ true = sym c.is_revert.ensures ∙ c.if-is_revert.true in

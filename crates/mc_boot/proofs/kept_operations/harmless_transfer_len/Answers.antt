@@ -1,8 +1,8 @@
-use Rattle.std.proofs.Common.{◌≡◌, ℕ, ◌+◌, ◌-◌, ◌*◌, ◌/◌, ◌≤◌, Fits, w32, refl, arith}
-use Rattle.std.proofs.lemmas.Bool.{eq-eqb, ne_eqb}
+use Rattle.std.proofs.Common.{◌≡◌, ℕ, ◌+◌, ◌-◌, ◌*◌, ◌/◌, ◌≤◌, Fits, w32, arith}
+use Rattle.std.proofs.lemmas.Bool.{ne_eqb}
 use Rattle.mc_flash.specs.Geometry.{Geometry, IsLayout}
-use Rattle.mc_flash.specs.facts.Usage.{few_chunks, few_sectors}
-use Rattle.mc_boot.proofs.Plans.{few_counted, thrice}
+use Rattle.mc_flash.specs.facts.Usage.{few_chunks}
+use Rattle.mc_boot.proofs.Plans.{few_counted}
 use Rattle.mc_boot.proofs.kept_operations.harmless_transfer_len.Goals as goal
 
 -- how many operations a transfer has before its entry, and how many with the erases of a trailer before them
@@ -16,26 +16,14 @@ pub returns-then-erases-clause-harmless_len : goal.returns-then-erases-clause-ha
 returns-then-erases-clause-harmless_len c =
     rw (ne_eqb c.args.first (3 * c.args.course.now.sectors) c.if-first-course.false, c.if-erases.true, c.trailer_sectors.ensures.value) (omega arith)
 
-pub returns-else-erases-clause-harmless_len : goal.returns-else-erases-clause-harmless_len
-returns-else-erases-clause-harmless_len c = rw (ne_eqb c.args.first (3 * c.args.course.now.sectors) c.if-first-course.false, c.if-erases.false) (omega arith)
-
-pub overflow_mul-course : goal.overflow_mul-course
-overflow_mul-course c = thrice c.args.course.now.sectors (omega (arith, c.args.course.now.fits, few_sectors c.args.course.now.layout c.transfer_len-copied.ensures.valid))
-
 pub overflow_add-result : goal.overflow_add-result
 overflow_add-result c =
     let l = c.args.course.now.layout in
     (counts l c.trailer_sectors.result c.transfer_len-copied.result c.trailer_sectors.ensures.valid (few_counted l _ c.trailer_sectors.ensures.value c.trailer_sectors.ensures.valid)
     c.transfer_len-copied.ensures.len).0
 
-pub returns-then-first-course-clause-harmless_len : goal.returns-then-first-course-clause-harmless_len
-returns-then-first-course-clause-harmless_len c = rw (eq-eqb c.args.first (3 * c.args.course.now.sectors) c.if-first-course.true) refl
-
 pub returns-then-erases-clause-at_most : goal.returns-then-erases-clause-at_most
 returns-then-erases-clause-at_most c =
     let l = c.args.course.now.layout in
     (counts l c.trailer_sectors.result c.transfer_len-copied.result c.trailer_sectors.ensures.valid (few_counted l _ c.trailer_sectors.ensures.value c.trailer_sectors.ensures.valid)
     c.transfer_len-copied.ensures.len).1
-
-pub returns-else-erases-clause-at_most : goal.returns-else-erases-clause-at_most
-returns-else-erases-clause-at_most c = (counts c.args.course.now.layout 0 c.transfer_len-copied.result c.transfer_len-copied.ensures.valid (omega arith) c.transfer_len-copied.ensures.len).2

@@ -10,12 +10,6 @@ pub write_len-requires : goal.write_len-requires
 write_len-requires c =
     short_size c.unit.result c.max.result c.max.ensures (rw c.unit.ensures.value (small_unit c.args.layout.now c.unit.ensures.valid).1)
 
-pub overflow_add-result : goal.overflow_add-result
-overflow_add-result c = (sum c.write_len.result c.write_len-2.result c.write_len.ensures.at_most c.write_len-2.ensures.at_most).0
-
 pub returns-clause-len : goal.returns-clause-len
 returns-clause-len c slot size =
     rw (c.write_len.ensures.len, c.write_len-2.ensures.len, c.max.ensures, c.unit.ensures.value) (length-marking c.args.grain c.args.layout.now slot size)
-
-pub returns-clause-at_most : goal.returns-clause-at_most
-returns-clause-at_most c = (sum c.write_len.result c.write_len-2.result c.write_len.ensures.at_most c.write_len-2.ensures.at_most).1

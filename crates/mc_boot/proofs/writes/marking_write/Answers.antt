@@ -15,12 +15,6 @@ returns-then-index-count-clause-at c =
     get_size c.args.grain c.args.layout.now c.args.slot c.args.size c.args.index c.write_op.result
     (rw (c.bytes.ensures.value, c.size_bytes-bytes.ensures) at c.write_op.ensures.at)
 
-pub returns-then-index-count-clause-inside : goal.returns-then-index-count-clause-inside
-returns-then-index-count-clause-inside c = c.write_op.ensures.inside
-
-pub returns-else-index-count-clause-inside : goal.returns-else-index-count-clause-inside
-returns-else-index-count-clause-inside c = c.write_op-else-index-count.ensures.inside
-
 pub write_len-count-requires : goal.write_len-count-requires
 write_len-count-requires c = short_size c.unit.result c.max.result c.max.ensures (rw c.unit.ensures.value (small_unit c.args.layout.now c.unit.ensures.valid).1)
 
@@ -30,9 +24,6 @@ long c = rw (c.bytes.ensures.value, c.size_bytes-bytes.ensures) (length-size_byt
 
 pub write_op-requires-clause-short : goal.write_op-requires-clause-short
 write_op-requires-clause-short c = (omega (arith, long c), c.bytes.ensures.at_most)
-
-pub write_op-requires-clause-fits : goal.write_op-requires-clause-fits
-write_op-requires-clause-fits c = omega (arith, c.bytes.ensures.at_most)
 
 pub write_op-requires-clause-whole : goal.write_op-requires-clause-whole
 write_op-requires-clause-whole c = rw (long c) (whole_units c.args.layout.now c.unit.ensures.valid).0

@@ -39,9 +39,6 @@ returns-in-Call-clause-inside c =
       some = c.requires.short.0;
     })
 
-pub new-requires : goal.new-requires
-new-requires c = c.requires.short.1
-
 pub returns-in-Unit-clause-inside : goal.returns-in-Unit-clause-inside
 returns-in-Unit-clause-inside c =
     let within = unit_within _ _ c.args.index (rw c.in-Unit.is at c.requires.below) in
@@ -54,6 +51,3 @@ new-requires-in-Unit c =
     let within = unit_within _ _ c.args.index (rw c.in-Unit.is at c.requires.below) in
     let l = c.args.layout.now in
     rw c.unit-unit.ensures.value (omega (arith, length-unit c.args.bytes.now (c.args.index * l.unit) l.unit within, within, c.requires.short.1))
-
-pub slice_bounds-new-count : goal.slice_bounds-new-count
-slice_bounds-new-count c = omega arith

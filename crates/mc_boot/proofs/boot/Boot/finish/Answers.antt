@@ -1,4 +1,4 @@
-use Rattle.std.proofs.Common.{◌≡◌, Err, refl, ◌∙◌}
+use Rattle.std.proofs.Common.{◌≡◌, Err, ◌∙◌}
 use Rattle.mc_flash.specs.declared.flash.FlashError.TheVariants as errors
 use Rattle.mc_boot.specs.Boot.{progress, to_come, goes_further}
 use Rattle.mc_boot.specs.facts.Steps.{counts_on_both, none_first, step_allows, step_counts, step_ran_out, step_spends, step_spends_both}
@@ -23,18 +23,6 @@ steps-preserved-in-Ok-1 g c =
 
 pub returns-clause-end : goal.returns-clause-end
 returns-clause-end g c = none_first (to_come c.steps.self) c.peek.result c.peek.ensures.first cc
-
-pub step-requires : goal.step-requires
-step-requires g c = c.steps.invariant.goes.layout
-
-pub returns-clause-goes : goal.returns-clause-goes
-returns-clause-goes g c = c.steps.invariant.goes
-
-pub returns-clause-counts : goal.returns-clause-counts
-returns-clause-counts g c = c.steps.invariant.counts
-
-pub returns-in-Err-Memory-clause-end : goal.returns-in-Err-Memory-clause-end
-returns-in-Err-Memory-clause-end g c = refl
 
 pub returns-in-Err-Memory-clause-spends : goal.returns-in-Err-Memory-clause-spends
 returns-in-Err-Memory-clause-spends g c =

@@ -17,9 +17,6 @@ returns-clause-progress c =
     (rw c.sector.ensures.value at c.div_ceil-sectors.ensures)
     (omega (arith, c.greatest_sectors.ensures.value, c.if-greatest_sectors-sectors.false)) c.in_pieces.ensures
 
-pub returns-clause-layout : goal.returns-clause-layout
-returns-clause-layout c = c.in_pieces.ensures
-
 pub returns-then-not-images-clause-progress : goal.returns-then-not-images-clause-progress
 returns-then-not-images-clause-progress c =
     elim c.then-not-images.branch [
@@ -28,6 +25,3 @@ returns-then-not-images-clause-progress c =
           (let wide = rw (w.greatest_sectors.ensures.value, c.div_ceil-sectors.ensures, c.sector.ensures.value) at w.if-greatest_sectors-sectors.true in
           rw (w.if-not-images.false, lt-ltb _ _ wide) c.idle.ensures.progress)
     ]
-
-pub returns-then-not-images-clause-layout : goal.returns-then-not-images-clause-layout
-returns-then-not-images-clause-layout c = c.idle.ensures.layout c.args.layout.now

@@ -24,9 +24,6 @@ returns-clause-progress g c =
 pub returns-clause-layout : goal.returns-clause-layout
 returns-clause-layout g c = rw c.layout-layout.ensures at c.in_pieces.ensures
 
-pub first_left-requires : goal.first_left-requires
-first_left-requires g c = omega (arith, c.greatest_sectors.ensures.value, c.if-greatest_sectors-sectors.false)
-
 pub returns-then-sectors-eq0-clause-progress : goal.returns-then-sectors-eq0-clause-progress
 returns-then-sectors-eq0-clause-progress g c = rw c.if-sectors-eq0.true c.idle.ensures.progress
 
