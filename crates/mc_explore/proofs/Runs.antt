@@ -312,13 +312,6 @@ cut_repeated (suc k) i count c p r a c_is p_is some many = repeated_census k i c
 
 -- For one bound, the censuses of children by those of the runs.
 module _ (under : ℕ → Totals) (n : ℕ) (runs : List Run) (level : List Census) (is : IsLevel under n runs level) where
-  pub some_runs : 1 ≤ n → 1 ≤ length runs
-  some_runs some = by runs is.split.begin
-    where
-      by : (rest : List Run) → begin_of rest n 0 ≡ 0 → 1 ≤ length rest
-      by [] zero_is = absurd (omega (arith, some, zero_is))
-      by (run ∷ rest) zero_is = omega arith
-
   -- That of one child.
   pub at_child : (number r : ℕ) (c : Census) → number < n → Begins runs n number r → ((u : ℕ → Totals) → AreCutOff u level → r < length level → c ≡ cut_off (u r)) → c ≡ cut_off (under number)
   at_child number r c lt begins there =

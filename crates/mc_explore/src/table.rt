@@ -4,7 +4,7 @@ ghost use Rattle.mc_boot.specs.Outcome.{shown};
 ghost use Rattle.mc_boot.specs.SharedTail.{index_in_parent};
 ghost use Rattle.mc_tree.specs.inner.Weights.{from, shared_below};
 ghost use Rattle.mc_explore.specs.declared.table.Below.TheVariants.{Joined};
-ghost use Rattle.mc_explore.specs.inner.Table.{AreAlike, AreCutOff, AreRuns, AreSums, Begins, IsChild, IsColumn, IsInside, IsLevel, IsSplit, begin_of, rest_from};
+ghost use Rattle.mc_explore.specs.inner.Table.{AreAlike, AreCutOff, AreRuns, AreSums, Begins, IsChild, IsColumn, IsInside, IsLevel, IsSplit, IsSummed, begin_of, rest_from};
 ghost use Rattle.mc_explore.specs.inner.Totals.{Totals, merged, cut_off, no_totals, report_totals, totals};
 
 use crate::census::Census;
@@ -156,96 +156,82 @@ fn sums(
     Ok(sums)
 }
 
-/// The sum of the children from that number on, each after its number as a first step.
-fn rest(runs: &[Run], level: &[Census], sums: &[Census], count: u32, number: u32) -> Census
-    ensures { (under : ℕ → Totals) → IsLevel under count runs.now level.now
-        → AreSums under count runs.now sums.now → 1 ≤ length runs.now → number ≤ count
-        → result ≡ cut_off (rest_from under count number) }
-{
-    let index = run_of(runs, number);
-    let times = begin_at(runs, count, index + 1).saturating_sub(number);
-    let later = census_at(sums, runs.len().saturating_sub(index + 1));
-    census_at(level, index)
-        .repeated(number, times)
-        .merged(&later)
-}
-
-/// The census of the children that a boot has before it goes on with another one, by the censuses of that one's children.
-fn early(shared_tail: &SharedTail, runs: &[Run], level: &[Census]) -> Census
-    ensures { (under : ℕ → Totals) (n : ℕ) → IsLevel under n runs.now level.now
-        → IsInside shared_tail.now n → result ≡ cut_off
-        (from totals (λ i. under (index_in_parent shared_tail.now i)) shared_tail.now.erases 0) }
-{
-    let mut sum = Census::new();
-    for number in 0..shared_tail.erases() {
-        let run = run_of(runs, shared_tail.index_in_parent(number));
-        sum = sum.merged(&census_at(level, run).prefixed(number));
-    }
-    sum
-}
-
-/// The census of all children of a boot that goes on with another one, by the censuses of that one's children and their sums.
-fn with_shared_tail(
-    shared_tail: &SharedTail,
-    runs: &[Run],
-    level: &[Census],
-    sums: &[Census],
+/// For one bound: the censuses of the runs of so many children, and their sums.
+#[derive(Clone, Copy)]
+struct Level<'a> {
+    runs: &'a [Run],
     count: u32,
-) -> Census
-    ensures { (under : ℕ → Totals) → IsLevel under count runs.now level.now
-        → AreSums under count runs.now sums.now → 1 ≤ length runs.now
-        → IsInside shared_tail.now count → result ≡ cut_off
-        (shared_below totals under count shared_tail.now.kept shared_tail.now.erases
-        (index_in_parent shared_tail.now)) }
-{
-    let from = shared_tail.kept() + shared_tail.erases();
-    let later = rest(runs, level, sums, count, from);
-    early(shared_tail, runs, level).merged(&later.first_lowered(shared_tail.kept()))
+    censuses: &'a [Census],
+    sums: &'a [Census],
 }
 
-impl Run {
-    /// The census of the paths of at most so many steps from its first child, by those of all runs for fewer steps and their sums.
-    fn census(
-        &self,
-        runs: &[Run],
-        level: &[Census],
-        sums: &[Census],
-        count: u32,
-        bound: u32,
-    ) -> Census
-        ensures { (under : ℕ → ℕ → Totals) (most c : ℕ) → 1 ≤ length runs.now
-            → IsChild under count most c self.now.outcome self.now.below
-            → IsLevel (under bound) count runs.now level.now
-            → AreSums (under bound) count runs.now sums.now → bound < most
-            → result ≡ cut_off (under (suc bound) c) }
+impl Level<'_> {
+    /// The sum of the children from that number on, each after its number as a first step.
+    fn rest(&self, number: u32) -> Census
+        ensures { (under : ℕ → Totals) → IsSummed under self.now → number ≤ self.now.count
+            → result ≡ cut_off (rest_from under self.now.count number) }
     {
-        match &self.below {
+        let index = run_of(self.runs, number);
+        let times = begin_at(self.runs, self.count, index + 1).saturating_sub(number);
+        let later = census_at(self.sums, self.runs.len().saturating_sub(index + 1));
+        census_at(self.censuses, index)
+            .repeated(number, times)
+            .merged(&later)
+    }
+
+    /// The census of the children that a boot has before it goes on with another one, whose children these are.
+    fn early(&self, shared_tail: &SharedTail) -> Census
+        ensures { (under : ℕ → Totals) → IsSummed under self.now
+            → IsInside shared_tail.now self.now.count → result ≡ cut_off
+            (from totals (λ i. under (index_in_parent shared_tail.now i)) shared_tail.now.erases 0) }
+    {
+        let mut sum = Census::new();
+        for number in 0..shared_tail.erases() {
+            let run = run_of(self.runs, shared_tail.index_in_parent(number));
+            sum = sum.merged(&census_at(self.censuses, run).prefixed(number));
+        }
+        sum
+    }
+
+    /// The census of all children of a boot that goes on with another one, whose children these are.
+    fn with_shared_tail(&self, shared_tail: &SharedTail) -> Census
+        ensures { (under : ℕ → Totals) → IsSummed under self.now
+            → IsInside shared_tail.now self.now.count → result ≡ cut_off
+            (shared_below totals under self.now.count shared_tail.now.kept shared_tail.now.erases
+            (index_in_parent shared_tail.now)) }
+    {
+        let later = self.rest(shared_tail.kept() + shared_tail.erases());
+        self.early(shared_tail)
+            .merged(&later.first_lowered(shared_tail.kept()))
+    }
+
+    /// The census of the paths of at most one step more than these from the first child of a run.
+    fn next(&self, run: &Run, bound: u32) -> Census
+        ensures { (under : ℕ → ℕ → Totals) (most c : ℕ) → IsSummed (under bound) self.now
+            → IsChild under self.now.count most c run.now.outcome run.now.below
+            → bound < most → result ≡ cut_off (under (suc bound) c) }
+    {
+        match &run.below {
             Below::Joined(shared_tail) => {
-                let own = Census::of(&self.outcome);
-                own.merged(&with_shared_tail(shared_tail, runs, level, sums, count))
+                let own = Census::of(&run.outcome);
+                own.merged(&self.with_shared_tail(shared_tail))
             }
             Below::Apart(column) => census_at(column, bound as usize),
         }
     }
 }
 
-/// The censuses of all runs for at most so many steps, by those for fewer steps and their sums.
-fn next_level(
-    alloc: Global,
-    runs: &[Run],
-    level: &[Census],
-    sums: &[Census],
-    count: u32,
-    bound: u32,
-) -> Result<Vec<Census>, AllocError>
+/// The censuses of all runs for one step more.
+fn next_level(alloc: Global, level: &Level<'_>, bound: u32) -> Result<Vec<Census>, AllocError>
     ensures { IfOk result (λ next. (under : ℕ → ℕ → Totals) (most : ℕ)
-        → AreRuns under count most count runs.now → IsLevel (under bound) count runs.now level.now
-        → AreSums (under bound) count runs.now sums.now → bound < most
-        → IsLevel (under (suc bound)) count runs.now next.items) }
+        → AreRuns under level.now.count most level.now.count level.now.runs.now
+        → IsLevel (under bound) level.now.count level.now.runs.now level.now.censuses.now
+        → AreSums (under bound) level.now.count level.now.runs.now level.now.sums.now → bound < most
+        → IsLevel (under (suc bound)) level.now.count level.now.runs.now next.items) }
 {
     let mut next = Vec::new(alloc);
-    for run in runs {
-        next.push(run.census(runs, level, sums, count, bound))?;
+    for run in level.runs {
+        next.push(level.next(run, bound))?;
     }
     Ok(next)
 }
@@ -270,7 +256,13 @@ pub(crate) fn column_of(
     for fewer in 0..bound {
         let sums = sums(alloc, runs, &level, count)?;
         column.push(own.merged(&census_at(&sums, runs.len())))?;
-        level = next_level(alloc, runs, &level, &sums, count, fewer)?;
+        let here = Level {
+            runs,
+            count,
+            censuses: &level,
+            sums: &sums,
+        };
+        level = next_level(alloc, &here, fewer)?;
     }
     let sums = sums(alloc, runs, &level, count)?;
     column.push(own.merged(&census_at(&sums, runs.len())))?;

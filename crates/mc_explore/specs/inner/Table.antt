@@ -10,6 +10,7 @@ use Rattle.mc_explore.specs.declared.census.CensusOf.{CensusOf}
 use Rattle.mc_explore.specs.declared.expectation.Expectation.{Expectation}
 use Rattle.mc_explore.specs.declared.table.Below.{Below}
 use Rattle.mc_explore.specs.declared.table.Below.TheVariants.{Apart, Joined}
+use Rattle.mc_explore.specs.declared.table.Level.{Level}
 use Rattle.mc_explore.specs.declared.table.Run.{Run}
 use Rattle.mc_explore.specs.inner.Totals.{Totals, merged, cut_off, no_totals, report_totals, totals}
 use Rattle.mc_flash.specs.Flash.{Content}
@@ -72,6 +73,12 @@ pub record IsLevel (under : ℕ → Totals) (n : ℕ) (runs : List Run) (level :
 -- The sums of the children of the last runs: of none, of one, and so on to all of them.
 abbrev pub AreSums : (ℕ → Totals) → ℕ → List Run → List (CensusOf (List ℕ)) → Type 0
 AreSums under n runs sums = (length sums ≡ length runs + 1) × AreCutOff (λ k. rest_from under n (begin_of runs n (length runs - k))) sums
+
+-- A level is of these totals, and there is some run.
+pub record IsSummed (under : ℕ → Totals) (l : Level) : Type 0 where
+  pub some : 1 ≤ length l.runs.now
+  pub level : IsLevel under l.count l.runs.now l.censuses.now
+  pub sums : AreSums under l.count l.runs.now l.sums.now
 
 -- Of a node with n children: `under d c` are the totals of all paths of fewer than d steps from the child of number c.
 module _ (under : ℕ → ℕ → Totals) (n most : ℕ) where

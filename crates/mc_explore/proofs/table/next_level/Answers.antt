@@ -10,18 +10,18 @@ use Rattle.mc_explore.proofs.table.next_level.Goals as goal
 pub loop-run-preserved : goal.loop-run-preserved
 loop-run-preserved c =
     let i = c.loop-run.invariant in
-    let runs = c.args.runs.now in
+    let runs = c.args.level.now.runs.now in
     let index : ℕ = c.loop-run.run-index in
     let old : List Census = c.loop-run.next.items in
-    let one : Census = c.census.result in
+    let one : Census = c.next.result in
     let pushed : c.push.new.self.items ≡ old ++ one ∷ [] = c.in_ok-push.ensures.items in
     let item = slice_get_read runs (length runs) index c.run-item.result refl (omega (arith, c.loop-run-test.true)) c.run-item.is in
     record {
       many = omega (arith, ap length pushed, length-append old (one ∷ []), i.many);
       cut_offs = λ under most are level sums lt.
-          let here = c.census.ensures under most _ (omega (arith, c.loop-run-test.true)) (are.child index c.run-item.result item) level sums lt in
-          more_cut_off (λ r. under (suc c.args.bound) (begin_of runs c.args.count r)) old _ one index pushed i.many (i.cut_offs under most are level sums lt)
-          (here ∙ ap (λ k. cut_off (under (suc c.args.bound) k)) (sym (begin_is runs c.args.count index c.run-item.result item)));
+          let here = c.next.ensures under most _ (record { some = omega (arith, c.loop-run-test.true); level = level; sums = sums }) (are.child index c.run-item.result item) lt in
+          more_cut_off (λ r. under (suc c.args.bound) (begin_of runs c.args.level.now.count r)) old _ one index pushed i.many (i.cut_offs under most are level sums lt)
+          (here ∙ ap (λ k. cut_off (under (suc c.args.bound) k)) (sym (begin_is runs c.args.level.now.count index c.run-item.result item)));
     }
 
 pub returns : goal.returns
