@@ -69,6 +69,9 @@ module _ (span : Span) (start : PowerOn) (cuts : List ℕ) (before : Option (Lis
     path_here : after (again start f.content) (cut ∷ rest) ≡ Some u
     path_here = ap (after (again start f.content)) (sym next_is) ∙ are.path ∙ occurs
 
+    pub one_inside : cut < length (ops_of (powered start.rules f))
+    one_inside = rw are.layout (inside (again start f.content) cut rest u path_here)
+
     out_here : IsOut before now (trace_text span start cuts) (cut_text span start.rules start.geometry boot f.content cut ++ boots_text span start.rules start.geometry (boot + 1)
         (at_cut (again start f.content) cut) rest)
     out_here = subst (λ cs. IsOut before now (trace_text span start cuts) (boots_text span start.rules start.geometry boot f.content cs)) next_is are.out

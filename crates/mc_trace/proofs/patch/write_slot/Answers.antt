@@ -1,8 +1,8 @@
-use Rattle.std.proofs.Common.{◌+◌, ◌<◌, arith, ap, subst}
+use Rattle.std.proofs.Common.{◌≡◌, ◌+◌, ◌-◌, ◌<◌, arith, ap, subst}
 use Rattle.std.proofs.lemmas.Result.{err_from_is_err_and}
 use Rattle.mc_flash.specs.Flash.{sectors_of}
 use Rattle.mc_flash.specs.Geometry.{Geometry}
-use Rattle.mc_output.specs.facts.Prefixes.{IsOut, out_more, out_prefix}
+use Rattle.mc_output.specs.facts.Prefixes.{IsOut, out_all, out_more, out_prefix}
 use Rattle.mc_trace.specs.Patch.{change_of, lines_text, slot_changes}
 use Rattle.mc_trace.specs.Sectors.{sector_of}
 use Rattle.mc_trace.proofs.PatchLines.{left, left_next}
@@ -42,3 +42,11 @@ loop-sector-preserved g c =
       out = out_more before mid (g.W.Write.contents c.write_sector.new.writer) whole (lines_text (change_of l start slot i (sector_of l bytes i)))
           (left l start slot bytes (i + 1)) out c.in_ok-write_sector.ensures.written;
     }
+
+pub returns-clause-written : goal.returns-clause-written
+returns-clause-written g c =
+    let l = c.args.start.now.geometry in
+    let slot = c.args.slot in
+    let none : sectors_of l slot - c.loop-sector.sector ≡ 0 =
+    omega (arith, c.loop-sector-test.false, c.sectors-sectors.ensures.value, ap (λ (x : Geometry). sectors_of x slot) c.layout.ensures.value) in
+    out_all _ _ _ (rw none at c.loop-sector.invariant.out)

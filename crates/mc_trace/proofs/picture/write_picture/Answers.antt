@@ -1,5 +1,7 @@
-use Rattle.std.proofs.Common.{ap, ◌∙◌}
+use Rattle.std.proofs.Common.{ap, sym, ◌∙◌}
+use Rattle.std.proofs.lemmas.Bool.{false≢true}
 use Rattle.mc_flash.specs.Geometry.{Geometry}
+use Rattle.mc_flash.specs.Usage.{Limits}
 use Rattle.mc_start.specs.Start.{begun}
 use Rattle.mc_trace.specs.Picture.{look_for}
 use Rattle.mc_trace.proofs.Drawn.{drawn, begun as begun_page, occurs, refused}
@@ -22,3 +24,8 @@ returns-clause-refused g c = refused (begun c.args.start.now) c.args.schedule.no
 
 pub returns-clause-occurs : goal.returns-clause-occurs
 returns-clause-occurs g c = occurs (begun c.args.start.now) c.args.schedule.now c.write_page.result _ _ c.in_ok-replay.ensures.replayed
+
+pub returns-clause-cause : goal.returns-clause-cause
+returns-clause-cause g c = λ counts memory.
+    let kept = ap (λ (x : Limits). x.counted) c.in_ok-begin.ensures.spends.limits in
+    absurd (false≢true (sym (c.write_page.ensures.cause memory) ∙ kept ∙ c.in_ok-walk.ensures.loaded.counted_is ∙ counts))

@@ -6,7 +6,7 @@ use Rattle.mc_start.specs.Start.{begun}
 use Rattle.std.specs.Io.KnownBytes.{Appends}
 use Rattle.mc_output.specs.Text.{AppendsPrefix}
 use Rattle.mc_trace.specs.Trace.{trace_text}
-use Rattle.mc_trace.proofs.Tracing.{none_written, one_begun, one_written, one_counted, room_left, last_begun, outcome_begun, outcome_written, no_refusal}
+use Rattle.mc_trace.proofs.Tracing.{none_written, one_begun, one_inside, one_written, one_counted, room_left, last_begun, outcome_begun, outcome_written, no_refusal}
 use Rattle.mc_trace.proofs.trace.write_trace.Given.{Over}
 use Rattle.mc_trace.proofs.trace.write_trace.Goals as goal
 use Rattle.mc_trace.proofs.trace.write_trace.Goals.{In_ok-flash}
@@ -99,6 +99,15 @@ returns-clause-written g c =
 loaded_for : (g : Over) (c : In_ok-flash g) (limits : Limits) → limits ≡ (g.F.Flash.seen c.in_ok-flash.flash).usage.limits
     → IsWithin (limits_for (begun c.args.start.now).rules.grain (begun c.args.start.now).geometry (length c.cuts-cuts.result.now + 1)) limits
 loaded_for g c limits same = rw same (rw (c.rules-rules.ensures, c.layout.ensures.value) at c.in_ok-flash.ensures.loads.room)
+
+pub write_cut_boot-requires-clause-inside : goal.write_cut_boot-requires-clause-inside
+write_cut_boot-requires-clause-inside g c =
+    let start = begun c.args.start.now in
+    let r = c.in_ok-outcome.ensures.replayed in
+    let occurs = subst (λ (l : List ℕ). after start l ≡ Some r.cut) (sym c.cuts-cuts.ensures.value) r.occurs in
+    let out = g.W.Write.contents c.boots.writer in
+    rw c.rules-rules.ensures (one_inside c.args.span start c.cuts-cuts.result.now (g.W.Write.contents c.args.writer.now) out out c.boots.cut-index c.boots.boot (g.F.Flash.seen c.boots.flash)
+    c.boots.invariant.written c.boots-test.true r.cut occurs)
 
 pub write_cut_boot-requires-clause-room : goal.write_cut_boot-requires-clause-room
 write_cut_boot-requires-clause-room g c =
