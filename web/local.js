@@ -14,7 +14,7 @@ const bytes_in = id => Uint8Array.from(atob(document.getElementById(id).textCont
 const text_in = id => document.getElementById(id).textContent;
 const worker_text = URL.createObjectURL(new Blob([text_in("worker.js")], { type: "text/javascript" }));
 const library = WebAssembly.compile(bytes_in("library")).catch(error => {
-  throw new Error(`This browser lacks 64-bit WebAssembly memories, which Chromium 133 and Firefox 134 have: ${error.message}`);
+  throw new Error(`This browser does not take the library, which needs WebAssembly's 64-bit memories: ${error.message}`);
 });
 
 // One worker, which answers one question after the other.
