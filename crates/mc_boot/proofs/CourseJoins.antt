@@ -7,7 +7,8 @@ use Rattle.std.proofs.lemmas.List.FromFn.{length-map-range_with_len}
 use Rattle.std.specs.Bool.{beq}
 use Rattle.std.specs.List.{AllByRecursion, between, range_with_len}
 use Rattle.std.specs.Prelude.{Bool, IfSome, List, Option, Some, [], drop, false, flat_map, if◌then◌else◌, length, map, nat_le, not, option_map, refl, slice_get, suc, take, true, zero, ℕ, ◌&&◌, ◌*◌, ◌++◌, ◌+◌, ◌-◌, ◌/◌, ◌<◌, ◌==◌, ◌||◌, ◌∷◌, ◌≡◌, ◌≤◌}
-use Rattle.mc_boot.proofs.Courses.{drop_at_place, length-steps, length-transfers}
+use Rattle.mc_boot.proofs.Courses.{drop_at_place}
+use Rattle.mc_boot.specs.facts.Lengths.{length-steps, length-transfers}
 use Rattle.mc_boot.proofs.Joins.{IsJoined, Joins, are_equal, are_same, chosen, is_less, is_most, joined, less}
 use Rattle.mc_boot.proofs.Meets.{AreThere, BeginsIn, IsListed, IsRestOf, Meets, Sector, WritesIn, erase_of, target_of, all_weaker}
 use Rattle.mc_boot.proofs.Transfers.{fits_at, there_is}

@@ -1,14 +1,12 @@
 -- Operation number k of each list of operations, by either grain.
-use Rattle.std.proofs.Common.{ap, arith, inl, inr, length-append, subst, sym, zero-add, ◌∙◌, add-one}
+use Rattle.std.proofs.Common.{ap, arith, inl, inr, subst, sym, zero-add, ◌∙◌, add-one}
 use Rattle.std.proofs.Math.Nat.{add-mul-mod_self_right, mod-add-div', mod_self, mul-le-mul_left, mul-le-mul_right, zero-mul}
-use Rattle.std.proofs.lemmas.List.{length-drop, length-replicate, length-take}
+use Rattle.std.proofs.lemmas.List.{length-drop, length-take}
 use Rattle.std.proofs.lemmas.List.FromFn.{length-map-range_with_len, length-range_with_len, get_or-range_with_len}
-use Rattle.std.proofs.lemmas.Nat.{mod_below}
 use Rattle.std.specs.List.{range_with_len}
-use Rattle.std.specs.Prelude.{Bool, IfSome, List, None, Option, Some, [], drop, false, flat_map, length, map, max, refl, replicate, slice_get, suc, take, true, zero, ℕ, ◌%◌, ◌*◌, ◌++◌, ◌+◌, ◌-◌, ◌/◌, ◌<◌, ◌^◌, ◌∷◌, ◌≡◌, ◌≤◌, option_map}
-use Rattle.byteorder.specs.Endian.{little_bytes}
+use Rattle.std.specs.Prelude.{IfSome, List, None, Option, Some, [], drop, flat_map, length, map, max, refl, slice_get, suc, take, zero, ℕ, ◌%◌, ◌*◌, ◌++◌, ◌+◌, ◌-◌, ◌/◌, ◌<◌, ◌^◌, ◌∷◌, ◌≡◌, ◌≤◌, option_map}
 use Rattle.mc_boot.specs.Boot.{IsInside}
-use Rattle.mc_boot.specs.Plan.{brought_in, closing, copy_of, entry_of, from_transfer, marking, moved_up, opening_writes, piece, resumed_list, steps, swap_list, taken_out, trailer_erase, trailer_erases, transfers, write, write_count}
+use Rattle.mc_boot.specs.Plan.{brought_in, copy_of, entry_of, moved_up, piece, steps, taken_out, transfers, write}
 use Rattle.mc_boot.specs.declared.transfer.Transfer.{Transfer}
 use Rattle.mc_flash.specs.Flash.{CanTry, IsRange, sectors_of, size_of}
 use Rattle.mc_flash.specs.Geometry.{Geometry, IsLayout, greatest_sectors, in_pieces, trailer_sectors}
@@ -18,12 +16,10 @@ use Rattle.mc_flash.specs.declared.op.Slot.{Slot}
 use Rattle.mc_flash.specs.declared.op.Slot.TheVariants.{Primary, Secondary}
 use Rattle.mc_flash.specs.facts.Layouts.{chunks_cover, small_unit, trailer_covered, whole_add, whole_sector, whole_times}
 use Rattle.mc_flash.specs.facts.Pieces.{pieces_can}
-use Rattle.mc_trailer.specs.Trailer.{magic_bytes, place, size_bytes}
+use Rattle.mc_trailer.specs.Trailer.{place}
 use Rattle.mc_trailer.specs.declared.places.Field.{Field}
-use Rattle.mc_trailer.specs.declared.tables.SwapType.{SwapType}
 use Rattle.std.proofs.lemmas.Option.{slice_get_within, get_or_from_slice_get, slice_get-get_or, slice_get-map}
 use lib.Seq.{drop-cons}
-use Rattle.mc_trailer.specs.declared.places.Field.TheVariants as field
 use Rattle.mc_flash.specs.declared.flash.Grain.TheVariants as grains
 
 -- Elements of lists by their number.
@@ -154,102 +150,12 @@ whole_units g ok = elim ok.unit [
   | inr (inr (inr eight)) ↦ rw eight (refl, refl)
 ]
 
--- so is the size short
-pub short_size : (u n : ℕ) → n ≡ max u 4 → u ≤ 8 → n ≤ 16
-short_size u n is small = omega arith
-
-pub length-write : (c : Grain) (g : Geometry) (slot : Slot) (f : Field) (new : List ℕ) → length (write c g slot f new) ≡ write_count c g (length new)
-length-write grains.Call g slot f new = refl
-length-write grains.Unit g slot f new = length-map-range_with_len (piece g slot (place g slot f) new) 0 (length new / g.unit)
-
-pub length-size_bytes : (g : Geometry) (size : ℕ) → length (size_bytes g size) ≡ max g.unit 4
-length-size_bytes g size = omega (arith, length-append (little_bytes 4 size) (replicate (g.unit - 4) 255), length-replicate {A = ℕ} (g.unit - 4) 255)
-
-pub length-marking : (c : Grain) (g : Geometry) (slot : Slot) (size : ℕ) → length (marking c g slot size) ≡ write_count c g (max g.unit 4) + write_count c g 16
-length-marking c g slot size =
-    length-append (write c g slot field.SwapSize (size_bytes g size)) (write c g slot field.Magic magic_bytes)
-    ∙ ap (λ n. n + length (write c g slot field.Magic magic_bytes)) (length-write c g slot field.SwapSize (size_bytes g size) ∙ ap (write_count c g) (length-size_bytes g size))
-    ∙ ap (λ n. write_count c g (max g.unit 4) + n) (length-write c g slot field.Magic magic_bytes)
-
--- the size comes first
-pub get_size : (c : Grain) (g : Geometry) (slot : Slot) (size k : ℕ) (op : Op) → slice_get (write c g slot field.SwapSize (size_bytes g size)) k ≡ Some op
-    → slice_get (marking c g slot size) k ≡ Some op
-get_size c g slot size k op at = get_prefix (write c g slot field.SwapSize (size_bytes g size)) (write c g slot field.Magic magic_bytes) k op at
-
--- after the size comes the magic
-pub get_magic : (c : Grain) (g : Geometry) (slot : Slot) (size k count : ℕ) → count ≡ write_count c g (max g.unit 4) → count ≤ k
-    → slice_get (marking c g slot size) k ≡ slice_get (write c g slot field.Magic magic_bytes) (k - count)
-get_magic c g slot size k count is beyond =
-    let len : length (write c g slot field.SwapSize (size_bytes g size)) ≡ count = length-write c g slot field.SwapSize (size_bytes g size) ∙ ap (write_count c g) (length-size_bytes g size) ∙ sym is
-    in
-    get_beyond (write c g slot field.SwapSize (size_bytes g size)) (write c g slot field.Magic magic_bytes) k (k - count) (omega (arith, len, beyond))
-
 -- what a course of a layout in pieces may try, its flash lets it try
 pub can_of : (c : Grain) (g l : Geometry) (o : Option Op) → l ≡ in_pieces c g → IfSome o (λ op. CanTry l op) → IfSome o (λ op. CanTry g op)
 can_of c g l None e h = h
 can_of c g l (Some op) e h = let E : Geometry → Type 0 = λ x. CanTry x op in pieces_can c g op (subst E e h)
 
 -- The sections of a course by their number.
-
-pub get_erase : (g : Geometry) (slot : Slot) (rest : List Op) (k : ℕ) → k < trailer_sectors g → slice_get (trailer_erases g slot ++ rest) k ≡ Some (trailer_erase g slot k)
-get_erase g slot rest k h =
-    get_prefix (trailer_erases g slot) rest k (trailer_erase g slot k)
-    (get_mapped (trailer_erase g slot) 0 (trailer_sectors g) k h ∙ ap (λ i. Some (trailer_erase g slot i)) (zero-add k))
-
-pub get_after_erases : (g : Geometry) (slot : Slot) (rest : List Op) (k : ℕ) → trailer_sectors g ≤ k → slice_get (trailer_erases g slot ++ rest) k ≡ slice_get rest (k - trailer_sectors g)
-get_after_erases g slot rest k h =
-    get_beyond (trailer_erases g slot) rest k (k - trailer_sectors g) (omega (arith, length-map-range_with_len (trailer_erase g slot) 0 (trailer_sectors g)))
-
--- how many operations a transfer has
-pub length-steps : (g : Geometry) (t : Transfer) → length (steps g t) ≡ g.sector / g.chunk + 2
-length-steps g t = omega (arith, length-append (map (copy_of g t) (range_with_len 0 (g.sector / g.chunk))) (entry_of g t ∷ []), length-map-range_with_len (copy_of g t) 0 (g.sector / g.chunk))
-
-pub length_pieces : {A B : Type 0} (f : A → List B) (w : ℕ) → ((x : A) → length (f x) ≡ w) → (xs : List A) → length (flat_map f xs) ≡ length xs * w
-length_pieces f w even [] = sym (zero-mul w)
-length_pieces f w even (x ∷ xs) = omega (arith, length-append (f x) (flat_map f xs), even x, length_pieces f w even xs)
-
-pub length-transfers : (g : Geometry) (n : ℕ) → length (transfers g n) ≡ 3 * n
-length-transfers g n =
-    omega (
-      arith,
-      length-append (map (moved_up n) (range_with_len 0 n)) (flat_map (λ i. brought_in g i ∷ taken_out g i ∷ []) (range_with_len 0 n)),
-      length-map-range_with_len (moved_up n) 0 n,
-      length_pieces (λ i. brought_in g i ∷ taken_out g i ∷ []) 2 (λ _. refl) (range_with_len 0 n),
-      length-range_with_len 0 n,
-    )
-
--- an operation of a transfer
-pub get_transfer : (g : Geometry) (n first : ℕ) (image_ok : Bool) (k : ℕ) (t : Transfer) (op : Op) → slice_get (transfers g n) (first + k / (g.sector / g.chunk + 2)) ≡ Some t
-    → slice_get (steps g t) (k % (g.sector / g.chunk + 2)) ≡ Some op → slice_get (from_transfer g n first image_ok) k ≡ Some op
-get_transfer g n first image_ok k t op at here =
-    let w = g.sector / g.chunk + 2 in
-    let below : k % w < w = mod_below k w (omega arith) in
-    let parts : k ≡ k / w * w + k % w = omega (arith, mod-add-div' k w) in
-    get_prefix (flat_map (steps g) (drop first (transfers g n))) (closing g image_ok) k op
-    (get_piece (steps g) w (length-steps g) (drop first (transfers g n)) k (k / w) (k % w) t (get_dropped first (transfers g n) (k / w) ∙ at) below parts ∙ here)
-
--- the finish
-pub get_closing : (g : Geometry) (n first : ℕ) (image_ok : Bool) (k : ℕ) → 3 * n - first ≤ k / (g.sector / g.chunk + 2) → ((3 * n - first) * (g.sector / g.chunk + 2) ≤ k)
-    × (slice_get (from_transfer g n first image_ok) k ≡ slice_get (closing g image_ok) (k - (3 * n - first) * (g.sector / g.chunk + 2)))
-get_closing g n first image_ok k past =
-    let w = g.sector / g.chunk + 2 in
-    let most : (3 * n - first) * w ≤ k / w * w = mul-le-mul_right w past in
-    let parts : k % w + k / w * w ≡ k = mod-add-div' k w in
-    let before : (3 * n - first) * w ≤ k = omega (arith, most, parts) in
-    let count : length (drop first (transfers g n)) ≡ 3 * n - first = length-drop first (transfers g n) ∙ ap (λ m. m - first) (length-transfers g n) in
-    let len : length (flat_map (steps g) (drop first (transfers g n))) ≡ (3 * n - first) * w = length_pieces (steps g) w (length-steps g) (drop first (transfers g n)) ∙ ap (λ m. m * w) count in
-    (before, get_beyond (flat_map (steps g) (drop first (transfers g n))) (closing g image_ok) k (k - (3 * n - first) * w) (omega (arith, len, before)))
-
-pub length-from_transfer : (g : Geometry) (n first : ℕ) (image_ok : Bool) → length (from_transfer g n first image_ok) ≡ (3 * n - first) * (g.sector / g.chunk + 2) + length (closing g image_ok)
-length-from_transfer g n first image_ok =
-    let w = g.sector / g.chunk + 2 in
-    let count : length (drop first (transfers g n)) ≡ 3 * n - first = length-drop first (transfers g n) ∙ ap (λ m. m - first) (length-transfers g n) in
-    length-append (flat_map (steps g) (drop first (transfers g n))) (closing g image_ok)
-    ∙ ap (λ m. m + length (closing g image_ok)) (length_pieces (steps g) w (length-steps g) (drop first (transfers g n)) ∙ ap (λ m. m * w) count)
-
-pub length-erases : (g : Geometry) (slot : Slot) (rest : List Op) → length (trailer_erases g slot ++ rest) ≡ trailer_sectors g + length rest
-length-erases g slot rest =
-    length-append (trailer_erases g slot) rest ∙ ap (λ m. m + length rest) (length-map-range_with_len (trailer_erase g slot) 0 (trailer_sectors g))
 
 -- no course is long
 pub few_transfers : (g : Geometry) (n first : ℕ) → IsLayout g → n ≤ greatest_sectors g → (3 * n - first) * (g.sector / g.chunk + 2) ≤ 201332736
@@ -267,12 +173,6 @@ few_transfers g n first ok fits =
         let big = ok.greatest_sector in
         let more : q * 1 ≤ q * g.chunk = mul-le-mul_left q (omega (arith, some)) in
         omega (arith, more, e, big)
-
-pub length-swap_list : (c : Grain) (g : Geometry) (kind : SwapType) (size n : ℕ) → length (swap_list c g kind size n) ≡ trailer_sectors g +
-    (length (opening_writes c g kind size) + length (resumed_list g n 0 true false))
-length-swap_list c g kind size n =
-    length-erases g Primary (opening_writes c g kind size ++ resumed_list g n 0 true false)
-    ∙ ap (λ m. trailer_sectors g + m) (length-append (opening_writes c g kind size) (resumed_list g n 0 true false))
 
 -- The transfers by their number.
 

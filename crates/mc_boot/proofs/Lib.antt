@@ -1,6 +1,7 @@
 pub mod Rows
 pub mod Images
 pub mod Courses
+pub mod Sections
 pub mod Transfers
 pub mod Keeps
 pub mod Plans

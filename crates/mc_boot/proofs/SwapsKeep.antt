@@ -2,7 +2,8 @@
 use Rattle.std.proofs.Common.{ap, arith, inl, inr, subst, sym, ◌∙◌}
 use Rattle.std.proofs.lemmas.List.{get_or-replicate, length-replicate, length-take-le, drop_all}
 use Rattle.std.specs.Prelude.{Bool, List, Some, [], drop, false, flat_map, if◌then◌else◌, length, refl, replicate, slice_get, suc, take, true, zero, ℕ, ◌%◌, ◌*◌, ◌++◌, ◌+◌, ◌-◌, ◌/◌, ◌<◌, ◌∷◌, ◌≡◌, ◌≢◌, ◌≤◌, ◌⊎◌}
-use Rattle.mc_boot.proofs.Courses.{drop_at_place, some_trailer, length-transfers}
+use Rattle.mc_boot.proofs.Courses.{drop_at_place, some_trailer}
+use Rattle.mc_boot.specs.facts.Lengths.{length-transfers}
 use Rattle.mc_boot.proofs.Keeps.{Erased, Keeps, Part, erase_beyond_data, erased_here, erased_still, erases_keep, field_write_keeps, keeps_append, keeps_then, place_beyond_data}
 use Rattle.mc_boot.proofs.Moving.{Copied, Data, IsOutside, Transferred, data_half, data_same, data_step, kept_below, transfer_keeps}
 use Rattle.mc_boot.proofs.Phases.{Asked, Ended, IsSwapOf, Phase, MagicUnset, Swap, Under, Waiting, asked, asks, closed, opened, runs, tested, unasked, waits}

@@ -6,7 +6,8 @@ use Rattle.std.proofs.lemmas.Iterator.Adapters.{position_from-zero}
 use Rattle.std.proofs.lemmas.Option.{slice_get_within, get_or_from_slice_get}
 use Rattle.std.specs.List.{position_from, range_with_len}
 use Rattle.std.specs.Prelude.{Bool, List, None, Option, Some, [], false, flat_map, if◌then◌else◌, map, nat_lt, option_map, refl, slice_get, suc, take, true, zero, ℕ, ◌%◌, ◌&&◌, ◌*◌, ◌++◌, ◌+◌, ◌-◌, ◌/◌, ◌<◌, ◌==◌, ◌∷◌, ◌≡◌, ◌≤◌, ◌⊎◌}
-use Rattle.mc_boot.proofs.Courses.{get_brought, get_moved, get_taken, length-transfers}
+use Rattle.mc_boot.proofs.Courses.{get_brought, get_moved, get_taken}
+use Rattle.mc_boot.specs.facts.Lengths.{length-transfers}
 use Rattle.mc_boot.specs.Boot.{IsInside}
 use Rattle.mc_boot.specs.Plan.{brought_in, first_left, moved_up, taken_out, transfers}
 use Rattle.mc_boot.specs.declared.transfer.Transfer.{Transfer}

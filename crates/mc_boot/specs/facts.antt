@@ -4,4 +4,5 @@ pub mod Run
 pub mod Steps
 pub mod Writes
 pub mod Confirm
+pub mod Lengths
 pub mod Bounds

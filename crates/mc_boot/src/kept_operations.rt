@@ -5,9 +5,9 @@ ghost use Rattle.mc_boot.specs.Joins.{is_same_swap, starts_as, comes_to, harmles
 ghost use Rattle.mc_boot.specs.declared.course.Opening.TheVariants.{New, Resumed};
 
 use crate::course::{Course, Opening};
+use crate::section::len_of;
 use crate::transfer::transfer_len;
-use crate::writes::{is_revert, opening_len, preparation_len};
-use mc_flash::{Grain, Layout};
+use crate::writes::is_revert;
 use mc_trailer::SwapType;
 
 /// Whether two courses swap as many sectors, by one grain.
@@ -54,14 +54,16 @@ fn comes_to(opening: Opening, next: &Course, first: u32, erases: bool, image_ok:
 }
 
 /// How many operations of a swap from its start write only in the trailer that it begins with erasing.
-fn harmless_opening_len(layout: &Layout, grain: Grain, kind: SwapType) -> u32
-    ensures { (size : ℕ) → result ≡ harmless_opening_len grain layout.now kind size }
+fn harmless_opening_len(course: &Course, kind: SwapType, size: u32) -> u32
+    ensures { result ≡ harmless_opening_len course.now.grain course.now.layout kind size }
 {
-    let count = layout.trailer_sectors();
+    // Reading a field gives the prover that it is a layout.
+    let _unit = course.layout.unit();
     if is_revert(kind) {
-        count + preparation_len(layout, grain)
+        len_of(course, &course.preparation(size))
     } else {
-        count + opening_len(layout, grain, kind)
+        // Those up to the erases of the other trailer.
+        len_of(course, &course.swap(kind, size)[..5])
     }
 }
 
@@ -93,7 +95,7 @@ fn begins_anew(cut: &Course, done: u32, next: &Course, kind: SwapType, size: u32
     if !starts_as(cut.opening, kind, size) {
         return None;
     }
-    let harmless_len = harmless_opening_len(&next.layout, next.grain, kind);
+    let harmless_len = harmless_opening_len(next, kind, size);
     if done <= harmless_len { Some(0) } else { None }
 }
 

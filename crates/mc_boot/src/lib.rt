@@ -11,6 +11,7 @@ mod known;
 mod life;
 mod outcome;
 mod restart;
+mod section;
 mod shared_tail;
 mod swap;
 mod text;

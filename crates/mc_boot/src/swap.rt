@@ -2,7 +2,7 @@
 ghost use Rattle.std.specs.Prelude.{◌≡◌};
 ghost use Rattle.mc_boot.specs.WholeSwap.{swap_operations, MakesSwap};
 
-use crate::course::new_len;
+use crate::course::{Course, Opening};
 use mc_flash::{Grain, Layout};
 use mc_image::{one_reading, same_prefix};
 use mc_trailer::SwapType;
@@ -16,6 +16,14 @@ pub fn swap_operations(layout: &Layout, grain: Grain) -> u32
 {
     one_reading();
     same_prefix();
-    let pieces = layout.in_pieces(grain);
-    new_len(&pieces, grain, SwapType::Test, layout.greatest_sectors())
+    let course = Course {
+        grain,
+        layout: layout.in_pieces(grain),
+        sectors: layout.greatest_sectors(),
+        opening: Opening::New {
+            kind: SwapType::Test,
+            size: 0,
+        },
+    };
+    course.len()
 }

@@ -1,22 +1,14 @@
-use Rattle.std.proofs.Common.{◌≡◌, ℕ, ◌+◌, ◌≤◌, true, false, ◌∙◌, sym, refl, arith, Fits, w32}
-use Rattle.mc_flash.specs.Geometry.{Geometry, IsLayout, trailer_sectors}
-use Rattle.mc_boot.specs.Plan.{is_revert}
-use Rattle.mc_boot.proofs.Plans.{few_counted}
+use Rattle.std.proofs.Common.{arith, length-append, sym, ◌∙◌}
+use Rattle.std.proofs.lemmas.List.FromFn.{length-map-range_with_len}
+use Rattle.mc_boot.proofs.Sections.{opening_is, preparation_is}
 use Rattle.mc_boot.proofs.kept_operations.harmless_opening_len.Goals as goal
 
-fits : (g : Geometry) (t o : ℕ) → t ≡ trailer_sectors g → IsLayout g → o ≤ 34 → Fits w32 (t + o)
-fits g t o is ok opens = let at_most = few_counted g t is ok in omega (arith, at_most)
-
-pub overflow_add-result : goal.overflow_add-result
-overflow_add-result c =
-    fits c.args.layout.now _ _ c.trailer_sectors-count.ensures.value c.trailer_sectors-count.ensures.valid (let at_most = c.preparation_len.ensures.at_most in omega (arith, at_most))
-
 pub returns-then-is_revert : goal.returns-then-is_revert
-returns-then-is_revert c size =
-    let revert : is_revert c.args.kind ≡ true = sym c.is_revert.ensures ∙ c.if-is_revert.true in
-    rw (revert, c.trailer_sectors-count.ensures.value, c.preparation_len.ensures.len size) refl
+returns-then-is_revert c =
+    let s = c.args.course.now in
+    rw (sym c.is_revert.ensures ∙ c.if-is_revert.true, c.len_of.ensures, c.preparation.ensures) (rw (preparation_is s.grain s.layout s.sectors c.args.size) (grind (arith, length-append, length-map-range_with_len)))
 
 pub returns-else-is_revert : goal.returns-else-is_revert
-returns-else-is_revert c size =
-    let other : is_revert c.args.kind ≡ false = sym c.is_revert.ensures ∙ c.if-is_revert.false in
-    rw (other, c.trailer_sectors-count.ensures.value, c.opening_len.ensures.len size) refl
+returns-else-is_revert c =
+    let s = c.args.course.now in
+    rw (sym c.is_revert.ensures ∙ c.if-is_revert.false, c.len_of-else-is_revert.ensures, c.swap.ensures) (rw (opening_is s.grain s.layout s.sectors c.args.kind c.args.size) (grind (arith, length-append, length-map-range_with_len)))

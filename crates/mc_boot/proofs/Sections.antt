@@ -1,0 +1,135 @@
+-- A course is its sections, one after the other: how many operations each has, and which is which.
+use Rattle.std.proofs.Common.{add-one, ap, append-nil, append_assoc, arith, length-append, sym, zero-add, ◌∙◌}
+use Rattle.std.proofs.Math.Nat.{div-le_self, mod-add-div', mul-le-mul_right}
+use Rattle.std.proofs.lemmas.List.{length-drop}
+use Rattle.std.proofs.lemmas.List.FromFn.{length-map-range_with_len}
+use Rattle.std.proofs.lemmas.Nat.{mod_below}
+use Rattle.std.proofs.lemmas.Option.{slice_get_within}
+use Rattle.std.specs.Prelude.{Bool, IfSome, List, None, Option, Some, [], drop, get_or, length, map, max, refl, slice_get, suc, take, false, true, zero, ℕ, ◌∷◌, ◌%◌, ◌*◌, ◌++◌, ◌+◌, ◌-◌, ◌/◌, ◌<◌, ◌≡◌, ◌≤◌}
+use Rattle.mc_boot.specs.Boot.{list_from}
+use Rattle.mc_boot.specs.Plan.{is_revert, new_list, opening_writes, preparation_writes, resumed_list, steps, swap_list, trailer_erase, trailer_erases, transfers, write_count}
+use Rattle.mc_boot.specs.declared.course.Opening.{Opening}
+use Rattle.mc_boot.specs.declared.section.Counted.{Counted}
+use Rattle.mc_boot.specs.declared.section.Section.{Section}
+use Rattle.mc_boot.specs.declared.section.Section.TheVariants.{Nothing, Erases, Flag, Size, Magic, Transfers}
+use Rattle.mc_boot.specs.declared.transfer.Transfer.{Transfer}
+use Rattle.mc_boot.specs.inner.Section.{AreCounted, count_in, counted, ops_in, ops_of_all, preparation_sections, resumed_sections, swap_sections}
+use Rattle.mc_flash.specs.Geometry.{Geometry, IsLayout, greatest_sectors, trailer_sectors}
+use Rattle.mc_flash.specs.declared.flash.Grain.{Grain}
+use Rattle.mc_flash.specs.declared.op.Op.{Op}
+use Rattle.mc_flash.specs.declared.op.Slot.{Slot}
+use Rattle.mc_flash.specs.declared.op.Slot.TheVariants.{Primary, Secondary}
+use Rattle.mc_flash.specs.facts.Layouts.{small_unit}
+use Rattle.mc_flash.specs.facts.Usage.{few_trailer_sectors}
+use Rattle.mc_trailer.specs.declared.tables.SwapType.{SwapType}
+use Rattle.mc_boot.proofs.Courses.{few_transfers, get_beyond, get_dropped, get_mapped, get_piece, get_within}
+use Rattle.mc_boot.specs.facts.Bounds.{course_count}
+use Rattle.mc_boot.specs.facts.Lengths.{length-magic, length-size, length-steps, length-transfers, length_pieces}
+use lib.Seq.{drop-cons}
+use Rattle.mc_trailer.specs.declared.tables.SwapType.TheVariants as kinds
+
+-- an erase, and an operation of a transfer
+pub get_erase : (g : Geometry) (slot : Slot) (k : ℕ) → k < trailer_sectors g → slice_get (trailer_erases g slot) k ≡ Some (trailer_erase g slot k)
+get_erase g slot k h = get_mapped (trailer_erase g slot) 0 (trailer_sectors g) k h ∙ ap (λ i. Some (trailer_erase g slot i)) (zero-add k)
+
+pub get_transfer : (c : Grain) (g : Geometry) (n first k w : ℕ) (t : Transfer) → w ≡ g.sector / g.chunk + 2 → slice_get (transfers g n) (first + k / w) ≡ Some t
+    → slice_get (ops_in c g n (Transfers first)) k ≡ slice_get (steps g t) (k % w)
+get_transfer c g n first k w t is at =
+    get_piece (steps g) w (λ t. length-steps g t ∙ sym is) (drop first (transfers g n)) k (k / w) (k % w) t (get_dropped first (transfers g n) (k / w) ∙ at)
+    (mod_below k w (omega (arith, is))) (omega (arith, mod-add-div' k w))
+
+module _ (c : Grain) (g : Geometry) (n : ℕ) where
+  pub length_in : (s : Section) → length (ops_in c g n s) ≡ count_in c g n s
+  length_in Nothing = refl
+  length_in (Erases slot) = length-map-range_with_len (trailer_erase g slot) 0 (trailer_sectors g)
+  length_in (Flag slot f value) = refl
+  length_in (Size slot size) = length-size c g slot size
+  length_in (Magic slot) = length-magic c g slot
+  length_in (Transfers first) =
+      length_pieces (steps g) (g.sector / g.chunk + 2) (length-steps g) (drop first (transfers g n))
+      ∙ ap (λ m. m * (g.sector / g.chunk + 2)) (length-drop first (transfers g n) ∙ ap (λ m. m - first) (length-transfers g n))
+
+  -- from one of the sections on
+  pub counted_at : (xs : List Counted) (d : Counted) (k : ℕ) → AreCounted c g n xs → k < length xs → (get_or xs k d).len ≡ count_in c g n (get_or xs k d).section
+  counted_at [] d k are h = absurd (omega arith)
+  counted_at (x ∷ xs) d zero are h = let same : x ≡ counted c g n x.section = cc in ap (λ (y : Counted). y.len) same
+  counted_at (x ∷ xs) d (suc k) are h = let rest : AreCounted c g n xs = cc in let here : k < length xs = omega arith in counted_at xs d k rest here
+
+  pub from_section : (xs : List Counted) (d : Counted) (k : ℕ) → k < length xs
+      → ops_of_all c g n (drop k xs) ≡ ops_in c g n (get_or xs k d).section ++ ops_of_all c g n (drop (k + 1) xs)
+  from_section xs d k h = rw (add-one, drop-cons xs k d h) refl
+
+  pub one_more : (xs : List Counted) (d : Counted) (k sum : ℕ) → AreCounted c g n xs → k < length xs → sum + length (ops_of_all c g n (drop k xs)) ≡ length (ops_of_all c g n xs)
+      → sum + (get_or xs k d).len + length (ops_of_all c g n (drop (k + 1) xs)) ≡ length (ops_of_all c g n xs)
+  one_more xs d k sum are h e =
+      let s = (get_or xs k d).section in
+      let rest = ops_of_all c g n (drop (k + 1) xs) in
+      omega (arith, e, ap (λ (l : List Op). length l) (from_section xs d k h), length-append (ops_in c g n s) rest, length_in s, counted_at xs d k are h)
+
+  pub get_here : (xs : List Counted) (d : Counted) (k left : ℕ) → AreCounted c g n xs → k < length xs → left < (get_or xs k d).len
+      → slice_get (ops_of_all c g n (drop k xs)) left ≡ slice_get (ops_in c g n (get_or xs k d).section) left
+  get_here xs d k left are h low =
+      let s = (get_or xs k d).section in
+      rw (from_section xs d k h) (get_within (ops_in c g n s) (ops_of_all c g n (drop (k + 1) xs)) left (omega (arith, length_in s, counted_at xs d k are h, low)))
+
+  pub get_later : (xs : List Counted) (d : Counted) (k left : ℕ) → AreCounted c g n xs → k < length xs → (get_or xs k d).len ≤ left
+      → slice_get (ops_of_all c g n (drop k xs)) left ≡ slice_get (ops_of_all c g n (drop (k + 1) xs)) (left - (get_or xs k d).len)
+  get_later xs d k left are h past =
+      let s = (get_or xs k d).section in
+      rw (from_section xs d k h) (get_beyond (ops_in c g n s) (ops_of_all c g n (drop (k + 1) xs)) left (left - (get_or xs k d).len) (omega (arith, length_in s, counted_at xs d k are h, past)))
+
+  -- The operations of a list of sections.
+  abbrev pub ops_of : List Section → List Op
+  ops_of sections = ops_of_all c g n (map (counted c g n) sections)
+
+  -- a course is its sections
+  pub preparation_is : (size : ℕ) → ops_of (preparation_sections size) ≡ trailer_erases g Secondary ++ preparation_writes c g size
+  preparation_is size = grind (arith, append_assoc, append-nil)
+
+  pub swap_is : (kind : SwapType) (size : ℕ) → ops_of (swap_sections kind size) ≡ swap_list c g kind size n
+  swap_is kind size = grind (arith, append_assoc)
+
+  pub resumed_is : (first : ℕ) (erases image_ok : Bool) → ops_of (resumed_sections first erases image_ok) ≡ resumed_list g n first erases image_ok
+  resumed_is first erases image_ok = grind (arith, append_assoc)
+
+  pub opening_is : (kind : SwapType) (size : ℕ) → ops_of (take 5 (swap_sections kind size)) ≡ trailer_erases g Primary ++ opening_writes c g kind size
+  opening_is kind size = grind (arith, append-nil, append_assoc)
+
+  pub revert_is : (kind : SwapType) (size : ℕ) → is_revert kind ≡ true → new_list c g kind size n ≡ ops_of (preparation_sections size) ++ ops_of (swap_sections kind size)
+  revert_is kind size revert = rw (revert, preparation_is size, swap_is kind size) (sym (append_assoc (trailer_erases g Secondary) (preparation_writes c g size) (swap_list c g kind size n)))
+
+  pub other_is : (kind : SwapType) (size : ℕ) → is_revert kind ≡ false → new_list c g kind size n ≡ ops_of (swap_sections kind size)
+  other_is kind size other = rw (other, swap_is kind size) refl
+
+  -- no course is long
+  few_units : (m : ℕ) → m ≤ 16 → write_count c g m ≤ 16
+  few_units m small = grind (arith, div-le_self m g.unit)
+
+  module _ (ok : IsLayout g) (fits : n ≤ greatest_sectors g) where
+    few_in : (s : Section) → length (ops_in c g n s) ≤ 201332736
+    few_in s = rw (length_in s) (few s)
+      where
+        few : (s : Section) → count_in c g n s ≤ 201332736
+        few Nothing = omega arith
+        few (Erases slot) = omega (arith, few_trailer_sectors g ok)
+        few (Flag slot f value) = omega arith
+        few (Size slot size) = omega (arith, few_units (max g.unit 4) (omega (arith, (small_unit g ok).1)))
+        few (Magic slot) = omega (arith, few_units 16 (omega arith))
+        few (Transfers first) = few_transfers g n first ok fits
+
+    pub few_all : (xs : List Counted) → length (ops_of_all c g n xs) ≤ length xs * 201332736
+    few_all [] = omega arith
+    few_all (x ∷ xs) = omega (arith, length-append (ops_in c g n x.section) (ops_of_all c g n xs), few_in x.section, few_all xs)
+
+    pub few_list : (o : Opening) (k : ℕ) → k ≡ length (list_from c g n o) → k ≤ 204000000
+    few_list o k is =
+        let whole : 3 * n * (g.sector / g.chunk + 2) ≤ (3 * n - 0) * (g.sector / g.chunk + 2) = mul-le-mul_right (g.sector / g.chunk + 2) (omega arith) in
+        omega (arith, is, whole, few_transfers g n 0 ok fits, course_count g g c n o, few_trailer_sectors g ok, few_units 16 (omega arith), few_units (max g.unit 4) (omega (arith, (small_unit g ok).1)))
+
+    pub few_at : (o : Opening) (k : ℕ) (op : Option Op) → op ≡ slice_get (list_from c g n o) k → IfSome op (λ _. k < 204000000)
+    few_at o k None is = tt
+    few_at o k (Some op) is = omega (arith, slice_get_within (list_from c g n o) k op (sym is), few_list o _ refl)
+
+-- whatever the size is that it writes
+pub same_length : (c : Grain) (g : Geometry) (n a b : ℕ) → length (new_list c g kinds.Test a n) ≡ length (new_list c g kinds.Test b n)
+same_length c g n a b = grind (arith, length-append, length-size, length-magic)
