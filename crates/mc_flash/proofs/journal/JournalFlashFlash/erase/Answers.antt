@@ -1,15 +1,18 @@
-use Rattle.std.proofs.Common.{[], ◌∷◌, ◌++◌, ◌+◌, ◌*◌, length, ◌<◌, inl, inr, refl, subst, sym, ap, ◌∙◌, arith}
+use Rattle.std.proofs.Common.{ℕ, [], ◌∷◌, ◌++◌, ◌+◌, ◌*◌, length, ◌<◌, ◌≤◌, ◌^◌, inl, inr, refl, subst, sym, ap, ◌∙◌, arith}
 use Rattle.std.specs.Prelude.{replicate}
 use Rattle.std.specs.List.{between}
 use Rattle.std.specs.Vec.{vec_capacity}
 use Rattle.std.proofs.lemmas.List.{length-replicate}
-use Rattle.mc_flash.specs.Geometry.{Geometry}
+use Rattle.std.proofs.Math.Nat.{mul-le-mul_right}
+use Rattle.mc_flash.specs.Geometry.{Geometry, IsLayout}
 use Rattle.mc_flash.specs.Flash.{Content, bytes_of, with_bytes, sectors_of, erased}
 use Rattle.mc_flash.specs.facts.Changes.{sized_is}
 use Rattle.mc_flash.specs.facts.Layouts.{sector_inside}
 use Rattle.mc_flash.specs.Usage.{room_for, Seen}
 use Rattle.mc_flash.specs.inner.Journal.{limits_of, Journal, journal_with}
 use Rattle.mc_flash.specs.declared.op.Op.TheVariants.{Erase}
+use Rattle.mc_flash.specs.declared.op.Slot.{Slot}
+use Rattle.mc_flash.specs.declared.op.Slot.TheVariants.{Primary, Secondary}
 use Rattle.mc_flash.specs.declared.entry.Entry.TheVariants.{Erased}
 use Rattle.mc_flash.proofs.Undo.{by_erase, erase_back, sound_grown, is_full, does, erase_done}
 use Rattle.mc_flash.proofs.journal.JournalFlashFlash.erase.Goals as goal
@@ -80,3 +83,24 @@ returns-in_err-push c = absurd (omega (arith, c.in_err-push.ensures.full, c.if-l
 
 pub invariant_of-self-in_err-push : goal.invariant_of-self-in_err-push
 invariant_of-self-in_err-push c = absurd (omega (arith, c.in_err-push.ensures.full, c.if-len-self.false, c.self.invariant.room.entries))
+
+pub overflow_sub-self-inside : goal.overflow_sub-self-inside
+overflow_sub-self-inside c = omega (arith, c.self.inside.saved.ok.0, c.self.invariant.at_most.saved)
+
+pub sector-requires : goal.sector-requires
+sector-requires c = subst (λ (old : Seen). c.args.sector < sectors_of old.geometry c.args.slot) (sym c.self.view_is) c.requires
+
+pub erase-requires : goal.erase-requires
+erase-requires c = subst (λ (old : Seen). c.args.sector < sectors_of old.geometry c.args.slot) (sym c.self.view_is) c.requires
+
+small_at : (g : Geometry) (slot : Slot) (i : ℕ) → IsLayout g → i < sectors_of g slot → i * g.sector ≤ 2 ^ 24
+small_at g Primary i ok below = let more : i * g.sector ≤ g.primary * g.sector = mul-le-mul_right g.sector (omega arith) in omega (arith, ok.size)
+small_at g Secondary i ok below = let more : i * g.sector ≤ g.primary * g.sector = mul-le-mul_right g.sector (omega (arith, ok.counts)) in omega (arith, ok.size)
+
+pub overflow_mul-sector : goal.overflow_mul-sector
+overflow_mul-sector c =
+    let g = c.self.inside.slots.layout in
+    let below = subst (λ (old : Seen). c.args.sector < sectors_of old.geometry c.args.slot) (sym c.self.view_is) c.requires in
+    let size = c.sector-size.ensures.value ∙ ap (λ (x : Geometry). x.sector) c.layout.ensures in
+    let small = small_at g c.args.slot c.args.sector c.self.invariant.layout below in
+    rw size (omega (arith, small))

@@ -1,4 +1,5 @@
 use Rattle.std.proofs.Common.{◌≡◌, ℕ, List, [], ◌+◌, ◌≤◌, length, ap, subst, ◌∙◌, arith}
+use Rattle.std.proofs.lemmas.Grind.{common_steps}
 use Rattle.std.specs.List.{between}
 use Rattle.std.proofs.lemmas.List.{with_items_is}
 use Rattle.mc_flash.specs.Flash.{Content, bytes_of, with_bytes, put, size_of}
@@ -41,3 +42,15 @@ returns-in-Secondary-Secondary-clause-content c =
     ap (λ z. with_bytes (record { primary = c.secondary.inside.primary.items; secondary = [] }) Secondary z) whole
     ∙ copied c.args.self.now.content c.args.from c.args.to c.args.at c.args.offset c.args.len _ _ old.result.now new c.secondary.view_is is.is-0 is.is-1 old.ensures.value
     c.copy_part-in-Secondary-Secondary.ensures
+
+pub invariant_of-self : goal.invariant_of-self
+invariant_of-self c = grind (arith, common_steps)
+
+pub invariant_of-self-in-Primary-Secondary : goal.invariant_of-self-in-Primary-Secondary
+invariant_of-self-in-Primary-Secondary c = grind (arith, common_steps)
+
+pub invariant_of-self-in-Secondary-Secondary : goal.invariant_of-self-in-Secondary-Secondary
+invariant_of-self-in-Secondary-Secondary c = grind (arith, common_steps)
+
+pub invariant_of-self-in-Secondary-Primary : goal.invariant_of-self-in-Secondary-Primary
+invariant_of-self-in-Secondary-Primary c = grind (arith, common_steps)
