@@ -1,4 +1,5 @@
-use Rattle.std.proofs.Common.{◌≡◌, ℕ, ◌+◌, List, length, take, drop, None, Ok, Option, Some, ap, refl, rules, sym, arith, ◌∙◌}
+use Rattle.std.proofs.Common.{◌≡◌, ℕ, ◌+◌, ◌*◌, ◌≤◌, List, length, take, drop, None, Ok, Option, Some, ap, refl, rules, sym, arith, ◌∙◌}
+use Rattle.std.proofs.Math.Nat.{mul-le-mul_right}
 use Rattle.std.specs.Prelude.{option_map}
 use Rattle.std.proofs.lemmas.Bool.Decides.{nat_tests}
 use Rattle.mc_flash.specs.Flash.{Content, size_of}
@@ -37,3 +38,13 @@ invariant_of-result c =
       known _ _ c.image_in.result c.image_in.ensures (ap (λ (s : Content). s.primary) content),
       known _ _ c.image_in-2.result c.image_in-2.ensures (ap (λ (s : Content). s.secondary) content),
     )
+
+pub image_in-requires : goal.image_in-requires
+image_in-requires c = omega (arith, c.split_at.ensures.front_len, c.size-primary.ensures.value, c.size-primary.ensures.valid.size)
+
+pub image_in-requires-2 : goal.image_in-requires-2
+image_in-requires-2 c =
+    let g = c.args.layout.now in
+    let valid = c.size-primary.ensures.valid in
+    let shorter : g.secondary * g.sector ≤ g.primary * g.sector = mul-le-mul_right g.sector (omega (arith, valid.counts)) in
+    omega (arith, c.split_at.ensures.back_len, c.size-secondary.ensures.value, c.if-bytes-primary.false, valid.size)
