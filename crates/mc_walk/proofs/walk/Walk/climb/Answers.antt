@@ -1,5 +1,7 @@
 use Rattle.std.proofs.Common.{◌≡◌, ◌+◌, ◌*◌, true, false, Some, None, length, refl, subst, ap, ◌∙◌, arith}
-use Rattle.mc_flash.specs.Usage.{went_back, Spent}
+use Rattle.std.proofs.lemmas.Result.{err_from_is_err_and}
+use Rattle.mc_flash.specs.Usage.{went_back, RanOut, Seen, Spent}
+use Rattle.mc_flash.specs.facts.Spends.{ran_out_later, spent_back}
 use Rattle.mc_walk.specs.inner.Stack.{LeavesOpen}
 use Rattle.mc_walk.specs.Walks.{Walked, walked, Climbs, child_cost}
 use Rattle.mc_walk.proofs.Steps.{Arrives, Leaves, standing, mark_there, can_go_on, arrives_on, climbed, none_on}
@@ -90,3 +92,10 @@ returns-then-not-leave_spent-clause-step g c =
     subst (λ (z : Walked g.row.B.Denot). Climbs (g.B.FlashTree.model z.flash_tree) z false (walked {A = g.row.B-Child.Denot} {T =
     g.row.B-Summary.Denot} w.flash_tree w.bound old c.leave_spent.new.frames.items None)) c.self.view_is
     (none_on k w.flash_tree w.bound old w.frames.items c.leave_spent.new.frames.items w.summary stood.1.stands.stacked spent)
+
+pub returns-in_err-summary-clause-spends : goal.returns-in_err-summary-clause-spends
+returns-in_err-summary-clause-spends g c =
+    let p = err_from_is_err_and c.from_residual.result c.from_residual.ensures.1 in
+    let ran = subst (λ (s : Seen). RanOut s (g.F.Flash.seen c.next_sibling.new.flash)) c.back_to.ensures c.in_err-summary.ensures.spends in
+    let back = spent_back c.len.result (g.F.Flash.seen c.self.inside.flash) in
+    rw p.1 (subst (λ (z : Walked g.row.B.Denot). RanOut z.seen (g.F.Flash.seen c.next_sibling.new.flash)) c.self.view_is (ran_out_later 0 _ _ _ back ran))
